@@ -1,0 +1,20 @@
+//! The words that every part of the centre speaks: beams, editions, marks and switching modes, numbers
+//! and lines of a text, and what files, a sink and a store of records promise.
+//!
+//! `docs/definitions.md` has the meaning of each word. `specs/Told.antt` says what the outside promises,
+//! `specs/Text.antt` what a number, a word and a line of a text are.
+#![tactic(auto)]
+
+mod files;
+mod keeper;
+mod mode;
+mod numbers;
+mod schedule;
+mod sink;
+
+pub use files::{FileFault, Files};
+pub use keeper::{KeepFault, Keeper, STORE_LAST};
+pub use mode::{Columns, Mode, Modes};
+pub use numbers::{BeamNo, Command, EditionNo, Mark, OutOfMemory, TermNo, TermSet, Units};
+pub use schedule::{Critical, Schedule};
+pub use sink::{Sink, SinkFault};

@@ -1,0 +1,22 @@
+// A switching schedule: the modes of a frame, its length, and the line of the matrix that asks for so much.
+use crate::{BeamNo, Modes};
+
+/// A line of a traffic matrix, by the number of its beam.
+#[derive(Clone, Copy, Debug, PartialEq, Eq)]
+pub enum Critical {
+    /// The row of an uplink beam.
+    Row(BeamNo),
+    /// The column of a downlink beam.
+    Column(BeamNo),
+}
+
+/// A switching schedule for one frame.
+#[derive(Debug, Drop)]
+pub struct Schedule {
+    /// Slots from the start of the traffic part of the frame to its last mode's end.
+    pub length: u32,
+    /// A line whose sum is the length, which shows that no shorter schedule carries the traffic.
+    pub critical: Critical,
+    /// The modes, in order.
+    pub modes: Modes,
+}
