@@ -1,0 +1,4 @@
+pub mod Verdict
+pub mod Reading
+pub mod MatrixText
+pub mod ScheduleText
