@@ -4,6 +4,7 @@
 //! grammars, line by line, with the fault of each line.
 #![tactic(auto)]
 
+mod schedule_check;
 mod text_fault;
 mod verdict;
 
