@@ -1,2 +1,3 @@
+mod OneVerdict
 mod Seen
 mod Walk
