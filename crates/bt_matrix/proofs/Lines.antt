@@ -1,12 +1,10 @@
 -- The lines of a matrix: as the vectors of its rows give them, of a matrix of zeros, and after one entry was changed.
-use Rattle.std.proofs.Common.{below_more, ⊎_elim, ◌≡◌, ◌≢◌, ℕ, ◌+◌, ◌*◌, ◌<◌, ◌≤◌, List, [], ◌∷◌, Vec, Global, length, map, replicate, sum, sum_by, get_or, slice_index, slice_set, All, refl, sym, ap, ◌∙◌, arith, rules, inl, inr, length-set, get_or-set_same, get_or-set_other}
-use Rattle.std.proofs.lemmas.Bool.{cases_eq}
+use Rattle.std.proofs.Common.{below_more, ◌≡◌, ◌≢◌, ℕ, ◌+◌, ◌<◌, ◌≤◌, List, [], ◌∷◌, Vec, Global, length, map, replicate, sum, sum_by, get_or, slice_index, slice_set, refl, sym, ap, ◌∙◌, arith, length-set, get_or-set_same, get_or-set_other}
 use Rattle.std.proofs.lemmas.List.{get_or-map, length-map, get_or-replicate, length-replicate}
-use Rattle.std.proofs.lemmas.List.Elements.{All-set, All-replicate}
+use Rattle.std.proofs.lemmas.List.Elements.{All-replicate}
 use Rattle.std.proofs.lemmas.List.Folds.{sum_by-replicate}
-use Rattle.std.proofs.lemmas.List.Sums.{sum_by-cons, sum_by-set}
+use Rattle.std.proofs.lemmas.List.Sums.{sum_by-cons, sum_by-set, get_or-le-sum_by}
 use Rattle.bt_matrix.specs.Traffic.{row_of, entry, row_sum, column_sum, with_entry, IsTraffic}
-use Rattle.bt_matrix.specs.Dense.{KeepsSums}
 
 -- a sum over the images
 pub sum_by-map : {X Y : Type 0} (g : Y → ℕ) (f : X → Y) (xs : List X) → sum_by g (map f xs) ≡ sum_by (λ x. g (f x)) xs
@@ -98,3 +96,10 @@ IsTraffic-replicate size some few =
           let nothing : slice_index zeros down ≡ 0 = get_or-replicate size down 0 0 there in
           rw (sum_by-replicate (λ (row : List ℕ). slice_index row down) size zeros, nothing) (omega arith);
     }
+
+-- an entry is within the sum of its row, and of its column
+pub entry-le-row_sum : (rows : List (List ℕ)) (up down : ℕ) → down < length (row_of rows up) → entry rows up down ≤ row_sum rows up
+entry-le-row_sum rows up down within = get_or-le-sum_by (λ (x : ℕ). x) (row_of rows up) down 0 within
+
+pub entry-le-column_sum : (rows : List (List ℕ)) (up down : ℕ) → up < length rows → entry rows up down ≤ column_sum rows down
+entry-le-column_sum rows up down within = get_or-le-sum_by (λ (row : List ℕ). slice_index row down) rows up [] within

@@ -5,7 +5,7 @@ use Rattle.std.proofs.lemmas.List.{map-set, get_or_read}
 use Rattle.std.proofs.lemmas.List.Elements.{All-set}
 use Rattle.bt_matrix.specs.Traffic.{row_of, entry, row_sum, column_sum, with_entry, IsTraffic}
 use Rattle.bt_matrix.specs.Dense.{KeepsSums}
-use Rattle.bt_matrix.proofs.Lines.{row_of-map, vec_len-row, row_sum-with_entry_same, row_sum-with_entry_other, column_sum-with_entry_same, column_sum-with_entry_other}
+use Rattle.bt_matrix.proofs.Lines.{length-lists, row_of-map, vec_len-row, row_sum-with_entry_same, row_sum-with_entry_other, column_sum-with_entry_same, column_sum-with_entry_other}
 
 -- a row is as long as the matrix
 pub length-row : (rows : List (List ℕ)) (up : ℕ) → IsTraffic rows → up < length rows → length (row_of rows up) ≡ length rows
@@ -72,7 +72,7 @@ pub lists-set : (rows : List (Vec ℕ Global)) (up down n : ℕ) (old new : Vec 
     → new.items ≡ slice_set old.items down n → map (λ row. row.items) (slice_set rows up new) ≡ with_entry (map (λ row. row.items) rows) up down n
 lists-set rows up down n old new within is changed =
     let row_is : row_of (map (λ row. row.items) rows) up ≡ old.items =
-        row_of-map rows up old within ∙ sym (ap (λ (r : Vec ℕ Global). r.items) is) in
+    row_of-map rows up old within ∙ sym (ap (λ (r : Vec ℕ Global). r.items) is) in
     map-set (λ (r : Vec ℕ Global). r.items) rows up new
     ∙ ap (slice_set (map (λ row. row.items) rows) up) (changed ∙ ap (λ (xs : List ℕ). slice_set xs down n) (sym row_is))
 
@@ -84,3 +84,28 @@ entry-lists rows up down row units is in_rows in_columns row_is units_is =
     let item_is = ap (λ (r : Vec ℕ Global). r.items) row_is in
     let long : down < length row.items = omega (arith, ap length item_is, vec_len-row rows up row is in_rows) in
     ap (λ (xs : List ℕ). slice_index xs down) (row_of-map rows up row in_rows ∙ sym item_is) ∙ sym (get_or_read row.items down units long units_is 0)
+
+-- What a write of n leaves in a row of the vectors, with the sums of the row and the column beside it. At the place stood `units`.
+pub record IsWritten (rows : List (Vec ℕ Global)) (row_sums column_sums : List ℕ) (up down n row column units : ℕ) (new : Vec ℕ Global) : Type 0 where
+  pub was : entry (map (λ row. row.items) rows) up down ≡ units
+  pub view : map (λ row. row.items) (slice_set rows up new) ≡ with_entry (map (λ row. row.items) rows) up down n
+  pub sums : KeepsSums (map (λ row. row.items) (slice_set rows up new)) (slice_set row_sums up row) (slice_set column_sums down column)
+
+-- by the vector of the row before, and by its number at the place
+pub IsWritten-set : (rows : List (Vec ℕ Global)) (row_sums column_sums : List ℕ) (up down n row column units : ℕ) (old new : Vec ℕ Global)
+    → KeepsSums (map (λ row. row.items) rows) row_sums column_sums → up < length rows → down < length rows
+    → length row_sums ≡ 16 × length column_sums ≡ 16 → old ≡ get_or rows up old → units ≡ get_or old.items down units
+    → new.items ≡ slice_set old.items down n → row + units ≡ slice_index row_sums up + n → column + units ≡ slice_index column_sums down + n
+    → row ≤ 1048576 → column ≤ 1048576 → IsWritten rows row_sums column_sums up down n row column units new
+IsWritten-set rows row_sums column_sums up down n row column units old new keeps in_rows in_columns sixteen old_is units_is new_is row_gives column_gives row_fits column_fits =
+    let lists = map (λ (row : Vec ℕ Global). row.items) rows in
+    let view_is = lists-set rows up down n old new in_rows old_is new_is in
+    let entry_is = entry-lists rows up down old units keeps.traffic in_rows in_columns old_is units_is in
+    let up_in : up < length lists = omega (arith, length-lists rows) in
+    let down_in : down < length lists = omega (arith, length-lists rows) in
+    record {
+      was = entry_is;
+      view = view_is;
+      sums = rw view_is (KeepsSums-with_entry lists row_sums column_sums up down n row column keeps up_in down_in sixteen.0 sixteen.1
+          (omega (arith, entry_is, keeps.of_rows up up_in)) (omega (arith, entry_is, keeps.of_columns down down_in)) row_fits column_fits);
+    }

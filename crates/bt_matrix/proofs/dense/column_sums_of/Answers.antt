@@ -1,4 +1,4 @@
-use Rattle.std.proofs.Common.{◌<◌, ℕ, Vec, Global, length, map, arith, ap, ◌∙◌, sym}
+use Rattle.std.proofs.Common.{◌<◌, length, map, arith, ◌∙◌, sym}
 use Rattle.bt_matrix.specs.Traffic.{column_sum}
 use Rattle.bt_matrix.proofs.Lines.{IsFilled-set, vec_len-row, length-lists, column_sum-lists}
 use Rattle.bt_matrix.proofs.dense.column_sums_of.Goals as goal

@@ -1,4 +1,4 @@
-use Rattle.std.proofs.Common.{◌<◌, ◌≡◌, ℕ, length, map, sum, arith, ◌∙◌, sym}
+use Rattle.std.proofs.Common.{◌<◌, length, map, arith, ◌∙◌, sym}
 use Rattle.bt_matrix.specs.Traffic.{row_sum}
 use Rattle.bt_matrix.proofs.Lines.{IsFilled-set, row_sum-lists, length-lists}
 use Rattle.bt_matrix.proofs.dense.row_sums_of.Goals as goal
