@@ -1,0 +1,34 @@
+// What the words after the program's name ask for.
+ghost use Rattle.std.specs.Prelude.{◌≡◌, map};
+ghost use Rattle.std.specs.String.{string_bytes};
+ghost use Rattle.bt_cli.specs.Request.{check_request, request_of};
+ghost use Rattle.bt_cli.specs.Command.{asked};
+
+/// A command with its words.
+#[derive(Clone, Copy, Debug)]
+pub enum Command<'a> {
+    /// The words are none of the table.
+    Faulty,
+    /// `check MATRIX MODES`.
+    CheckModes { matrix: &'a str, modes: &'a str },
+}
+
+/// The command that the words ask for.
+pub fn command_of(words: &[String]) -> Command<'_>
+    ensures { asked result ≡ request_of (map string_bytes words.now) }
+{
+    match words {
+        [command, matrix, modes] if command.as_str() == "check" => check_of(matrix, modes),
+        _ => Command::Faulty,
+    }
+}
+
+fn check_of<'a>(matrix: &'a str, modes: &'a str) -> Command<'a>
+    ensures { asked result ≡ check_request matrix.now modes.now }
+{
+    if matrix.is_empty() || modes.is_empty() {
+        Command::Faulty
+    } else {
+        Command::CheckModes { matrix, modes }
+    }
+}
