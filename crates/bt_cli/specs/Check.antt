@@ -18,7 +18,10 @@ verdict_status _ = 9
 abbrev pub Judges : List (List ℕ) → Schedule → List ℕ → ℕ → Type 0
 Judges rows schedule text status = (verdict : Verdict) × IsVerdict rows schedule verdict × Says (verdict_words verdict) (verdict_status verdict) text status
 
--- each file is read and tested before the next is read
+-- the schedule is loaded, for as many beams as the matrix has, and judged
+abbrev pub ChecksSchedule : (List ℕ → Option (List ℕ)) → Type 0 → List ℕ → List (List ℕ) → List ℕ → ℕ → Type 0
+ChecksSchedule told failed modes rows = Loads (schedule_of (length rows)) told failed modes (λ schedule. Judges rows schedule)
+
+-- the matrix is loaded, and then the schedule; each file is tested before the next is read
 abbrev pub ChecksModes : (List ℕ → Option (List ℕ)) → Type 0 → List ℕ → List ℕ → List ℕ → ℕ → Type 0
-ChecksModes told failed matrix modes =
-    Loads matrix_of told failed matrix (λ rows. Loads (schedule_of (length rows)) told failed modes (λ schedule. Judges rows schedule))
+ChecksModes told failed matrix modes = Loads matrix_of told failed matrix (λ rows. ChecksSchedule told failed modes rows)

@@ -1,5 +1,5 @@
 -- What the words after the program's name ask for.
-use Rattle.std.specs.Prelude.{ℕ, ◌&&◌, if◌then◌else◌, nat_lt, length, codes, List, [], ◌∷◌}
+use Rattle.std.specs.Prelude.{ℕ, ◌&&◌, if◌then◌else◌, nat_lt, length, codes, List, [], ◌∷◌, Option, Some, None}
 use Rattle.std.specs.Str.{bytes_eq}
 
 -- a command with its words, or words of no command
@@ -15,3 +15,8 @@ check_request matrix modes = if nat_lt 0 (length matrix) && nat_lt 0 (length mod
 abbrev pub request_of : List (List ℕ) → Request
 request_of (command ∷ first ∷ second ∷ []) = if bytes_eq command (codes "check") then check_request first second else Faulty
 request_of _ = Faulty
+
+-- the first word, where there is one
+abbrev pub first_word : List (List ℕ) → Option (List ℕ)
+first_word [] = None
+first_word (word ∷ rest) = Some word

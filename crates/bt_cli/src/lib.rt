@@ -5,6 +5,13 @@
 #![tactic(auto)]
 
 mod answer;
+mod check;
+mod faulty;
 mod lines;
 mod load;
+mod print;
 mod request;
+mod top;
+
+pub use check::check_command;
+pub use top::{Ended, centre_main};

@@ -1,13 +1,17 @@
 // Files, read and tested one after the other.
 ghost use Rattle.std.specs.Prelude.{◌≡◌, ◌≤◌, IfOk, IfErr};
 ghost use Rattle.bt_base.specs.Told.{Rose};
-ghost use Rattle.bt_cli.specs.Outcome.{IsContent, CannotRead};
+ghost use Rattle.bt_plan.specs.MatrixText.{matrix_of};
+ghost use Rattle.bt_plan.specs.ScheduleText.{schedule_of};
+ghost use Rattle.bt_plan.specs.Stub.{IsOfBeams};
+ghost use Rattle.bt_cli.specs.Outcome.{IsContent, CannotRead, IsLoaded, StopsAtLoad};
 ghost use Rattle.bt_cli.specs.Answer.{StopIs, NamesFault};
 
 use crate::answer::{Answer, Stop};
 use crate::lines::text_fault_line;
-use bt_base::{FileFault, Files};
-use bt_plan::TextFault;
+use bt_base::{FileFault, Files, Schedule};
+use bt_matrix::Dense;
+use bt_plan::{TextFault, read_matrix, read_schedule};
 use std::alloc::Global;
 
 /// The most bytes that a file may have: 4 MiB.
@@ -46,4 +50,36 @@ pub fn text_stop(alloc: Global, fault: TextFault) -> Stop
             Err(_) => Stop::OutOfMemory,
         },
     }
+}
+
+/// The traffic matrix in a file.
+pub fn load_matrix<F: Files>(alloc: Global, files: &mut F, name: &str) -> Result<Dense, Stop>
+    ensures loaded { IfOk result (λ matrix. IsLoaded matrix_of (F.told files.old) name.now matrix) }
+    ensures stops { IfErr result (StopIs (StopsAtLoad matrix_of (F.told files.old)
+        (Rose (F.fault_count files.old) (F.fault_count files.new)) name.now)) }
+    ensures later { F.fault_count files.old ≤ F.fault_count files.new }
+    ensures same { F.told files.new ≡ F.told files.old }
+{
+    let bytes = read_file(alloc, files, name)?;
+    read_matrix(alloc, &bytes).map_err(|fault| text_stop(alloc, fault))
+}
+
+/// The switching schedule in a file, for so many beams.
+pub fn load_schedule<F: Files>(
+    alloc: Global,
+    files: &mut F,
+    name: &str,
+    size: u32,
+) -> Result<Schedule, Stop>
+    requires some { 1 ≤ size }
+    requires few { size ≤ 16 }
+    ensures critical { IfOk result (λ schedule. IsOfBeams size schedule.critical) }
+    ensures loaded { IfOk result (λ schedule. IsLoaded (schedule_of size) (F.told files.old) name.now schedule) }
+    ensures stops { IfErr result (StopIs (StopsAtLoad (schedule_of size) (F.told files.old)
+        (Rose (F.fault_count files.old) (F.fault_count files.new)) name.now)) }
+    ensures later { F.fault_count files.old ≤ F.fault_count files.new }
+    ensures same { F.told files.new ≡ F.told files.old }
+{
+    let bytes = read_file(alloc, files, name)?;
+    read_schedule(alloc, size, &bytes).map_err(|fault| text_stop(alloc, fault))
 }

@@ -1,8 +1,8 @@
 // What the words after the program's name ask for.
-ghost use Rattle.std.specs.Prelude.{◌≡◌, map};
+ghost use Rattle.std.specs.Prelude.{◌≡◌, map, codes, IfSome};
 ghost use Rattle.std.specs.String.{string_bytes};
-ghost use Rattle.bt_cli.specs.Request.{check_request, request_of};
-ghost use Rattle.bt_cli.specs.Command.{asked};
+ghost use Rattle.bt_cli.specs.Request.{check_request, first_word, request_of};
+ghost use Rattle.bt_cli.specs.Command.{asked, name_of};
 
 /// A command with its words.
 #[derive(Clone, Copy, Debug)]
@@ -15,7 +15,8 @@ pub enum Command<'a> {
 
 /// The command that the words ask for.
 pub fn command_of(words: &[String]) -> Command<'_>
-    ensures { asked result ≡ request_of (map string_bytes words.now) }
+    ensures asked { asked result ≡ request_of (map string_bytes words.now) }
+    ensures named { IfSome (name_of result) (λ name. first_word (map string_bytes words.now) ≡ Some name) }
 {
     match words {
         [command, matrix, modes] if command.as_str() == "check" => check_of(matrix, modes),
@@ -24,7 +25,8 @@ pub fn command_of(words: &[String]) -> Command<'_>
 }
 
 fn check_of<'a>(matrix: &'a str, modes: &'a str) -> Command<'a>
-    ensures { asked result ≡ check_request matrix.now modes.now }
+    ensures asked { asked result ≡ check_request matrix.now modes.now }
+    ensures named { IfSome (name_of result) (λ name. name ≡ codes "check") }
 {
     if matrix.is_empty() || modes.is_empty() {
         Command::Faulty
