@@ -19,4 +19,4 @@ pub use mode::{Columns, Mode, Modes};
 pub use numbers::{BeamNo, Command, EditionNo, Mark, OutOfMemory, TermNo, TermSet, Units};
 pub use schedule::{Critical, Schedule};
 pub use sink::{Sink, SinkFault};
-pub use text::{NumbersFault, all_numbers, lines, next_line, number, number_text, words};
+pub use text::{all_numbers, lines, next_line, number, number_text, words};

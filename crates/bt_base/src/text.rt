@@ -1,17 +1,15 @@
 // Numbers, words and lines of a text: what every reader and writer of the centre stands on.
-ghost use Rattle.std.specs.Prelude.{◌≡◌, ℕ, ◌+◌, ◌-◌, ◌^◌, ◌<◌, ◌≤◌, ◌==◌, List, ◌∷◌, ◌++◌, [], map, drop, length, slice_range, decimal, IfOk, IfSome, IfNone, OnOk, OnErr, IsErrOf, if◌then◌else◌, Option};
+ghost use Rattle.std.specs.Prelude.{◌≡◌, ℕ, ◌+◌, ◌-◌, ◌^◌, ◌<◌, ◌≤◌, ◌==◌, List, ◌∷◌, ◌++◌, [], map, drop, length, slice_range, decimal, IfOk, IfSome, IfNone, All, OnOk, OnErr, IsErrOf, if◌then◌else◌, Option};
 ghost use Rattle.std.specs.List.{list_all, slice_split};
 ghost use Rattle.std.specs.Char.{is_ascii_digit};
 ghost use Rattle.std.specs.Option.{option_map};
 ghost use Rattle.std.specs.Str.Parse.{digits_value};
-ghost use Rattle.bt_base.specs.declared.text.NumbersFault.TheVariants.{OutOfMemory};
 ghost use Rattle.bt_base.specs.Text.{words, lines, number_of, numbers_of, capped};
 
 use crate::OutOfMemory;
 use itoa::Buffer;
 use memchr::memchr;
-use std::alloc::{AllocError, AllocFailed, Global};
-use thiserror::Error;
+use std::alloc::Global;
 
 /// The number that a word is, the last `u64` for every number from there on; None where it is no number.
 pub fn number(word: &[u8]) -> Option<u64>
@@ -26,46 +24,23 @@ pub fn number(word: &[u8]) -> Option<u64>
     }
 }
 
-/// Why words are no list of numbers.
-#[derive(Clone, Copy, Debug, PartialEq, Eq, Error)]
-pub enum NumbersFault {
-    /// One of the words is no number.
-    #[error("a word is no number")]
-    NoNumber,
-    /// Memory ran out.
-    #[error("out of memory")]
-    OutOfMemory,
-}
-
-impl From<AllocError> for NumbersFault {
-    ghost from_gives = { λ _ e. e ≡ OutOfMemory };
-
-    fn from(_: AllocError) -> Self {
-        NumbersFault::OutOfMemory
-    }
-}
-
-impl<T: Drop> From<AllocFailed<T>> for NumbersFault {
-    ghost from_gives = { λ _ e. e ≡ OutOfMemory };
-
-    fn from(_: AllocFailed<T>) -> Self {
-        NumbersFault::OutOfMemory
-    }
-}
-
-/// The numbers that the words are, each as `number` gives it.
-pub fn all_numbers(alloc: Global, words: &[&[u8]]) -> Result<Vec<u64>, NumbersFault>
-    ensures ok { IfOk result (λ v. Some v.items ≡ option_map (map capped) (numbers_of (map (λ word. word.now) words.now))) }
-    ensures no_number { IsErrOf result NumbersFault.NoNumber → numbers_of (map (λ word. word.now) words.now) ≡ None }
+/// The numbers that the words are, each as `number` gives it; None where one of the words is no number.
+pub fn all_numbers(alloc: Global, words: &[&[u8]]) -> Result<Option<Vec<u64>>, OutOfMemory>
+    ensures value { IfOk result (λ found.
+        option_map (λ v. v.items) found ≡ option_map (map capped) (numbers_of (map (λ word. word.now) words.now))) }
+    ensures exact { IfOk result (λ found. IfSome found (λ v.
+        All (λ n. n < 2 ^ 64 - 1) v.items → numbers_of (map (λ word. word.now) words.now) ≡ Some v.items)) }
+    ensures length { IfOk result (λ found. IfSome found (λ v. length v.items ≡ length words.now)) }
+    ensures none { IfOk result (λ found. IfNone found (numbers_of (map (λ word. word.now) words.now) ≡ None)) }
 {
     let mut numbers = Vec::with_capacity(alloc, words.len())?;
     for word in words {
         let Some(number) = number(word) else {
-            return Err(NumbersFault::NoNumber);
+            return Ok(None);
         };
         numbers.push(number)?;
     }
-    Ok(numbers)
+    Ok(Some(numbers))
 }
 
 // The number that the digits write, the last u64 for every number from there on; None where a byte is no digit.
