@@ -10,5 +10,6 @@ mod text_fault;
 mod verdict;
 
 pub use laws::one_verdict;
+pub use schedule_check::check_modes;
 pub use text_fault::{TextCode, TextFault};
 pub use verdict::Verdict;
