@@ -1,1 +1,3 @@
 mod LookUp
+pub mod TextLines
+pub mod TextNumbers

@@ -2,7 +2,8 @@
 //! and lines of a text, and what files, a sink and a store of records promise.
 //!
 //! `docs/definitions.md` has the meaning of each word. `specs/Told.antt` says what the outside promises,
-//! `specs/Text.antt` what a number, a word and a line of a text are.
+//! `specs/Held.antt` and `specs/Calls.antt` what its objects in memory are seen as, `specs/Text.antt` what a
+//! number, a word and a line of a text are.
 #![tactic(auto)]
 
 mod dir_files;
@@ -20,6 +21,7 @@ mod std_sink;
 mod sure_files;
 mod sure_keeper;
 mod sure_sink;
+mod text;
 
 pub use dir_files::DirFiles;
 pub use fail::Fail;
@@ -35,3 +37,4 @@ pub use std_sink::StdSink;
 pub use sure_files::SureFiles;
 pub use sure_keeper::SureKeeper;
 pub use sure_sink::SureSink;
+pub use text::{all_numbers, lines, next_line, number, number_text, words};

@@ -1,0 +1,11 @@
+//! Traffic matrices: the slots per frame that each uplink beam asks for to each downlink beam.
+//!
+//! `specs/Traffic.antt` says what a matrix and its line sums are, `specs/Good.antt` when a switching
+//! schedule is good for a matrix. `docs/definitions.md` has both in words.
+#![tactic(auto)]
+
+mod dense;
+mod traffic;
+
+pub use dense::Dense;
+pub use traffic::{SUM_LAST, Traffic};
