@@ -2,7 +2,8 @@
 //! and lines of a text, and what files, a sink and a store of records promise.
 //!
 //! `docs/definitions.md` has the meaning of each word. `specs/Told.antt` says what the outside promises,
-//! `specs/Text.antt` what a number, a word and a line of a text are.
+//! `specs/Held.antt` and `specs/Calls.antt` what its objects in memory are seen as, `specs/Text.antt` what a
+//! number, a word and a line of a text are.
 #![tactic(auto)]
 
 mod dir_files;

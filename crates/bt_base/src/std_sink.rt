@@ -6,7 +6,8 @@ use std::alloc::Global;
 use std::io;
 use std::io::{ErrorKind, Write};
 
-/// Standard output, or another writer. What it holds is not told.
+/// Standard output, or another writer. What it holds is not told. Where the writer itself wants memory, that is
+/// the answer, and no fault is counted.
 #[derive(Drop)]
 pub struct StdSink<W> {
     out: W,
