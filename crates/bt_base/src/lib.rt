@@ -11,6 +11,7 @@ mod mode;
 mod numbers;
 mod schedule;
 mod sink;
+mod spelling;
 mod text;
 
 pub use files::{FileFault, Files};
@@ -19,4 +20,8 @@ pub use mode::{Columns, Mode, Modes};
 pub use numbers::{BeamNo, Command, EditionNo, Mark, OutOfMemory, TermNo, TermSet, Units};
 pub use schedule::{Critical, Schedule};
 pub use sink::{Sink, SinkFault};
+pub use spelling::{
+    lines_have_one_text, number_lines_have_one_spelling, numbers_have_one_spelling,
+    words_have_one_line,
+};
 pub use text::{all_numbers, lines, next_line, number, number_text, words};
