@@ -72,7 +72,8 @@ impl Traffic for Dense {
     }
 
     fn get(&self, up: BeamNo, down: BeamNo) -> u32 {
-        self.rows[up.0 as usize][down.0 as usize]
+        let row = &self.rows[up.0 as usize];
+        row[down.0 as usize]
     }
 
     fn row_sum(&self, up: BeamNo) -> u32 {
@@ -177,3 +178,6 @@ fn column_sum_of(rows: &[Vec<u32>], down: usize) -> u32
     }
     sum
 }
+
+#[cfg(test)]
+mod tests;
