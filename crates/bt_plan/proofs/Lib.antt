@@ -1,0 +1,4 @@
+pub mod Capped
+pub mod Faults
+pub mod Rows
+pub mod TextLines

@@ -4,8 +4,11 @@
 //! grammars, line by line, with the fault of each line.
 #![tactic(auto)]
 
+mod lines;
+mod matrix_text;
 mod text_fault;
 mod verdict;
 
+pub use matrix_text::matrix_rows;
 pub use text_fault::{TextCode, TextFault};
 pub use verdict::Verdict;
