@@ -26,7 +26,7 @@ list_all-capped most [] small = refl
 list_all-capped most (n ∷ ns) small = rw (leb-capped most n small, list_all-capped most ns small) refl
 
 -- a test that holds of both
-and_parts : (a b : Bool) → (a && b) ≡ true → (a ≡ true) × (b ≡ true)
+pub and_parts : (a b : Bool) → (a && b) ≡ true → (a ≡ true) × (b ≡ true)
 and_parts true b e = (refl, e)
 and_parts false b e = absurd cc
 

@@ -1,4 +1,6 @@
 pub mod Capped
 pub mod Faults
+pub mod Front
+pub mod ModeLines
 pub mod Rows
 pub mod TextLines

@@ -10,6 +10,7 @@ use Rattle.bt_plan.specs.declared.text_fault.TextFault.{TextFault}
 use Rattle.bt_plan.specs.declared.text_fault.TextFault.TheVariants.{At, OutOfMemory}
 use Rattle.bt_plan.specs.Reading.{Reading, ◌>>=◌, or_fault, IsFaultOf}
 use Rattle.bt_plan.specs.MatrixText.{size_in, row_in, rows_in, matrix_in, matrix_of}
+use Rattle.bt_plan.proofs.Front.{with_front, regroup}
 use Rattle.bt_plan.proofs.TextLines.{lines-HasFirst, lines_after_end}
 use Rattle.bt_plan.proofs.Capped.{list_all-capped, map-capped, cond-at_true}
 
@@ -35,14 +36,6 @@ row_in-some size at ns =
 pub row_from_numbers : (size at : ℕ) (o : Option (List ℕ)) → row_in size at o ≡ (or_fault X1 at (option_map (map capped) o) >>= λ ns. row_in size at (Some ns))
 row_from_numbers size at None = refl
 row_from_numbers size at (Some ns) = row_in-some size at ns
-
--- what was read before, and what is still read
-abbrev pub with_front : List (List ℕ) → Reading (List (List ℕ)) → Reading (List (List ℕ))
-with_front front reading = reading >>= λ rows. Ok (front ++ rows)
-
-regroup : (front : List (List ℕ)) (row : List ℕ) (reading : Reading (List (List ℕ))) → with_front front (reading >>= λ rows. Ok (row ∷ rows)) ≡ with_front (front ++ row ∷ []) reading
-regroup front row (Ok rows) = ap (λ (all : List (List ℕ)). Ok all) (simp append_assoc)
-regroup front row (Err f) = refl
 
 -- the rows left in the text that begins with line `at`, when line 2 has the first
 abbrev pub left : ℕ → ℕ → List (List ℕ) → Reading (List (List ℕ))

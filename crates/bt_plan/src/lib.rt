@@ -6,9 +6,11 @@
 
 mod lines;
 mod matrix_text;
+mod schedule_text;
 mod text_fault;
 mod verdict;
 
 pub use matrix_text::matrix_rows;
+pub use schedule_text::read_schedule;
 pub use text_fault::{TextCode, TextFault};
 pub use verdict::Verdict;
