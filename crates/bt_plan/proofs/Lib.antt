@@ -2,5 +2,8 @@ pub mod Capped
 pub mod Faults
 pub mod Front
 pub mod ModeLines
+mod OneVerdict
 pub mod Rows
+mod Seen
 pub mod TextLines
+mod Walk

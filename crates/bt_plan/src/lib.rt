@@ -4,12 +4,15 @@
 //! grammars, line by line, with the fault of each line.
 #![tactic(auto)]
 
+mod laws;
 mod lines;
 mod matrix_text;
+mod schedule_check;
 mod schedule_text;
 mod text_fault;
 mod verdict;
 
+pub use laws::one_verdict;
 pub use matrix_text::matrix_rows;
 pub use schedule_text::read_schedule;
 pub use text_fault::{TextCode, TextFault};
