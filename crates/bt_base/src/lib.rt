@@ -11,6 +11,7 @@ mod mode;
 mod numbers;
 mod schedule;
 mod sink;
+mod text;
 
 pub use files::{FileFault, Files};
 pub use keeper::{KeepFault, Keeper, STORE_LAST};
@@ -18,3 +19,4 @@ pub use mode::{Columns, Mode, Modes};
 pub use numbers::{BeamNo, Command, EditionNo, Mark, OutOfMemory, TermNo, TermSet, Units};
 pub use schedule::{Critical, Schedule};
 pub use sink::{Sink, SinkFault};
+pub use text::{all_numbers, lines, next_line, number, number_text, words};
