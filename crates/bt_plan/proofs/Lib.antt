@@ -5,5 +5,6 @@ pub mod ModeLines
 mod OneVerdict
 pub mod Rows
 mod Seen
+pub mod Spelled
 pub mod TextLines
 mod Walk

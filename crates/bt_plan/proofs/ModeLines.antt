@@ -25,10 +25,10 @@ mode_with-capped size (duration ∷ perm) =
     let others : Bool = eqb (length perm) size && list_all (λ down. leb down 255) perm in
     rw (leb-capped 65536 duration (lit< tt), length-map perm capped, list_all-capped 255 perm (lit< tt))
     (cond-at_true (leb duration 65536 && others) (Some (mode duration perm)) (Some (mode (capped duration) (map capped perm))) None
-      (λ e.
-        let parts = and_parts (leb duration 65536) others e in
-        let small = and_parts (eqb (length perm) size) (list_all (λ down. leb down 255) perm) parts.1 in
-        rw (capped-small 65536 duration (lit< tt) (leb-true duration 65536 parts.0), map-capped 255 perm (lit< tt) small.1) refl))
+    (λ e.
+    let parts = and_parts (leb duration 65536) others e in
+    let small = and_parts (eqb (length perm) size) (list_all (λ down. leb down 255) perm) parts.1 in
+    rw (capped-small 65536 duration (lit< tt) (leb-true duration 65536 parts.0), map-capped 255 perm (lit< tt) small.1) refl))
 
 pub mode_from_numbers : (size at : ℕ) (o : Option (List ℕ)) → or_fault M1 at (option_and_then (mode_with size) o) ≡ (or_fault M1 at (option_map (map capped) o) >>= λ ns. or_fault M1 at (mode_with size ns))
 mode_from_numbers size at None = refl

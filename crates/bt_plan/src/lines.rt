@@ -5,7 +5,7 @@ ghost use Rattle.bt_base.specs.Text.{words, lines, numbers_of, capped};
 ghost use Rattle.bt_plan.specs.Reading.{Gives, or_fault};
 
 use crate::{TextCode, TextFault};
-use bt_base::{NumbersFault, all_numbers, next_line, words};
+use bt_base::{all_numbers, next_line, words};
 use std::alloc::Global;
 
 /// The first line of a text and what follows its newline; None where the text has no newline.
@@ -42,9 +42,12 @@ pub fn numbers_of_words(
 ) -> Result<Vec<u64>, TextFault>
     ensures { Gives (λ v. v.items) result (or_fault code at (option_map (map capped) (numbers_of (map (λ word. word.now) words.now)))) }
 {
-    match all_numbers(alloc, words) {
-        Ok(numbers) => Ok(numbers),
-        Err(NumbersFault::NoNumber) => Err(TextFault::At { code, line: at }),
-        Err(NumbersFault::OutOfMemory) => Err(TextFault::OutOfMemory),
-    }
+    all_numbers(alloc, words)?.ok_or(fault_at(code, at))
+}
+
+/// What is wrong with a line, counted from 1.
+pub fn fault_at(code: TextCode, line: u32) -> TextFault
+    ensures { result ≡ TextFault.At code line }
+{
+    TextFault::At { code, line }
 }

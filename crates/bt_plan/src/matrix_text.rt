@@ -4,7 +4,7 @@ ghost use Rattle.bt_base.specs.Text.{words, lines, numbers_of};
 ghost use Rattle.bt_plan.specs.Reading.{Gives};
 ghost use Rattle.bt_plan.specs.MatrixText.{size_in, row_in, rows_in, matrix_of};
 
-use crate::lines::{first_line, line_numbers};
+use crate::lines::{fault_at, first_line, line_numbers};
 use crate::{TextCode, TextFault};
 use std::alloc::Global;
 
@@ -16,10 +16,7 @@ pub fn matrix_rows(alloc: Global, text: &[u8]) -> Result<Vec<Vec<u32>>, TextFaul
     ensures { Gives (λ rows. map (λ row. row.items) rows.items) result (matrix_of text.now) }
 {
     let Some((line, rest)) = first_line(text) else {
-        return Err(TextFault::At {
-            code: TextCode::X1,
-            line: 1,
-        });
+        return Err(fault_at(TextCode::X1, 1));
     };
     let size = size_line(alloc, line)?;
     rows(alloc, size, rest)
@@ -38,14 +35,8 @@ fn size(numbers: &[u64]) -> Result<u32, TextFault>
 {
     match numbers {
         [size @ 1..=16] => Ok(*size as u32),
-        [_] => Err(TextFault::At {
-            code: TextCode::X2,
-            line: 1,
-        }),
-        _ => Err(TextFault::At {
-            code: TextCode::X1,
-            line: 1,
-        }),
+        [_] => Err(fault_at(TextCode::X2, 1)),
+        _ => Err(fault_at(TextCode::X1, 1)),
     }
 }
 
@@ -58,19 +49,13 @@ fn rows(alloc: Global, size: u32, text: &[u8]) -> Result<Vec<Vec<u32>>, TextFaul
     let mut rest = text;
     for at in 2..size + 2 {
         let Some((line, after)) = first_line(rest) else {
-            return Err(TextFault::At {
-                code: TextCode::X1,
-                line: at,
-            });
+            return Err(fault_at(TextCode::X1, at));
         };
         rows.push(row_line(alloc, size, at, line)?)?;
         rest = after;
     }
     if !rest.is_empty() {
-        return Err(TextFault::At {
-            code: TextCode::X1,
-            line: size + 2,
-        });
+        return Err(fault_at(TextCode::X1, size + 2));
     }
     Ok(rows)
 }
@@ -88,18 +73,12 @@ fn row(alloc: Global, size: u32, at: u32, numbers: &[u64]) -> Result<Vec<u32>, T
     ensures { Gives (λ row. row.items) result (row_in size at (Some numbers.now)) }
 {
     if numbers.len() != size as usize {
-        return Err(TextFault::At {
-            code: TextCode::X1,
-            line: at,
-        });
+        return Err(fault_at(TextCode::X1, at));
     }
     let mut row = Vec::with_capacity(alloc, numbers.len())?;
     for units in numbers {
         if *units > ENTRY_LAST {
-            return Err(TextFault::At {
-                code: TextCode::X2,
-                line: at,
-            });
+            return Err(fault_at(TextCode::X2, at));
         }
         row.push(*units as u32)?;
     }

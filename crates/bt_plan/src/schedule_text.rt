@@ -1,13 +1,13 @@
 // The text of a switching schedule: its length, its critical line, its modes in a line each, and `end`.
-ghost use Rattle.std.specs.Prelude.{◌≡◌, ◌≤◌, ◌<◌, ◌-◌, ◌^◌, ◌==◌, ℕ, List, length, map, nat_le, Some, Ok, Err, IfOk, option_and_then, if◌then◌else◌};
+ghost use Rattle.std.specs.Prelude.{◌≡◌, ◌≤◌, ◌<◌, ◌-◌, ◌^◌, ◌==◌, length, map, nat_le, Some, Ok, Err, IfOk, option_and_then, if◌then◌else◌};
 ghost use Rattle.std.specs.List.{list_all};
 ghost use Rattle.bt_base.specs.Text.{words, lines, numbers_of};
-ghost use Rattle.bt_matrix.specs.Traffic.{IsLine};
 ghost use Rattle.bt_plan.specs.declared.text_fault.TextCode.TheVariants.{M1};
+ghost use Rattle.bt_plan.specs.Critical.{IsOfBeams};
 ghost use Rattle.bt_plan.specs.Reading.{Gives, or_fault};
 ghost use Rattle.bt_plan.specs.ScheduleText.{is_word, number_to, length_in, line_in, critical_in, mode_with, mode_in, modes_in, critical_and_modes, schedule_of};
 
-use crate::lines::{first_line, numbers_of_words};
+use crate::lines::{fault_at, first_line, numbers_of_words};
 use crate::{TextCode, TextFault};
 use bt_base::{BeamNo, Columns, Critical, Mode, Modes, Schedule, number, words};
 use std::alloc::Global;
@@ -20,9 +20,7 @@ pub fn read_schedule(alloc: Global, size: u32, bytes: &[u8]) -> Result<Schedule,
     requires few { size ≤ 16 }
     requires short { length bytes.now ≤ 67108864 }
     ensures reading { Gives (λ schedule. schedule) result (schedule_of size bytes.now) }
-    // The critical line is one of every matrix of that size.
-    ensures critical { IfOk result (λ schedule.
-        (rows : List (List ℕ)) → length rows ≡ size → IsLine rows schedule.critical) }
+    ensures critical { IfOk result (λ schedule. IsOfBeams size schedule.critical) }
 {
     let Some((line, rest)) = first_line(bytes) else {
         return Err(fault(1));
@@ -35,10 +33,7 @@ pub fn read_schedule(alloc: Global, size: u32, bytes: &[u8]) -> Result<Schedule,
 fn fault(line: u32) -> TextFault
     ensures { result ≡ TextFault.At M1 line }
 {
-    TextFault::At {
-        code: TextCode::M1,
-        line,
-    }
+    fault_at(TextCode::M1, line)
 }
 
 // The word is this one.
@@ -78,7 +73,12 @@ fn slots(words: &[&[u8]]) -> Option<u32>
 }
 
 // The critical line in line 2, and the modes in the lines that follow.
-fn critical_and_modes(alloc: Global, size: u32, slots: u32, text: &[u8]) -> Result<Schedule, TextFault>
+fn critical_and_modes(
+    alloc: Global,
+    size: u32,
+    slots: u32,
+    text: &[u8],
+) -> Result<Schedule, TextFault>
     requires few { size ≤ 16 }
     requires short { length text.now ≤ 67108864 }
     ensures { Gives (λ schedule. schedule) result (critical_and_modes size slots (lines text.now)) }
