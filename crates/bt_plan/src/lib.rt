@@ -13,7 +13,7 @@ mod text_fault;
 mod verdict;
 
 pub use laws::one_verdict;
-pub use matrix_text::matrix_rows;
+pub use matrix_text::read_matrix;
 pub use schedule_text::read_schedule;
 pub use text_fault::{TextCode, TextFault};
 pub use verdict::Verdict;

@@ -6,13 +6,23 @@ ghost use Rattle.bt_plan.specs.MatrixText.{size_in, row_in, rows_in, matrix_of};
 
 use crate::lines::{fault_at, first_line, line_numbers};
 use crate::{TextCode, TextFault};
+use bt_matrix::Dense;
 use std::alloc::Global;
 
 /// The greatest entry of a matrix in a text, in slots.
 const ENTRY_LAST: u64 = 4096;
 
+/// The traffic matrix that a text spells, or the first line with a fault.
+pub fn read_matrix(alloc: Global, bytes: &[u8]) -> Result<Dense, TextFault>
+    requires { length bytes.now ≤ 67108864 }
+    ensures { Gives (λ matrix. matrix) result (matrix_of bytes.now) }
+{
+    let rows = matrix_rows(alloc, bytes)?;
+    Ok(Dense::of(rows))
+}
+
 // The rows of the matrix that the text spells.
-pub fn matrix_rows(alloc: Global, text: &[u8]) -> Result<Vec<Vec<u32>>, TextFault>
+fn matrix_rows(alloc: Global, text: &[u8]) -> Result<Vec<Vec<u32>>, TextFault>
     ensures { Gives (λ rows. map (λ row. row.items) rows.items) result (matrix_of text.now) }
 {
     let Some((line, rest)) = first_line(text) else {
