@@ -1,5 +1,5 @@
 // The text of a traffic matrix: its size in a line, then a line for each row.
-ghost use Rattle.std.specs.Prelude.{◌≡◌, ◌≤◌, length, map, Some};
+ghost use Rattle.std.specs.Prelude.{◌≤◌, map, Some};
 ghost use Rattle.bt_base.specs.Text.{words, lines, numbers_of};
 ghost use Rattle.bt_plan.specs.Reading.{Gives};
 ghost use Rattle.bt_plan.specs.MatrixText.{size_in, row_in, rows_in, matrix_of};
@@ -14,7 +14,6 @@ const ENTRY_LAST: u64 = 4096;
 
 /// The traffic matrix that a text spells, or the first line with a fault.
 pub fn read_matrix(alloc: Global, bytes: &[u8]) -> Result<Dense, TextFault>
-    requires { length bytes.now ≤ 67108864 }
     ensures { Gives (λ matrix. matrix) result (matrix_of bytes.now) }
 {
     let rows = matrix_rows(alloc, bytes)?;
@@ -93,4 +92,85 @@ fn row(alloc: Global, size: u32, at: u32, numbers: &[u64]) -> Result<Vec<u32>, T
         row.push(*units as u32)?;
     }
     Ok(row)
+}
+
+#[cfg(test)]
+mod tests {
+    use super::*;
+    use bt_base::BeamNo;
+    use bt_matrix::Traffic;
+    use std::test::Fail;
+
+    #[test]
+    fn a_matrix_is_read_row_by_row(rt: HostRuntime) -> Result<(), Fail> {
+        let texts = [
+            ("1\n0\n", [[0, 0, 0], [0, 0, 0], [0, 0, 0]]),
+            ("1\n4096\n", [[4096, 0, 0], [0, 0, 0], [0, 0, 0]]),
+            ("2\n0 3\n3 0\n", [[0, 3, 0], [3, 0, 0], [0, 0, 0]]),
+            (
+                "3\n2 1 0\n0 2 2\n1 0 1\n",
+                [[2, 1, 0], [0, 2, 2], [1, 0, 1]],
+            ),
+        ];
+        for (text, rows) in texts {
+            let matrix = read_matrix(rt.alloc(), text.as_bytes())?;
+            let size = matrix.size();
+            assert!(rt; size <= 3, "of {text}");
+            for up in 0..size {
+                for down in 0..size {
+                    let units = matrix.get(BeamNo(up as u8), BeamNo(down as u8));
+                    assert_eq!(rt; units, rows[up as usize][down as usize], "of {text}");
+                }
+            }
+        }
+        Ok(())
+    }
+
+    #[test]
+    fn the_first_fault_of_a_matrix_is_named(rt: HostRuntime) {
+        use TextCode::*;
+        let faults = [
+            // the size
+            ("", X1, 1),
+            ("2", X1, 1),
+            ("\n", X1, 1),
+            ("a\n", X1, 1),
+            ("-1\n", X1, 1),
+            ("01\n", X1, 1),
+            ("2 2\n0 3\n3 0\n", X1, 1),
+            ("2\r\n0 3\r\n3 0\r\n", X1, 1),
+            ("0\n", X2, 1),
+            ("17\n", X2, 1),
+            ("99999999999999999999999\n", X2, 1),
+            // a row
+            ("2\n0  3\n3 0\n", X1, 2),
+            ("2\n 0 3\n3 0\n", X1, 2),
+            ("2\n0 3 \n3 0\n", X1, 2),
+            ("2\n0\t3\n3 0\n", X1, 2),
+            ("2\n0 3\r\n3 0\n", X1, 2),
+            ("2\n0 3 1\n3 0\n", X1, 2),
+            ("2\n0\n3 0\n", X1, 2),
+            ("2\n\n3 0\n", X1, 2),
+            ("2\n0 a\n3 0\n", X1, 2),
+            ("2\n0 é\n3 0\n", X1, 2),
+            ("2\n0 03\n3 0\n", X1, 2),
+            ("2\n0 4097\n3 0\n", X2, 2),
+            ("2\n0 99999999999999999999999\n3 0\n", X2, 2),
+            ("2\n4097 a\n3 0\n", X1, 2),
+            ("2\n4097 0 0\n3 0\n", X1, 2),
+            ("2\n0 4097\n3\n", X2, 2),
+            ("2\n0 3\n3 4097\n", X2, 3),
+            // a line that is missing, or one too many
+            ("2\n", X1, 2),
+            ("2\n0 3\n", X1, 3),
+            ("2\n0 3\n3 0", X1, 3),
+            ("2\n0 3\n3 0\n\n", X1, 4),
+            ("2\n0 3\n3 0\nx", X1, 4),
+            ("2\n0 3\n3 0\n0 0\n", X1, 4),
+        ];
+        for (text, code, line) in faults {
+            let fault = read_matrix(rt.alloc(), text.as_bytes()).err();
+            assert_eq!(rt; fault, Some(TextFault::At { code, line }), "of {text:?}");
+        }
+    }
 }

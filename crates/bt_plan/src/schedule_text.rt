@@ -227,3 +227,86 @@ fn columns(alloc: Global, at: u32, numbers: &[u64]) -> Result<Columns, TextFault
     }
     Ok(Columns::of(columns))
 }
+
+#[cfg(test)]
+mod tests {
+    use super::*;
+    use std::test::Fail;
+
+    #[test]
+    fn a_schedule_is_read_line_by_line(rt: HostRuntime) -> Result<(), Fail> {
+        let text = "length 3\ncritical row 0\nmode 3 1 0\nend\n";
+        let schedule = read_schedule(rt.alloc(), 2, text.as_bytes())?;
+        assert_eq!(rt; schedule.length, 3);
+        assert_eq!(rt; schedule.critical, Critical::Row(BeamNo(0)));
+        assert_eq!(rt; schedule.modes.as_slice().len(), 1);
+        for mode in schedule.modes.as_slice() {
+            assert_eq!(rt; mode.duration, 3);
+            assert_eq!(rt; mode.perm.as_slice(), [1, 0].as_slice());
+        }
+        Ok(())
+    }
+
+    #[test]
+    fn limits_are_within_a_schedule(rt: HostRuntime) -> Result<(), Fail> {
+        let text = "length 65536\ncritical column 1\nmode 65536 255 0\nmode 0 0 0\nend\n";
+        let schedule = read_schedule(rt.alloc(), 2, text.as_bytes())?;
+        assert_eq!(rt; schedule.length, 65536);
+        assert_eq!(rt; schedule.critical, Critical::Column(BeamNo(1)));
+        let durations = [65536, 0];
+        let perms = [[255, 0], [0, 0]];
+        assert_eq!(rt; schedule.modes.as_slice().len(), 2);
+        for (place, mode) in schedule.modes.as_slice().iter().enumerate() {
+            assert_eq!(rt; mode.duration, durations[place]);
+            assert_eq!(rt; mode.perm.as_slice(), perms[place].as_slice());
+        }
+        let none = read_schedule(rt.alloc(), 1, b"length 0\ncritical row 0\nend\n")?;
+        assert_eq!(rt; none.modes.as_slice().len(), 0);
+        Ok(())
+    }
+
+    #[test]
+    fn the_first_fault_of_a_schedule_is_named(rt: HostRuntime) {
+        let faults = [
+            ("", 1),
+            ("length 3", 1),
+            ("length\n", 1),
+            ("length 3 \n", 1),
+            ("Length 3\n", 1),
+            ("lengths 3\n", 1),
+            ("length 03\n", 1),
+            ("length 65537\n", 1),
+            ("length 99999999999999999999999\n", 1),
+            ("length 3\r\ncritical row 0\r\nmode 3 1 0\r\nend\r\n", 1),
+            ("length 3\n", 2),
+            ("length 3\ncritical row 0", 2),
+            ("length 3\ncritical row\n", 2),
+            ("length 3\ncritical row 2\nmode 3 1 0\nend\n", 2),
+            ("length 3\ncritical column 2\nmode 3 1 0\nend\n", 2),
+            ("length 3\ncritical line 0\nmode 3 1 0\nend\n", 2),
+            ("length 3\ncritical  row 0\nmode 3 1 0\nend\n", 2),
+            ("length 3\ncritical row 99999999999999999999999\nend\n", 2),
+            ("length 3\ncritical row 0\n", 3),
+            ("length 3\ncritical row 0\nmode 3 1\nend\n", 3),
+            ("length 3\ncritical row 0\nmode 3 1 0 1\nend\n", 3),
+            ("length 3\ncritical row 0\nmode\nend\n", 3),
+            ("length 3\ncritical row 0\nmode 3 1 256\nend\n", 3),
+            ("length 3\ncritical row 0\nmode 65537 1 0\nend\n", 3),
+            ("length 3\ncritical row 0\nmode 3 1 x\nend\n", 3),
+            ("length 3\ncritical row 0\n\nend\n", 3),
+            ("length 3\ncritical row 0\nend", 3),
+            ("length 3\ncritical row 0\nend \n", 3),
+            ("length 3\ncritical row 0\nmode 3 1 0\n", 4),
+            ("length 3\ncritical row 0\nmode 3 1 0", 3),
+            ("length 3\ncritical row 0\nmode 3 1 0\nend\n\n", 5),
+            ("length 3\ncritical row 0\nmode 3 1 0\nend\nx", 5),
+        ];
+        for (text, line) in faults {
+            let bytes = text.as_bytes();
+            assert!(rt; bytes.len() <= 1000);
+            let fault = read_schedule(rt.alloc(), 2, bytes).err();
+            let code = TextCode::M1;
+            assert_eq!(rt; fault, Some(TextFault::At { code, line }), "of {text:?}");
+        }
+    }
+}
