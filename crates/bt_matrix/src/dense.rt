@@ -1,5 +1,5 @@
 // A traffic matrix kept in whole, one vector a row.
-ghost use Rattle.std.specs.Prelude.{◌≡◌, ℕ, ◌+◌, ◌-◌, ◌<◌, ◌≤◌, ◌⊎◌, ◌^◌, List, length, map, replicate, sum, sum_by, slice_index, All, OnOk, OnErr, IfOk};
+ghost use Rattle.std.specs.Prelude.{◌≡◌, ℕ, ◌-◌, ◌<◌, ◌≤◌, ◌^◌, length, map, replicate, sum, sum_by, slice_index, All, IfOk};
 ghost use Rattle.bt_matrix.specs.Traffic.{row_sum, column_sum, IsTraffic};
 ghost use Rattle.bt_matrix.specs.Dense.{IsFirstGreatest};
 
