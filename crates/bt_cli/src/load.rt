@@ -2,7 +2,8 @@
 ghost use Rattle.std.specs.Prelude.{◌≡◌, ◌≤◌, IfOk, IfErr};
 ghost use Rattle.bt_base.specs.Told.{Rose};
 ghost use Rattle.bt_plan.specs.MatrixText.{matrix_of};
-ghost use Rattle.bt_plan.specs.ScheduleText.{schedule_of, IsOfBeams};
+ghost use Rattle.bt_plan.specs.Critical.{IsOfBeams};
+ghost use Rattle.bt_plan.specs.ScheduleText.{schedule_of};
 ghost use Rattle.bt_cli.specs.Outcome.{IsContent, CannotRead, IsLoaded, StopsAtLoad};
 ghost use Rattle.bt_cli.specs.Answer.{StopIs, NamesFault};
 
