@@ -1,3 +1,3 @@
-mod LookUp
 pub mod TextLines
 pub mod TextNumbers
+mod LookUp

@@ -17,6 +17,7 @@ mod named;
 mod numbers;
 mod schedule;
 mod sink;
+mod spelling;
 mod std_sink;
 mod sure_files;
 mod sure_keeper;
@@ -33,6 +34,10 @@ pub use mode::{Columns, Mode, Modes};
 pub use numbers::{BeamNo, Command, EditionNo, Mark, OutOfMemory, TermNo, TermSet, Units};
 pub use schedule::{Critical, Schedule};
 pub use sink::{Sink, SinkFault};
+pub use spelling::{
+    lines_have_one_text, number_lines_have_one_spelling, numbers_have_one_spelling,
+    words_have_one_line,
+};
 pub use std_sink::StdSink;
 pub use sure_files::SureFiles;
 pub use sure_keeper::SureKeeper;

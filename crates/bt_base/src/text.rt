@@ -1,5 +1,5 @@
 // Numbers, words and lines of a text: what every reader and writer of the centre stands on.
-ghost use Rattle.std.specs.Prelude.{◌≡◌, ℕ, ◌+◌, ◌-◌, ◌^◌, ◌<◌, ◌≤◌, ◌==◌, List, ◌∷◌, ◌++◌, [], map, drop, length, slice_range, decimal, IfOk, IfSome, IfNone, All, OnOk, OnErr, IsErrOf, if◌then◌else◌, Option};
+ghost use Rattle.std.specs.Prelude.{◌≡◌, ℕ, ◌+◌, ◌-◌, ◌^◌, ◌<◌, ◌≤◌, ◌==◌, List, ◌∷◌, ◌++◌, [], map, drop, length, vec_len, slice_range, decimal, IfOk, IfSome, IfNone, All, OnOk, OnErr, IsErrOf, if◌then◌else◌, Option};
 ghost use Rattle.std.specs.List.{list_all, slice_split};
 ghost use Rattle.std.specs.Char.{is_ascii_digit};
 ghost use Rattle.std.specs.Option.{option_map};
@@ -30,7 +30,7 @@ pub fn all_numbers(alloc: Global, words: &[&[u8]]) -> Result<Option<Vec<u64>>, O
         option_map (λ v. v.items) found ≡ option_map (map capped) (numbers_of (map (λ word. word.now) words.now))) }
     ensures exact { IfOk result (λ found. IfSome found (λ v.
         All (λ n. n < 2 ^ 64 - 1) v.items → numbers_of (map (λ word. word.now) words.now) ≡ Some v.items)) }
-    ensures length { IfOk result (λ found. IfSome found (λ v. length v.items ≡ length words.now)) }
+    ensures count { IfOk result (λ found. IfSome found (λ v. vec_len v ≡ length words.now)) }
     ensures none { IfOk result (λ found. IfNone found (numbers_of (map (λ word. word.now) words.now) ≡ None)) }
 {
     let mut numbers = Vec::with_capacity(alloc, words.len())?;
@@ -85,14 +85,16 @@ pub fn next_line(bytes: &[u8], place: usize) -> Option<(usize, usize)>
 
 /// The words of a line, cut at every single space.
 pub fn words(alloc: Global, line: &[u8]) -> Result<Vec<&[u8]>, OutOfMemory>
-    ensures { IfOk result (λ v. map (λ word. word.now) v.items ≡ words line.now) }
+    ensures words { IfOk result (λ v. map (λ word. word.now) v.items ≡ words line.now) }
+    ensures count { IfOk result (λ v. vec_len v ≡ length (words line.now)) }
 {
     cut_at(alloc, line, b' ')
 }
 
 /// The lines of a text, cut at every newline: the last of them is what stands behind the last newline.
 pub fn lines(alloc: Global, text: &[u8]) -> Result<Vec<&[u8]>, OutOfMemory>
-    ensures { IfOk result (λ v. map (λ line. line.now) v.items ≡ lines text.now) }
+    ensures lines { IfOk result (λ v. map (λ line. line.now) v.items ≡ lines text.now) }
+    ensures count { IfOk result (λ v. vec_len v ≡ length (lines text.now)) }
 {
     cut_at(alloc, text, b'\n')
 }
