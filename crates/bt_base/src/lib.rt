@@ -2,7 +2,8 @@
 //! and lines of a text, and what files, a sink and a store of records promise.
 //!
 //! `docs/definitions.md` has the meaning of each word. `specs/Told.antt` says what the outside promises,
-//! `specs/Text.antt` what a number, a word and a line of a text are.
+//! `specs/Text.antt` what a number, a word and a line of a text are, and `spelling.rt` that each is spelled
+//! in one way.
 #![tactic(auto)]
 
 mod files;

@@ -1,5 +1,5 @@
 // Numbers, words and lines of a text: what every reader and writer of the centre stands on.
-ghost use Rattle.std.specs.Prelude.{◌≡◌, ℕ, ◌+◌, ◌-◌, ◌^◌, ◌<◌, ◌≤◌, ◌==◌, List, ◌∷◌, ◌++◌, [], map, drop, length, vec_len, slice_range, decimal, IfOk, IfSome, IfNone, All, OnOk, OnErr, IsErrOf, if◌then◌else◌, Option};
+ghost use Rattle.std.specs.Prelude.{◌≡◌, ◌+◌, ◌-◌, ◌^◌, ◌<◌, ◌≤◌, ◌==◌, ◌∷◌, ◌++◌, [], map, drop, length, vec_len, slice_range, decimal, IfOk, IfSome, IfNone, All, OnOk, OnErr, if◌then◌else◌};
 ghost use Rattle.std.specs.List.{list_all, slice_split};
 ghost use Rattle.std.specs.Char.{is_ascii_digit};
 ghost use Rattle.std.specs.Option.{option_map};
@@ -24,28 +24,11 @@ pub fn number(word: &[u8]) -> Option<u64>
     }
 }
 
-/// The numbers that the words are, each as `number` gives it; None where one of the words is no number.
-pub fn all_numbers(alloc: Global, words: &[&[u8]]) -> Result<Option<Vec<u64>>, OutOfMemory>
-    ensures value { IfOk result (λ found.
-        option_map (λ v. v.items) found ≡ option_map (map capped) (numbers_of (map (λ word. word.now) words.now))) }
-    ensures exact { IfOk result (λ found. IfSome found (λ v.
-        All (λ n. n < 2 ^ 64 - 1) v.items → numbers_of (map (λ word. word.now) words.now) ≡ Some v.items)) }
-    ensures count { IfOk result (λ found. IfSome found (λ v. vec_len v ≡ length words.now)) }
-    ensures none { IfOk result (λ found. IfNone found (numbers_of (map (λ word. word.now) words.now) ≡ None)) }
-{
-    let mut numbers = Vec::with_capacity(alloc, words.len())?;
-    for word in words {
-        let Some(number) = number(word) else {
-            return Ok(None);
-        };
-        numbers.push(number)?;
-    }
-    Ok(Some(numbers))
-}
-
-// The number that the digits write, the last u64 for every number from there on; None where a byte is no digit.
+// The number that the digits write, the last u64 for every number from there on; None where a byte is
+// no digit.
 fn digits(word: &[u8]) -> Option<u64>
-    ensures { result ≡ (if list_all is_ascii_digit word.now then Some (capped (digits_value 10 word.now)) else None) }
+    ensures { result
+        ≡ (if list_all is_ascii_digit word.now then Some (capped (digits_value 10 word.now)) else None) }
 {
     let mut number: u64 = 0;
     for byte in word {
@@ -57,6 +40,26 @@ fn digits(word: &[u8]) -> Option<u64>
             .saturating_add(u64::from(*byte - b'0'));
     }
     Some(number)
+}
+
+/// The numbers that the words are, each as `number` gives it; None where one of the words is no number.
+pub fn all_numbers(alloc: Global, words: &[&[u8]]) -> Result<Option<Vec<u64>>, OutOfMemory>
+    ensures value { IfOk result (λ found. option_map (λ v. v.items) found
+        ≡ option_map (map capped) (numbers_of (map (λ word. word.now) words.now))) }
+    ensures exact { IfOk result (λ found. IfSome found (λ v. All (λ n. n < 2 ^ 64 - 1) v.items
+        → numbers_of (map (λ word. word.now) words.now) ≡ Some v.items)) }
+    ensures count { IfOk result (λ found. IfSome found (λ v. vec_len v ≡ length words.now)) }
+    ensures none { IfOk result (λ found.
+        IfNone found (numbers_of (map (λ word. word.now) words.now) ≡ None)) }
+{
+    let mut numbers = Vec::with_capacity(alloc, words.len())?;
+    for word in words {
+        let Some(number) = number(word) else {
+            return Ok(None);
+        };
+        numbers.push(number)?;
+    }
+    Ok(Some(numbers))
 }
 
 /// Appends a number in decimal digits.
@@ -75,8 +78,8 @@ pub fn next_line(bytes: &[u8], place: usize) -> Option<(usize, usize)>
     requires { place ≤ length bytes.now }
     ensures start { IfSome result (λ line. line.0 ≡ place) }
     ensures within { IfSome result (λ line. (place ≤ line.1) × (line.1 < length bytes.now)) }
-    ensures line { IfSome result (λ line.
-        lines (drop place bytes.now) ≡ slice_range bytes.now place line.1 ∷ lines (drop (line.1 + 1) bytes.now)) }
+    ensures line { IfSome result (λ line. lines (drop place bytes.now)
+        ≡ slice_range bytes.now place line.1 ∷ lines (drop (line.1 + 1) bytes.now)) }
     ensures none { IfNone result (lines (drop place bytes.now) ≡ drop place bytes.now ∷ []) }
 {
     let length = memchr(b'\n', &bytes[place..])?;
@@ -101,7 +104,8 @@ pub fn lines(alloc: Global, text: &[u8]) -> Result<Vec<&[u8]>, OutOfMemory>
 
 // What stands between the separators.
 fn cut_at(alloc: Global, bytes: &[u8], separator: u8) -> Result<Vec<&[u8]>, OutOfMemory>
-    ensures { IfOk result (λ v. map (λ part. part.now) v.items ≡ slice_split (λ b. b == separator) bytes.now) }
+    ensures { IfOk result (λ v.
+        map (λ part. part.now) v.items ≡ slice_split (λ b. b == separator) bytes.now) }
 {
     Ok(bytes.split(|byte| *byte == separator).collect(alloc)?)
 }
