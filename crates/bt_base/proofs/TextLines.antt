@@ -1,5 +1,5 @@
 -- Words and lines: what a text is cut into, and that what is joined is cut apart again.
-use Rattle.std.proofs.Common.{◌≡◌, ℕ, ◌+◌, ◌-◌, ◌<◌, ◌==◌, ◌&&◌, Bool, true, false, cond, not, Option, Some, None, MatchOption, List, [], ◌∷◌, ◌++◌, length, get_or, take, drop, slice_range, refl, ap, sym, subst, ◌∙◌, arith, length-take, add-one, append_assoc, eq-eqb}
+use Rattle.std.proofs.Common.{◌≡◌, ℕ, ◌+◌, ◌-◌, ◌<◌, ◌==◌, ◌&&◌, Bool, true, false, cond, not, Option, Some, None, MatchOption, List, [], ◌∷◌, ◌++◌, length, map, get_or, take, drop, slice_range, refl, ap, sym, subst, ◌∙◌, arith, length-take, add-one, append_assoc, eq-eqb}
 use Rattle.std.specs.List.{All, slice_split, onto_first, list_all, flat_map, join_with_byte}
 use Rattle.std.proofs.Math.Bool.{and-true}
 use Rattle.std.proofs.Math.Seq.{drop-cons}
@@ -8,7 +8,7 @@ use Rattle.std.proofs.lemmas.List.{take-append-drop, get_or-take, drop-drop, app
 use Rattle.std.proofs.lemmas.List.Concat.{flat_map-append}
 use Rattle.std.proofs.lemmas.List.Elements.{All-from_get_or, All-weaker}
 use Rattle.std.proofs.lemmas.List.Folds.{list_all-append}
-use Rattle.std.proofs.lemmas.List.Splits.{slice_split_at, slice_split_none, join_with_byte-slice_split}
+use Rattle.std.proofs.lemmas.List.Splits.{slice_split_at, length-slice_split, slice_split_none, join_with_byte-slice_split}
 use Rattle.std.proofs.lemmas.List.Sums.{AllPass-from_list_all}
 use Rattle.std.proofs.lemmas.Slice.{between_to_end}
 use Rattle.memchr.specs.Find.{IsFirstByte, is_byte}
@@ -125,3 +125,22 @@ ended-append xs ys = flat_map-append (λ line. line ++ 10 ∷ []) xs ys
 
 pub ended_more : (ls : List (List ℕ)) (line : List ℕ) → ended (ls ++ line ∷ []) ≡ ended ls ++ (line ++ 10 ∷ [])
 ended_more ls line = ended-append ls (line ∷ []) ∙ ap (λ text. ended ls ++ text) (append-nil (line ++ 10 ∷ []))
+
+-- many lines of words
+pub lacks-spaced_lines : (byte : ℕ) (wss : List (List (List ℕ))) → (32 == byte) ≡ false → list_all (lacks byte) (map spaced wss) ≡ list_all (list_all (lacks byte)) wss
+lacks-spaced_lines byte [] other = refl
+lacks-spaced_lines byte (ws ∷ wss) other = rw (lacks-spaced byte ws other, lacks-spaced_lines byte wss other)
+
+-- a text is its first line, the newline, and the rest; the line has no newline inside
+joined : (byte : ℕ) (first : List ℕ) (parts : List (List ℕ)) → 0 < length parts → join_with_byte byte (first ∷ parts) ≡ first ++ byte ∷ join_with_byte byte parts
+joined byte first [] filled = absurd (omega arith)
+joined byte first (second ∷ rest) filled = refl
+
+join_filled : (byte : ℕ) (first : List ℕ) (rest : List ℕ) → join_with_byte byte (first ∷ slice_split (λ b. b == byte) rest) ≡ first ++ byte ∷ rest
+join_filled byte first rest = joined byte first (slice_split (λ b. b == byte) rest) (omega (arith, length-slice_split (λ b. b == byte) rest)) ∙ ap (λ text. first ++ byte ∷ text) (join_with_byte-slice_split byte rest)
+
+pub text_from_first_line : (text line rest : List ℕ) → lines text ≡ line ∷ lines rest → text ≡ line ++ 10 ∷ rest
+text_from_first_line text line rest is = sym (join_with_byte-slice_split 10 text) ∙ ap (join_with_byte 10) is ∙ join_filled 10 line rest
+
+pub first_line_lacks : (text line : List ℕ) (more : List (List ℕ)) → lines text ≡ line ∷ more → lacks 10 line ≡ true
+first_line_lacks text line more is = (and_parts (lacks 10 line) (list_all (lacks 10) more) (subst (λ ls. list_all (lacks 10) ls ≡ true) is (parts_lack 10 text))).0

@@ -11,7 +11,7 @@ use Rattle.std.proofs.lemmas.List.{append-nil, drop_all, drop-map, length-map}
 use Rattle.std.proofs.lemmas.List.Elements.{All-head, All-map, All-same, All-tail, All-weaker}
 use Rattle.std.proofs.lemmas.Str.Parse.{IsNumeralModel, numerals_by_value}
 use Rattle.bt_base.specs.Text.{words, is_number, number_of, numbers_of, capped, spaced, lacks}
-use Rattle.bt_base.proofs.TextLines.{words-spaced, spaced-words}
+use Rattle.bt_base.proofs.TextLines.{lacks-spaced, words-spaced, spaced-words}
 
 -- a list of digits by the test that computes it
 pub digits_model : IsNumeralModel (λ ds. list_all is_ascii_digit ds ≡ true) (digits_value 10)
@@ -143,6 +143,9 @@ numbers_of-line ns filled small =
 
 pub line_from_numbers_of : (line : List ℕ) (ns : List ℕ) → All (λ n. n < 2 ^ 64) ns → numbers_of (words line) ≡ Some ns → line ≡ spaced (map decimal ns)
 line_from_numbers_of line ns small is = sym (spaced-words line) ∙ ap spaced (decimals_from_numbers_of (words line) ns small is)
+
+pub lacks-number_line : (byte : ℕ) (ns : List ℕ) → (32 == byte) ≡ false → is_ascii_digit byte ≡ false → All (λ n. n < 2 ^ 64) ns → lacks byte (spaced (map decimal ns)) ≡ true
+lacks-number_line byte ns space digit small = lacks-spaced byte (map decimal ns) space ∙ lacks-decimals byte ns digit small
 
 -- the numbers that the words are, as u64s hold them
 abbrev pub capped_numbers : List (List ℕ) → Option (List ℕ)

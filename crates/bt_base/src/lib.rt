@@ -3,7 +3,7 @@
 //!
 //! `docs/definitions.md` has the meaning of each word. `specs/Told.antt` says what the outside promises,
 //! `specs/Held.antt` and `specs/Calls.antt` what its objects in memory are seen as, `specs/Text.antt` what a
-//! number, a word and a line of a text are.
+//! number, a word and a line of a text are, and `spelling.rt` that each is spelled in one way.
 #![tactic(auto)]
 
 mod dir_files;
