@@ -7,7 +7,10 @@
 mod beams;
 mod fault;
 mod name;
+mod network;
+mod reading;
 mod terminals;
 
 pub use fault::{NetFault, Path};
 pub use name::{is_name, is_terminal_name};
+pub use network::Network;
