@@ -1,16 +1,21 @@
 -- Names that a set or a map of texts keeps, as the lists of bytes that contracts see.
-use Rattle.std.proofs.Common.{◌≡◌, ℕ, ◌+◌, Bool, true, false, cond, not, ◌||◌, List, [], ◌∷◌, ◌++◌, length, map, position, Option, Some, None, is_some, String, Global, string_bytes, refl, sym, ap, ◌∙◌, true≢false, arith}
-use Rattle.std.specs.List.{list_any, prefix_len, AllZip}
+use Rattle.std.proofs.Common.{◌≡◌, ℕ, ◌+◌, Bool, true, false, cond, not, ◌||◌, List, [], ◌∷◌, ◌++◌, length, map, position, Option, Some, None, is_some, option_map, slice_get, get_or, Contains, IsTrue, subst, ◌≤◌, String, Global, string_bytes, refl, sym, ap, ◌∙◌, true≢false, arith}
+use Rattle.std.specs.List.{list_any, prefix_len, position_or_len, AllZip}
 use Rattle.std.specs.Str.{bytes_eq}
 use Rattle.std.specs.Map.{keys_of, lookup}
 use Rattle.std.proofs.lemmas.List.{length-map, map_push}
-use Rattle.std.proofs.lemmas.Slice.Zip.{AllZip-map}
+use Rattle.std.proofs.lemmas.Bool.{ltb-false}
+use Rattle.std.proofs.lemmas.Cmp.{nat_list_eq_equiv}
+use Rattle.std.proofs.lemmas.List.Sums.{fails_before_first}
+use Rattle.std.proofs.lemmas.List.Quantifiers.{position-Some}
+use Rattle.std.proofs.lemmas.Option.{slice_get-map, slice_get-get_or, slice_get_within, get_or_from_slice_get}
+use Rattle.std.proofs.lemmas.Slice.Eq.{bytes_eq-Decides}
 use Rattle.std.specs.String.{string_eq}
 use Rattle.indexmap.specs.IndexMap.{IndexMap, get, insert_entry}
 use Rattle.indexmap.specs.IndexSet.{insert_key}
 use Rattle.indexmap.proofs.CallerLemmas.{insert_entry-new}
 use Rattle.bt_base.specs.declared.numbers.BeamNo.{BeamNo}
-use Rattle.bt_net.specs.Network.{names_of}
+use Rattle.bt_net.specs.Network.{names_of, AreNames}
 
 module _ {A B : Type 0} (test : B → Bool) (view : A → B) where
   -- a test of the views is the test of what is seen
@@ -75,3 +80,30 @@ map-insert_entry m key beam name is none =
     let keys_none = absent (keys_of m.entries) key name is (ap (list_any (bytes_eq name)) (sym (names_of-seen m.entries)) ∙ none) in
     let found_none : get string_eq m key ≡ None = not_some _ (is_some-lookup (string_eq key) m.entries ∙ keys_none) in
     ap (map seen) (insert_entry-new string_eq m key beam found_none) ∙ map_push seen m.entries (key, beam) ∙ ap (λ (bytes : List ℕ). map seen m.entries ++ (bytes, beam) ∷ []) is
+
+none_fails : {X : Type 0} (b : Bool) (x : X) → cond b (Some x) None ≡ None → b ≡ false
+none_fails true x is = absurd cc
+none_fails false x is = refl
+
+-- where no place is found, no terminal has the name
+pub not_found : (terminals : List (List ℕ × BeamNo)) (name : List ℕ) → position (bytes_eq name) (names_of terminals) ≡ None → Contains (names_of terminals) name → ⊥
+not_found terminals name none has =
+    let names = names_of terminals in
+    let past : length names ≤ position_or_len (bytes_eq name) names = ltb-false _ _ (none_fails _ _ none) in
+    let differs : bytes_eq name (get_or names has.0 name) ≡ false = fails_before_first (bytes_eq name) names has.0 name (omega (arith, has.1)) in
+    true≢false (sym (nat_list_eq_equiv.refl name) ∙ sym (ap (bytes_eq name) has.2) ∙ differs)
+
+-- the place that is found has the name
+pub found_name : (terminals : List (List ℕ × BeamNo)) (name : List ℕ) (number : ℕ) → position (bytes_eq name) (names_of terminals) ≡ Some number → option_map (λ terminal. terminal.0) (slice_get terminals number) ≡ Some name
+found_name terminals name number is =
+    let names = names_of terminals in
+    let found = position-Some (bytes_eq name) names number name is in
+    sym (slice_get-map (λ terminal. terminal.0) terminals number) ∙ slice_get-get_or names number name found.0 ∙ ap Some (sym ((bytes_eq-Decides name (get_or names number name)).0 found.1))
+
+-- a terminal's name is a good one
+pub good_name : (is_good : List ℕ → Bool) (terminals : List (List ℕ × BeamNo)) (number : ℕ) (name : List ℕ) (beam : BeamNo) → AreNames is_good (names_of terminals)
+    → slice_get terminals number ≡ Some (name, beam) → IsTrue (is_good name)
+good_name is_good terminals number name beam are at =
+    let names = names_of terminals in
+    let named : slice_get names number ≡ Some name = slice_get-map (λ terminal. terminal.0) terminals number ∙ ap (option_map (λ terminal. terminal.0)) at in
+    subst (λ (n : List ℕ). IsTrue (is_good n)) (get_or_from_slice_get names number name name named) (are.good number name (slice_get_within names number name named))

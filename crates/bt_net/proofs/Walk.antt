@@ -1,9 +1,8 @@
 -- A walk that ends well gives good names, and a loop over entries is a walk over them.
-use Rattle.std.proofs.Common.{◌≡◌, ◌≢◌, ℕ, ◌+◌, ◌<◌, ◌≤◌, Bool, true, false, cond, List, [], ◌∷◌, ◌++◌, length, get_or, map, drop, position, All, AllPairs, Contains, IsTrue, Option, Some, None, option_map, Result, Ok, Err, refl, sym, ap, subst, ◌∙◌, codes, true≢false, arith}
+use Rattle.std.proofs.Common.{◌≡◌, ◌≢◌, ℕ, ◌+◌, ◌<◌, ◌≤◌, Bool, true, false, List, [], ◌∷◌, ◌++◌, length, get_or, map, drop, position, All, Contains, IsTrue, Option, Some, None, Result, Ok, Err, refl, sym, ap, subst, ◌∙◌, codes, true≢false, arith}
 use Rattle.std.specs.List.{list_any}
 use Rattle.std.specs.Option.{ok_or}
 use Rattle.std.specs.Str.{bytes_eq}
-use Rattle.std.proofs.lemmas.Bool.{ltb-false}
 use Rattle.std.proofs.lemmas.Cmp.{nat_list_eq_equiv}
 use Rattle.std.proofs.lemmas.List.{drop_more, at_drop_all, map_push}
 use Rattle.std.proofs.lemmas.List.Elements.{All-push, Contains-get_or}
@@ -148,7 +147,7 @@ with_terminal-are beams earlier entry terminals are is =
     let new = bind_ok (checked name_place (is_terminal_name name.0) (list_any (bytes_eq name.0) (names_of earlier))) (λ new. beam_at beam_place entry beams >>= λ beam. Ok (earlier ++ (name.0, beam) ∷ [])) terminals name.2 in
     let beam = bind_ok (beam_at beam_place entry beams) (λ beam. Ok (earlier ++ (name.0, beam) ∷ [])) terminals new.2 in
     let both = checked_is name_place (is_terminal_name name.0) (list_any (bytes_eq name.0) (names_of earlier)) new.0 new.1 in
-    subst (Are beams) (ok_is (earlier ++ (name.0, beam.0) ∷ []) terminals beam.2) (Are-push beams earlier name.0 beam.0 are both.0 both.1 (beam_at-within beam_place entry beams beam.0 beam.1))
+    subst (Are beams) {x = earlier ++ (name.0, beam.0) ∷ []} (ok_is (earlier ++ (name.0, beam.0) ∷ []) terminals beam.2) (Are-push beams earlier name.0 beam.0 are both.0 both.1 (beam_at-within beam_place entry beams beam.0 beam.1))
 
 through-are : (beams : List (List ℕ)) (entries : List Data) (terminals : List (List ℕ × BeamNo)) → through (with_terminal beams) [] entries ≡ Ok terminals → Are beams terminals
 through-are beams entries terminals is =

@@ -1,5 +1,5 @@
 -- The walk over a network file: the network that its bytes are, or the first fault in them.
-use Rattle.std.specs.Prelude.{◌≡◌, ℕ, ◌&&◌, List, [], ◌∷◌, ◌++◌, length, map, Bool, Option, Some, None, option_map, option_and_then, Result, Ok, Err, nat_le, if◌then◌else◌, codes, position, ⊤}
+use Rattle.std.specs.Prelude.{◌≡◌, ℕ, ◌&&◌, List, [], ◌∷◌, ◌++◌, length, Bool, Option, Some, None, option_map, option_and_then, Result, Ok, Err, nat_le, if◌then◌else◌, codes, position, ⊤}
 use Rattle.std.specs.List.{list_any}
 use Rattle.std.specs.Option.{ok_or}
 use Rattle.std.specs.Str.{bytes_eq, is_utf8}

@@ -1,8 +1,8 @@
 // What is wrong with a network file, and where.
-ghost use Rattle.std.specs.Prelude.{◌≡◌};
+ghost use Rattle.std.specs.Prelude.{◌≡◌, IfOk};
 ghost use Rattle.bt_net.specs.declared.fault.NetFault.TheVariants.{OutOfMemory};
 
-use std::alloc::{AllocError, AllocFailed};
+use std::alloc::{AllocError, AllocFailed, Global};
 
 /// A place in a network file. Entries are counted from 0.
 #[derive(Clone, Copy, Debug, PartialEq, Eq)]
@@ -31,6 +31,31 @@ pub enum Path {
     Patience,
     /// The field `journal`.
     Journal,
+}
+
+impl Path {
+    ghost use Rattle.std.specs.String.{string_bytes};
+    ghost use Rattle.bt_net.specs.Fault.{path_text};
+
+    /// The place as it is printed, such as `beams[1]` or `terminals[3].name`.
+    pub fn text(self, alloc: Global) -> Result<String, AllocError>
+        ensures { IfOk result (λ text. string_bytes text ≡ path_text self) }
+    {
+        match self {
+            Path::Top => format!(in alloc; "top"),
+            Path::Beams => format!(in alloc; "beams"),
+            Path::Beam(entry) => format!(in alloc; "beams[{entry}]"),
+            Path::Terminals => format!(in alloc; "terminals"),
+            Path::Terminal(entry) => format!(in alloc; "terminals[{entry}]"),
+            Path::TerminalName(entry) => format!(in alloc; "terminals[{entry}].name"),
+            Path::TerminalBeam(entry) => format!(in alloc; "terminals[{entry}].beam"),
+            Path::Slots => format!(in alloc; "slots"),
+            Path::Frames => format!(in alloc; "frames"),
+            Path::Lead => format!(in alloc; "lead"),
+            Path::Patience => format!(in alloc; "patience"),
+            Path::Journal => format!(in alloc; "journal"),
+        }
+    }
 }
 
 /// Why bytes are no network: the first fault in the order of the walk over the file.

@@ -1,14 +1,15 @@
-use Rattle.std.proofs.Common.{rules, ◌≡◌, ◌<◌, Some, IfSome, IfNone, IfOk, IsTrue, length, map, position, slice_get, Contains, ℕ, ◌+◌, ◌-◌, ◌*◌, ◌≤◌, ◌/◌, ◌%◌, Bool, true, false, nat_eq, nat_lt, List, [], ◌∷◌, ◌++◌, slice_index_or, slice_set, bit_and, bit_or, Fits, w8, w32, w64, Bor, MutBor}
-use Rattle.std.specs.Option.{option_map}
+use Rattle.std.proofs.Common.{ap, sym, position, ◌∙◌}
 use Rattle.std.specs.Str.{bytes_eq}
-use Rattle.bt_net.specs.Name.{is_name, is_terminal_name}
-use Rattle.bt_net.specs.Network.{names_of, IsSound, IsWithin}
+use Rattle.bt_net.specs.Network.{Net, names_of}
+use Rattle.bt_net.proofs.Names.{not_found, found_name}
 use Rattle.bt_net.proofs.network.Network.find.Goals as goal
 
--- src/network.rt:130:22
 pub returns-in_err-number-clause-none : goal.returns-in_err-number-clause-none
-returns-in_err-number-clause-none c = ?
+returns-in_err-number-clause-none c =
+    let same = ap (λ (net : Net). position (bytes_eq c.args.name.now) (names_of net.terminals)) c.self.view_is in
+    rw c.from_residual.ensures (not_found c.args.self.now.terminals c.args.name.now (sym same ∙ sym c.in_err-number.ensures))
 
--- src/network.rt:124:5
 pub returns-clause-some : goal.returns-clause-some
-returns-clause-some c = ?
+returns-clause-some c =
+    let same = ap (λ (net : Net). position (bytes_eq c.args.name.now) (names_of net.terminals)) c.self.view_is in
+    found_name c.args.self.now.terminals c.args.name.now c.in_ok-number.number (sym same ∙ sym c.in_ok-number.ensures)
