@@ -10,6 +10,8 @@ mod name;
 mod network;
 mod reading;
 mod terminals;
+#[cfg(test)]
+mod tests;
 
 pub use fault::{NetFault, Path};
 pub use name::{is_name, is_terminal_name};
