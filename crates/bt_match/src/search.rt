@@ -1,0 +1,80 @@
+// The search along augmenting paths: a row without a column takes one, whose row before moves to another.
+ghost use Rattle.std.specs.Prelude.{◌≡◌, ℕ, ◌<◌, ◌≤◌, true, length, IsSome, IfSome, IfNone, Some, None};
+ghost use Rattle.std.specs.Bool.{OnTrue, OnFalse};
+ghost use Rattle.bt_matrix.specs.Traffic.{entry};
+ghost use Rattle.bt_match.specs.Matching.{column_of};
+ghost use Rattle.bt_match.specs.Search.{
+    IsMatching, is_visited, unvisited, StaysVisited, IsSpent, HasSpentRow, IsExplored, StaysMatched, MovesToUnvisited, IsFreeColumn,
+};
+
+use bt_base::BeamNo;
+use bt_matrix::Traffic;
+
+/// The row that has the column.
+fn holder(columns: &[Option<u8>], down: u8) -> Option<usize>
+    ensures held { IfSome result (λ row. column_of columns.now row ≡ Some down) }
+    ensures free { IfNone result (IsFreeColumn columns.now down) }
+{
+    columns.iter().position(|column| *column == Some(down))
+}
+
+/// Seeks a column for the row, among those not visited, and moves rows out of its way.
+#[cycle(augment)]
+fn seek<M: Traffic>(matrix: &M, columns: &mut [Option<u8>], visited: &mut [bool], row: u8) -> bool
+    requires columns { length columns.old ≡ length (M.rows matrix.now) }
+    requires visited { length visited.old ≡ length (M.rows matrix.now) }
+    requires row { row < length (M.rows matrix.now) }
+    requires matching { IsMatching (M.rows matrix.now) columns.old }
+    ensures matching { IsMatching (M.rows matrix.now) columns.new }
+    ensures stays { StaysMatched columns.old columns.new }
+    ensures moves { MovesToUnvisited visited.old columns.old columns.new }
+    ensures found { OnTrue result (IsSome (column_of columns.new row)) }
+
+    ensures same { OnFalse result (columns.new ≡ columns.old) }
+    ensures spent { OnFalse result (IsSpent (M.rows matrix.now) visited.new row) }
+    ensures explored { OnFalse result (IsExplored (M.rows matrix.now) columns.old visited.old visited.new) }
+
+    ensures visited { StaysVisited visited.old visited.new }
+    ensures fewer { unvisited visited.new ≤ unvisited visited.old }
+{
+    for down in 0..matrix.size() as u8 {
+        if !visited[down as usize] && matrix.get(BeamNo(row), BeamNo(down)) > 0 {
+            visited[down as usize] = true;
+            if make_room(matrix, columns, visited, down) {
+                columns[row as usize] = Some(down);
+                return true;
+            }
+        }
+    }
+    false
+}
+
+/// Moves the row that has the column, if one has it, to a column that is not visited.
+#[cycle(augment)]
+fn make_room<M: Traffic>(matrix: &M, columns: &mut [Option<u8>], visited: &mut [bool], down: u8) -> bool
+    requires columns { length columns.old ≡ length (M.rows matrix.now) }
+    requires visited { length visited.old ≡ length (M.rows matrix.now) }
+    requires here { is_visited visited.old down ≡ true }
+    requires matching { IsMatching (M.rows matrix.now) columns.old }
+    ensures matching { IsMatching (M.rows matrix.now) columns.new }
+    ensures stays { StaysMatched columns.old columns.new }
+    ensures moves { MovesToUnvisited visited.old columns.old columns.new }
+    ensures free { OnTrue result (IsFreeColumn columns.new down) }
+
+    ensures same { OnFalse result (columns.new ≡ columns.old) }
+    ensures spent { OnFalse result (HasSpentRow (M.rows matrix.now) columns.old visited.new down) }
+    ensures explored { OnFalse result (IsExplored (M.rows matrix.now) columns.old visited.old visited.new) }
+
+    ensures visited { StaysVisited visited.old visited.new }
+    ensures fewer { unvisited visited.new ≤ unvisited visited.old }
+{
+    let Some(row) = holder(columns, down) else {
+        return true;
+    };
+    columns[row] = None;
+    let moved = seek(matrix, columns, visited, row as u8);
+    if !moved {
+        columns[row] = Some(down);
+    }
+    moved
+}
