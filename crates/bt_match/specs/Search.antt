@@ -1,5 +1,5 @@
 -- What a search for the column of a free row may change, and what it knows of the columns that it has visited.
-use Rattle.std.specs.Prelude.{◌≡◌, ◌≢◌, ◌⊎◌, ℕ, ◌<◌, ◌≤◌, Bool, true, false, not, List, length, Option, Some, None, IsSome, count_by}
+use Rattle.std.specs.Prelude.{◌≡◌, ◌≢◌, ◌⊎◌, ℕ, ◌<◌, Bool, true, false, not, List, Option, Some, IsSome, count_by}
 use Rattle.std.specs.List.{slice_index_or}
 use Rattle.bt_matrix.specs.Traffic.{entry}
 use Rattle.bt_match.specs.Matching.{column_of, HasOwnColumns, IsInside}
@@ -32,7 +32,7 @@ HasSpentRow rows columns visited down = (row : ℕ) × (column_of columns row �
 -- every column that was newly visited belongs to a row that is spent
 abbrev pub IsExplored : List (List ℕ) → List (Option ℕ) → List Bool → List Bool → Type 0
 IsExplored rows columns before after =
-  (down : ℕ) → is_visited after down ≡ true → (is_visited before down ≡ true) ⊎ HasSpentRow rows columns after down
+    (down : ℕ) → is_visited after down ≡ true → (is_visited before down ≡ true) ⊎ HasSpentRow rows columns after down
 
 -- every row that had a column has one
 abbrev pub StaysMatched : List (Option ℕ) → List (Option ℕ) → Type 0
@@ -41,7 +41,7 @@ StaysMatched before after = (row : ℕ) → IsSome (column_of before row) → Is
 -- a row has the column that it had, or one that had not been visited
 abbrev pub MovesToUnvisited : List Bool → List (Option ℕ) → List (Option ℕ) → Type 0
 MovesToUnvisited visited before after =
-  (row down : ℕ) → column_of after row ≡ Some down → (column_of before row ≡ Some down) ⊎ (is_visited visited down ≡ false)
+    (row down : ℕ) → column_of after row ≡ Some down → (column_of before row ≡ Some down) ⊎ (is_visited visited down ≡ false)
 
 -- no row has that column
 abbrev pub IsFreeColumn : List (Option ℕ) → ℕ → Type 0

@@ -1,10 +1,19 @@
 // The search along augmenting paths: a row without a column takes one, whose row before moves to another.
-ghost use Rattle.std.specs.Prelude.{◌≡◌, ℕ, ◌<◌, ◌≤◌, true, length, IsSome, IfSome, IfNone, Some, None};
+ghost use Rattle.std.specs.Prelude.{◌≡◌, ℕ, ◌<◌, ◌≤◌, true, false, length, IsSome, IfSome, IfNone, Some, None};
 ghost use Rattle.std.specs.Bool.{OnTrue, OnFalse};
 ghost use Rattle.bt_matrix.specs.Traffic.{entry};
 ghost use Rattle.bt_match.specs.Matching.{column_of};
 ghost use Rattle.bt_match.specs.Search.{
-    IsMatching, is_visited, unvisited, StaysVisited, IsSpent, HasSpentRow, IsExplored, StaysMatched, MovesToUnvisited, IsFreeColumn,
+  IsMatching,
+  is_visited,
+  unvisited,
+  StaysVisited,
+  IsSpent,
+  HasSpentRow,
+  IsExplored,
+  StaysMatched,
+  MovesToUnvisited,
+  IsFreeColumn,
 };
 
 use bt_base::BeamNo;
@@ -12,15 +21,21 @@ use bt_matrix::Traffic;
 
 /// The row that has the column.
 fn holder(columns: &[Option<u8>], down: u8) -> Option<usize>
+    ensures inside { IfSome result (λ row. row < length columns.now) }
     ensures held { IfSome result (λ row. column_of columns.now row ≡ Some down) }
     ensures free { IfNone result (IsFreeColumn columns.now down) }
 {
     columns.iter().position(|column| *column == Some(down))
 }
 
-/// Seeks a column for the row, among those not visited, and moves rows out of its way.
+/// Seeks a column for the row among those not visited, and moves other rows out of its way.
 #[cycle(augment)]
-fn seek<M: Traffic>(matrix: &M, columns: &mut [Option<u8>], visited: &mut [bool], row: u8) -> bool
+fn seek<M: Traffic>(
+    matrix: &M,
+    columns: &mut [Option<u8>],
+    visited: &mut [bool],
+    row: usize,
+) -> bool
     requires columns { length columns.old ≡ length (M.rows matrix.now) }
     requires visited { length visited.old ≡ length (M.rows matrix.now) }
     requires row { row < length (M.rows matrix.now) }
@@ -38,41 +53,52 @@ fn seek<M: Traffic>(matrix: &M, columns: &mut [Option<u8>], visited: &mut [bool]
     ensures fewer { unvisited visited.new ≤ unvisited visited.old }
 {
     for down in 0..matrix.size() as u8 {
-        if !visited[down as usize] && matrix.get(BeamNo(row), BeamNo(down)) > 0 {
-            visited[down as usize] = true;
-            if make_room(matrix, columns, visited, down) {
-                columns[row as usize] = Some(down);
-                return true;
-            }
+        if matrix.get(BeamNo(row as u8), BeamNo(down)) > 0
+            && vacate(matrix, columns, visited, down)
+        {
+            columns[row] = Some(down);
+            return true;
         }
     }
     false
 }
 
-/// Moves the row that has the column, if one has it, to a column that is not visited.
+/// Visits the column, if that was not done yet, and moves the row that has it to another column.
+///
+/// Whether no row has the column now.
 #[cycle(augment)]
-fn make_room<M: Traffic>(matrix: &M, columns: &mut [Option<u8>], visited: &mut [bool], down: u8) -> bool
+fn vacate<M: Traffic>(
+    matrix: &M,
+    columns: &mut [Option<u8>],
+    visited: &mut [bool],
+    down: u8,
+) -> bool
     requires columns { length columns.old ≡ length (M.rows matrix.now) }
     requires visited { length visited.old ≡ length (M.rows matrix.now) }
-    requires here { is_visited visited.old down ≡ true }
+    requires down { down < length (M.rows matrix.now) }
     requires matching { IsMatching (M.rows matrix.now) columns.old }
     ensures matching { IsMatching (M.rows matrix.now) columns.new }
     ensures stays { StaysMatched columns.old columns.new }
     ensures moves { MovesToUnvisited visited.old columns.old columns.new }
     ensures free { OnTrue result (IsFreeColumn columns.new down) }
+    ensures here { OnTrue result (is_visited visited.old down ≡ false) }
 
     ensures same { OnFalse result (columns.new ≡ columns.old) }
-    ensures spent { OnFalse result (HasSpentRow (M.rows matrix.now) columns.old visited.new down) }
     ensures explored { OnFalse result (IsExplored (M.rows matrix.now) columns.old visited.old visited.new) }
 
+    ensures now { is_visited visited.new down ≡ true }
     ensures visited { StaysVisited visited.old visited.new }
     ensures fewer { unvisited visited.new ≤ unvisited visited.old }
 {
+    if visited[down as usize] {
+        return false;
+    }
+    visited[down as usize] = true;
     let Some(row) = holder(columns, down) else {
         return true;
     };
     columns[row] = None;
-    let moved = seek(matrix, columns, visited, row as u8);
+    let moved = seek(matrix, columns, visited, row);
     if !moved {
         columns[row] = Some(down);
     }
