@@ -1,6 +1,6 @@
 -- Partial maps of rows to columns inside a traffic matrix. A row stands for an uplink beam, a column for a
 -- downlink beam; the place of a row in the list has its column, or none.
-use Rattle.std.specs.Prelude.{◌≡◌, ℕ, ◌<◌, ◌≤◌, List, length, Option, Some, None, slice_index}
+use Rattle.std.specs.Prelude.{◌≡◌, ℕ, ◌<◌, ◌≤◌, List, length, Option, Some, None, IsSome, slice_index}
 use Rattle.std.specs.List.{slice_index_or}
 use Rattle.bt_base.specs.declared.schedule.Critical.{Critical}
 use Rattle.bt_matrix.specs.Traffic.{entry, line_sum, IsLine}
@@ -18,6 +18,10 @@ pub record HasEqualLineSums (rows : List (List ℕ)) : Type 0 where
 -- the column of a row, if it has one
 abbrev pub column_of : List (Option ℕ) → ℕ → Option ℕ
 column_of columns row = slice_index_or columns row None
+
+-- every row has a column
+abbrev pub IsWhole : List (Option ℕ) → Type 0
+IsWhole columns = (row : ℕ) → row < length columns → IsSome (column_of columns row)
 
 -- every column that a row has is below the number of rows
 abbrev pub IsBelowSize : List (Option ℕ) → Type 0

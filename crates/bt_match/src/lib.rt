@@ -4,4 +4,9 @@
 //! the column of one row keeps and finds.
 #![tactic(auto)]
 
+mod partial;
+mod perm;
 mod search;
+
+pub use partial::Partial;
+pub use perm::Perm;
