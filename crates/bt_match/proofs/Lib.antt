@@ -2,3 +2,4 @@ pub mod Totals
 pub mod Counting
 pub mod Moves
 pub mod Partials
+pub mod Rows

@@ -1,10 +1,13 @@
 -- Partial maps of rows to columns: none has one, all have one, one gives its own up.
-use Rattle.std.proofs.Common.{◌≡◌, ◌≢◌, ℕ, ◌<◌, ◌≤◌, List, ◌++◌, length, Option, Some, None, take, map, replicate, set, get_or, sym, ap, ◌∙◌, refl, subst, inl, inr, arith, get_or-set_same, get_or-set_other}
+use Rattle.std.proofs.Common.{◌≡◌, ℕ, ◌<◌, ◌≤◌, List, [], ◌++◌, length, Option, Some, None, take, map, replicate, set, get_or, sym, ap, ◌∙◌, refl, inl, inr, arith, get_or-set_same, get_or-set_other}
 use Rattle.std.proofs.lemmas.Bool.{cases_eq, cases_lt, cases_order}
 use Rattle.std.proofs.lemmas.List.{get_or-map, get_or_past, get_or-replicate, length-replicate, length-map, length-set}
 use Rattle.std.proofs.Math.Seq.{take-append_seam}
+use Rattle.std.specs.List.{All}
 use Rattle.bt_matrix.specs.Good.{IsPermutation}
-use Rattle.bt_match.specs.Matching.{column_of, HasOwnColumns, IsBelowSize, IsPartial, IsWhole, IsInside}
+use Rattle.bt_matrix.specs.Traffic.{entry, row_of, IsTraffic}
+use Rattle.bt_match.specs.Search.{IsMatching}
+use Rattle.bt_match.specs.Matching.{column_of, IsPartial}
 
 -- a row of the empty map has no column
 column_of-replicate : (size row : ℕ) → column_of (replicate size None) row ≡ None
@@ -100,3 +103,32 @@ IsPartial-front size columns rest same partial = rw (take_front size columns res
 
 pub IsPermutation-front : (size : ℕ) (perm rest : List ℕ) → IsPermutation size perm → IsPermutation size (take size (perm ++ rest))
 IsPermutation-front size perm rest permutes = rw (take_front size perm rest permutes.count) permutes
+
+-- no entry is positive past the last column
+entry-past : (rows : List (List ℕ)) (row down : ℕ) → All (λ row. length row ≡ length rows) rows → 0 < entry rows row down → down < length rows
+entry-past rows row down square positive =
+    elim (cases_lt down (length rows)) [
+      | inl inside ↦ inside
+      | inr past ↦ absurd (
+          elim (cases_lt row (length rows)) [
+            | inl known ↦
+                let long : length (row_of rows row) ≡ length rows = square row [] known in
+                let none : entry rows row down ≡ 0 = get_or_past (row_of rows row) down 0 (omega arith) in
+                omega arith
+            | inr beyond ↦
+                let empty : row_of rows row ≡ [] = get_or_past rows row [] beyond in
+                let none : entry rows row down ≡ 0 = rw empty refl in
+                omega arith
+          ])
+    ]
+
+-- rows with columns of their own, at positive entries of a matrix
+pub IsPartial-matching : (rows : List (List ℕ)) (columns : List (Option ℕ)) → IsTraffic rows → length columns ≡ length rows → IsMatching rows columns → IsPartial columns
+IsPartial-matching rows columns traffic long matching = record {
+  some_rows = omega (arith, traffic.some_beams);
+  few_rows = omega (arith, traffic.few_beams);
+  below_size = λ row down has.
+      let inside : down < length rows = entry-past rows row down traffic.square (matching.inside row down has) in
+      omega arith;
+  own_columns = matching.own_columns;
+}

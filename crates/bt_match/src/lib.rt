@@ -4,9 +4,11 @@
 //! the column of one row keeps and finds.
 #![tactic(auto)]
 
+mod matching;
 mod partial;
 mod perm;
 mod search;
 
+pub use matching::perfect;
 pub use partial::Partial;
 pub use perm::Perm;

@@ -1,9 +1,12 @@
 // Partial maps of rows to columns.
 ghost use Rattle.std.specs.Prelude.{◌≡◌, ℕ, ◌<◌, ◌≤◌, List, length, map, replicate, slice_set, Some, None, IsOk, IfOk};
-ghost use Rattle.bt_match.specs.Matching.{IsPartial};
+ghost use Rattle.bt_matrix.specs.Good.{IsPermutation};
+ghost use Rattle.bt_match.specs.Matching.{IsPartial, HasEqualLineSums, IsInside, IsInsidePerm};
 
+use crate::matching::match_rows;
 use crate::perm::{MOST_BEAMS, Perm};
 use bt_base::{BeamNo, OutOfMemory};
+use bt_matrix::Traffic;
 use std::alloc::Global;
 use std::marker::Model;
 
@@ -60,6 +63,20 @@ impl Partial {
         if row < self.size {
             self.columns[row] = None;
         }
+    }
+
+    /// Every row has a column at a positive entry of the matrix, whose line sums are equal and positive.
+    pub(crate) fn complete<M: Traffic>(mut self, matrix: &M) -> Perm
+        requires equal { HasEqualLineSums (M.rows matrix.now) }
+        requires size { length self ≡ length (M.rows matrix.now) }
+        requires inside { IsInside (M.rows matrix.now) self }
+        ensures permutation { IsPermutation (length (M.rows matrix.now)) result }
+        ensures inside { IsInsidePerm (M.rows matrix.now) result }
+    {
+        let size = self.size;
+        let columns = &mut self.columns[..size];
+        match_rows(matrix, columns);
+        Perm::of(columns)
     }
 }
 

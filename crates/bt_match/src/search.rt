@@ -30,7 +30,7 @@ fn holder(columns: &[Option<u8>], down: u8) -> Option<usize>
 
 /// Seeks a column for the row among those not visited, and moves other rows out of its way.
 #[cycle(augment)]
-fn seek<M: Traffic>(
+pub(crate) fn seek<M: Traffic>(
     matrix: &M,
     columns: &mut [Option<u8>],
     visited: &mut [bool],

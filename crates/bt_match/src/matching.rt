@@ -1,0 +1,58 @@
+// A permutation inside the positive entries of a matrix whose line sums are equal and positive.
+ghost use Rattle.std.specs.Prelude.{◌≡◌, ℕ, ◌<◌, ◌≤◌, length, IsSome, IsOk, IfOk};
+ghost use Rattle.bt_matrix.specs.Good.{IsPermutation};
+ghost use Rattle.bt_match.specs.Matching.{column_of, HasEqualLineSums, IsPartial, IsWhole, IsInside, IsInsidePerm};
+ghost use Rattle.bt_match.specs.Search.{IsMatching, StaysMatched};
+
+use crate::partial::Partial;
+use crate::perm::{MOST_BEAMS, Perm};
+use crate::search::seek;
+use bt_base::OutOfMemory;
+use bt_matrix::Traffic;
+use std::alloc::Global;
+
+/// A permutation inside the positive entries of a matrix whose line sums are all equal and positive.
+///
+/// There is one by the theorem of Hall and König. The search keeps in their columns as many rows of `begin`
+/// as it can, and moves others along augmenting paths. It works in arrays, so it takes no memory.
+pub fn perfect<M: Traffic>(_alloc: Global, matrix: &M, begin: Partial) -> Result<Perm, OutOfMemory>
+    requires equal { HasEqualLineSums (M.rows matrix.now) }
+    requires size { length begin ≡ length (M.rows matrix.now) }
+    requires inside { IsInside (M.rows matrix.now) begin }
+    ensures permutation { IfOk result (λ perm. IsPermutation (length (M.rows matrix.now)) perm) }
+    ensures inside { IfOk result (λ perm. IsInsidePerm (M.rows matrix.now) perm) }
+    ensures ok { IsOk result }
+{
+    Ok(begin.complete(matrix))
+}
+
+/// Gives every row a column.
+pub(crate) fn match_rows<M: Traffic>(matrix: &M, columns: &mut [Option<u8>])
+    requires equal { HasEqualLineSums (M.rows matrix.now) }
+    requires size { length columns.old ≡ length (M.rows matrix.now) }
+    requires matching { IsMatching (M.rows matrix.now) columns.old }
+    ensures matching { IsMatching (M.rows matrix.now) columns.new }
+    ensures partial { IsPartial columns.new }
+    ensures whole { IsWhole columns.new }
+{
+    for row in 0..matrix.size() as usize {
+        match_row(matrix, columns, row);
+    }
+}
+
+/// Gives the row a column, if it has none. The search for it cannot fail.
+fn match_row<M: Traffic>(matrix: &M, columns: &mut [Option<u8>], row: usize)
+    requires equal { HasEqualLineSums (M.rows matrix.now) }
+    requires size { length columns.old ≡ length (M.rows matrix.now) }
+    requires row { row < length (M.rows matrix.now) }
+    requires matching { IsMatching (M.rows matrix.now) columns.old }
+    ensures matching { IsMatching (M.rows matrix.now) columns.new }
+    ensures stays { StaysMatched columns.old columns.new }
+    ensures found { IsSome (column_of columns.new row) }
+{
+    if columns[row].is_none() {
+        let mut visited = [false; MOST_BEAMS];
+        let found = seek(matrix, columns, &mut visited[..matrix.size() as usize], row);
+        prove!(found);
+    }
+}
