@@ -10,7 +10,7 @@ use Rattle.bt_match.specs.Search.{IsMatching}
 use Rattle.bt_match.specs.Matching.{column_of, IsPartial}
 
 -- a row of the empty map has no column
-column_of-replicate : (size row : ℕ) → column_of (replicate size None) row ≡ None
+pub column_of-replicate : (size row : ℕ) → column_of (replicate size None) row ≡ None
 column_of-replicate size row =
     elim (cases_lt row size) [
       | inl below ↦ get_or-replicate size row None None below

@@ -19,6 +19,10 @@ pub record HasEqualLineSums (rows : List (List ℕ)) : Type 0 where
 abbrev pub column_of : List (Option ℕ) → ℕ → Option ℕ
 column_of columns row = slice_index_or columns row None
 
+-- no row has a column
+abbrev pub IsEmpty : List (Option ℕ) → Type 0
+IsEmpty columns = (row : ℕ) → column_of columns row ≡ None
+
 -- every row has a column
 abbrev pub IsWhole : List (Option ℕ) → Type 0
 IsWhole columns = (row : ℕ) → row < length columns → IsSome (column_of columns row)

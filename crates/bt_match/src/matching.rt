@@ -13,8 +13,9 @@ use std::alloc::Global;
 
 /// A permutation inside the positive entries of a matrix whose line sums are all equal and positive.
 ///
-/// There is one by the theorem of Hall and König. The search keeps in their columns as many rows of `begin`
-/// as it can, and moves others along augmenting paths. It works in arrays, so it takes no memory.
+/// There always is one, by Hall's condition (König 1916, Hall 1935). Rows that have a column in `begin` keep
+/// one, and move to another only along an augmenting path of a row that had none. All is kept in arrays: no
+/// memory is taken.
 pub fn perfect<M: Traffic>(_alloc: Global, matrix: &M, begin: Partial) -> Result<Perm, OutOfMemory>
     requires equal { HasEqualLineSums (M.rows matrix.now) }
     requires size { length begin ≡ length (M.rows matrix.now) }

@@ -1,7 +1,7 @@
 // Partial maps of rows to columns.
-ghost use Rattle.std.specs.Prelude.{◌≡◌, ℕ, ◌<◌, ◌≤◌, List, length, map, replicate, slice_set, Some, None, IsOk, IfOk};
+ghost use Rattle.std.specs.Prelude.{◌≡◌, ℕ, ◌<◌, ◌≤◌, List, length, map, slice_set, Some, None, IsOk, IfOk};
 ghost use Rattle.bt_matrix.specs.Good.{IsPermutation};
-ghost use Rattle.bt_match.specs.Matching.{IsPartial, HasEqualLineSums, IsInside, IsInsidePerm};
+ghost use Rattle.bt_match.specs.Matching.{IsEmpty, HasEqualLineSums, IsInside, IsInsidePerm};
 
 use crate::matching::match_rows;
 use crate::perm::{MOST_BEAMS, Perm};
@@ -33,7 +33,8 @@ impl Partial {
     pub fn empty(_alloc: Global, size: u32) -> Result<Partial, OutOfMemory>
         requires some { 1 ≤ size }
         requires few { size ≤ 16 }
-        ensures empty { IfOk result (λ partial. partial ≡ replicate size None) }
+        ensures size { IfOk result (λ partial. length partial ≡ size) }
+        ensures empty { IfOk result IsEmpty }
         ensures ok { IsOk result }
     {
         Ok(Partial {
