@@ -1,6 +1,6 @@
 -- Numbers, words and lines of a text. A text is a list of bytes.
-use Rattle.std.specs.Prelude.{ℕ, ◌==◌, ◌&&◌, Bool, false, if◌then◌else◌, List, [], ◌∷◌, Option, Some, None, option_and_then}
-use Rattle.std.specs.List.{slice_split, list_all}
+use Rattle.std.specs.Prelude.{ℕ, ◌-◌, ◌^◌, ◌==◌, ◌&&◌, min, not, Bool, false, if◌then◌else◌, List, [], ◌∷◌, ◌++◌, Option, Some, None, option_and_then}
+use Rattle.std.specs.List.{slice_split, list_all, flat_map, join_with_byte}
 use Rattle.std.specs.Char.{is_ascii_digit}
 use Rattle.std.specs.Int.{is_in_range}
 use Rattle.std.specs.Str.Parse.{digits_value}
@@ -27,3 +27,19 @@ number_of word = if is_number word then Some (digits_value 10 word) else None
 abbrev pub numbers_of : List (List ℕ) → Option (List ℕ)
 numbers_of [] = Some []
 numbers_of (word ∷ rest) = option_and_then (λ n. option_and_then (λ ns. Some (n ∷ ns)) (numbers_of rest)) (number_of word)
+
+-- a number as a u64 holds it: the last u64 stands for every number from there on
+abbrev pub capped : ℕ → ℕ
+capped n = min n (2 ^ 64 - 1)
+
+-- the words with one space between each two
+abbrev pub spaced : List (List ℕ) → List ℕ
+spaced ws = join_with_byte 32 ws
+
+-- the lines, each with its newline behind it
+abbrev pub ended : List (List ℕ) → List ℕ
+ended ls = flat_map (λ line. line ++ 10 ∷ []) ls
+
+-- the byte stands nowhere in these bytes
+abbrev pub lacks : ℕ → List ℕ → Bool
+lacks byte bytes = list_all (λ b. not (b == byte)) bytes

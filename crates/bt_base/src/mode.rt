@@ -1,5 +1,5 @@
 // Switching modes: settings of the on-board switch, each held for some slots of the frame.
-ghost use Rattle.std.specs.Prelude.{◌≡◌, ◌≤◌, vec_len};
+ghost use Rattle.std.specs.Prelude.{◌≡◌, ◌≤◌, length, vec_len};
 
 use std::marker::Model;
 
@@ -33,7 +33,8 @@ impl Columns {
 
     /// The entries in order.
     pub fn as_slice(&self) -> &[u8]
-        ensures { result.now ≡ self.now }
+        ensures same { result.now ≡ self.now }
+        ensures few { length result.now ≤ MOST_ENTRIES }
     {
         self.values.as_slice()
     }
@@ -76,7 +77,8 @@ impl Modes {
 
     /// The modes in order.
     pub fn as_slice(&self) -> &[Mode]
-        ensures { result.now ≡ self.now }
+        ensures same { result.now ≡ self.now }
+        ensures few { length result.now ≤ MOST_ENTRIES }
     {
         self.modes.as_slice()
     }

@@ -1,6 +1,6 @@
 -- A traffic matrix as a list of rows: entry j of row i is the slots per frame from uplink beam i to
 -- downlink beam j. A line is a row or a column.
-use Rattle.std.specs.Prelude.{◌≡◌, ℕ, ◌+◌, ◌-◌, ◌<◌, ◌≤◌, List, [], length, All, sum, sum_by, slice_index, slice_set}
+use Rattle.std.specs.Prelude.{◌≡◌, ℕ, ◌<◌, ◌≤◌, List, [], length, All, sum, sum_by, slice_index, slice_set}
 use Rattle.std.specs.List.{slice_index_or}
 use Rattle.bt_base.specs.declared.schedule.Critical.{Critical}
 use Rattle.bt_base.specs.declared.schedule.Critical.TheVariants.{Row, Column}

@@ -4,6 +4,8 @@
 //! schedule is good for a matrix. `docs/definitions.md` has both in words.
 #![tactic(auto)]
 
+mod dense;
 mod traffic;
 
+pub use dense::Dense;
 pub use traffic::{SUM_LAST, Traffic};

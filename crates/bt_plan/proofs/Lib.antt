@@ -1,0 +1,3 @@
+mod OneVerdict
+mod Seen
+mod Walk

@@ -1,4 +1,5 @@
 pub mod Verdict
+pub mod Short
 pub mod Reading
 pub mod MatrixText
 pub mod ScheduleText

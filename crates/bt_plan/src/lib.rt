@@ -4,8 +4,12 @@
 //! grammars, line by line, with the fault of each line.
 #![tactic(auto)]
 
+mod laws;
+mod schedule_check;
 mod text_fault;
 mod verdict;
 
+pub use laws::one_verdict;
+pub use schedule_check::check_modes;
 pub use text_fault::{TextCode, TextFault};
 pub use verdict::Verdict;

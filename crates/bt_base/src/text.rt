@@ -1,0 +1,105 @@
+// Numbers, words and lines of a text: what every reader and writer of the centre stands on.
+ghost use Rattle.std.specs.Prelude.{◌≡◌, ℕ, ◌+◌, ◌-◌, ◌^◌, ◌<◌, ◌≤◌, ◌==◌, List, ◌∷◌, ◌++◌, [], map, drop, length, slice_range, decimal, IfOk, IfSome, IfNone, All, OnOk, OnErr, IsErrOf, if◌then◌else◌, Option};
+ghost use Rattle.std.specs.List.{list_all, slice_split};
+ghost use Rattle.std.specs.Char.{is_ascii_digit};
+ghost use Rattle.std.specs.Option.{option_map};
+ghost use Rattle.std.specs.Str.Parse.{digits_value};
+ghost use Rattle.bt_base.specs.Text.{words, lines, number_of, numbers_of, capped};
+
+use crate::OutOfMemory;
+use itoa::Buffer;
+use memchr::memchr;
+use std::alloc::Global;
+
+/// The number that a word is, the last `u64` for every number from there on; None where it is no number.
+pub fn number(word: &[u8]) -> Option<u64>
+    ensures value { result ≡ option_map capped (number_of word.now) }
+    ensures exact { IfSome result (λ n. n < 2 ^ 64 - 1 → number_of word.now ≡ Some n) }
+    ensures none { IfNone result (number_of word.now ≡ None) }
+{
+    match word {
+        [] => None,
+        [b'0', _, ..] => None,
+        _ => digits(word),
+    }
+}
+
+/// The numbers that the words are, each as `number` gives it; None where one of the words is no number.
+pub fn all_numbers(alloc: Global, words: &[&[u8]]) -> Result<Option<Vec<u64>>, OutOfMemory>
+    ensures value { IfOk result (λ found.
+        option_map (λ v. v.items) found ≡ option_map (map capped) (numbers_of (map (λ word. word.now) words.now))) }
+    ensures exact { IfOk result (λ found. IfSome found (λ v.
+        All (λ n. n < 2 ^ 64 - 1) v.items → numbers_of (map (λ word. word.now) words.now) ≡ Some v.items)) }
+    ensures length { IfOk result (λ found. IfSome found (λ v. length v.items ≡ length words.now)) }
+    ensures none { IfOk result (λ found. IfNone found (numbers_of (map (λ word. word.now) words.now) ≡ None)) }
+{
+    let mut numbers = Vec::with_capacity(alloc, words.len())?;
+    for word in words {
+        let Some(number) = number(word) else {
+            return Ok(None);
+        };
+        numbers.push(number)?;
+    }
+    Ok(Some(numbers))
+}
+
+// The number that the digits write, the last u64 for every number from there on; None where a byte is no digit.
+fn digits(word: &[u8]) -> Option<u64>
+    ensures { result ≡ (if list_all is_ascii_digit word.now then Some (capped (digits_value 10 word.now)) else None) }
+{
+    let mut number: u64 = 0;
+    for byte in word {
+        if !byte.is_ascii_digit() {
+            return None;
+        }
+        number = number
+            .saturating_mul(10)
+            .saturating_add(u64::from(*byte - b'0'));
+    }
+    Some(number)
+}
+
+/// Appends a number in decimal digits.
+pub fn number_text(alloc: Global, number: u64, out: &mut Vec<u8>) -> Result<(), OutOfMemory>
+    ensures ok { OnOk result (out.new.items ≡ out.old.items ++ decimal number) }
+    ensures err { OnErr result (out.new.items ≡ out.old.items) }
+{
+    let mut buffer = Buffer::new();
+    out.extend_from_slice(buffer.format(number).as_bytes())?;
+    Ok(())
+}
+
+/// Where the line that begins at a place begins and ends, its newline left out; None where no newline
+/// follows.
+pub fn next_line(bytes: &[u8], place: usize) -> Option<(usize, usize)>
+    requires { place ≤ length bytes.now }
+    ensures start { IfSome result (λ line. line.0 ≡ place) }
+    ensures within { IfSome result (λ line. (place ≤ line.1) × (line.1 < length bytes.now)) }
+    ensures line { IfSome result (λ line.
+        lines (drop place bytes.now) ≡ slice_range bytes.now place line.1 ∷ lines (drop (line.1 + 1) bytes.now)) }
+    ensures none { IfNone result (lines (drop place bytes.now) ≡ drop place bytes.now ∷ []) }
+{
+    let length = memchr(b'\n', &bytes[place..])?;
+    Some((place, place + length))
+}
+
+/// The words of a line, cut at every single space.
+pub fn words(alloc: Global, line: &[u8]) -> Result<Vec<&[u8]>, OutOfMemory>
+    ensures { IfOk result (λ v. map (λ word. word.now) v.items ≡ words line.now) }
+{
+    cut_at(alloc, line, b' ')
+}
+
+/// The lines of a text, cut at every newline: the last of them is what stands behind the last newline.
+pub fn lines(alloc: Global, text: &[u8]) -> Result<Vec<&[u8]>, OutOfMemory>
+    ensures { IfOk result (λ v. map (λ line. line.now) v.items ≡ lines text.now) }
+{
+    cut_at(alloc, text, b'\n')
+}
+
+// What stands between the separators.
+fn cut_at(alloc: Global, bytes: &[u8], separator: u8) -> Result<Vec<&[u8]>, OutOfMemory>
+    ensures { IfOk result (λ v. map (λ part. part.now) v.items ≡ slice_split (λ b. b == separator) bytes.now) }
+{
+    Ok(bytes.split(|byte| *byte == separator).collect(alloc)?)
+}

@@ -1,0 +1,15 @@
+-- The command that the code has read off the words, as what is asked.
+use Rattle.std.specs.Prelude.{ℕ, List, codes, Option, Some, None}
+use Rattle.bt_cli.specs.declared.request.Command.{Command}
+use Rattle.bt_cli.specs.declared.request.Command.TheVariants as command
+use Rattle.bt_cli.specs.Request.{Request, Faulty, CheckModes}
+
+-- what the command asks for
+abbrev pub asked : Command → Request
+asked command.Faulty = Faulty
+asked (command.CheckModes matrix modes) = CheckModes matrix.now modes.now
+
+-- the name of the command
+abbrev pub name_of : Command → Option (List ℕ)
+name_of command.Faulty = None
+name_of (command.CheckModes _ _) = Some (codes "check")

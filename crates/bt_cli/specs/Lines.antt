@@ -1,0 +1,45 @@
+-- The lines that the program prints, each as its words.
+use Rattle.std.specs.Prelude.{ℕ, ◌++◌, List, [], ◌∷◌, codes, decimal}
+use Rattle.bt_base.specs.declared.schedule.Critical.{Critical}
+use Rattle.bt_base.specs.declared.schedule.Critical.TheVariants.{Row, Column}
+use Rattle.bt_plan.specs.declared.text_fault.TextCode.{TextCode}
+use Rattle.bt_plan.specs.declared.text_fault.TextCode.TheVariants.{X1, X2, M1, T1, T2, T3, T4, T5, P1, P2, P3}
+use Rattle.bt_plan.specs.declared.verdict.Verdict.{Verdict}
+use Rattle.bt_plan.specs.declared.verdict.Verdict.TheVariants.{Good, V1, V2, V3, V4, V5, V6, V7, V8}
+
+-- the words of a line with a space between each two, and a newline behind the last
+abbrev pub line_of : List (List ℕ) → List ℕ
+line_of [] = 10 ∷ []
+line_of (word ∷ []) = word ++ 10 ∷ []
+line_of (word ∷ next ∷ rest) = word ++ 32 ∷ line_of (next ∷ rest)
+
+-- the code of a text's fault
+abbrev pub code_name : TextCode → List ℕ
+code_name X1 = codes "X1"
+code_name X2 = codes "X2"
+code_name M1 = codes "M1"
+code_name T1 = codes "T1"
+code_name T2 = codes "T2"
+code_name T3 = codes "T3"
+code_name T4 = codes "T4"
+code_name T5 = codes "T5"
+code_name P1 = codes "P1"
+code_name P2 = codes "P2"
+code_name P3 = codes "P3"
+
+-- the words of a text's first fault, with its line
+abbrev pub text_fault : TextCode → ℕ → List (List ℕ)
+text_fault code line = codes "fault" ∷ code_name code ∷ decimal line ∷ []
+
+-- the words of a verdict
+abbrev pub verdict_words : Verdict → List (List ℕ)
+verdict_words Good = codes "good" ∷ []
+verdict_words (V1 mode) = codes "V1" ∷ decimal mode ∷ []
+verdict_words (V2 mode) = codes "V2" ∷ decimal mode ∷ []
+verdict_words (V3 sum length) = codes "V3" ∷ decimal sum ∷ decimal length ∷ []
+verdict_words (V4 (Row up) sum) = codes "V4" ∷ codes "row" ∷ decimal up.0 ∷ decimal sum ∷ []
+verdict_words (V4 (Column down) sum) = codes "V4" ∷ codes "column" ∷ decimal down.0 ∷ decimal sum ∷ []
+verdict_words (V5 first second) = codes "V5" ∷ decimal first ∷ decimal second ∷ []
+verdict_words (V6 burst) = codes "V6" ∷ decimal burst ∷ []
+verdict_words (V7 from to want have) = codes "V7" ∷ decimal from.0 ∷ decimal to.0 ∷ decimal want ∷ decimal have ∷ []
+verdict_words (V8 up down want have) = codes "V8" ∷ decimal up.0 ∷ decimal down.0 ∷ decimal want ∷ decimal have ∷ []

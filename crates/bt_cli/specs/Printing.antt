@@ -1,0 +1,29 @@
+-- Printing what the work came to.
+use Rattle.std.specs.Prelude.{◌≡◌, ℕ, ◌⊎◌, codes, List, [], ◌∷◌, Option, Some, None, Result, Ok, Err}
+use Rattle.std.specs.String.{string_bytes}
+use Rattle.bt_cli.specs.declared.answer.Answer.{Answer}
+use Rattle.bt_cli.specs.declared.answer.Stop.{Stop}
+use Rattle.bt_cli.specs.declared.answer.Stop.TheVariants.{Early, OutOfMemory}
+use Rattle.bt_cli.specs.Answer.{AnswerIs, StopIs}
+use Rattle.bt_cli.specs.Outcome.{Says, Prints}
+
+-- the work came to one of these outcomes, at its end or before it
+abbrev pub CameTo : (List ℕ → ℕ → Type 0) → Result Answer Stop → Type 0
+CameTo Outcomes (Ok answer) = AnswerIs Outcomes answer
+CameTo Outcomes (Err stop) = StopIs Outcomes stop
+
+-- how the program ends after this answer was to be printed
+abbrev pub EndsAfter : Option (List ℕ) → Option (List ℕ) → Type 0 → Answer → ℕ → Type 0
+EndsAfter old new failed answer status = (status ≡ 1) ⊎ Prints old new failed (string_bytes answer.text) answer.status status
+
+-- how the program ends after the work came to this
+abbrev pub EndsWith : Option (List ℕ) → Option (List ℕ) → Type 0 → Result Answer Stop → ℕ → Type 0
+EndsWith old new failed (Ok answer) status = EndsAfter old new failed answer status
+EndsWith old new failed (Err (Early answer)) status = EndsAfter old new failed answer status
+EndsWith old new failed (Err OutOfMemory) status = status ≡ 1
+
+-- how the program ends where its words are none of a command
+abbrev pub EndsByWords : Option (List ℕ) → Option (List ℕ) → Type 0 → ℕ → Type 0
+EndsByWords old new failed status =
+    (status ≡ 1)
+    ⊎ ((text : List ℕ) × (answer : ℕ) × Says (codes "fault" ∷ codes "words" ∷ []) 2 text answer × Prints old new failed text answer status)

@@ -1,0 +1,78 @@
+// `check MATRIX MODES`.
+ghost use Rattle.std.specs.Prelude.{◌≡◌, map, codes};
+ghost use Rattle.std.specs.String.{string_bytes};
+ghost use Rattle.bt_base.specs.Told.{Rose};
+ghost use Rattle.bt_matrix.specs.Traffic.{IsLine, IsTraffic};
+ghost use Rattle.bt_cli.specs.Check.{ChecksModes, ChecksSchedule, Judges};
+ghost use Rattle.bt_cli.specs.Printing.{CameTo};
+ghost use Rattle.bt_cli.specs.Request.{first_word, request_of};
+ghost use Rattle.bt_cli.specs.Top.{Answers, Ends};
+
+use crate::answer::{Answer, Stop};
+use crate::faulty::faulty_words;
+use crate::lines::verdict_line;
+use crate::load::{load_matrix, load_schedule};
+use crate::print::print;
+use crate::request::{Command, command_of};
+use bt_base::{Files, Schedule, Sink};
+use bt_matrix::Dense;
+use std::alloc::Global;
+
+/// Checks a switching schedule against a traffic matrix, and prints the verdict.
+///
+/// The words are those after the program's name, of which the first is `check`. The status is 0 where the
+/// verdict is good, and 9 where it is not; the refusals are those of the top call.
+pub fn check_command<F: Files, O: Sink>(
+    alloc: Global,
+    words: &[String],
+    files: &mut F,
+    out: &mut O,
+) -> u8
+    requires { first_word (map string_bytes words.now) ≡ Some (codes "check") }
+    ensures { Ends (F.told files.old) (Rose (F.fault_count files.old) (F.fault_count files.new))
+        (O.told out.old) (O.told out.new) (Rose (O.fault_count out.old) (O.fault_count out.new))
+        (request_of (map string_bytes words.now)) result }
+{
+    let outcome = check_words(alloc, words, files);
+    print(alloc, out, outcome)
+}
+
+fn check_words<F: Files>(alloc: Global, words: &[String], files: &mut F) -> Result<Answer, Stop>
+    ensures { CameTo (Answers (F.told files.old) (Rose (F.fault_count files.old) (F.fault_count files.new)) (request_of (map string_bytes words.now))) result }
+{
+    match command_of(words) {
+        Command::Faulty => Ok(faulty_words(alloc)?),
+        Command::CheckModes { matrix, modes } => check_files(alloc, files, matrix, modes),
+    }
+}
+
+fn check_files<F: Files>(
+    alloc: Global,
+    files: &mut F,
+    matrix: &str,
+    modes: &str,
+) -> Result<Answer, Stop>
+    ensures { CameTo (ChecksModes (F.told files.old) (Rose (F.fault_count files.old) (F.fault_count files.new)) matrix.now modes.now) result }
+{
+    let matrix = load_matrix(alloc, files, matrix)?;
+    check_modes_file(alloc, files, &matrix, modes)
+}
+
+fn check_modes_file<F: Files>(
+    alloc: Global,
+    files: &mut F,
+    matrix: &Dense,
+    modes: &str,
+) -> Result<Answer, Stop>
+    ensures { CameTo (ChecksSchedule (F.told files.old) (Rose (F.fault_count files.old) (F.fault_count files.new)) modes.now matrix.now) result }
+{
+    let schedule = load_schedule(alloc, files, modes, matrix.size())?;
+    judge(alloc, matrix, &schedule)
+}
+
+fn judge(alloc: Global, matrix: &Dense, schedule: &Schedule) -> Result<Answer, Stop>
+    requires { IsLine matrix.now schedule.now.critical }
+    ensures { CameTo (Judges matrix.now schedule.now) result }
+{
+    Err(Stop::OutOfMemory)
+}

@@ -1,0 +1,17 @@
+//! The commands of the program, and the top call that carries its promise.
+//!
+//! `specs/Top.antt` says what the program prints and with which status it ends, case by case in the order of
+//! the work; `specs/Lines.antt` has the printed lines.
+#![tactic(auto)]
+
+mod answer;
+mod check;
+mod faulty;
+mod lines;
+mod load;
+mod print;
+mod request;
+mod top;
+
+pub use check::check_command;
+pub use top::{Ended, centre_main};

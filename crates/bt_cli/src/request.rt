@@ -1,0 +1,36 @@
+// What the words after the program's name ask for.
+ghost use Rattle.std.specs.Prelude.{◌≡◌, map, codes, IfSome};
+ghost use Rattle.std.specs.String.{string_bytes};
+ghost use Rattle.bt_cli.specs.Request.{check_request, first_word, request_of};
+ghost use Rattle.bt_cli.specs.Command.{asked, name_of};
+
+/// A command with its words.
+#[derive(Clone, Copy, Debug)]
+pub enum Command<'a> {
+    /// The words are none of the table.
+    Faulty,
+    /// `check MATRIX MODES`.
+    CheckModes { matrix: &'a str, modes: &'a str },
+}
+
+/// The command that the words ask for.
+pub fn command_of(words: &[String]) -> Command<'_>
+    ensures asked { asked result ≡ request_of (map string_bytes words.now) }
+    ensures named { IfSome (name_of result) (λ name. first_word (map string_bytes words.now) ≡ Some name) }
+{
+    match words {
+        [command, matrix, modes] if command.as_str() == "check" => check_of(matrix, modes),
+        _ => Command::Faulty,
+    }
+}
+
+fn check_of<'a>(matrix: &'a str, modes: &'a str) -> Command<'a>
+    ensures asked { asked result ≡ check_request matrix.now modes.now }
+    ensures named { IfSome (name_of result) (λ name. name ≡ codes "check") }
+{
+    if matrix.is_empty() || modes.is_empty() {
+        Command::Faulty
+    } else {
+        Command::CheckModes { matrix, modes }
+    }
+}

@@ -1,0 +1,55 @@
+// The top call.
+ghost use Rattle.std.specs.Prelude.{◌≡◌, map};
+ghost use Rattle.std.specs.String.{string_bytes};
+ghost use Rattle.bt_base.specs.Told.{Rose};
+ghost use Rattle.bt_cli.specs.Request.{request_of};
+ghost use Rattle.bt_cli.specs.Top.{Ends};
+
+use crate::check::check_command;
+use crate::faulty::print_faulty_words;
+use crate::request::{Command, command_of};
+use bt_base::{Files, Keeper, Sink};
+use std::alloc::Global;
+use std::sync::Wait;
+use std::thread::Threads;
+
+/// What the top call gives back.
+#[derive(Debug, Drop)]
+pub struct Ended<K> {
+    /// The status with which the program ends.
+    pub status: u8,
+    /// The store, as the command left it.
+    pub store: K,
+}
+
+/// Does what the words after the program's name ask for.
+///
+/// | status | when |
+/// |---|---|
+/// | 0 | done |
+/// | 1 | memory ran out |
+/// | 2 | the words are none of a command |
+/// | 4 | a text leaves its grammar or its limits |
+/// | 5 | a file could not be read |
+/// | 6 | the output could not be written |
+/// | 9 | the verdict of `check` is not good |
+/// | 10 | a file is longer than 4,194,304 bytes |
+pub fn centre_main<R: Threads + Wait + Sync, F: Files, O: Sink, K: Keeper + Send>(
+    _rt: &R,
+    alloc: Global,
+    words: &[String],
+    files: &mut F,
+    out: &mut O,
+    store: K,
+) -> Ended<K>
+    ensures ends { Ends (F.told files.old) (Rose (F.fault_count files.old) (F.fault_count files.new))
+        (O.told out.old) (O.told out.new) (Rose (O.fault_count out.old) (O.fault_count out.new))
+        (request_of (map string_bytes words.now)) result.status }
+    ensures store { result.store ≡ store }
+{
+    let status = match command_of(words) {
+        Command::Faulty => print_faulty_words(alloc, out),
+        Command::CheckModes { .. } => check_command(alloc, words, files, out),
+    };
+    Ended { status, store }
+}

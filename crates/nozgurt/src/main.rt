@@ -1,0 +1,51 @@
+//! The program: it makes the real files, the output and the store, and hands its words to the top call.
+#![tactic(auto)]
+
+mod pages;
+
+use bt_base::{DirFiles, Sink, SinkFault, StdSink, SureKeeper};
+use bt_cli::centre_main;
+use std::alloc::{AllocError, Global};
+use std::process::ExitCode;
+use std::{env, io};
+
+/// The status where memory ran out.
+const OUT_OF_MEMORY: u8 = 1;
+
+/// The status where the output could not be written.
+const WRITE_FAILED: u8 = 6;
+
+fn main(rt: HostRuntime) -> ExitCode {
+    let alloc = rt.alloc();
+    let mut out = StdSink::new(rt.stdout());
+    let Ok(words) = words(&rt, alloc) else {
+        return ExitCode::from(OUT_OF_MEMORY);
+    };
+    let status = match pages::page_of(&words) {
+        Some(page) => show(alloc, &mut out, page),
+        None => {
+            let mut files = DirFiles::new(&rt);
+            let store = SureKeeper::new(Vec::new(alloc));
+            centre_main(&rt, alloc, &words, &mut files, &mut out, store).status
+        }
+    };
+    ExitCode::from(status)
+}
+
+/// The words after the program's name; none where one of them is no text, since no command has such a word.
+fn words<R: Env + Alloc<A = Global>>(rt: &R, alloc: Global) -> Result<Vec<String>, AllocError> {
+    match env::args(rt) {
+        Ok(words) => words.skip(1).collect(alloc),
+        Err(e) if e.kind() == io::ErrorKind::OutOfMemory => Err(AllocError),
+        Err(_) => Ok(Vec::new(alloc)),
+    }
+}
+
+/// Prints a page, and gives the status to end with.
+fn show<O: Sink>(alloc: Global, out: &mut O, page: &str) -> u8 {
+    match out.write(alloc, page.as_bytes()) {
+        Ok(()) => 0,
+        Err(SinkFault::Failed) => WRITE_FAILED,
+        Err(SinkFault::OutOfMemory) => OUT_OF_MEMORY,
+    }
+}
