@@ -7,7 +7,7 @@ use Rattle.std.specs.List.{All}
 use Rattle.bt_matrix.specs.Good.{IsPermutation}
 use Rattle.bt_matrix.specs.Traffic.{entry, row_of, IsTraffic}
 use Rattle.bt_match.specs.Search.{IsMatching}
-use Rattle.bt_match.specs.Matching.{column_of, IsPartial}
+use Rattle.bt_match.specs.Matching.{column_of, IsPartial, IsWhole}
 
 -- a row of the empty map has no column
 pub column_of-replicate : (size row : ℕ) → column_of (replicate size None) row ≡ None
@@ -132,3 +132,12 @@ IsPartial-matching rows columns traffic long matching = record {
       omega arith;
   own_columns = matching.own_columns;
 }
+
+-- in the map of a permutation every row has a column
+pub IsWhole-front : (size : ℕ) (columns rest : List (Option ℕ)) (perm : List ℕ) → length columns ≡ size → columns ≡ map Some perm → IsWhole (take size (columns ++ rest))
+IsWhole-front size columns rest perm same is =
+    rw (take_front size columns rest same)
+    (rw is (λ row inside.
+    let within : row < length perm = omega (arith, length-map perm Some) in
+    let has : column_of (map Some perm) row ≡ Some (get_or perm row 0) = column_of-map perm row 0 within in
+    rw has refl))

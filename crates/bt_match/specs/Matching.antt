@@ -27,6 +27,10 @@ IsEmpty columns = (row : ℕ) → column_of columns row ≡ None
 abbrev pub IsWhole : List (Option ℕ) → Type 0
 IsWhole columns = (row : ℕ) → row < length columns → IsSome (column_of columns row)
 
+-- a row that has a column has the one that the permutation gives it
+abbrev pub HasColumnsOf : List (Option ℕ) → List ℕ → Type 0
+HasColumnsOf columns perm = (row down : ℕ) → column_of columns row ≡ Some down → (row < length perm) × (slice_index perm row ≡ down)
+
 -- every column that a row has is below the number of rows
 abbrev pub IsBelowSize : List (Option ℕ) → Type 0
 IsBelowSize columns = (row down : ℕ) → column_of columns row ≡ Some down → down < length columns

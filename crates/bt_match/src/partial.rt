@@ -1,7 +1,7 @@
 // Partial maps of rows to columns.
-ghost use Rattle.std.specs.Prelude.{◌≡◌, ℕ, ◌<◌, ◌≤◌, List, length, map, slice_set, Some, None, IsOk, IfOk};
+ghost use Rattle.std.specs.Prelude.{◌≡◌, ◌≢◌, ℕ, ◌<◌, ◌≤◌, List, length, map, Some, None, IsOk, IfOk};
 ghost use Rattle.bt_matrix.specs.Good.{IsPermutation};
-ghost use Rattle.bt_match.specs.Matching.{IsEmpty, HasEqualLineSums, IsInside, IsInsidePerm};
+ghost use Rattle.bt_match.specs.Matching.{column_of, IsEmpty, IsWhole, HasColumnsOf, HasEqualLineSums, IsInside, IsInsidePerm};
 
 use crate::matching::match_rows;
 use crate::perm::{MOST_BEAMS, Perm};
@@ -45,7 +45,9 @@ impl Partial {
 
     /// Every row has the column that the permutation gives it.
     pub fn of(perm: Perm) -> Partial
-        ensures { result ≡ map Some perm }
+        ensures size { length result ≡ length perm }
+        ensures whole { IsWhole result }
+        ensures columns { HasColumnsOf result perm }
     {
         let mut columns = [None; MOST_BEAMS];
         let perm = perm.as_slice();
@@ -58,7 +60,9 @@ impl Partial {
 
     /// The row has no column from now on. A row that has none stays so, and all other rows stay as they are.
     pub fn free(&mut self, row: BeamNo)
-        ensures { self.new ≡ slice_set self.old row.0 None }
+        ensures size { length self.new ≡ length self.old }
+        ensures freed { column_of self.new row.0 ≡ None }
+        ensures others { (other : ℕ) → other ≢ row.0 → column_of self.new other ≡ column_of self.old other }
     {
         let row = row.0 as usize;
         if row < self.size {
