@@ -1,8 +1,8 @@
 -- Partial maps of rows to columns: none has one, all have one, one gives its own up.
 use Rattle.std.proofs.Common.{◌≡◌, ℕ, ◌<◌, ◌≤◌, List, [], ◌++◌, length, Option, Some, None, take, map, replicate, set, get_or, sym, ap, ◌∙◌, refl, inl, inr, arith, get_or-set_same, get_or-set_other}
 use Rattle.std.proofs.lemmas.Bool.{cases_eq, cases_lt, cases_order}
-use Rattle.std.proofs.lemmas.List.{get_or-map, get_or_past, get_or-replicate, length-replicate, length-map, length-set}
-use Rattle.std.proofs.Math.Seq.{take-append_seam}
+use Rattle.std.proofs.lemmas.List.{get_or-map, get_or_past, get_or-replicate, length-replicate, length-map, length-set, take-set-le}
+use Rattle.std.proofs.Math.Seq.{take-append_seam, take-set-lt}
 use Rattle.std.specs.List.{All}
 use Rattle.bt_matrix.specs.Good.{IsPermutation}
 use Rattle.bt_matrix.specs.Traffic.{entry, row_of, IsTraffic}
@@ -38,13 +38,21 @@ column_of-set_none columns row other down has =
     ]
 
 -- a row gives its column up
-pub IsPartial-set_none : (columns : List (Option ℕ)) (row : ℕ) → IsPartial columns → IsPartial (set columns row None)
+IsPartial-set_none : (columns : List (Option ℕ)) (row : ℕ) → IsPartial columns → IsPartial (set columns row None)
 IsPartial-set_none columns row partial = record {
   some_rows = rw length-set partial.some_rows;
   few_rows = rw length-set partial.few_rows;
   below_size = λ other down has. rw length-set (partial.below_size other down (column_of-set_none columns row other down has));
   own_columns = λ first second down one two. partial.own_columns first second down (column_of-set_none columns row first down one) (column_of-set_none columns row second down two);
 }
+
+-- the same of the first places of a longer list
+pub IsPartial-take_set : (size : ℕ) (columns : List (Option ℕ)) (row : ℕ) → IsPartial (take size columns) → IsPartial (take size (set columns row None))
+IsPartial-take_set size columns row partial =
+    elim (cases_lt row size) [
+      | inl inside ↦ rw (take-set-lt size columns row None inside) (IsPartial-set_none (take size columns) row partial)
+      | inr past ↦ rw (take-set-le size columns row None past) partial
+    ]
 
 -- the column of a row of a permutation
 pub column_of-map : (perm : List ℕ) (row : ℕ) (other : ℕ) → row < length perm → column_of (map Some perm) row ≡ Some (get_or perm row other)

@@ -43,6 +43,10 @@ abbrev pub MovesToUnvisited : List Bool → List (Option ℕ) → List (Option �
 MovesToUnvisited visited before after =
     (row down : ℕ) → column_of after row ≡ Some down → (column_of before row ≡ Some down) ⊎ (is_visited visited down ≡ false)
 
+-- the row has a column that had not been visited
+abbrev pub HasUnvisited : List Bool → List (Option ℕ) → ℕ → Type 0
+HasUnvisited visited columns row = (down : ℕ) × (column_of columns row ≡ Some down) × (is_visited visited down ≡ false)
+
 -- no row has that column
 abbrev pub IsFreeColumn : List (Option ℕ) → ℕ → Type 0
 IsFreeColumn columns down = (row : ℕ) → column_of columns row ≢ Some down

@@ -1,7 +1,6 @@
 // The search along augmenting paths: a row without a column takes one, whose row before moves to another.
-ghost use Rattle.std.specs.Prelude.{◌≡◌, ℕ, ◌<◌, ◌≤◌, true, false, length, IsSome, IfSome, IfNone, Some, None};
+ghost use Rattle.std.specs.Prelude.{◌≡◌, ℕ, ◌<◌, ◌≤◌, true, false, length, IfSome, IfNone, Some, None};
 ghost use Rattle.std.specs.Bool.{OnTrue, OnFalse};
-ghost use Rattle.bt_matrix.specs.Traffic.{entry};
 ghost use Rattle.bt_match.specs.Matching.{column_of};
 ghost use Rattle.bt_match.specs.Search.{
   IsMatching,
@@ -9,7 +8,7 @@ ghost use Rattle.bt_match.specs.Search.{
   unvisited,
   StaysVisited,
   IsSpent,
-  HasSpentRow,
+  HasUnvisited,
   IsExplored,
   StaysMatched,
   MovesToUnvisited,
@@ -28,7 +27,7 @@ fn holder(columns: &[Option<u8>], down: u8) -> Option<usize>
     columns.iter().position(|column| *column == Some(down))
 }
 
-/// Seeks a column for the row among those not visited, and moves other rows out of its way.
+/// Seeks another column for the row among those not visited, and moves other rows out of its way.
 #[cycle(augment)]
 pub(crate) fn seek<M: Traffic>(
     matrix: &M,
@@ -43,7 +42,7 @@ pub(crate) fn seek<M: Traffic>(
     ensures matching { IsMatching (M.rows matrix.now) columns.new }
     ensures stays { StaysMatched columns.old columns.new }
     ensures moves { MovesToUnvisited visited.old columns.old columns.new }
-    ensures found { OnTrue result (IsSome (column_of columns.new row)) }
+    ensures found { OnTrue result (HasUnvisited visited.old columns.new row) }
 
     ensures same { OnFalse result (columns.new ≡ columns.old) }
     ensures spent { OnFalse result (IsSpent (M.rows matrix.now) visited.new row) }
@@ -94,13 +93,8 @@ fn vacate<M: Traffic>(
         return false;
     }
     visited[down as usize] = true;
-    let Some(row) = holder(columns, down) else {
-        return true;
-    };
-    columns[row] = None;
-    let moved = seek(matrix, columns, visited, row);
-    if !moved {
-        columns[row] = Some(down);
+    match holder(columns, down) {
+        Some(row) => seek(matrix, columns, visited, row),
+        None => true,
     }
-    moved
 }
