@@ -1,8 +1,7 @@
 // Which calls on an object in memory fail, for tests of what stands after a fault.
-ghost use Rattle.std.specs.Prelude.{◌≡◌, ◌≤◌, [], vec_len, option_copied};
+ghost use Rattle.std.specs.Prelude.{◌≡◌, ◌≤◌, option_copied};
 ghost use Rattle.bt_base.specs.Calls.{fail_at, raised};
 
-use std::alloc::Global;
 use std::marker::Model;
 
 /// A call that is to fail, and what of a piece it keeps.
@@ -15,7 +14,7 @@ pub struct Fail {
 }
 
 /// The calls made so far, which of all calls are to fail, and how often one failed.
-#[derive(Debug, Drop)]
+#[derive(Drop)]
 pub(crate) struct Calls {
     fails: Vec<Fail>,
     made: u64,

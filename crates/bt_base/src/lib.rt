@@ -2,7 +2,8 @@
 //! and lines of a text, and what files, a sink and a store of records promise.
 //!
 //! `docs/definitions.md` has the meaning of each word. `specs/Told.antt` says what the outside promises,
-//! `specs/Text.antt` what a number, a word and a line of a text are.
+//! `specs/Held.antt` and `specs/Calls.antt` what its objects in memory are seen as, `specs/Text.antt` what a
+//! number, a word and a line of a text are, and `spelling.rt` that each is spelled in one way.
 #![tactic(auto)]
 
 mod dir_files;
@@ -16,6 +17,7 @@ mod named;
 mod numbers;
 mod schedule;
 mod sink;
+mod spelling;
 mod std_sink;
 mod sure_files;
 mod sure_keeper;
@@ -32,6 +34,10 @@ pub use mode::{Columns, Mode, Modes};
 pub use numbers::{BeamNo, Command, EditionNo, Mark, OutOfMemory, TermNo, TermSet, Units};
 pub use schedule::{Critical, Schedule};
 pub use sink::{Sink, SinkFault};
+pub use spelling::{
+    lines_have_one_text, number_lines_have_one_spelling, numbers_have_one_spelling,
+    words_have_one_line,
+};
 pub use std_sink::StdSink;
 pub use sure_files::SureFiles;
 pub use sure_keeper::SureKeeper;

@@ -1,5 +1,5 @@
 // A sink in memory, some of whose writes fail.
-ghost use Rattle.std.specs.Prelude.{◌≡◌, [], ◌++◌, length, take, Some, OnOk, OnErr, IsSomeAnd, IsNone, IsErrOf};
+ghost use Rattle.std.specs.Prelude.{◌≡◌, [], ◌++◌, take, Some, OnOk, OnErr, IsSomeAnd, IsNone, IsErrOf};
 ghost use Rattle.bt_base.specs.Told.{gained, GainsPrefix, HasCause};
 ghost use Rattle.bt_base.specs.Calls.{fail_at, Counts};
 

@@ -1,12 +1,15 @@
 // A writer as a sink.
-ghost use Rattle.std.specs.Prelude.{◌≡◌, None};
+ghost use Rattle.std.specs.Prelude.{◌≡◌, None, OnOk};
+ghost use Rattle.std.specs.Io.KnownBytes.{Appends};
+ghost use Rattle.bt_base.specs.Told.{HasCause};
 
 use crate::{Sink, SinkFault};
 use std::alloc::Global;
 use std::io;
 use std::io::{ErrorKind, Write};
 
-/// Standard output, or another writer. What it holds is not told.
+/// Standard output, or another writer. What it holds is not told. Where the writer itself wants memory, that is
+/// the answer, and no fault is counted.
 #[derive(Drop)]
 pub struct StdSink<W> {
     out: W,
@@ -31,7 +34,12 @@ impl<W: Write> Sink for StdSink<W> {
         self.faults
     }
 
-    fn write(&mut self, _alloc: Global, piece: &[u8]) -> Result<(), SinkFault> {
+    fn write(&mut self, _alloc: Global, piece: &[u8]) -> Result<(), SinkFault>
+        ensures cause { HasCause SinkFault.Failed self.old.faults self.new.faults result }
+
+        // Where a writer tells its bytes, it has the whole piece after Ok.
+        ensures whole { OnOk result (Appends (W.contents self.old.out) (W.contents self.new.out) piece.now) }
+    {
         match write_and_flush(&mut self.out, piece) {
             Ok(()) => Ok(()),
             Err(e) if e.kind() == ErrorKind::OutOfMemory => Err(SinkFault::OutOfMemory),
@@ -44,7 +52,9 @@ impl<W: Write> Sink for StdSink<W> {
 }
 
 /// Writes the whole piece. A writer that takes nothing of what is left gives an error.
-fn write_and_flush<W: Write>(out: &mut W, piece: &[u8]) -> io::Result<()> {
+fn write_and_flush<W: Write>(out: &mut W, piece: &[u8]) -> io::Result<()>
+    ensures { OnOk result (Appends (W.contents out.old) (W.contents out.new) piece.now) }
+{
     out.write_all(piece)?;
     out.flush()
 }

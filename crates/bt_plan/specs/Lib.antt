@@ -3,3 +3,4 @@ pub mod Short
 pub mod Reading
 pub mod MatrixText
 pub mod ScheduleText
+pub mod Critical

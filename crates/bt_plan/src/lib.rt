@@ -5,11 +5,16 @@
 #![tactic(auto)]
 
 mod laws;
+mod lines;
+mod matrix_text;
 mod schedule_check;
+mod schedule_text;
 mod text_fault;
 mod verdict;
 
 pub use laws::one_verdict;
+pub use matrix_text::read_matrix;
 pub use schedule_check::check_modes;
+pub use schedule_text::read_schedule;
 pub use text_fault::{TextCode, TextFault};
 pub use verdict::Verdict;

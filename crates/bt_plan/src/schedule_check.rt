@@ -12,15 +12,6 @@ use bt_matrix::{Dense, Traffic};
 /// The most beams of a matrix.
 const MOST_BEAMS: usize = 16;
 
-/// A connection that gets too few slots.
-#[derive(Clone, Copy)]
-struct Short {
-    up: BeamNo,
-    down: BeamNo,
-    want: u64,
-    have: u64,
-}
-
 /// What is wrong first with a schedule for that matrix, or that it is good.
 ///
 /// It looks once at each beam of each mode and once at each entry of the matrix, and takes no memory.
@@ -52,19 +43,7 @@ fn verdict_on<M: Traffic>(matrix: &M, schedule: &Schedule) -> Verdict
         return Verdict::V4 { critical, sum };
     }
     match first_short(matrix, schedule) {
-        Some(
-            Short {
-                up,
-                down,
-                want,
-                have,
-            },
-        ) => Verdict::V8 {
-            up,
-            down,
-            want,
-            have,
-        },
+        Some(short) => short.verdict(),
         None => Verdict::Good,
     }
 }
@@ -173,6 +152,29 @@ fn slots_from(modes: &Modes, up: BeamNo) -> [u64; MOST_BEAMS]
     slots
 }
 
+/// A connection that gets too few slots.
+#[derive(Clone, Copy)]
+struct Short {
+    up: BeamNo,
+    down: BeamNo,
+    want: u64,
+    have: u64,
+}
+
+impl Short {
+    /// What the checker says of it.
+    fn verdict(self) -> Verdict
+        ensures { result ≡ Verdict.V8 self.up self.down self.want self.have }
+    {
+        Verdict::V8 {
+            up: self.up,
+            down: self.down,
+            want: self.want,
+            have: self.have,
+        }
+    }
+}
+
 /// The first connection from that uplink beam that gets fewer slots than it wants.
 fn first_short_from<M: Traffic>(matrix: &M, schedule: &Schedule, up: BeamNo) -> Option<Short>
     requires permutations { HasPermutations (M.rows matrix.now) schedule.now }
@@ -234,8 +236,11 @@ mod tests {
     type Settings = &'static [(u32, &'static [u8])];
 
     const ALONE: Rows = &[&[0]];
+
     const CROSSED: Rows = &[&[0, 3], &[3, 0]];
+
     const FALLING: Rows = &[&[2, 0], &[3, 0]];
+
     const THREE: Rows = &[&[2, 1, 0], &[0, 2, 2], &[1, 0, 1]];
 
     #[test]

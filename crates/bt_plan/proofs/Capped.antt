@@ -1,0 +1,42 @@
+-- A number too great is out of a range whether it is capped or not, and one in the range is never capped.
+use Rattle.std.proofs.Common.{◌≡◌, ℕ, ◌+◌, ◌-◌, ◌^◌, ◌<◌, ◌≤◌, Bool, true, false, cond, leb, ◌&&◌, List, [], ◌∷◌, length, map, refl, sym, ap, ◌∙◌, arith, inl, inr}
+use Rattle.std.specs.List.{list_all}
+use Rattle.std.proofs.lemmas.Bool.{leb-true, le-leb, lt-leb, cases_lt}
+use Rattle.bt_base.specs.Text.{capped}
+
+pub capped-small : (most n : ℕ) → most < 2 ^ 64 - 1 → n ≤ most → capped n ≡ n
+capped-small most n small le = omega arith
+
+pub leb-capped : (most n : ℕ) → most < 2 ^ 64 - 1 → leb (capped n) most ≡ leb n most
+leb-capped most n small =
+    elim (cases_lt most n) [
+      | inl lt ↦ lt-leb (capped n) most (omega arith) ∙ sym (lt-leb n most lt)
+      | inr le ↦ le-leb (capped n) most (omega arith) ∙ sym (le-leb n most le)
+    ]
+
+pub leb-one-capped : (n : ℕ) → leb 1 (capped n) ≡ leb 1 n
+leb-one-capped n =
+    elim (cases_lt n 1) [
+      | inl lt ↦ lt-leb 1 (capped n) (omega arith) ∙ sym (lt-leb 1 n lt)
+      | inr le ↦ le-leb 1 (capped n) (omega arith) ∙ sym (le-leb 1 n le)
+    ]
+
+pub list_all-capped : (most : ℕ) (ns : List ℕ) → most < 2 ^ 64 - 1 → list_all (λ n. leb n most) (map capped ns) ≡ list_all (λ n. leb n most) ns
+list_all-capped most [] small = refl
+list_all-capped most (n ∷ ns) small = rw (leb-capped most n small, list_all-capped most ns small) refl
+
+-- a test that holds of both
+pub and_parts : (a b : Bool) → (a && b) ≡ true → (a ≡ true) × (b ≡ true)
+and_parts true b e = (refl, e)
+and_parts false b e = absurd cc
+
+pub map-capped : (most : ℕ) (ns : List ℕ) → most < 2 ^ 64 - 1 → list_all (λ n. leb n most) ns ≡ true → map capped ns ≡ ns
+map-capped most [] small e = refl
+map-capped most (n ∷ ns) small e =
+    let parts = and_parts (leb n most) (list_all (λ n. leb n most) ns) e in
+    rw (capped-small most n small (leb-true n most parts.0), map-capped most ns small parts.1) refl
+
+-- what a test decides may be changed where the test holds
+pub cond-at_true : {X : Type 0} (b : Bool) (x y z : X) → (b ≡ true → x ≡ y) → cond b x z ≡ cond b y z
+cond-at_true true x y z same = same refl
+cond-at_true false x y z same = refl
