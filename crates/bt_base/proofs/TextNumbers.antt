@@ -8,9 +8,10 @@ use Rattle.std.proofs.Math.Seq.{drop-cons}
 use Rattle.std.proofs.lemmas.Bool.Decides.{nat_tests}
 use Rattle.std.proofs.lemmas.Fmt.{decimal_is_IsNumeral, decimal-digits_value, decimal_digit, first_decimal}
 use Rattle.std.proofs.lemmas.List.{append-nil, drop_all, drop-map, length-map}
-use Rattle.std.proofs.lemmas.List.Elements.{All-head, All-tail, All-same}
+use Rattle.std.proofs.lemmas.List.Elements.{All-head, All-map, All-same, All-tail, All-weaker}
 use Rattle.std.proofs.lemmas.Str.Parse.{IsNumeralModel, numerals_by_value}
-use Rattle.bt_base.specs.Text.{is_number, number_of, numbers_of, capped, lacks}
+use Rattle.bt_base.specs.Text.{words, is_number, number_of, numbers_of, capped, spaced, lacks}
+use Rattle.bt_base.proofs.TextLines.{lacks-spaced, words-spaced, spaced-words}
 
 -- a list of digits by the test that computes it
 pub digits_model : IsNumeralModel (λ ds. list_all is_ascii_digit ds ≡ true) (digits_value 10)
@@ -108,6 +109,14 @@ pub capped_from_numbers : (numbers : Option (List ℕ)) (ns : List ℕ) → Some
 capped_from_numbers None ns is = cc
 capped_from_numbers (Some ms) ns is = cc
 
+-- a number beyond a limit is still beyond it
+pub beyond_from_capped : (numbers : Option (List ℕ)) (ns : List ℕ) (most : ℕ) → Some ns ≡ option_map (map capped) numbers → (All (λ n. n ≤ most) ns → ⊥) → IsSomeAnd numbers (λ ms. All (λ n. n ≤ most) ms → ⊥)
+beyond_from_capped None ns most is beyond = cc
+beyond_from_capped (Some ms) ns most is beyond = λ within.
+    let held : ns ≡ map capped ms = cc in
+    let lowered = All-weaker (λ m. m ≤ most) (λ m. capped m ≤ most) (λ m low. omega arith) ms within in
+    beyond (All-same (λ n. n ≤ most) ns (map capped ms) held (All-map (λ n. n ≤ most) capped ms lowered))
+
 -- no digit is a byte of another kind
 pub lacks_from_digits : (byte : ℕ) (word : List ℕ) → is_ascii_digit byte ≡ false → list_all is_ascii_digit word ≡ true → lacks byte word ≡ true
 lacks_from_digits byte [] other digits = refl
@@ -126,6 +135,17 @@ lacks-decimals byte (n ∷ ns) other small =
 
 pub lacks-number : (byte : ℕ) (word : List ℕ) → is_ascii_digit byte ≡ false → is_number word ≡ true → lacks byte word ≡ true
 lacks-number byte word other is = lacks_from_digits byte word other (digits_from_is_number word is).0
+
+-- a line of numbers is read as these numbers, and has one spelling
+pub numbers_of-line : (ns : List ℕ) → 0 < length ns → All (λ n. n < 2 ^ 64) ns → numbers_of (words (spaced (map decimal ns))) ≡ Some ns
+numbers_of-line ns filled small =
+    ap numbers_of (words-spaced (map decimal ns) (omega (arith, length-map ns decimal)) (lacks-decimals 32 ns refl small)) ∙ numbers_of-decimals ns small
+
+pub line_from_numbers_of : (line : List ℕ) (ns : List ℕ) → All (λ n. n < 2 ^ 64) ns → numbers_of (words line) ≡ Some ns → line ≡ spaced (map decimal ns)
+line_from_numbers_of line ns small is = sym (spaced-words line) ∙ ap spaced (decimals_from_numbers_of (words line) ns small is)
+
+pub lacks-number_line : (byte : ℕ) (ns : List ℕ) → (32 == byte) ≡ false → is_ascii_digit byte ≡ false → All (λ n. n < 2 ^ 64) ns → lacks byte (spaced (map decimal ns)) ≡ true
+lacks-number_line byte ns space digit small = lacks-spaced byte (map decimal ns) space ∙ lacks-decimals byte ns digit small
 
 -- the numbers that the words are, as u64s hold them
 abbrev pub capped_numbers : List (List ℕ) → Option (List ℕ)

@@ -1,2 +1,4 @@
 pub mod Told
 pub mod Text
+pub mod Calls
+pub mod Held

@@ -1,5 +1,5 @@
 -- What files, a sink and a store of records hold where it is told, and what a call may answer.
-use Rattle.std.specs.Prelude.{◌≡◌, ℕ, ◌+◌, ◌-◌, ◌^◌, ◌<◌, ◌≤◌, ◌⊎◌, List, ◌++◌, length, take, Option, Some, None, Result, IfSome, IsErrOf}
+use Rattle.std.specs.Prelude.{◌≡◌, ℕ, ◌-◌, ◌^◌, ◌<◌, ◌≤◌, ◌⊎◌, List, ◌++◌, length, take, Option, Some, None, Result, IfSome, IsErrOf}
 use Rattle.std.specs.Option.{ForSome}
 
 -- what came back is what is held; nothing is said where that is not told

@@ -3,7 +3,7 @@ ghost use Rattle.std.specs.Prelude.{◌≡◌, map, codes};
 ghost use Rattle.std.specs.String.{string_bytes};
 ghost use Rattle.bt_base.specs.Told.{Rose};
 ghost use Rattle.bt_matrix.specs.Traffic.{IsLine, IsTraffic};
-ghost use Rattle.bt_cli.specs.Check.{ChecksModes, ChecksSchedule, Judges};
+ghost use Rattle.bt_cli.specs.Check.{ChecksModes, ChecksSchedule, Judges, verdict_status};
 ghost use Rattle.bt_cli.specs.Printing.{CameTo};
 ghost use Rattle.bt_cli.specs.Request.{first_word, request_of};
 ghost use Rattle.bt_cli.specs.Top.{Answers, Ends};
@@ -15,7 +15,8 @@ use crate::load::{load_matrix, load_schedule};
 use crate::print::print;
 use crate::request::{Command, command_of};
 use bt_base::{Files, Schedule, Sink};
-use bt_matrix::Dense;
+use bt_matrix::{Dense, Traffic};
+use bt_plan::{Verdict, check_modes};
 use std::alloc::Global;
 
 /// Checks a switching schedule against a traffic matrix, and prints the verdict.
@@ -70,9 +71,24 @@ fn check_modes_file<F: Files>(
     judge(alloc, matrix, &schedule)
 }
 
+/// The line of the verdict on the schedule.
 fn judge(alloc: Global, matrix: &Dense, schedule: &Schedule) -> Result<Answer, Stop>
     requires { IsLine matrix.now schedule.now.critical }
     ensures { CameTo (Judges matrix.now schedule.now) result }
 {
-    Err(Stop::OutOfMemory)
+    let verdict = check_modes(matrix, schedule);
+    Ok(Answer {
+        text: verdict_line(alloc, &verdict)?,
+        status: status_of(&verdict),
+    })
+}
+
+/// The status that goes with a verdict.
+fn status_of(verdict: &Verdict) -> u8
+    ensures { result ≡ verdict_status verdict.now }
+{
+    match verdict {
+        Verdict::Good => 0,
+        _ => 9,
+    }
 }

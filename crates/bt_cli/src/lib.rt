@@ -11,6 +11,8 @@ mod lines;
 mod load;
 mod print;
 mod request;
+#[cfg(test)]
+mod tests;
 mod top;
 
 pub use check::check_command;

@@ -2,8 +2,8 @@
 ghost use Rattle.std.specs.Prelude.{◌≡◌, ◌≤◌, IfOk, IfErr};
 ghost use Rattle.bt_base.specs.Told.{Rose};
 ghost use Rattle.bt_plan.specs.MatrixText.{matrix_of};
+ghost use Rattle.bt_plan.specs.Critical.{IsOfBeams};
 ghost use Rattle.bt_plan.specs.ScheduleText.{schedule_of};
-ghost use Rattle.bt_plan.specs.Stub.{IsOfBeams};
 ghost use Rattle.bt_cli.specs.Outcome.{IsContent, CannotRead, IsLoaded, StopsAtLoad};
 ghost use Rattle.bt_cli.specs.Answer.{StopIs, NamesFault};
 
@@ -71,7 +71,6 @@ pub fn load_schedule<F: Files>(
     name: &str,
     size: u32,
 ) -> Result<Schedule, Stop>
-    requires some { 1 ≤ size }
     requires few { size ≤ 16 }
     ensures critical { IfOk result (λ schedule. IsOfBeams size schedule.critical) }
     ensures loaded { IfOk result (λ schedule. IsLoaded (schedule_of size) (F.told files.old) name.now schedule) }

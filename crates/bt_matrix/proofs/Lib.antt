@@ -1,2 +1,4 @@
 pub mod Lines
 pub mod Writes
+pub mod Ranges
+pub mod Shortest

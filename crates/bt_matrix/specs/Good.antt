@@ -37,6 +37,7 @@ IsFilled schedule = total_duration schedule.modes ≡ schedule.length
 
 -- The length is the greatest line sum, and the critical line has it. So no schedule that carries the matrix is shorter.
 pub record IsLeast (rows : List (List ℕ)) (schedule : Schedule) : Type 0 where
+  pub on_matrix : IsLine rows schedule.critical
   pub reached : line_sum rows schedule.critical ≡ schedule.length
   pub greatest : (line : Critical) → IsLine rows line → line_sum rows line ≤ schedule.length
 

@@ -1,5 +1,5 @@
 // A traffic matrix kept in whole, one vector a row.
-ghost use Rattle.std.specs.Prelude.{◌≡◌, ℕ, ◌+◌, ◌-◌, ◌<◌, ◌≤◌, ◌⊎◌, ◌^◌, List, length, map, replicate, sum, sum_by, slice_index, All, OnOk, OnErr, IfOk};
+ghost use Rattle.std.specs.Prelude.{◌≡◌, ℕ, ◌-◌, ◌<◌, ◌≤◌, ◌^◌, length, map, replicate, sum, sum_by, slice_index, All, IfOk};
 ghost use Rattle.bt_matrix.specs.Traffic.{row_sum, column_sum, IsTraffic};
 ghost use Rattle.bt_matrix.specs.Dense.{IsFirstGreatest};
 
@@ -72,7 +72,8 @@ impl Traffic for Dense {
     }
 
     fn get(&self, up: BeamNo, down: BeamNo) -> u32 {
-        self.rows[up.0 as usize][down.0 as usize]
+        let row = &self.rows[up.0 as usize];
+        row[down.0 as usize]
     }
 
     fn row_sum(&self, up: BeamNo) -> u32 {
@@ -177,3 +178,6 @@ fn column_sum_of(rows: &[Vec<u32>], down: usize) -> u32
     }
     sum
 }
+
+#[cfg(test)]
+mod tests;

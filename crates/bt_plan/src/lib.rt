@@ -14,6 +14,7 @@ mod verdict;
 
 pub use laws::one_verdict;
 pub use matrix_text::read_matrix;
+pub use schedule_check::check_modes;
 pub use schedule_text::read_schedule;
 pub use text_fault::{TextCode, TextFault};
 pub use verdict::Verdict;

@@ -6,6 +6,7 @@ mod pages;
 use bt_base::{DirFiles, Sink, SinkFault, StdSink, SureKeeper};
 use bt_cli::centre_main;
 use std::alloc::{AllocError, Global};
+use std::env::Env;
 use std::process::ExitCode;
 use std::{env, io};
 

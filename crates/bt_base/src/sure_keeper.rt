@@ -1,0 +1,125 @@
+// A store in memory whose calls do not fail.
+ghost use Rattle.std.specs.Prelude.{◌≡◌, ◌≤◌, ◌⊎◌, Some, OnOk, IfOk, IsErrOf, vec_len};
+ghost use Rattle.bt_base.specs.Told.{Gives, IsLonger, IsWithin, gained, GainsPrefix, shortened, HasCause};
+
+use crate::{KeepFault, Keeper, STORE_LAST};
+use std::alloc::Global;
+use std::marker::Model;
+
+/// A store in memory that keeps each piece, unless memory runs out.
+#[derive(Drop)]
+pub struct SureKeeper {
+    bytes: Vec<u8>,
+}
+
+impl Model for SureKeeper {
+    ghost use Rattle.std.specs.Prelude.{ℕ, List};
+
+    ghost Value = { List ℕ };
+
+    ghost view = { λ a. a.bytes.items };
+}
+
+impl SureKeeper {
+    /// These bytes, kept so far.
+    pub fn new(bytes: Vec<u8>) -> SureKeeper
+        ensures { result ≡ bytes.items }
+    {
+        SureKeeper { bytes }
+    }
+
+    /// The bytes kept, however many.
+    pub fn kept(&self) -> &[u8]
+        ensures { result.now ≡ self.now }
+    {
+        self.bytes.as_slice()
+    }
+}
+
+impl Keeper for SureKeeper {
+    ghost told = { λ bytes. Some bytes };
+
+    ghost fault_count = { λ _. 0 };
+
+    fn faults(&self) -> u64 {
+        0
+    }
+
+    fn append(&mut self, _alloc: Global, piece: &[u8]) -> Result<(), KeepFault>
+        ensures ok { OnOk result (Some self.new ≡ gained (Some self.old) piece.now) }
+        ensures failed { IsErrOf result KeepFault.Failed → GainsPrefix (Some self.old) piece.now (Some self.new) }
+        ensures out_of_memory { IsErrOf result KeepFault.OutOfMemory → Some self.new ≡ Some self.old }
+        ensures not_too_long { IsErrOf result KeepFault.TooLong → ⊥ }
+        ensures cause { HasCause KeepFault.Failed 0 0 result }
+        ensures not_failed { IsErrOf result KeepFault.Failed → ⊥ }
+    {
+        self.bytes.extend_from_slice(piece)?;
+        Ok(())
+    }
+
+    fn read_all(&mut self, alloc: Global) -> Result<Vec<u8>, KeepFault>
+        ensures bytes { IfOk result (λ bytes. Gives (Some self.old) bytes.items) }
+        ensures short { IfOk result (λ bytes. vec_len bytes ≤ STORE_LAST) }
+        ensures too_long { IsErrOf result KeepFault.TooLong → IsLonger (Some self.old) STORE_LAST }
+        ensures cause { HasCause KeepFault.Failed 0 0 result }
+        ensures same { Some self.new ≡ Some self.old }
+        ensures not_failed { IsErrOf result KeepFault.Failed → ⊥ }
+    {
+        if self.bytes.len() as u64 > STORE_LAST {
+            return Err(KeepFault::TooLong);
+        }
+        Ok(Vec::from_slice(alloc, self.bytes.as_slice())?)
+    }
+
+    fn cut(&mut self, _alloc: Global, length: u64) -> Result<(), KeepFault>
+        requires { IsWithin length (Some self.old) }
+        ensures ok { OnOk result (Some self.new ≡ shortened (Some self.old) length) }
+        ensures failed { IsErrOf result KeepFault.Failed
+            → (Some self.new ≡ Some self.old) ⊎ (Some self.new ≡ shortened (Some self.old) length) }
+        ensures out_of_memory { IsErrOf result KeepFault.OutOfMemory → Some self.new ≡ Some self.old }
+        ensures not_too_long { IsErrOf result KeepFault.TooLong → ⊥ }
+        ensures cause { HasCause KeepFault.Failed 0 0 result }
+        ensures not_failed { IsErrOf result KeepFault.Failed → ⊥ }
+    {
+        self.bytes.truncate(length as usize);
+        Ok(())
+    }
+}
+
+#[cfg(test)]
+mod tests {
+    use super::*;
+    use std::test;
+
+    #[test]
+    fn pieces_are_kept_read_and_cut(rt: HostRuntime) -> Result<(), test::Fail> {
+        let alloc = rt.alloc();
+        let mut store = SureKeeper::new(Vec::from_slice(alloc, b"ab")?);
+        assert_eq!(rt; append(&mut store, alloc, b"cde"), Ok(()));
+        assert_eq!(rt; store.kept(), b"abcde".as_slice());
+        assert_eq!(rt;
+            read_all(&mut store, alloc)?.as_slice(),
+            b"abcde".as_slice()
+        );
+        assert_eq!(rt; store.kept(), b"abcde".as_slice());
+        assert!(rt; 3 <= store.kept().len());
+        assert_eq!(rt; cut(&mut store, alloc, 3), Ok(()));
+        assert_eq!(rt; read_all(&mut store, alloc)?.as_slice(), b"abc".as_slice());
+        assert_eq!(rt; store.faults(), 0);
+        Ok(())
+    }
+
+    fn append<K: Keeper>(store: &mut K, alloc: Global, piece: &[u8]) -> Result<(), KeepFault> {
+        store.append(alloc, piece)
+    }
+
+    fn read_all<K: Keeper>(store: &mut K, alloc: Global) -> Result<Vec<u8>, KeepFault> {
+        store.read_all(alloc)
+    }
+
+    fn cut<K: Keeper>(store: &mut K, alloc: Global, length: u64) -> Result<(), KeepFault>
+        requires { IsWithin length (K.told store.old) }
+    {
+        store.cut(alloc, length)
+    }
+}

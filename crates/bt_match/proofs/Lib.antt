@@ -1,0 +1,5 @@
+pub mod Totals
+pub mod Counting
+pub mod Moves
+pub mod Partials
+pub mod Rows

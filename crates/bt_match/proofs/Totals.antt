@@ -1,0 +1,76 @@
+-- Sums over the numbers below a bound.
+use Rattle.std.proofs.Common.{◌≡◌, ℕ, zero, suc, ◌+◌, ◌*◌, ◌<◌, ◌≤◌, ◌≢◌, sym, ap, ◌∙◌, refl, inl, inr, arith}
+use Rattle.std.proofs.lemmas.Bool.{cases_lt, cases_eq}
+
+-- the sum of a function over the numbers below a bound
+abbrev pub total : ℕ → (ℕ → ℕ) → ℕ
+total zero f = 0
+total (suc n) f = total n f + f n
+
+-- a sum of greater parts is greater
+pub total-le : (n : ℕ) (f g : ℕ → ℕ) → ((k : ℕ) → k < n → f k ≤ g k) → total n f ≤ total n g
+total-le zero f g parts = omega arith
+total-le (suc n) f g parts =
+    let rest : total n f ≤ total n g = total-le n f g (λ k below. parts k (omega arith)) in
+    let last : f n ≤ g n = parts n (omega arith) in
+    omega arith
+
+-- sums of equal parts are equal
+pub total-same : (n : ℕ) (f g : ℕ → ℕ) → ((k : ℕ) → k < n → f k ≡ g k) → total n f ≡ total n g
+total-same zero f g parts = refl
+total-same (suc n) f g parts =
+    let rest : total n f ≡ total n g = total-same n f g (λ k below. parts k (omega arith)) in
+    let last : f n ≡ g n = parts n (omega arith) in
+    omega arith
+
+-- a sum of zeros
+pub total-zero : (n : ℕ) → total n (λ _. 0) ≡ 0
+total-zero zero = refl
+total-zero (suc n) = let rest : total n (λ _. 0) ≡ 0 = total-zero n in omega arith
+
+-- the sum of sums of two parts
+pub total-add : (n : ℕ) (f g : ℕ → ℕ) → total n (λ k. f k + g k) ≡ total n f + total n g
+total-add zero f g = refl
+total-add (suc n) f g =
+    let rest : total n (λ k. f k + g k) ≡ total n f + total n g = total-add n f g in
+    omega arith
+
+-- a factor of all parts
+pub total-mul : (n s : ℕ) (f : ℕ → ℕ) → total n (λ k. f k * s) ≡ total n f * s
+total-mul zero s f = omega arith
+total-mul (suc n) s f =
+    let rest : total n (λ k. f k * s) ≡ total n f * s = total-mul n s f in
+    omega arith
+
+-- rows first or columns first
+pub total-swap : (n m : ℕ) (f : ℕ → ℕ → ℕ) → total n (λ i. total m (λ j. f i j)) ≡ total m (λ j. total n (λ i. f i j))
+total-swap zero m f = sym (total-zero m)
+total-swap (suc n) m f =
+    let rest : total n (λ i. total m (λ j. f i j)) ≡ total m (λ j. total n (λ i. f i j)) = total-swap n m f in
+    let last : total m (λ j. total n (λ i. f i j) + f n j) ≡ total m (λ j. total n (λ i. f i j)) + total m (λ j. f n j) =
+    total-add m (λ j. total n (λ i. f i j)) (λ j. f n j) in
+    omega arith
+
+-- each part is within the sum
+pub part-le-total : (n : ℕ) (f : ℕ → ℕ) (k : ℕ) → k < n → f k ≤ total n f
+part-le-total zero f k below = absurd (omega arith)
+part-le-total (suc n) f k below =
+    elim (cases_lt k n) [
+      | inl before ↦ let rest : f k ≤ total n f = part-le-total n f k before in omega arith
+      | inr after ↦ let same : k ≡ n = omega arith in let last : f k ≡ f n = ap f same in omega arith
+    ]
+
+-- a sum with one part that is not zero at most
+pub total-only : (n d most : ℕ) (f : ℕ → ℕ) → ((k : ℕ) → k ≢ d → f k ≡ 0) → f d ≤ most → total n f ≤ most
+total-only zero d most f others small = omega arith
+total-only (suc n) d most f others small =
+    elim (cases_eq n d) [
+      | inl same ↦
+          let none : total n f ≡ 0 = total-same n f (λ _. 0) (λ k below. others k (omega arith)) ∙ total-zero n in
+          let last : f n ≡ f d = ap f same in
+          omega arith
+      | inr apart ↦
+          let rest : total n f ≤ most = total-only n d most f others small in
+          let last : f n ≡ 0 = others n apart in
+          omega arith
+    ]

@@ -1,0 +1,11 @@
+use Rattle.std.proofs.Common.{ℕ, ◌<◌, IsSome}
+use Rattle.bt_match.specs.Matching.{column_of}
+use Rattle.bt_match.specs.Search.{IsMatching}
+use Rattle.bt_match.proofs.matching.match_rows.Given as goal
+
+-- the rows so far have columns
+abbrev pub invariant-loop-row : goal.invariant-loop-row
+invariant-loop-row g l = record {
+  matching : IsMatching (g.M.Traffic.rows l.matrix) l.columns;
+  so_far : (row : ℕ) → row < l.row → IsSome (column_of l.columns row);
+}

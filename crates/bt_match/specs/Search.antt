@@ -1,0 +1,52 @@
+-- What a search for the column of a free row may change, and what it knows of the columns that it has visited.
+use Rattle.std.specs.Prelude.{◌≡◌, ◌≢◌, ◌⊎◌, ℕ, ◌<◌, Bool, true, false, not, List, Option, Some, IsSome, count_by}
+use Rattle.std.specs.List.{slice_index_or}
+use Rattle.bt_matrix.specs.Traffic.{entry}
+use Rattle.bt_match.specs.Matching.{column_of, HasOwnColumns, IsInside}
+
+-- rows with columns of their own, at positive entries
+pub record IsMatching (rows : List (List ℕ)) (columns : List (Option ℕ)) : Type 0 where
+  pub inside : IsInside rows columns
+  pub own_columns : HasOwnColumns columns
+
+-- the search has come to that column
+abbrev pub is_visited : List Bool → ℕ → Bool
+is_visited visited down = slice_index_or visited down false
+
+-- how many columns the search has not come to
+abbrev pub unvisited : List Bool → ℕ
+unvisited visited = count_by not visited
+
+-- no visited column is forgotten
+abbrev pub StaysVisited : List Bool → List Bool → Type 0
+StaysVisited before after = (down : ℕ) → is_visited before down ≡ true → is_visited after down ≡ true
+
+-- every positive entry of the row is in a visited column
+abbrev pub IsSpent : List (List ℕ) → List Bool → ℕ → Type 0
+IsSpent rows visited row = (down : ℕ) → 0 < entry rows row down → is_visited visited down ≡ true
+
+-- some row has that column, and every positive entry of that row is in a visited column
+abbrev pub HasSpentRow : List (List ℕ) → List (Option ℕ) → List Bool → ℕ → Type 0
+HasSpentRow rows columns visited down = (row : ℕ) × (column_of columns row ≡ Some down) × IsSpent rows visited row
+
+-- every column that was newly visited belongs to a row that is spent
+abbrev pub IsExplored : List (List ℕ) → List (Option ℕ) → List Bool → List Bool → Type 0
+IsExplored rows columns before after =
+    (down : ℕ) → is_visited after down ≡ true → (is_visited before down ≡ true) ⊎ HasSpentRow rows columns after down
+
+-- every row that had a column has one
+abbrev pub StaysMatched : List (Option ℕ) → List (Option ℕ) → Type 0
+StaysMatched before after = (row : ℕ) → IsSome (column_of before row) → IsSome (column_of after row)
+
+-- a row has the column that it had, or one that had not been visited
+abbrev pub MovesToUnvisited : List Bool → List (Option ℕ) → List (Option ℕ) → Type 0
+MovesToUnvisited visited before after =
+    (row down : ℕ) → column_of after row ≡ Some down → (column_of before row ≡ Some down) ⊎ (is_visited visited down ≡ false)
+
+-- the row has a column that had not been visited
+abbrev pub HasUnvisited : List Bool → List (Option ℕ) → ℕ → Type 0
+HasUnvisited visited columns row = (down : ℕ) × (column_of columns row ≡ Some down) × (is_visited visited down ≡ false)
+
+-- no row has that column
+abbrev pub IsFreeColumn : List (Option ℕ) → ℕ → Type 0
+IsFreeColumn columns down = (row : ℕ) → column_of columns row ≢ Some down

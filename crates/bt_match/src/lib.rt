@@ -1,0 +1,14 @@
+//! Permutations inside the positive entries of a traffic matrix whose line sums are equal and positive.
+//!
+//! `specs/Matching.antt` says what partial maps of rows to columns are, `specs/Search.antt` what the search for
+//! the column of one row keeps and finds.
+#![tactic(auto)]
+
+mod matching;
+mod partial;
+mod perm;
+mod search;
+
+pub use matching::perfect;
+pub use partial::Partial;
+pub use perm::Perm;

@@ -1,0 +1,148 @@
+// A network, as the rest of the centre asks it.
+ghost use Rattle.std.specs.Prelude.{◌≡◌, ◌<◌, Some, IfSome, IfNone, IfOk, IsTrue, length, map, position, slice_get, Contains};
+ghost use Rattle.std.specs.Option.{option_map};
+ghost use Rattle.std.specs.Str.{bytes_eq};
+ghost use Rattle.bt_net.specs.Name.{is_name, is_terminal_name};
+ghost use Rattle.bt_net.specs.Network.{names_of, IsSound, IsWithin};
+
+use crate::beams::Beams;
+use crate::terminals::Terminals;
+use bt_base::{BeamNo, OutOfMemory, TermNo};
+use std::marker::Model;
+
+/// A network: its beams, its terminals, and the limits of its frames, its changes and its journal.
+///
+/// Beams and terminals are numbered from 0 in the order of the file.
+#[derive(Drop)]
+pub struct Network {
+    pub(crate) beams: Beams,
+    pub(crate) terminals: Terminals,
+    pub(crate) slots: u32,
+    pub(crate) frames: u32,
+    pub(crate) lead: u32,
+    pub(crate) patience: u32,
+    pub(crate) journal: u32,
+}
+
+impl Model for Network {
+    ghost use Rattle.bt_net.specs.Network.{Net, IsSound};
+
+    ghost Value = { Net };
+
+    ghost view = { λ a. record { beams = a.beams; terminals = a.terminals; slots = a.slots; frames = a.frames; lead = a.lead; patience = a.patience; journal = a.journal } };
+
+    ghost invariant = { λ a. IsSound (record { beams = a.beams; terminals = a.terminals; slots = a.slots; frames = a.frames; lead = a.lead; patience = a.patience; journal = a.journal }) };
+}
+
+impl Network {
+    /// The number of beams.
+    pub fn beam_count(&self) -> u32
+        ensures count { result ≡ length self.now.beams }
+        ensures in_range { IsWithin 1 16 result }
+        ensures sound { IsSound self.now }
+    {
+        self.beams.len() as u32
+    }
+
+    /// The number of terminals.
+    pub fn terminal_count(&self) -> u32
+        ensures count { result ≡ length self.now.terminals }
+        ensures in_range { IsWithin 1 64 result }
+        ensures sound { IsSound self.now }
+    {
+        self.terminals.len() as u32
+    }
+
+    /// Traffic slots of a frame.
+    pub fn slots(&self) -> u32
+        ensures same { result ≡ self.now.slots }
+        ensures in_range { IsWithin 1 4096 result }
+    {
+        self.slots
+    }
+
+    /// Frames of a superframe.
+    pub fn frames(&self) -> u32
+        ensures same { result ≡ self.now.frames }
+        ensures in_range { IsWithin 1 64 result }
+    {
+        self.frames
+    }
+
+    /// Superframes from the command that arms a change to the change.
+    pub fn lead(&self) -> u32
+        ensures same { result ≡ self.now.lead }
+        ensures in_range { IsWithin 2 32 result }
+    {
+        self.lead
+    }
+
+    /// Turns for which the centre waits for terminals that have not confirmed.
+    pub fn patience(&self) -> u32
+        ensures same { result ≡ self.now.patience }
+        ensures in_range { IsWithin 1 32 result }
+    {
+        self.patience
+    }
+
+    /// The most bytes of a journal.
+    pub fn journal(&self) -> u32
+        ensures same { result ≡ self.now.journal }
+        ensures in_range { IsWithin 32 67108864 result }
+    {
+        self.journal
+    }
+
+    /// The beam of a terminal.
+    pub fn beam_of(&self, terminal: TermNo) -> BeamNo
+        requires { terminal.0 < length self.now.terminals }
+        ensures beam { option_map (λ t. t.1) (slice_get self.now.terminals terminal.0) ≡ Some result }
+        ensures in_range { result.0 < length self.now.beams }
+    {
+        self.terminals.at(terminal.0 as usize).1
+    }
+
+    /// The name of a terminal.
+    pub fn name_of(&self, terminal: TermNo) -> &str
+        requires { terminal.0 < length self.now.terminals }
+        ensures name { option_map (λ t. t.0) (slice_get self.now.terminals terminal.0) ≡ Some result.now }
+        ensures good { IsTrue (is_terminal_name result.now) }
+    {
+        self.terminals.at(terminal.0 as usize).0
+    }
+
+    /// The name of a beam.
+    pub fn beam_name(&self, beam: BeamNo) -> &str
+        requires { beam.0 < length self.now.beams }
+        ensures name { slice_get self.now.beams beam.0 ≡ Some result.now }
+        ensures good { IsTrue (is_name result.now) }
+    {
+        self.beams.name_of(beam.0 as usize)
+    }
+
+    /// The terminal of a name.
+    pub fn find(&self, name: &str) -> Option<TermNo>
+        ensures number { option_map (λ t. t.0) result ≡ position (bytes_eq name.now) (names_of self.now.terminals) }
+        ensures none { IfNone result (¬ (Contains (names_of self.now.terminals) name.now)) }
+        ensures some { IfSome result (λ t. option_map (λ p. p.0) (slice_get self.now.terminals t.0) ≡ Some name.now) }
+        ensures in_range { IfSome result (λ t. t.0 < length self.now.terminals) }
+    {
+        let number = self.terminals.find(name)?;
+        Some(TermNo(number as u8))
+    }
+
+    /// An equal network.
+    pub fn copy(&self) -> Result<Network, OutOfMemory>
+        ensures { IfOk result (λ net. net ≡ self.now) }
+    {
+        Ok(Network {
+            beams: self.beams.copy()?,
+            terminals: self.terminals.copy()?,
+            slots: self.slots,
+            frames: self.frames,
+            lead: self.lead,
+            patience: self.patience,
+            journal: self.journal,
+        })
+    }
+}

@@ -1,0 +1,81 @@
+// The terminals and the beam of each, numbered in the order in which they were added; no two have one name.
+ghost use Rattle.std.specs.Prelude.{◌≡◌, ◌<◌, [], ◌∷◌, ◌++◌, false, Some, length, position, slice_get, IfOk, OnOk, IsOkUnless};
+ghost use Rattle.std.specs.List.{list_any};
+ghost use Rattle.std.specs.Str.{bytes_eq};
+ghost use Rattle.bt_net.specs.Network.{names_of};
+
+use crate::fault::NetFault;
+use bt_base::BeamNo;
+use indexmap::IndexMap;
+use std::alloc::{AllocError, Global};
+use std::marker::Model;
+
+#[derive(Drop)]
+pub(crate) struct Terminals {
+    beams: IndexMap<String, BeamNo>,
+}
+
+impl Model for Terminals {
+    ghost use Rattle.std.specs.Prelude.{ℕ, List, map, string_bytes};
+    ghost use Rattle.bt_base.specs.declared.numbers.BeamNo.{BeamNo};
+
+    ghost Value = { List (List ℕ × BeamNo) };
+
+    ghost view = { λ a. map (λ entry. (string_bytes entry.0, entry.1)) a.beams.entries };
+}
+
+impl Terminals {
+    pub(crate) fn new(alloc: Global) -> Terminals
+        ensures { result ≡ [] }
+    {
+        Terminals {
+            beams: IndexMap::new(alloc),
+        }
+    }
+
+    pub(crate) fn len(&self) -> usize
+        ensures { result ≡ length self.now }
+    {
+        self.beams.len()
+    }
+
+    /// Whether a terminal has this name.
+    pub(crate) fn has(&self, name: &str) -> bool
+        ensures { result ≡ list_any (bytes_eq name.now) (names_of self.now) }
+    {
+        self.beams.contains_key(name)
+    }
+
+    /// The number of the terminal of this name.
+    pub(crate) fn find(&self, name: &str) -> Option<usize>
+        ensures { result ≡ position (bytes_eq name.now) (names_of self.now) }
+    {
+        self.beams.get_index_of(name)
+    }
+
+    /// The name and the beam of a terminal.
+    pub(crate) fn at(&self, number: usize) -> (&str, BeamNo)
+        requires { number < length self.now }
+        ensures { slice_get self.now number ≡ Some (result.0.now, result.1) }
+    {
+        let (name, beam) = self.beams.get_index(number).unwrap();
+        (name.as_str(), *beam)
+    }
+
+    pub(crate) fn add(&mut self, alloc: Global, name: &str, beam: BeamNo) -> Result<(), NetFault>
+        requires { list_any (bytes_eq name.now) (names_of self.old) ≡ false }
+        ensures ok { OnOk result (self.new ≡ self.old ++ (name.now, beam) ∷ []) }
+        ensures err { IsOkUnless result NetFault.OutOfMemory }
+    {
+        self.beams.insert(String::from_str(alloc, name)?, beam)?;
+        Ok(())
+    }
+
+    pub(crate) fn copy(&self) -> Result<Terminals, AllocError>
+        ensures { IfOk result (λ terminals. terminals ≡ self.now) }
+    {
+        Ok(Terminals {
+            beams: self.beams.clone()?,
+        })
+    }
+}
