@@ -1,5 +1,5 @@
 -- one mode more, and the end
-use Rattle.std.proofs.Common.{◌≡◌, ◌+◌, ◌≤◌, length, sym, arith}
+use Rattle.std.proofs.Common.{sym, arith}
 use Rattle.std.proofs.lemmas.List.{length-append}
 use Rattle.bt_base.specs.Text.{lines}
 use Rattle.bt_plan.specs.ScheduleText.{modes_in}
