@@ -127,7 +127,7 @@ fn a_network_is_read(rt: HostRuntime) -> Result<(), Fail> {
         Ok(net) => net,
         Err(_fault) => return Err(Fail::from("not read")),
     };
-    let net = match net.copy() {
+    let net = match net.copy(rt.alloc()) {
         Ok(net) => net,
         Err(_full) => return Err(Fail::from("not copied")),
     };
