@@ -13,7 +13,7 @@ use Rattle.bt_plan.specs.MatrixText.{size_in, row_in, rows_in, matrix_in, matrix
 use Rattle.bt_plan.proofs.Capped.{and_parts}
 
 -- the value of a step that did not fail
-bind_ok : {A B : Type 0} (reading : Reading A) (after : A → Reading B) (y : B) → (reading >>= after) ≡ Ok y → (x : A) × (reading ≡ Ok x) × (after x ≡ Ok y)
+pub bind_ok : {A B : Type 0} (reading : Reading A) (after : A → Reading B) (y : B) → (reading >>= after) ≡ Ok y → (x : A) × (reading ≡ Ok x) × (after x ≡ Ok y)
 bind_ok (Ok x) after y e = (x, refl, e)
 bind_ok (Err fault) after y e = absurd cc
 
@@ -27,10 +27,10 @@ guard_ok-then : {A : Type 0} (b : Bool) (fault : TextCode × ℕ) (reading : Rea
 guard_ok-then true fault reading y e = (refl, e)
 guard_ok-then false fault reading y e = absurd cc
 
-abbrev read : {A : Type 0} → A → Reading A
+abbrev pub read : {A : Type 0} → A → Reading A
 read x = Ok x
 
-ok_is : {A : Type 0} (x y : A) → read x ≡ read y → x ≡ y
+pub ok_is : {A : Type 0} (x y : A) → read x ≡ read y → x ≡ y
 ok_is x y e = cc
 
 size_in-ok : (o : Option (List ℕ)) (size : ℕ) → size_in o ≡ Ok size → (1 ≤ size) × (size ≤ 16)
