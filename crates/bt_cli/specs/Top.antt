@@ -1,5 +1,5 @@
 -- The promise of the whole program: what it prints and the status that it ends with, for each command.
-use Rattle.std.specs.Prelude.{◌≡◌, ℕ, ◌⊎◌, List, [], ◌∷◌, codes, Option}
+use Rattle.std.specs.Prelude.{◌≡◌, ℕ, ◌⊎◌, List, [], ◌∷◌, codes, Option, Some}
 use Rattle.bt_cli.specs.Outcome.{Says, Prints}
 use Rattle.bt_cli.specs.Request.{Request, Faulty, CheckModes}
 use Rattle.bt_cli.specs.Check.{ChecksModes}
@@ -15,3 +15,8 @@ abbrev pub Ends : (List ℕ → Option (List ℕ)) → Type 0 → Option (List �
 Ends told read_failed written now_written write_failed request status =
     (status ≡ 1)
     ⊎ ((text : List ℕ) × (answer : ℕ) × Answers told read_failed request text answer × Prints written now_written write_failed text answer status)
+
+-- the files that are asked for are told
+abbrev pub AreTold : (List ℕ → Option (List ℕ)) → Request → Type 0
+AreTold told Faulty = Unit {0}
+AreTold told (CheckModes matrix modes) = ((held : List ℕ) × (told matrix ≡ Some held)) × ((held : List ℕ) × (told modes ≡ Some held))

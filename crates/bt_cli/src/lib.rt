@@ -7,6 +7,7 @@
 mod answer;
 mod check;
 mod faulty;
+mod laws;
 mod lines;
 mod load;
 mod print;
@@ -16,4 +17,5 @@ mod tests;
 mod top;
 
 pub use check::check_command;
+pub use laws::one_answer;
 pub use top::{Ended, centre_main};

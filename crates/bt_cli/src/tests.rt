@@ -113,6 +113,8 @@ fn the_outside_fails_at_its_step(rt: HostRuntime) -> Result<(), Fail> {
         (check, None, None, "good\n", 0),
         (check, Some(0), None, "fault read two.matrix\n", 5),
         (check, Some(1), None, "fault read two.modes\n", 5),
+        // there is no third read
+        (check, Some(2), None, "good\n", 0),
         (
             "check no.matrix two.modes",
             None,
@@ -170,5 +172,21 @@ fn a_file_may_have_four_mebibytes(rt: HostRuntime) -> Result<(), Fail> {
         assert_eq!(rt; out.written(), text.as_bytes(), "{length}");
         assert_eq!(rt; ended.status, status, "{length}");
     }
+    Ok(())
+}
+
+#[test]
+fn a_command_answers_by_itself(rt: HostRuntime) -> Result<(), Fail> {
+    let alloc = rt.alloc();
+    let mut files = SureFiles::new(stored(alloc)?);
+    let mut out = SureSink::new(alloc);
+    let words = vec![in alloc;
+        String::from_str(alloc, "check")?,
+        String::from_str(alloc, "two.matrix")?,
+        String::from_str(alloc, "straight.modes")?,
+    ]?;
+    let status = check_command(alloc, &words, &mut files, &mut out);
+    assert_eq!(rt; status, 9);
+    assert_eq!(rt; out.written(), b"V8 0 1 3 0\n".as_slice());
     Ok(())
 }
