@@ -11,3 +11,6 @@ mod step;
 pub use decomposition::decompose;
 pub use padding::{Padded, pad};
 pub use planning::schedule;
+
+#[cfg(test)]
+mod tests;
