@@ -7,7 +7,7 @@ use Rattle.bt_matrix.specs.Traffic.{row_of, entry, row_sum, column_sum, line_sum
 use Rattle.bt_matrix.proofs.Lines.{row_sum-with_entry_same, row_sum-with_entry_other, column_sum-with_entry_same, column_sum-with_entry_other}
 use Rattle.bt_matrix.proofs.Writes.{length-row, IsTraffic-with_entry}
 use Rattle.bt_match.specs.Matching.{HasLineSums}
-use Rattle.bt_modes.specs.Padding.{IsRaised, IsWithin, IsFilled}
+use Rattle.bt_modes.specs.Padding.{IsRaised, IsWithin, IsPartPadding}
 use Rattle.bt_modes.proofs.Sums.{HasLineSums-rows, HasLineSums-columns}
 
 -- the entry that was written
@@ -89,8 +89,8 @@ IsLine-size old new (Row k) size inside = omega arith
 IsLine-size old new (Column k) size inside = omega arith
 
 -- nothing was raised
-pub IsFilled-same : (rows : List (List ℕ)) (slots : ℕ) → IsTraffic rows → IsWithin rows slots → IsFilled rows rows slots
-IsFilled-same rows slots traffic within = record {
+pub IsPartPadding-same : (rows : List (List ℕ)) (slots : ℕ) → IsTraffic rows → IsWithin rows slots → IsPartPadding rows rows slots
+IsPartPadding-same rows slots traffic within = record {
   traffic = traffic;
   size = refl;
   raised = λ up down _ _. omega arith;
@@ -99,10 +99,10 @@ IsFilled-same rows slots traffic within = record {
 }
 
 -- one entry was raised
-pub IsFilled-with_entry : (rows : List (List ℕ)) (up down units slots : ℕ) → IsTraffic rows → IsWithin rows slots → slots ≤ 1048576
+pub IsPartPadding-with_entry : (rows : List (List ℕ)) (up down units slots : ℕ) → IsTraffic rows → IsWithin rows slots → slots ≤ 1048576
     → up < length rows → down < length rows → row_sum rows up + units ≤ slots → column_sum rows down + units ≤ slots
-    → IsFilled rows (with_entry rows up down (entry rows up down + units)) slots
-IsFilled-with_entry rows up down units slots traffic within limit in_rows in_columns row column =
+    → IsPartPadding rows (with_entry rows up down (entry rows up down + units)) slots
+IsPartPadding-with_entry rows up down units slots traffic within limit in_rows in_columns row column =
     let n = entry rows up down + units in
     let new = with_entry rows up down n in
     let gain = IsGain-with_entry rows up down units traffic in_rows in_columns in
@@ -117,8 +117,8 @@ IsFilled-with_entry rows up down units slots traffic within limit in_rows in_col
     }
 
 -- and after that more
-pub IsFilled-later : (first second third : List (List ℕ)) (slots : ℕ) → IsFilled first second slots → IsFilled second third slots → IsFilled first third slots
-IsFilled-later first second third slots before after = record {
+pub IsPartPadding-later : (first second third : List (List ℕ)) (slots : ℕ) → IsPartPadding first second slots → IsPartPadding second third slots → IsPartPadding first third slots
+IsPartPadding-later first second third slots before after = record {
   traffic = after.traffic;
   size = after.size ∙ before.size;
   raised = λ up down in_rows in_columns.
@@ -130,41 +130,41 @@ IsFilled-later first second third slots before after = record {
 }
 
 -- the rows that were full are so
-rows_stay : (old new : List (List ℕ)) (slots up : ℕ) → IsFilled old new slots → up ≤ length old
+rows_stay : (old new : List (List ℕ)) (slots up : ℕ) → IsPartPadding old new slots → up ≤ length old
     → ((k : ℕ) → k < up → row_sum old k ≡ slots) → (k : ℕ) → k < up → row_sum new k ≡ slots
 rows_stay old new slots up filled inside full k below = filled.full (Row (record { 0 = k })) (omega arith) (full k below)
 
 -- the columns that were full are so
-columns_stay : (old new : List (List ℕ)) (slots down : ℕ) → IsFilled old new slots → down ≤ length old
+columns_stay : (old new : List (List ℕ)) (slots down : ℕ) → IsPartPadding old new slots → down ≤ length old
     → ((k : ℕ) → k < down → column_sum old k ≡ slots) → (k : ℕ) → k < down → column_sum new k ≡ slots
 columns_stay old new slots down filled inside full k below = filled.full (Column (record { 0 = k })) (omega arith) (full k below)
 
 -- The matrix so far: its first rows and columns are full.
-pub record IsFilledTo (old now : List (List ℕ)) (slots up down : ℕ) : Type 0 where
-  pub filled : IsFilled old now slots
+pub record IsPaddedTo (old now : List (List ℕ)) (slots up down : ℕ) : Type 0 where
+  pub filled : IsPartPadding old now slots
   pub rows : (k : ℕ) → k < up → row_sum now k ≡ slots
   pub columns : (k : ℕ) → k < down → column_sum now k ≡ slots
 
 -- one more row is full
-pub IsFilledTo-row : (old now new : List (List ℕ)) (slots up down : ℕ) → IsFilledTo old now slots up down → IsFilled now new slots
-    → up ≤ length now → down ≤ length now → row_sum new up ≡ slots → IsFilledTo old new slots (up + 1) down
-IsFilledTo-row old now new slots up down before filled in_rows in_columns is = record {
-  filled = IsFilled-later old now new slots before.filled filled;
+pub IsPaddedTo-row : (old now new : List (List ℕ)) (slots up down : ℕ) → IsPaddedTo old now slots up down → IsPartPadding now new slots
+    → up ≤ length now → down ≤ length now → row_sum new up ≡ slots → IsPaddedTo old new slots (up + 1) down
+IsPaddedTo-row old now new slots up down before filled in_rows in_columns is = record {
+  filled = IsPartPadding-later old now new slots before.filled filled;
   rows = below_more (λ (k : ℕ). row_sum new k ≡ slots) up (rows_stay now new slots up filled in_rows before.rows) is;
   columns = columns_stay now new slots down filled in_columns before.columns;
 }
 
 -- one more column is full
-pub IsFilledTo-column : (old now new : List (List ℕ)) (slots up down : ℕ) → IsFilledTo old now slots up down → IsFilled now new slots
-    → up ≤ length now → down ≤ length now → column_sum new down ≡ slots → IsFilledTo old new slots up (down + 1)
-IsFilledTo-column old now new slots up down before filled in_rows in_columns is = record {
-  filled = IsFilled-later old now new slots before.filled filled;
+pub IsPaddedTo-column : (old now new : List (List ℕ)) (slots up down : ℕ) → IsPaddedTo old now slots up down → IsPartPadding now new slots
+    → up ≤ length now → down ≤ length now → column_sum new down ≡ slots → IsPaddedTo old new slots up (down + 1)
+IsPaddedTo-column old now new slots up down before filled in_rows in_columns is = record {
+  filled = IsPartPadding-later old now new slots before.filled filled;
   rows = rows_stay now new slots up filled in_rows before.rows;
   columns = below_more (λ (k : ℕ). column_sum new k ≡ slots) down (columns_stay now new slots down filled in_columns before.columns) is;
 }
 
 -- all rows are full, or all columns: every line is
-pub HasLineSums-filled : (old rows : List (List ℕ)) (slots up down : ℕ) → IsFilledTo old rows slots up down
+pub HasLineSums-filled : (old rows : List (List ℕ)) (slots up down : ℕ) → IsPaddedTo old rows slots up down
     → (length rows ≤ up) ⊎ (length rows ≤ down) → HasLineSums rows slots
 HasLineSums-filled old rows slots up down so_far (inl all) =
     HasLineSums-rows rows slots so_far.filled.traffic (λ k below. so_far.rows k (omega arith))

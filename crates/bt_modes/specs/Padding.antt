@@ -20,8 +20,8 @@ IsGreatestSum rows sum = (line : Critical) × IsHeaviest rows line sum
 abbrev pub StaysFull : List (List ℕ) → List (List ℕ) → ℕ → Type 0
 StaysFull old new sum = (line : Critical) → IsLine old line → line_sum old line ≡ sum → line_sum new line ≡ sum
 
--- some entries were raised, and no line passes this sum
-pub record IsFilled (old new : List (List ℕ)) (sum : ℕ) : Type 0 where
+-- part of a padding: some entries were raised, no line passes the sum, and the lines that have it keep it
+pub record IsPartPadding (old new : List (List ℕ)) (sum : ℕ) : Type 0 where
   pub traffic : IsTraffic new
   pub size : length new ≡ length old
   pub raised : IsRaised old new

@@ -1,4 +1,5 @@
-//! Switching schedules of the least length: a traffic matrix is padded until all of its lines are equal, and taken apart into modes.
+//! Switching schedules of the least length. A traffic matrix is padded until all of its line sums are equal,
+//! and then taken apart into modes: permutations inside its positive entries, each held for its least entry.
 //!
 //! `specs/Padding.antt` says what a padding is, `specs/Decomposition.antt` when modes together are a matrix.
 #![tactic(auto)]

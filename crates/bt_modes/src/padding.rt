@@ -2,7 +2,7 @@
 ghost use Rattle.std.specs.Prelude.{◌≡◌, ◌+◌, ◌*◌, ◌≤◌, ◌<◌, ◌⊎◌, length, IfOk};
 ghost use Rattle.bt_matrix.specs.Traffic.{row_sum, column_sum, IsTraffic};
 ghost use Rattle.bt_match.specs.Matching.{HasLineSums};
-ghost use Rattle.bt_modes.specs.Padding.{IsPaddingOf, IsRaised, IsWithin, IsFilled};
+ghost use Rattle.bt_modes.specs.Padding.{IsPaddingOf, IsRaised, IsWithin, IsPartPadding};
 
 use bt_base::{BeamNo, OutOfMemory};
 use bt_matrix::{SUM_LAST, Traffic};
@@ -62,7 +62,7 @@ fn fill_entry<M: Traffic>(matrix: &mut M, up: BeamNo, down: BeamNo, sum: u32)
     requires within { IsWithin (M.rows matrix.old) sum }
     requires limit { sum ≤ SUM_LAST }
     requires room { 1 ≤ M.room matrix.old }
-    ensures filled { IsFilled (M.rows matrix.old) (M.rows matrix.new) sum }
+    ensures filled { IsPartPadding (M.rows matrix.old) (M.rows matrix.new) sum }
     ensures one_line { (row_sum (M.rows matrix.new) up.0 ≡ sum) ⊎ (column_sum (M.rows matrix.new) down.0 ≡ sum) }
     ensures room { M.room matrix.old ≤ M.room matrix.new + 1 }
 {

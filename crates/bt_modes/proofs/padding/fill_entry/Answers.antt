@@ -1,7 +1,7 @@
 use Rattle.std.proofs.Common.{arith, inl, inr}
 use Rattle.std.proofs.lemmas.Bool.{cases_lt}
 use Rattle.bt_base.specs.declared.schedule.Critical.TheVariants.{Row, Column}
-use Rattle.bt_modes.proofs.Fillings.{IsFilled-same, IsFilled-with_entry, IsGain-with_entry}
+use Rattle.bt_modes.proofs.Fillings.{IsPartPadding-same, IsPartPadding-with_entry, IsGain-with_entry}
 use Rattle.bt_modes.proofs.padding.fill_entry.Goals as goal
 
 pub overflow_sub-sum : goal.overflow_sub-sum
@@ -12,7 +12,7 @@ overflow_sub-sum-2 g c = omega (arith, c.requires.within (Column c.args.down) c.
 
 pub returns-then-slack-gt0-clause-filled : goal.returns-then-slack-gt0-clause-filled
 returns-then-slack-gt0-clause-filled g c =
-    rw c.add.ensures.rows (IsFilled-with_entry (g.M.Traffic.rows c.args.matrix.now) c.args.up.0 c.args.down.0 c.min-slack.result c.args.sum
+    rw c.add.ensures.rows (IsPartPadding-with_entry (g.M.Traffic.rows c.args.matrix.now) c.args.up.0 c.args.down.0 c.min-slack.result c.args.sum
     c.requires.traffic c.requires.within c.requires.limit c.requires.up c.requires.down (omega arith) (omega arith))
 
 -- the smaller slack fills the row or the column
@@ -27,7 +27,7 @@ returns-then-slack-gt0-clause-one_line g c =
     ])
 
 pub returns-else-slack-gt0-clause-filled : goal.returns-else-slack-gt0-clause-filled
-returns-else-slack-gt0-clause-filled g c = IsFilled-same (g.M.Traffic.rows c.args.matrix.now) c.args.sum c.requires.traffic c.requires.within
+returns-else-slack-gt0-clause-filled g c = IsPartPadding-same (g.M.Traffic.rows c.args.matrix.now) c.args.sum c.requires.traffic c.requires.within
 
 pub returns-else-slack-gt0-clause-one_line : goal.returns-else-slack-gt0-clause-one_line
 returns-else-slack-gt0-clause-one_line g c =

@@ -1,6 +1,6 @@
 use Rattle.std.proofs.Common.{◌≡◌, ◌∙◌, length, inl, inr, arith, ⊎_elim}
 use Rattle.bt_matrix.specs.Traffic.{column_sum}
-use Rattle.bt_modes.proofs.Fillings.{IsFilledTo-row, IsFilledTo-column, HasLineSums-filled}
+use Rattle.bt_modes.proofs.Fillings.{IsPaddedTo-row, IsPaddedTo-column, HasLineSums-filled}
 use Rattle.bt_modes.proofs.padding.fill_lines.Goals as goal
 
 -- the row is full
@@ -8,7 +8,7 @@ pub loop-up-preserved-then-row_sum-sum : goal.loop-up-preserved-then-row_sum-sum
 loop-up-preserved-then-row_sum-sum g c =
     let size : length (g.M.Traffic.rows c.loop-up.matrix) ≡ length (g.M.Traffic.rows c.args.matrix.now) = c.loop-up.invariant.so_far.filled.size in
     record {
-      so_far = IsFilledTo-row (g.M.Traffic.rows c.args.matrix.now) (g.M.Traffic.rows c.loop-up.matrix) (g.M.Traffic.rows c.fill_entry.new.matrix)
+      so_far = IsPaddedTo-row (g.M.Traffic.rows c.args.matrix.now) (g.M.Traffic.rows c.loop-up.matrix) (g.M.Traffic.rows c.fill_entry.new.matrix)
           c.args.sum c.loop-up.up c.loop-up.down c.loop-up.invariant.so_far c.fill_entry.ensures.filled (omega arith) (omega arith)
           (omega (arith, c.row_sum.ensures, c.if-row_sum-sum.true));
       room = omega (arith, c.loop-up.invariant.room, c.fill_entry.ensures.room);
@@ -25,7 +25,7 @@ loop-up-preserved g c =
     (λ column. column)
     c.fill_entry.ensures.one_line in
     record {
-      so_far = IsFilledTo-column (g.M.Traffic.rows c.args.matrix.now) (g.M.Traffic.rows c.loop-up.matrix) (g.M.Traffic.rows c.fill_entry.new.matrix)
+      so_far = IsPaddedTo-column (g.M.Traffic.rows c.args.matrix.now) (g.M.Traffic.rows c.loop-up.matrix) (g.M.Traffic.rows c.fill_entry.new.matrix)
           c.args.sum c.loop-up.up c.loop-up.down c.loop-up.invariant.so_far c.fill_entry.ensures.filled (omega arith) (omega arith) full;
       room = omega (arith, c.loop-up.invariant.room, c.fill_entry.ensures.room);
       in_rows = omega arith;
