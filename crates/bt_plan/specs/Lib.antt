@@ -4,3 +4,4 @@ pub mod Reading
 pub mod MatrixText
 pub mod ScheduleText
 pub mod Critical
+pub mod ScheduleSpelling

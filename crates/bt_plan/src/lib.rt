@@ -1,20 +1,23 @@
 //! Plans: the verdict on a switching schedule, and the texts of matrices and schedules.
 //!
 //! `specs/Verdict.antt` has the table of verdicts, `specs/MatrixText.antt` and `specs/ScheduleText.antt` the
-//! grammars, line by line, with the fault of each line.
+//! grammars, line by line, with the fault of each line, and `specs/ScheduleSpelling.antt` the one text of each
+//! schedule; `laws.rt` has what holds of them whatever the program does.
 #![tactic(auto)]
 
 mod laws;
 mod lines;
 mod matrix_text;
 mod schedule_check;
-mod schedule_text;
+mod schedule_reader;
+mod schedule_writer;
 mod text_fault;
 mod verdict;
 
-pub use laws::one_verdict;
+pub use laws::{one_verdict, schedules_have_one_spelling};
 pub use matrix_text::read_matrix;
 pub use schedule_check::check_modes;
-pub use schedule_text::read_schedule;
+pub use schedule_reader::read_schedule;
+pub use schedule_writer::schedule_text;
 pub use text_fault::{TextCode, TextFault};
 pub use verdict::Verdict;
