@@ -1,9 +1,12 @@
 pub mod Capped
 pub mod Faults
 pub mod Front
+pub mod Matrices
 pub mod ModeLines
+pub mod Links
 mod OneVerdict
 pub mod Rows
+mod SameDemand
 mod Seen
 pub mod Spelled
 pub mod TextLines

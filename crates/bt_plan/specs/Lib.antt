@@ -4,3 +4,5 @@ pub mod Reading
 pub mod MatrixText
 pub mod ScheduleText
 pub mod Critical
+pub mod Demand
+pub mod Traffic

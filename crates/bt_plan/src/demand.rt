@@ -1,0 +1,129 @@
+// The demand: how many slots per frame each link between two terminals asks for.
+ghost use Rattle.std.specs.Prelude.{◌≡◌, ◌≢◌, ◌+◌, ◌<◌, ◌≤◌, [], IfOk, IfErr, OnOk, OnErr};
+ghost use Rattle.bt_plan.specs.Demand.{units_of, Gains, IsAt, IsDemand, IsGapFor};
+
+use bt_base::{OutOfMemory, TermNo};
+use bt_matrix::SUM_LAST;
+use std::alloc::Global;
+use std::marker::Model;
+
+/// A link of the demand: so many slots per frame from one terminal to another.
+#[derive(Clone, Copy, Debug, PartialEq, Eq)]
+pub struct Link {
+    /// The terminal that sends.
+    pub from: TermNo,
+    /// The terminal that receives.
+    pub to: TermNo,
+    /// Slots per frame.
+    pub units: u32,
+}
+
+/// The links that ask for slots, in order of the terminal that sends and then of the one that receives.
+///
+/// Each link stands once, its ends differ, and it asks for 1 to `SUM_LAST` slots.
+#[derive(Debug, Drop)]
+pub struct Demand {
+    links: Vec<Link>,
+}
+
+impl Model for Demand {
+    ghost use Rattle.std.specs.Prelude.{List};
+    ghost use Rattle.bt_plan.specs.declared.demand.Link.{Link};
+
+    ghost Value = { List Link };
+
+    ghost use Rattle.bt_plan.specs.Demand.{IsDemand};
+
+    ghost view = { λ a. a.links.items };
+
+    ghost invariant = { λ a. IsDemand a.links.items };
+}
+
+impl Demand {
+    /// The demand that asks for nothing.
+    pub fn empty(alloc: Global) -> Demand
+        ensures { result ≡ [] }
+    {
+        Demand {
+            links: Vec::new(alloc),
+        }
+    }
+
+    /// The links in order.
+    pub fn as_slice(&self) -> &[Link]
+        ensures same { result.now ≡ self.now }
+        ensures demand { IsDemand self.now }
+    {
+        self.links.as_slice()
+    }
+
+    /// An equal demand.
+    pub fn copy(&self, alloc: Global) -> Result<Demand, OutOfMemory>
+        ensures { IfOk result (λ copy. copy ≡ self.now) }
+    {
+        Ok(Demand {
+            links: Vec::from_slice(alloc, self.links.as_slice())?,
+        })
+    }
+
+    /// The slots of a link, 0 where it is not in the demand.
+    pub fn units(&self, from: TermNo, to: TermNo) -> u32
+        ensures { result ≡ units_of self.now from to }
+    {
+        match self.find(from, to) {
+            Ok(place) => self.links[place].units,
+            Err(_) => 0,
+        }
+    }
+
+    /// The link asks for so many slots more. It takes memory where the link was not in the demand.
+    pub fn add(
+        &mut self,
+        _: Global,
+        from: TermNo,
+        to: TermNo,
+        units: u32,
+    ) -> Result<(), OutOfMemory>
+        requires differ { from.0 ≢ to.0 }
+        requires positive { 0 < units }
+        requires fits { units_of self.old from to + units ≤ SUM_LAST }
+        ensures ok { OnOk result (Gains self.old self.new from to units) }
+        ensures err { OnErr result (self.new ≡ self.old) }
+        ensures demand { IsDemand self.new }
+    {
+        match self.find(from, to) {
+            Ok(place) => {
+                self.links[place].units += units;
+                Ok(())
+            }
+            Err(place) => Ok(self.links.insert(place, Link { from, to, units })?),
+        }
+    }
+
+    /// The link asks for so many slots less. It leaves the demand where none are left.
+    pub fn take(&mut self, from: TermNo, to: TermNo, units: u32)
+        requires positive { 0 < units }
+        requires held { units ≤ units_of self.old from to }
+        ensures loses { Gains self.new self.old from to units }
+        ensures demand { IsDemand self.new }
+    {
+        let Ok(place) = self.find(from, to) else {
+            unreachable!();
+        };
+        let held = self.links[place].units;
+        if held == units {
+            self.links.remove(place);
+        } else {
+            self.links[place].units = held - units;
+        }
+    }
+
+    /// The place of a link, or the place where it would stand.
+    fn find(&self, from: TermNo, to: TermNo) -> Result<usize, usize>
+        ensures found { IfOk result (IsAt self.now (from, to)) }
+        ensures absent { IfErr result (IsGapFor self.now (from, to)) }
+    {
+        self.links
+            .binary_search_by_key(&(from, to), |link| (link.from, link.to))
+    }
+}
