@@ -5,7 +5,7 @@ use Rattle.std.proofs.lemmas.Bool.{cases_eq}
 use Rattle.std.proofs.lemmas.Bool.Decides.{nat_tests}
 use Rattle.std.proofs.lemmas.List.{length-map, same_lists}
 use Rattle.std.proofs.lemmas.List.FromFn.{length-range_with_len, get_or-map-range_with_len}
-use Rattle.std.proofs.lemmas.List.Sums.{sum-map, sum_by-cons, sum_by-set, sum_by-le-sum_by, sum_by-take-le, sum_by_more}
+use Rattle.std.proofs.lemmas.List.Sums.{sum-map, sum_by-cons, sum_by-set, sum_by-le, sum_by-le-sum_by, sum_by-take-le, sum_by_more}
 use Rattle.bt_base.specs.declared.numbers.BeamNo.{BeamNo}
 use Rattle.bt_base.specs.declared.numbers.TermNo.{TermNo}
 use Rattle.bt_base.specs.declared.schedule.Critical.{Critical}
@@ -13,7 +13,7 @@ use Rattle.bt_base.specs.declared.schedule.Critical.TheVariants.{Row, Column}
 use Rattle.bt_net.specs.Network.{Net}
 use Rattle.bt_matrix.specs.Traffic.{row_of, entry, row_sum, column_sum, line_sum, with_entry}
 use Rattle.bt_plan.specs.declared.demand.Link.{Link}
-use Rattle.bt_plan.specs.Demand.{Gains}
+use Rattle.bt_plan.specs.Demand.{units_where, Gains}
 use Rattle.bt_plan.specs.Traffic.{is_in_beam, units_between, table_of, matrix_of, HasSumsTo}
 
 -- the numbers of so many beams
@@ -191,3 +191,37 @@ pub added : (matrix new before after : List (List ℕ)) (up down units : ℕ) �
     → new ≡ with_entry matrix up down (entry matrix up down + units) → after ≡ with_entry before up down (entry before up down + units) → new ≡ after
 added matrix new before after up down units was gives next =
     gives ∙ (ap (λ (rows : List (List ℕ)). with_entry rows up down (entry rows up down + units)) was ∙ sym next)
+
+-- each entry is within the slots of all links
+units_between-le : (net : Net) (links : List Link) (up down : ℕ) → units_between net links up down ≤ units_where (λ from to. true) links
+units_between-le net links up down = sum_by-le-sum_by
+    (λ (link : Link). if is_in_beam net up link.from && is_in_beam net down link.to then link.units else 0) (λ (link : Link). link.units) links
+    (λ link. share-le (is_in_beam net up link.from && is_in_beam net down link.to) link.units)
+  where
+    share-le : (passes : Bool) (units : ℕ) → (if passes then units else 0) ≤ units
+    share-le true units = omega arith
+    share-le false units = omega arith
+
+-- so many numbers of at most 65,536 each
+sixteen : (f : ℕ → ℕ) (n : ℕ) → n ≤ 16 → ((i : ℕ) → f i ≤ 65536) → sum_by f (beams_to n) ≤ 1048576
+sixteen f n few small =
+    let bound = sum_by-le f 65536 (beams_to n) (λ k d within. small (get_or (beams_to n) k d)) in
+    omega (arith, bound, length-range_with_len 0 n)
+
+-- A demand of few slots in all has small entries, so that no line passes the limit.
+pub HasSumsTo-small : (net : Net) (links : List Link) → length net.beams ≤ 16 → units_where (λ from to. true) links ≤ 65536
+    → HasSumsTo 1048576 (matrix_of net links)
+HasSumsTo-small net links few small (Row up) on_matrix =
+    let n = length net.beams in
+    let f = units_between net links in
+    let below : up.0 < n = omega (arith, length-matrix_of net links) in
+    let is = ap sum (row_of-table n f up.0 below) ∙ sum-map (f up.0) (beams_to n) in
+    omega (arith, is, sixteen (f up.0) n few (λ j. omega (arith, units_between-le net links up.0 j)))
+HasSumsTo-small net links few small (Column down) on_matrix =
+    let n = length net.beams in
+    let f = units_between net links in
+    let below : down.0 < n = omega (arith, length-matrix_of net links) in
+    let is = sum_by-map (λ (row : List ℕ). slice_index row down.0) (λ (i : ℕ). map (f i) (beams_to n)) (beams_to n) in
+    let each = λ (i : ℕ). let at = image_at (f i) n down.0 0 below in
+    let le : slice_index (map (f i) (beams_to n)) down.0 ≤ 65536 = omega (arith, at, units_between-le net links i down.0) in le in
+    omega (arith, is, sixteen (λ (i : ℕ). slice_index (map (f i) (beams_to n)) down.0) n few each)

@@ -16,7 +16,9 @@ mod traffic;
 mod verdict;
 
 pub use demand::{Demand, Link};
-pub use demand_laws::{gain_adds_to_one_entry, gain_changes_one_link, links_tell_demands};
+pub use demand_laws::{
+    gain_adds_to_one_entry, gain_changes_one_link, links_tell_demands, small_demands_have_a_matrix,
+};
 pub use laws::one_verdict;
 pub use matrix_text::read_matrix;
 pub use schedule_check::check_modes;
