@@ -166,10 +166,8 @@ mod tests {
     fn has_links(demand: &Demand, want: &[(u8, u8, u32)]) -> bool {
         let links = demand.as_slice();
         links.len() == want.len()
-            && links
-                .iter()
-                .zip(want)
-                .all(|(link, want)| (link.from.0, link.to.0, link.units) == *want)
+            && links.iter().zip(want).all(|(link, want)| (link.from.0, link.to.0, link.units)
+                == *want)
     }
 
     #[test]
