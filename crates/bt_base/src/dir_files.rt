@@ -1,5 +1,5 @@
 // The files of the system.
-ghost use Rattle.std.specs.Prelude.{◌≡◌, None};
+ghost use Rattle.std.specs.Prelude.{◌≡◌, ◌≤◌, None, IfOk, vec_len};
 
 use crate::{FileFault, Files};
 use std::alloc::Global;
@@ -7,7 +7,8 @@ use std::fs::File;
 use std::io::{ErrorKind, Read};
 use std::{io, rt};
 
-/// The files of the working directory. A name is a path. What a file holds is not told.
+/// The files of the working directory. A name is a path. What a file holds is not told. Each answer that is no
+/// file counts as a fault.
 #[derive(Drop)]
 pub struct DirFiles<'a, R> {
     rt: &'a R,
@@ -33,15 +34,28 @@ impl<R: rt::Files> Files for DirFiles<'_, R> {
     }
 
     fn read(&mut self, alloc: Global, name: &str, limit: u64) -> Result<Vec<u8>, FileFault> {
-        match read_one_past(self.rt, alloc, name, limit) {
-            Ok(bytes) if bytes.len() as u64 <= limit => Ok(bytes),
-            Ok(_) => Err(FileFault::TooLong),
-            Err(e) if e.kind() == ErrorKind::OutOfMemory => Err(FileFault::OutOfMemory),
-            Err(_) => {
-                self.faults = self.faults.saturating_add(1);
-                Err(FileFault::Failed)
-            }
+        let result = read_within(self.rt, alloc, name, limit);
+        if result.is_err() {
+            self.faults = self.faults.saturating_add(1);
         }
+        result
+    }
+}
+
+/// The file, of at most so many bytes.
+fn read_within<R: rt::Files>(
+    rt: &R,
+    alloc: Global,
+    name: &str,
+    limit: u64,
+) -> Result<Vec<u8>, FileFault>
+    ensures short { IfOk result (λ bytes. vec_len bytes ≤ limit) }
+{
+    match read_one_past(rt, alloc, name, limit) {
+        Ok(bytes) if bytes.len() as u64 <= limit => Ok(bytes),
+        Ok(_) => Err(FileFault::TooLong),
+        Err(e) if e.kind() == ErrorKind::OutOfMemory => Err(FileFault::OutOfMemory),
+        Err(_) => Err(FileFault::Failed),
     }
 }
 
@@ -84,8 +98,8 @@ mod tests {
         let mut files = DirFiles::new(&rt);
         let cases = [
             (9, Ok("length 0\n"), 0),
-            (8, Err(FileFault::TooLong), 0),
-            (u64::MAX, Ok("length 0\n"), 0),
+            (8, Err(FileFault::TooLong), 1),
+            (u64::MAX, Ok("length 0\n"), 1),
         ];
         for (limit, want, faults) in cases {
             match read(&mut files, rt.alloc(), path, limit) {
@@ -104,7 +118,7 @@ mod tests {
             read(&mut files, rt.alloc(), path, 9).err(),
             Some(FileFault::Failed)
         );
-        assert_eq!(rt; files.faults(), 1);
+        assert_eq!(rt; files.faults(), 2);
         Ok(())
     }
 }

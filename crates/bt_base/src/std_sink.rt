@@ -6,10 +6,10 @@ ghost use Rattle.bt_base.specs.Told.{HasCause};
 use crate::{Sink, SinkFault};
 use std::alloc::Global;
 use std::io;
-use std::io::{ErrorKind, Write};
+use std::io::Write;
 
-/// Standard output, or another writer. What it holds is not told. Where the writer itself wants memory, that is
-/// the answer, and no fault is counted.
+/// Standard output, or another writer. What it holds is not told. Whatever the writer answers in the place of a
+/// whole piece is a fault.
 #[derive(Drop)]
 pub struct StdSink<W> {
     out: W,
@@ -42,7 +42,6 @@ impl<W: Write> Sink for StdSink<W> {
     {
         match write_and_flush(&mut self.out, piece) {
             Ok(()) => Ok(()),
-            Err(e) if e.kind() == ErrorKind::OutOfMemory => Err(SinkFault::OutOfMemory),
             Err(_) => {
                 self.faults = self.faults.saturating_add(1);
                 Err(SinkFault::Failed)

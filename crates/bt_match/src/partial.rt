@@ -1,5 +1,5 @@
 // Partial maps of rows to columns.
-ghost use Rattle.std.specs.Prelude.{◌≡◌, ◌≢◌, ℕ, ◌<◌, ◌≤◌, List, length, map, Some, None, IsOk, IfOk};
+ghost use Rattle.std.specs.Prelude.{◌≡◌, ◌≢◌, ℕ, ◌≤◌, length, map, Some, None, IsOk, IfOk};
 ghost use Rattle.bt_matrix.specs.Good.{IsPermutation};
 ghost use Rattle.bt_match.specs.Matching.{column_of, IsEmpty, IsWhole, HasColumnsOf, HasEqualLineSums, IsInside, IsInsidePerm};
 
@@ -70,7 +70,7 @@ impl Partial {
         }
     }
 
-    /// Every row has a column at a positive entry of the matrix, whose line sums are equal and positive.
+    /// Gives every row a column at a positive entry of the matrix, whose line sums are equal and positive.
     pub(crate) fn complete<M: Traffic>(mut self, matrix: &M) -> Perm
         requires equal { HasEqualLineSums (M.rows matrix.now) }
         requires size { length self ≡ length (M.rows matrix.now) }

@@ -1,5 +1,5 @@
 // Permutations of the beams.
-ghost use Rattle.std.specs.Prelude.{◌≡◌, ℕ, ◌<◌, ◌≤◌, List, length, map, Some, IsSome};
+ghost use Rattle.std.specs.Prelude.{◌≡◌, ◌≤◌, length, map, Some};
 ghost use Rattle.bt_matrix.specs.Good.{IsPermutation};
 ghost use Rattle.bt_match.specs.Matching.{IsPartial, IsWhole};
 

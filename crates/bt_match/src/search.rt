@@ -1,5 +1,5 @@
-// The search along augmenting paths: a row without a column takes one, whose row before moves to another.
-ghost use Rattle.std.specs.Prelude.{◌≡◌, ℕ, ◌<◌, ◌≤◌, true, false, length, IfSome, IfNone, Some, None};
+// The search along augmenting paths: a row takes a column, and the row that had it moves to another.
+ghost use Rattle.std.specs.Prelude.{◌≡◌, ◌<◌, ◌≤◌, true, false, length, IfSome, IfNone, Some};
 ghost use Rattle.std.specs.Bool.{OnTrue, OnFalse};
 ghost use Rattle.bt_match.specs.Matching.{column_of};
 ghost use Rattle.bt_match.specs.Search.{

@@ -1,13 +1,14 @@
 -- Names that a set or a map of texts keeps, as the lists of bytes that contracts see.
-use Rattle.std.proofs.Common.{◌≡◌, ℕ, ◌+◌, Bool, true, false, cond, not, ◌||◌, List, [], ◌∷◌, ◌++◌, length, map, position, Option, Some, None, is_some, option_map, slice_get, get_or, Contains, IsTrue, subst, ◌≤◌, String, Global, string_bytes, refl, sym, ap, ◌∙◌, true≢false, arith}
-use Rattle.std.specs.List.{list_any, prefix_len, position_or_len, AllZip}
+use Rattle.std.proofs.Common.{◌≡◌, ℕ, ◌+◌, Bool, true, false, cond, not, ◌||◌, List, [], ◌∷◌, ◌++◌, length, map, position, Option, Some, None, is_some, option_map, slice_get, get_or, take, ◌<◌, ◌≢◌, AllPairs, Contains, IsTrue, subst, ◌≤◌, String, Global, string_bytes, refl, sym, ap, ◌∙◌, true≢false, arith}
+use Rattle.std.specs.List.{list_any, prefix_len, position_or_len}
 use Rattle.std.specs.Str.{bytes_eq}
 use Rattle.std.specs.Map.{keys_of, lookup}
-use Rattle.std.proofs.lemmas.List.{length-map, map_push}
+use Rattle.std.proofs.lemmas.List.{length-map, length-take, get_or-take, map_push, take-map, take_more}
 use Rattle.std.proofs.lemmas.Bool.{ltb-false}
 use Rattle.std.proofs.lemmas.Cmp.{nat_list_eq_equiv}
 use Rattle.std.proofs.lemmas.List.Sums.{fails_before_first}
 use Rattle.std.proofs.lemmas.List.Quantifiers.{position-Some}
+use Rattle.std.proofs.lemmas.Map.Views.{Contains-from_any}
 use Rattle.std.proofs.lemmas.Option.{slice_get-map, slice_get-get_or, slice_get_within, get_or_from_slice_get}
 use Rattle.std.proofs.lemmas.Slice.Eq.{bytes_eq-Decides}
 use Rattle.std.specs.String.{string_eq}
@@ -29,13 +30,6 @@ module _ {A B : Type 0} (test : B → Bool) (view : A → B) where
 
   pub position-map : (xs : List A) → position (λ x. test (view x)) xs ≡ position test (map view xs)
   position-map xs = rw (prefix_len-map xs, length-map xs view) refl
-
--- a copy whose items look like those of its source looks like its source
-pub map-AllZip : {A B : Type 0} (Like : A → A → Type 0) (view : A → B) → ((x y : A) → Like x y → view y ≡ view x) → (xs ys : List A) → AllZip Like xs ys → map view ys ≡ map view xs
-map-AllZip Like view looks [] [] alike = refl
-map-AllZip Like view looks [] (y ∷ ys) alike = absurd alike
-map-AllZip Like view looks (x ∷ xs) [] alike = absurd alike
-map-AllZip Like view looks (x ∷ xs) (y ∷ ys) alike = rw (looks x y alike.0, map-AllZip Like view looks xs ys alike.1) refl
 
 abbrev pub Text : Type 0
 Text = String Global
@@ -100,10 +94,35 @@ found_name terminals name number is =
     let found = position-Some (bytes_eq name) names number name is in
     sym (slice_get-map (λ terminal. terminal.0) terminals number) ∙ slice_get-get_or names number name found.0 ∙ ap Some (sym ((bytes_eq-Decides name (get_or names number name)).0 found.1))
 
+named_at : (terminals : List (List ℕ × BeamNo)) (number : ℕ) (name : List ℕ) (beam : BeamNo) → slice_get terminals number ≡ Some (name, beam) → slice_get (names_of terminals) number ≡ Some name
+named_at terminals number name beam at = slice_get-map (λ terminal. terminal.0) terminals number ∙ ap (option_map (λ terminal. terminal.0)) at
+
 -- a terminal's name is a good one
 pub good_name : (is_good : List ℕ → Bool) (terminals : List (List ℕ × BeamNo)) (number : ℕ) (name : List ℕ) (beam : BeamNo) → AreNames is_good (names_of terminals)
     → slice_get terminals number ≡ Some (name, beam) → IsTrue (is_good name)
 good_name is_good terminals number name beam are at =
     let names = names_of terminals in
-    let named : slice_get names number ≡ Some name = slice_get-map (λ terminal. terminal.0) terminals number ∙ ap (option_map (λ terminal. terminal.0)) at in
+    let named : slice_get names number ≡ Some name = named_at terminals number name beam at in
     subst (λ (n : List ℕ). IsTrue (is_good n)) (get_or_from_slice_get names number name name named) (are.good number name (slice_get_within names number name named))
+
+-- where names differ, none of those before a place is the one there
+pub absent_before : (names : List (List ℕ)) (number : ℕ) (name : List ℕ) → AllPairs (λ a b. a ≢ b) names → slice_get names number ≡ Some name → list_any (bytes_eq name) (take number names) ≡ false
+absent_before names number name differ at = by (list_any (bytes_eq name) (take number names)) refl
+  where
+    by : (b : Bool) → list_any (bytes_eq name) (take number names) ≡ b → b ≡ false
+    by false is = refl
+    by true is =
+        let has = Contains-from_any (λ a b. (bytes_eq-Decides a b).0) name (take number names) is in
+        let before : has.0 < number = omega (arith, has.1, length-take number names) in
+        let early : get_or names has.0 name ≡ name = sym (get_or-take number names has.0 name before) ∙ has.2 in
+        let late : get_or names number name ≡ name = get_or_from_slice_get names number name name at in
+        absurd (differ has.0 number name before (slice_get_within names number name at) (early ∙ sym late))
+
+pub absent_terminal : (terminals : List (List ℕ × BeamNo)) (number : ℕ) (name : List ℕ) (beam : BeamNo) → AllPairs (λ a b. a ≢ b) (names_of terminals) → slice_get terminals number ≡ Some (name, beam)
+    → list_any (bytes_eq name) (names_of (take number terminals)) ≡ false
+absent_terminal terminals number name beam differ at =
+    ap (list_any (bytes_eq name)) (sym (take-map (λ terminal. terminal.0) number terminals)) ∙ absent_before (names_of terminals) number name differ (named_at terminals number name beam at)
+
+-- one item more
+pub take_next : {X : Type 0} (xs : List X) (number : ℕ) (x : X) → slice_get xs number ≡ Some x → take number xs ++ x ∷ [] ≡ take (number + 1) xs
+take_next xs number x at = sym (take_more xs number x (slice_get_within xs number x at) ∙ ap (λ y. take number xs ++ y ∷ []) (get_or_from_slice_get xs number x x at))

@@ -1,9 +1,8 @@
 // The names of the beams, each of them once, numbered in the order in which they were added.
-ghost use Rattle.std.specs.Prelude.{◌≡◌, ◌<◌, [], ◌∷◌, ◌++◌, false, Some, length, position, slice_get, IfOk, OnOk, IsOkUnless};
+ghost use Rattle.std.specs.Prelude.{◌≡◌, ◌<◌, [], ◌∷◌, ◌++◌, false, Some, length, position, slice_get, IfOk, OnOk, AllPairs, ◌≢◌};
 ghost use Rattle.std.specs.List.{list_any};
 ghost use Rattle.std.specs.Str.{bytes_eq};
 
-use crate::fault::NetFault;
 use indexmap::IndexSet;
 use std::alloc::{AllocError, Global};
 use std::marker::Model;
@@ -57,20 +56,22 @@ impl Beams {
         self.names[number].as_str()
     }
 
-    pub(crate) fn add(&mut self, alloc: Global, name: &str) -> Result<(), NetFault>
+    pub(crate) fn add(&mut self, alloc: Global, name: &str) -> Result<(), AllocError>
         requires { list_any (bytes_eq name.now) self.old ≡ false }
-        ensures ok { OnOk result (self.new ≡ self.old ++ name.now ∷ []) }
-        ensures err { IsOkUnless result NetFault.OutOfMemory }
+        ensures { OnOk result (self.new ≡ self.old ++ name.now ∷ []) }
     {
         self.names.insert(String::from_str(alloc, name)?)?;
         Ok(())
     }
 
-    pub(crate) fn copy(&self) -> Result<Beams, AllocError>
+    pub(crate) fn copy(&self, alloc: Global) -> Result<Beams, AllocError>
+        requires { AllPairs (λ a b. a ≢ b) self.now }
         ensures { IfOk result (λ beams. beams ≡ self.now) }
     {
-        Ok(Beams {
-            names: self.names.clone()?,
-        })
+        let mut copy = Beams::new(alloc);
+        for number in 0..self.len() {
+            copy.add(alloc, self.name_of(number))?;
+        }
+        Ok(copy)
     }
 }

@@ -8,6 +8,7 @@ ghost use Rattle.bt_net.specs.Network.{names_of, IsSound, IsWithin};
 use crate::beams::Beams;
 use crate::terminals::Terminals;
 use bt_base::{BeamNo, OutOfMemory, TermNo};
+use std::alloc::Global;
 use std::marker::Model;
 
 /// A network: its beams, its terminals, and the limits of its frames, its changes and its journal.
@@ -132,12 +133,12 @@ impl Network {
     }
 
     /// An equal network.
-    pub fn copy(&self) -> Result<Network, OutOfMemory>
+    pub fn copy(&self, alloc: Global) -> Result<Network, OutOfMemory>
         ensures { IfOk result (λ net. net ≡ self.now) }
     {
         Ok(Network {
-            beams: self.beams.copy()?,
-            terminals: self.terminals.copy()?,
+            beams: self.beams.copy(alloc)?,
+            terminals: self.terminals.copy(alloc)?,
             slots: self.slots,
             frames: self.frames,
             lead: self.lead,

@@ -102,7 +102,8 @@ fn add_beam(alloc: Global, beams: &mut Beams, entry: &Value) -> Result<(), NetFa
     let path = Path::Beam(beams.len() as u32);
     let name = entry.as_str().ok_or(NetFault::N2 { path })?;
     check_name(path, is_name(name.as_bytes()), beams.has(name))?;
-    beams.add(alloc, name)
+    beams.add(alloc, name)?;
+    Ok(())
 }
 
 fn add_beams(alloc: Global, entries: &[Value]) -> Result<Beams, NetFault>
@@ -145,7 +146,8 @@ fn add_terminal(
     let name = text_at(entry, "name", path)?;
     check_name(path, is_terminal_name(name.as_bytes()), terminals.has(name))?;
     let beam = beam_at(entry, Path::TerminalBeam(number), beams)?;
-    terminals.add(alloc, name, beam)
+    terminals.add(alloc, name, beam)?;
+    Ok(())
 }
 
 #[tactic(auto, unfolding(crate::specs::Reading::beam_at))]

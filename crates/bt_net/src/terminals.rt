@@ -1,10 +1,9 @@
 // The terminals and the beam of each, numbered in the order in which they were added; no two have one name.
-ghost use Rattle.std.specs.Prelude.{◌≡◌, ◌<◌, [], ◌∷◌, ◌++◌, false, Some, length, position, slice_get, IfOk, OnOk, IsOkUnless};
+ghost use Rattle.std.specs.Prelude.{◌≡◌, ◌<◌, [], ◌∷◌, ◌++◌, false, Some, length, position, slice_get, IfOk, OnOk, AllPairs, ◌≢◌};
 ghost use Rattle.std.specs.List.{list_any};
 ghost use Rattle.std.specs.Str.{bytes_eq};
 ghost use Rattle.bt_net.specs.Network.{names_of};
 
-use crate::fault::NetFault;
 use bt_base::BeamNo;
 use indexmap::IndexMap;
 use std::alloc::{AllocError, Global};
@@ -62,20 +61,23 @@ impl Terminals {
         (name.as_str(), *beam)
     }
 
-    pub(crate) fn add(&mut self, alloc: Global, name: &str, beam: BeamNo) -> Result<(), NetFault>
+    pub(crate) fn add(&mut self, alloc: Global, name: &str, beam: BeamNo) -> Result<(), AllocError>
         requires { list_any (bytes_eq name.now) (names_of self.old) ≡ false }
-        ensures ok { OnOk result (self.new ≡ self.old ++ (name.now, beam) ∷ []) }
-        ensures err { IsOkUnless result NetFault.OutOfMemory }
+        ensures { OnOk result (self.new ≡ self.old ++ (name.now, beam) ∷ []) }
     {
         self.beams.insert(String::from_str(alloc, name)?, beam)?;
         Ok(())
     }
 
-    pub(crate) fn copy(&self) -> Result<Terminals, AllocError>
+    pub(crate) fn copy(&self, alloc: Global) -> Result<Terminals, AllocError>
+        requires { AllPairs (λ a b. a ≢ b) (names_of self.now) }
         ensures { IfOk result (λ terminals. terminals ≡ self.now) }
     {
-        Ok(Terminals {
-            beams: self.beams.clone()?,
-        })
+        let mut copy = Terminals::new(alloc);
+        for number in 0..self.len() {
+            let (name, beam) = self.at(number);
+            copy.add(alloc, name, beam)?;
+        }
+        Ok(copy)
     }
 }

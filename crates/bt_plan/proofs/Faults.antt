@@ -1,5 +1,5 @@
 -- A fault stays the fault of all that would follow it.
-use Rattle.std.proofs.Common.{◌≡◌, ℕ, Ok, Err, refl}
+use Rattle.std.proofs.Common.{refl}
 use Rattle.bt_plan.specs.declared.text_fault.TextFault.{TextFault}
 use Rattle.bt_plan.specs.declared.text_fault.TextFault.TheVariants.{At, OutOfMemory}
 use Rattle.bt_plan.specs.Reading.{Reading, ◌>>=◌, IsFaultOf}

@@ -4,7 +4,10 @@ pub mod Front
 pub mod Matrices
 pub mod ModeLines
 pub mod Links
+mod OneText
 mod OneVerdict
+pub mod Printed
+pub mod ReadBack
 pub mod Rows
 mod SameDemand
 mod Seen

@@ -1,11 +1,11 @@
 -- A text spells only traffic matrices.
-use Rattle.std.proofs.Common.{◌≡◌, ℕ, zero, suc, ◌+◌, ◌*◌, ◌<◌, ◌≤◌, Bool, true, false, cond, leb, eqb, ◌&&◌, List, [], ◌∷◌, length, get_or, sum, sum_by, All, Option, Some, None, Result, Ok, Err, refl, sym, ap, subst, ◌∙◌, arith}
+use Rattle.std.proofs.Common.{◌≡◌, ℕ, zero, suc, ◌+◌, ◌*◌, ◌≤◌, Bool, true, false, cond, leb, eqb, ◌&&◌, List, [], ◌∷◌, length, get_or, sum, All, Option, Some, None, Ok, Err, refl, sym, ap, subst, ◌∙◌, arith}
 use Rattle.std.specs.List.{list_all, AllByRecursion}
 use Rattle.std.proofs.lemmas.Bool.{leb-true, eqb-true}
 use Rattle.std.proofs.lemmas.List.Elements.{All-from_recursion}
 use Rattle.std.proofs.lemmas.List.Sums.{sum_by-cons}
 use Rattle.bt_base.specs.Text.{words, lines, numbers_of}
-use Rattle.bt_matrix.specs.Traffic.{IsTraffic, row_sum, column_sum}
+use Rattle.bt_matrix.specs.Traffic.{IsTraffic, column_sum}
 use Rattle.bt_plan.specs.declared.text_fault.TextCode.{TextCode}
 use Rattle.bt_plan.specs.declared.text_fault.TextCode.TheVariants.{X1, X2}
 use Rattle.bt_plan.specs.Reading.{Reading, ◌>>=◌}
@@ -13,7 +13,7 @@ use Rattle.bt_plan.specs.MatrixText.{size_in, row_in, rows_in, matrix_in, matrix
 use Rattle.bt_plan.proofs.Capped.{and_parts}
 
 -- the value of a step that did not fail
-bind_ok : {A B : Type 0} (reading : Reading A) (after : A → Reading B) (y : B) → (reading >>= after) ≡ Ok y → (x : A) × (reading ≡ Ok x) × (after x ≡ Ok y)
+pub bind_ok : {A B : Type 0} (reading : Reading A) (after : A → Reading B) (y : B) → (reading >>= after) ≡ Ok y → (x : A) × (reading ≡ Ok x) × (after x ≡ Ok y)
 bind_ok (Ok x) after y e = (x, refl, e)
 bind_ok (Err fault) after y e = absurd cc
 
@@ -27,10 +27,10 @@ guard_ok-then : {A : Type 0} (b : Bool) (fault : TextCode × ℕ) (reading : Rea
 guard_ok-then true fault reading y e = (refl, e)
 guard_ok-then false fault reading y e = absurd cc
 
-abbrev read : {A : Type 0} → A → Reading A
+abbrev pub read : {A : Type 0} → A → Reading A
 read x = Ok x
 
-ok_is : {A : Type 0} (x y : A) → read x ≡ read y → x ≡ y
+pub ok_is : {A : Type 0} (x y : A) → read x ≡ read y → x ≡ y
 ok_is x y e = cc
 
 size_in-ok : (o : Option (List ℕ)) (size : ℕ) → size_in o ≡ Ok size → (1 ≤ size) × (size ≤ 16)

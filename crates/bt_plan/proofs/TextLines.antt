@@ -1,6 +1,6 @@
 -- The lines of a text are never none, and one that is empty alone is that of an empty text.
-use Rattle.std.proofs.Common.{◌≡◌, ℕ, ◌<◌, ◌≤◌, Bool, true, false, cond, List, [], ◌∷◌, length, map, Option, Some, None, Result, Ok, Err, refl, sym, ap, ◌∙◌, ◌⊎◌, inl, inr, arith}
-use Rattle.std.specs.List.{slice_split, onto_first}
+use Rattle.std.proofs.Common.{◌≡◌, ℕ, Bool, true, false, cond, List, [], ◌∷◌, refl, ap, ◌⊎◌, inl, inr}
+use Rattle.std.specs.List.{onto_first}
 use Rattle.bt_base.specs.Text.{lines}
 
 -- a text has a first line

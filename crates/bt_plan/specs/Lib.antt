@@ -6,3 +6,4 @@ pub mod ScheduleText
 pub mod Critical
 pub mod Demand
 pub mod Traffic
+pub mod ScheduleSpelling

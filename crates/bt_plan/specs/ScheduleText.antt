@@ -1,5 +1,5 @@
 -- The text of a switching schedule for so many beams: its length, its critical line, its modes, and `end`.
-use Rattle.std.specs.Prelude.{ℕ, ◌+◌, ◌==◌, ◌&&◌, if◌then◌else◌, nat_le, nat_lt, suc, codes, Bool, length, List, [], ◌∷◌, Option, Some, None, Ok, Err, option_and_then}
+use Rattle.std.specs.Prelude.{ℕ, ◌+◌, ◌==◌, ◌&&◌, if◌then◌else◌, nat_le, nat_lt, codes, Bool, length, List, [], ◌∷◌, Option, Some, None, Ok, Err, option_and_then}
 use Rattle.std.specs.List.{list_all}
 use Rattle.std.specs.Str.{bytes_eq}
 use Rattle.bt_base.specs.Text.{words, lines, number_of, numbers_of}

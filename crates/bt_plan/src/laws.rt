@@ -1,11 +1,23 @@
-// What holds of verdicts whatever the program does.
-ghost use Rattle.std.specs.Prelude.{◌≡◌, ℕ, List};
+// What holds of verdicts and of texts whatever the program does.
+ghost use Rattle.std.specs.Prelude.{◌≡◌, ◌≤◌, ℕ, List, Ok};
 ghost use Rattle.bt_base.specs.declared.schedule.Schedule.{Schedule};
 ghost use Rattle.bt_plan.specs.declared.verdict.Verdict.{Verdict};
+ghost use Rattle.bt_plan.specs.ScheduleSpelling.{IsInRange, schedule_spelling};
+ghost use Rattle.bt_plan.specs.ScheduleText.{schedule_of};
 ghost use Rattle.bt_plan.specs.Verdict.{IsVerdict};
 
 /// A schedule has at most one verdict for a matrix.
 pub fn one_verdict()
     ensures { (rows : List (List ℕ)) (schedule : Schedule) (a b : Verdict)
         → IsVerdict rows schedule a → IsVerdict rows schedule b → a ≡ b }
+{}
+
+/// A schedule in range is read back from its text, and no other text is read as that schedule.
+pub fn schedules_have_one_spelling()
+    ensures read { (size : ℕ) (schedule : Schedule) → size ≤ 16 → IsInRange size schedule
+        → schedule_of size (schedule_spelling schedule) ≡ Ok schedule }
+    ensures spelled { (size : ℕ) (schedule : Schedule) (text : List ℕ) → size ≤ 16
+        → schedule_of size text ≡ Ok schedule → text ≡ schedule_spelling schedule }
+    ensures in_range { (size : ℕ) (schedule : Schedule) (text : List ℕ) → size ≤ 16
+        → schedule_of size text ≡ Ok schedule → IsInRange size schedule }
 {}

@@ -26,7 +26,8 @@ pub fn line_numbers(
     at: u32,
     line: &[u8],
 ) -> Result<Vec<u64>, TextFault>
-    ensures { Gives (λ v. v.items) result (or_fault code at (option_map (map capped) (numbers_of (words line.now)))) }
+    ensures { Gives (λ v. v.items) result
+        (or_fault code at (option_map (map capped) (numbers_of (words line.now)))) }
 {
     let words = words(alloc, line)?;
     numbers_of_words(alloc, code, at, &words)
@@ -40,7 +41,9 @@ pub fn numbers_of_words(
     at: u32,
     words: &[&[u8]],
 ) -> Result<Vec<u64>, TextFault>
-    ensures { Gives (λ v. v.items) result (or_fault code at (option_map (map capped) (numbers_of (map (λ word. word.now) words.now)))) }
+    ensures { Gives (λ v. v.items) result
+        (or_fault code at (option_map (map capped)
+        (numbers_of (map (λ word. word.now) words.now)))) }
 {
     all_numbers(alloc, words)?.ok_or(fault_at(code, at))
 }

@@ -52,7 +52,8 @@ fn size(numbers: &[u64]) -> Result<u32, TextFault>
 // So many rows, a line for each from line 2 on, and nothing behind them.
 fn rows(alloc: Global, size: u32, text: &[u8]) -> Result<Vec<Vec<u32>>, TextFault>
     requires { size ≤ 16 }
-    ensures { Gives (λ rows. map (λ row. row.items) rows.items) result (rows_in size size 2 (lines text.now)) }
+    ensures { Gives (λ rows. map (λ row. row.items) rows.items) result
+        (rows_in size size 2 (lines text.now)) }
 {
     let mut rows = Vec::with_capacity(alloc, size as usize)?;
     let mut rest = text;

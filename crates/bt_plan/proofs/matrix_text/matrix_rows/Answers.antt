@@ -1,5 +1,4 @@
 -- the size, and the rows that follow it
-use Rattle.std.proofs.Common.{◌∷◌}
 use Rattle.std.proofs.lemmas.Result.{err_from_is_err_and}
 use Rattle.bt_base.specs.Text.{words, lines, numbers_of}
 use Rattle.bt_plan.specs.MatrixText.{size_in, rows_in}

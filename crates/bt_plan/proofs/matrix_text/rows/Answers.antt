@@ -1,8 +1,7 @@
 -- one row more, a line that is no row, and what stands behind the last row
-use Rattle.std.proofs.Common.{◌≡◌, ◌∷◌, ◌++◌, [], List, ℕ, map, cond, Ok, Err, sym, arith}
+use Rattle.std.proofs.Common.{map, sym, arith}
 use Rattle.std.proofs.lemmas.Result.{err_from_is_err_and}
 use Rattle.std.proofs.lemmas.List.{map_push}
-use Rattle.std.specs.Global.{Vec}
 use Rattle.bt_base.specs.Text.{lines}
 use Rattle.bt_plan.specs.MatrixText.{rows_in}
 use Rattle.bt_plan.proofs.Rows.{goes_on, ends, ends_late}

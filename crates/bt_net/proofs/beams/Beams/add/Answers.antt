@@ -4,8 +4,8 @@ use Rattle.std.specs.Str.{bytes_eq}
 use Rattle.bt_net.proofs.Names.{map-insert_key}
 use Rattle.bt_net.proofs.beams.Beams.add.Goals as goal
 
-pub returns-clause-ok : goal.returns-clause-ok
-returns-clause-ok c =
+pub returns : goal.returns
+returns c =
     let keys = c.self.inside.names.keys in
     let name = c.args.name.now in
     ap (map string_bytes) c.in_ok-insert.ensures.keys

@@ -1,8 +1,11 @@
-use Rattle.std.proofs.Common.{◌∙◌, ◌≡◌, string_bytes}
-use Rattle.bt_net.proofs.Names.{Text, map-AllZip}
+use Rattle.std.proofs.Common.{◌∙◌, ◌∷◌, ◌++◌, [], List, ℕ, ap}
+use Rattle.bt_net.proofs.Names.{absent_before, take_next}
 use Rattle.bt_net.proofs.beams.Beams.copy.Goals as goal
 
-pub returns : goal.returns
-returns c =
-    map-AllZip (λ (s t : Text). string_bytes t ≡ string_bytes s) string_bytes (λ s t like. like) c.self.inside.names.keys c.in_ok-clone.field-0.keys c.in_ok-clone.ensures.cases
-    ∙ c.self.view_is
+pub add-requires : goal.add-requires
+add-requires c = rw c.loop-number.invariant (absent_before c.args.self.now c.loop-number.number c.name_of.result.now c.requires c.name_of.ensures)
+
+pub loop-number-preserved : goal.loop-number-preserved
+loop-number-preserved c =
+    c.in_ok-add.ensures ∙ ap (λ (names : List (List ℕ)). names ++ c.name_of.result.now ∷ []) c.loop-number.invariant
+    ∙ take_next c.args.self.now c.loop-number.number c.name_of.result.now c.name_of.ensures

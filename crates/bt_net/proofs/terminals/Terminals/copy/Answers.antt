@@ -1,8 +1,13 @@
-use Rattle.std.proofs.Common.{◌∙◌, ◌≡◌, string_bytes, refl}
-use Rattle.bt_net.proofs.Names.{Entry, seen, map-AllZip}
+use Rattle.std.proofs.Common.{◌∙◌, ◌∷◌, ◌++◌, [], List, ℕ, ap}
+use Rattle.bt_base.specs.declared.numbers.BeamNo.{BeamNo}
+use Rattle.bt_net.proofs.Names.{absent_terminal, take_next}
 use Rattle.bt_net.proofs.terminals.Terminals.copy.Goals as goal
 
-pub returns : goal.returns
-returns c =
-    map-AllZip (λ (p q : Entry). (string_bytes q.0 ≡ string_bytes p.0) × (q.1 ≡ p.1)) seen (λ p q like. rw (like.0, like.1) refl) c.self.inside.beams.entries c.in_ok-clone.field-0.entries c.in_ok-clone.ensures.cases
-    ∙ c.self.view_is
+pub add-requires : goal.add-requires
+add-requires c = rw c.loop-number.invariant (absent_terminal c.args.self.now c.loop-number.number c.at.result.0.now c.at.result.1 c.requires c.at.ensures)
+
+pub loop-number-preserved : goal.loop-number-preserved
+loop-number-preserved c =
+    let entry : List ℕ × BeamNo = (c.at.result.0.now, c.at.result.1) in
+    c.in_ok-add.ensures ∙ ap (λ (terminals : List (List ℕ × BeamNo)). terminals ++ entry ∷ []) c.loop-number.invariant
+    ∙ take_next c.args.self.now c.loop-number.number entry c.at.ensures

@@ -98,7 +98,8 @@ fn critical_and_modes(
 // The critical line that line 2 names.
 fn critical_line(alloc: Global, size: u32, line: &[u8]) -> Result<Critical, TextFault>
     requires { size ≤ 16 }
-    ensures { Gives (λ critical. critical) result (or_fault M1 2 (critical_in size (words line.now))) }
+    ensures { Gives (λ critical. critical) result
+        (or_fault M1 2 (critical_in size (words line.now))) }
 {
     let words = words(alloc, line)?;
     critical(size, &words).ok_or(fault(2))
@@ -158,7 +159,8 @@ fn modes(alloc: Global, size: u32, text: &[u8]) -> Result<Modes, TextFault>
 // The modes, if nothing stands behind the newline of `end`.
 fn end(modes: Vec<Mode>, at: u32, rest: &[u8]) -> Result<Modes, TextFault>
     requires { length modes.items ≤ 67108864 }
-    ensures { Gives (λ modes. modes) result (if length rest.now == 0 then Ok modes.items else Err (M1, at)) }
+    ensures { Gives (λ modes. modes) result
+        (if length rest.now == 0 then Ok modes.items else Err (M1, at)) }
 {
     if rest.is_empty() {
         Ok(Modes::of(modes))
@@ -178,7 +180,8 @@ fn mode_line(alloc: Global, size: u32, at: u32, line: &[u8]) -> Result<Mode, Tex
 
 fn mode_of_words(alloc: Global, size: u32, at: u32, words: &[&[u8]]) -> Result<Mode, TextFault>
     requires { size ≤ 16 }
-    ensures { Gives (λ mode. mode) result (or_fault M1 at (mode_in size (map (λ word. word.now) words.now))) }
+    ensures { Gives (λ mode. mode) result
+        (or_fault M1 at (mode_in size (map (λ word. word.now) words.now))) }
 {
     match words {
         [name, values @ ..] if is_word(name, b"mode") => mode_of_values(alloc, size, at, values),
@@ -216,7 +219,8 @@ fn mode(alloc: Global, size: u32, at: u32, numbers: &[u64]) -> Result<Mode, Text
 // The downlinks, each at most 255.
 fn columns(alloc: Global, at: u32, numbers: &[u64]) -> Result<Columns, TextFault>
     requires { length numbers.now ≤ 16 }
-    ensures { Gives (λ columns. columns) result (if list_all (λ down. nat_le down 255) numbers.now then Ok numbers.now else Err (M1, at)) }
+    ensures { Gives (λ columns. columns) result
+        (if list_all (λ down. nat_le down 255) numbers.now then Ok numbers.now else Err (M1, at)) }
 {
     let mut columns = Vec::with_capacity(alloc, numbers.len())?;
     for down in numbers {

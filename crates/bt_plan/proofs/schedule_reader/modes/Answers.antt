@@ -1,10 +1,10 @@
 -- one mode more, and the end
-use Rattle.std.proofs.Common.{◌≡◌, ◌+◌, ◌≤◌, length, sym, arith}
+use Rattle.std.proofs.Common.{sym, arith}
 use Rattle.std.proofs.lemmas.List.{length-append}
 use Rattle.bt_base.specs.Text.{lines}
 use Rattle.bt_plan.specs.ScheduleText.{modes_in}
 use Rattle.bt_plan.proofs.ModeLines.{goes_on, ends_there}
-use Rattle.bt_plan.proofs.schedule_text.modes.Goals as goal
+use Rattle.bt_plan.proofs.schedule_reader.modes.Goals as goal
 
 pub returns-then-is_word : goal.returns-then-is_word
 returns-then-is_word c = rw (ends_there c.args.size c.loop-line.at c.loop-line.modes.items (lines c.loop-line.rest.now) c.in-Some.line.now c.in-Some.after.now (modes_in c.args.size 3 (lines c.args.text.now)) c.in-Some.ensures.line (sym c.if-is_word.ensures) c.loop-line.invariant.reading) c.end.ensures

@@ -1,7 +1,7 @@
 -- the downlinks so far
 use Rattle.std.proofs.Common.{◌≡◌, true, leb, take}
 use Rattle.std.specs.List.{list_all}
-use Rattle.bt_plan.proofs.schedule_text.columns.Given as goal
+use Rattle.bt_plan.proofs.schedule_reader.columns.Given as goal
 
 abbrev pub invariant-loop-down : goal.invariant-loop-down
 invariant-loop-down l = record {

@@ -5,7 +5,7 @@ use Rattle.bt_base.specs.Text.{lines}
 use Rattle.bt_plan.specs.ScheduleText.{modes_in}
 use Rattle.bt_plan.proofs.Faults.{IsFaultOf-then}
 use Rattle.bt_plan.proofs.ModeLines.{critical_from_line}
-use Rattle.bt_plan.proofs.schedule_text.critical_and_modes.Goals as goal
+use Rattle.bt_plan.proofs.schedule_reader.critical_and_modes.Goals as goal
 
 pub returns-in_err-modes : goal.returns-in_err-modes
 returns-in_err-modes c =
