@@ -1,12 +1,15 @@
 pub mod Capped
 pub mod Faults
 pub mod Front
+pub mod Matrices
 pub mod ModeLines
+pub mod Links
 mod OneText
 mod OneVerdict
 pub mod Printed
 pub mod ReadBack
 pub mod Rows
+mod SameDemand
 mod Seen
 pub mod Spelled
 pub mod TextLines

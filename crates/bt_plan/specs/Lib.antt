@@ -4,4 +4,6 @@ pub mod Reading
 pub mod MatrixText
 pub mod ScheduleText
 pub mod Critical
+pub mod Demand
+pub mod Traffic
 pub mod ScheduleSpelling
