@@ -1,13 +1,15 @@
 -- The promise of the whole program: what it prints and the status that it ends with, for each command.
 use Rattle.std.specs.Prelude.{◌≡◌, ℕ, ◌⊎◌, List, [], ◌∷◌, codes, Option}
 use Rattle.bt_cli.specs.Outcome.{Says, Prints}
-use Rattle.bt_cli.specs.Request.{Request, Faulty, CheckModes}
+use Rattle.bt_cli.specs.Request.{Request, Faulty, CheckModes, PlanModes}
 use Rattle.bt_cli.specs.Check.{ChecksModes}
+use Rattle.bt_cli.specs.Modes.{PrintsModes}
 
 -- the answer to what is asked, by the command
 abbrev pub Answers : (List ℕ → Option (List ℕ)) → Type 0 → Request → List ℕ → ℕ → Type 0
 Answers told failed Faulty = Says (codes "fault" ∷ codes "words" ∷ []) 2
 Answers told failed (CheckModes matrix modes) = ChecksModes told failed matrix modes
+Answers told failed (PlanModes matrix) = PrintsModes told failed matrix
 
 -- Memory ran out; or an answer to what is asked was printed. `read_failed` and `write_failed` say that the
 -- count of faults of the files and of the sink rose.

@@ -9,6 +9,7 @@ mod check;
 mod faulty;
 mod lines;
 mod load;
+mod modes;
 mod print;
 mod request;
 #[cfg(test)]
@@ -16,4 +17,5 @@ mod tests;
 mod top;
 
 pub use check::check_command;
+pub use modes::modes_command;
 pub use top::{Ended, centre_main};
