@@ -11,8 +11,9 @@ use Rattle.bt_cli.specs.Outcome.{Says, IsContent, IsLoaded, CannotRead, Misspell
 use Rattle.bt_plan.specs.MatrixText.{matrix_of}
 use Rattle.bt_plan.specs.ScheduleText.{schedule_of}
 use Rattle.bt_cli.specs.Check.{ChecksSchedule, Judges, verdict_status}
-use Rattle.bt_cli.specs.Request.{Request, Faulty, CheckModes}
-use Rattle.bt_cli.specs.Top.{Answers, AreTold}
+use Rattle.bt_cli.specs.Modes.{PrintsSchedule}
+use Rattle.bt_cli.specs.Request.{Request, Faulty, CheckModes, PlanModes}
+use Rattle.bt_cli.specs.Top.{Answers, AreTold, IsOneAnswer}
 
 -- the same text and the same status
 abbrev pub IsSame : List ℕ → ℕ → List ℕ → ℕ → Type 0
@@ -73,19 +74,20 @@ not_longer told name held bytes is longer content =
     let within = held_within told name held bytes is content in
     absurd (omega (arith, over, within))
 
--- a load of a told file that did not fail has one outcome, where what comes after it has one
-pub Loads-same : {Value : Type 0} (reading : List ℕ → Reading Value) (told : List ℕ → Option (List ℕ)) (name held : List ℕ) → told name ≡ Some held → (after : Value → List ℕ → ℕ → Type 0) → ((v : Value) (a : List ℕ) (m : ℕ) (b : List ℕ) (n : ℕ) → after v a m → after v b n → IsSame a m b n) → (a : List ℕ) (m : ℕ) (b : List ℕ) (n : ℕ) → Loads reading told ⊥ name after a m → Loads reading told ⊥ name after b n → IsSame a m b n
-Loads-same reading told name held is after same a m b n (inl (inl (inl failed))) second = absurd failed.0
-Loads-same reading told name held is after same a m b n first (inl (inl (inl failed))) = absurd failed.0
-Loads-same reading told name held is after same a m b n (inl (inl (inr long))) (inl (inl (inr long'))) = Says-same (codes "fault" ∷ codes "too" ∷ codes "long" ∷ name ∷ []) 10 a m b n long.1 long'.1
-Loads-same reading told name held is after same a m b n (inl (inl (inr long))) (inl (inr wrong)) = absurd (not_longer told name held wrong.0 is long.0 wrong.3)
-Loads-same reading told name held is after same a m b n (inl (inl (inr long))) (inr (v, loaded, so)) = absurd (not_longer told name held loaded.0 is long.0 loaded.1)
-Loads-same reading told name held is after same a m b n (inl (inr wrong)) (inl (inl (inr long))) = absurd (not_longer told name held wrong.0 is long.0 wrong.3)
-Loads-same reading told name held is after same a m b n (inl (inr wrong)) (inl (inr wrong')) = Misspells-same reading told name held is a m b n wrong wrong'
-Loads-same reading told name held is after same a m b n (inl (inr wrong)) (inr (v, loaded, so)) = absurd (Misspells-not_loaded reading told name held is a m v wrong loaded)
-Loads-same reading told name held is after same a m b n (inr (v, loaded, so)) (inl (inl (inr long))) = absurd (not_longer told name held loaded.0 is long.0 loaded.1)
-Loads-same reading told name held is after same a m b n (inr (v, loaded, so)) (inl (inr wrong)) = absurd (Misspells-not_loaded reading told name held is b n v wrong loaded)
-Loads-same {Value} reading told name held is after same a m b n (inr (v, loaded, so)) (inr (w, loaded', so')) =
+-- A load of a told file that did not fail has one outcome, where what comes after it has one. What counts as one
+-- outcome may be less than the same text and status.
+pub Loads-same : {Value : Type 0} (One : List ℕ → ℕ → List ℕ → ℕ → Type 0) → ((a : List ℕ) (m : ℕ) (b : List ℕ) (n : ℕ) → IsSame a m b n → One a m b n) → (reading : List ℕ → Reading Value) (told : List ℕ → Option (List ℕ)) (name held : List ℕ) → told name ≡ Some held → (after : Value → List ℕ → ℕ → Type 0) → ((v : Value) (a : List ℕ) (m : ℕ) (b : List ℕ) (n : ℕ) → after v a m → after v b n → One a m b n) → (a : List ℕ) (m : ℕ) (b : List ℕ) (n : ℕ) → Loads reading told ⊥ name after a m → Loads reading told ⊥ name after b n → One a m b n
+Loads-same One one reading told name held is after same a m b n (inl (inl (inl failed))) second = absurd failed.0
+Loads-same One one reading told name held is after same a m b n first (inl (inl (inl failed))) = absurd failed.0
+Loads-same One one reading told name held is after same a m b n (inl (inl (inr long))) (inl (inl (inr long'))) = one a m b n (Says-same (codes "fault" ∷ codes "too" ∷ codes "long" ∷ name ∷ []) 10 a m b n long.1 long'.1)
+Loads-same One one reading told name held is after same a m b n (inl (inl (inr long))) (inl (inr wrong)) = absurd (not_longer told name held wrong.0 is long.0 wrong.3)
+Loads-same One one reading told name held is after same a m b n (inl (inl (inr long))) (inr (v, loaded, so)) = absurd (not_longer told name held loaded.0 is long.0 loaded.1)
+Loads-same One one reading told name held is after same a m b n (inl (inr wrong)) (inl (inl (inr long))) = absurd (not_longer told name held wrong.0 is long.0 wrong.3)
+Loads-same One one reading told name held is after same a m b n (inl (inr wrong)) (inl (inr wrong')) = one a m b n (Misspells-same reading told name held is a m b n wrong wrong')
+Loads-same One one reading told name held is after same a m b n (inl (inr wrong)) (inr (v, loaded, so)) = absurd (Misspells-not_loaded reading told name held is a m v wrong loaded)
+Loads-same One one reading told name held is after same a m b n (inr (v, loaded, so)) (inl (inl (inr long))) = absurd (not_longer told name held loaded.0 is long.0 loaded.1)
+Loads-same One one reading told name held is after same a m b n (inr (v, loaded, so)) (inl (inr wrong)) = absurd (Misspells-not_loaded reading told name held is b n v wrong loaded)
+Loads-same {Value} One one reading told name held is after same a m b n (inr (v, loaded, so)) (inr (w, loaded', so')) =
     let P : Value → Type 0 = λ x. after x b n in
     same v a m b n so (subst P (IsLoaded-same reading told name held is w v loaded' loaded) so')
 
@@ -99,8 +101,10 @@ Judges-same law rows schedule a m b n (verdict, holds, says) (verdict', holds', 
     let one : verdict ≡ verdict' = law rows schedule verdict verdict' holds holds' in
     (says.0 ∙ ap (λ v. line_of (verdict_words v)) one ∙ sym says'.0, says.1 ∙ ap verdict_status one ∙ sym says'.1)
 
--- what is asked has one answer
-pub Answers-same : OneVerdict → (told : List ℕ → Option (List ℕ)) (request : Request) → AreTold told request → (a : List ℕ) (m : ℕ) (b : List ℕ) (n : ℕ) → Answers told ⊥ request a m → Answers told ⊥ request b n → IsSame a m b n
+-- what is asked has one answer; of several good schedules any may be printed
+pub Answers-same : OneVerdict → (told : List ℕ → Option (List ℕ)) (request : Request) → AreTold told request → (a : List ℕ) (m : ℕ) (b : List ℕ) (n : ℕ) → Answers told ⊥ request a m → Answers told ⊥ request b n → IsOneAnswer request a m b n
 Answers-same law told Faulty _ a m b n first second = Says-same (codes "fault" ∷ codes "words" ∷ []) 2 a m b n first second
 Answers-same law told (CheckModes matrix modes) (of_matrix, of_modes) a m b n first second =
-    Loads-same matrix_of told matrix of_matrix.0 of_matrix.1 (λ rows. ChecksSchedule told ⊥ modes rows) (λ rows. Loads-same (schedule_of (length rows)) told modes of_modes.0 of_modes.1 (λ schedule. Judges rows schedule) (λ schedule. Judges-same law rows schedule)) a m b n first second
+    Loads-same IsSame (λ a m b n same. same) matrix_of told matrix of_matrix.0 of_matrix.1 (λ rows. ChecksSchedule told ⊥ modes rows) (λ rows. Loads-same IsSame (λ a m b n same. same) (schedule_of (length rows)) told modes of_modes.0 of_modes.1 (λ schedule. Judges rows schedule) (λ schedule. Judges-same law rows schedule)) a m b n first second
+Answers-same law told (PlanModes matrix) of_matrix a m b n first second =
+    Loads-same (IsOneAnswer (PlanModes matrix)) (λ a m b n same. (same.1, inr same.0)) matrix_of told matrix of_matrix.0 of_matrix.1 (λ rows. PrintsSchedule rows) (λ rows a m b n one other. (one.4 ∙ sym other.4, inl one.4)) a m b n first second

@@ -10,6 +10,7 @@ mod faulty;
 mod laws;
 mod lines;
 mod load;
+mod modes;
 mod print;
 mod request;
 #[cfg(test)]
@@ -18,4 +19,5 @@ mod top;
 
 pub use check::check_command;
 pub use laws::one_answer;
+pub use modes::modes_command;
 pub use top::{Ended, centre_main};
