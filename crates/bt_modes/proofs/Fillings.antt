@@ -7,7 +7,7 @@ use Rattle.bt_matrix.specs.Traffic.{row_of, entry, row_sum, column_sum, line_sum
 use Rattle.bt_matrix.proofs.Lines.{row_sum-with_entry_same, row_sum-with_entry_other, column_sum-with_entry_same, column_sum-with_entry_other}
 use Rattle.bt_matrix.proofs.Writes.{length-row, IsTraffic-with_entry}
 use Rattle.bt_match.specs.Matching.{HasLineSums}
-use Rattle.bt_modes.specs.Padding.{IsRaised, IsWithin, IsPartPadding}
+use Rattle.bt_modes.specs.Padding.{IsRaised, HasLinesWithin, IsPartPadding}
 use Rattle.bt_modes.proofs.Sums.{HasLineSums-rows, HasLineSums-columns}
 
 -- the entry that was written
@@ -69,7 +69,7 @@ IsGain-with_entry rows up down units traffic in_rows in_columns =
     }
 
 -- no line's sum falls, and none passes a bound that holds of the changed ones
-lines_gain : (rows new : List (List ℕ)) (up down units slots : ℕ) → IsGain rows new up down units → IsWithin rows slots
+lines_gain : (rows new : List (List ℕ)) (up down units slots : ℕ) → IsGain rows new up down units → HasLinesWithin rows slots
     → row_sum rows up + units ≤ slots → column_sum rows down + units ≤ slots
     → (line : Critical) → IsLine rows line → (line_sum rows line ≤ line_sum new line) × (line_sum new line ≤ slots)
 lines_gain rows new up down units slots gain within row column (Row k) inside =
@@ -89,7 +89,7 @@ IsLine-size old new (Row k) size inside = omega arith
 IsLine-size old new (Column k) size inside = omega arith
 
 -- nothing was raised
-pub IsPartPadding-same : (rows : List (List ℕ)) (slots : ℕ) → IsTraffic rows → IsWithin rows slots → IsPartPadding rows rows slots
+pub IsPartPadding-same : (rows : List (List ℕ)) (slots : ℕ) → IsTraffic rows → HasLinesWithin rows slots → IsPartPadding rows rows slots
 IsPartPadding-same rows slots traffic within = record {
   traffic = traffic;
   size = refl;
@@ -99,7 +99,7 @@ IsPartPadding-same rows slots traffic within = record {
 }
 
 -- one entry was raised
-pub IsPartPadding-with_entry : (rows : List (List ℕ)) (up down units slots : ℕ) → IsTraffic rows → IsWithin rows slots → slots ≤ 1048576
+pub IsPartPadding-with_entry : (rows : List (List ℕ)) (up down units slots : ℕ) → IsTraffic rows → HasLinesWithin rows slots → slots ≤ 1048576
     → up < length rows → down < length rows → row_sum rows up + units ≤ slots → column_sum rows down + units ≤ slots
     → IsPartPadding rows (with_entry rows up down (entry rows up down + units)) slots
 IsPartPadding-with_entry rows up down units slots traffic within limit in_rows in_columns row column =

@@ -9,8 +9,8 @@ abbrev pub IsRaised : List (List ℕ) → List (List ℕ) → Type 0
 IsRaised old new = (up down : ℕ) → up < length old → down < length old → entry old up down ≤ entry new up down
 
 -- no line passes this sum
-abbrev pub IsWithin : List (List ℕ) → ℕ → Type 0
-IsWithin rows sum = (line : Critical) → IsLine rows line → line_sum rows line ≤ sum
+abbrev pub HasLinesWithin : List (List ℕ) → ℕ → Type 0
+HasLinesWithin rows sum = (line : Critical) → IsLine rows line → line_sum rows line ≤ sum
 
 -- some line is the heaviest, and has this sum
 abbrev pub IsGreatestSum : List (List ℕ) → ℕ → Type 0
@@ -25,7 +25,7 @@ pub record IsPartPadding (old new : List (List ℕ)) (sum : ℕ) : Type 0 where
   pub traffic : IsTraffic new
   pub size : length new ≡ length old
   pub raised : IsRaised old new
-  pub within : IsWithin new sum
+  pub within : HasLinesWithin new sum
   pub full : StaysFull old new sum
 
 -- No entry is smaller, and every line sum is the greatest that the matrix had.

@@ -2,6 +2,7 @@
 //! and then taken apart into modes: permutations inside its positive entries, each held for its least entry.
 //!
 //! `specs/Padding.antt` says what a padding is, `specs/Decomposition.antt` when modes together are a matrix.
+//! `docs/definitions.md` has both in words.
 #![tactic(auto)]
 
 mod decomposition;

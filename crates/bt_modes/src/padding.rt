@@ -2,7 +2,7 @@
 ghost use Rattle.std.specs.Prelude.{◌≡◌, ◌+◌, ◌*◌, ◌≤◌, ◌<◌, ◌⊎◌, length, IfOk};
 ghost use Rattle.bt_matrix.specs.Traffic.{row_sum, column_sum, IsTraffic};
 ghost use Rattle.bt_match.specs.Matching.{HasLineSums};
-ghost use Rattle.bt_modes.specs.Padding.{IsPaddingOf, IsRaised, IsWithin, IsPartPadding};
+ghost use Rattle.bt_modes.specs.Padding.{IsPaddingOf, IsRaised, HasLinesWithin, IsPartPadding};
 
 use bt_base::{BeamNo, OutOfMemory};
 use bt_matrix::{SUM_LAST, Traffic};
@@ -35,7 +35,7 @@ pub fn pad<M: Traffic + Drop>(alloc: Global, mut matrix: M) -> Result<Padded<M>,
 /// It goes from the first row and the first column on, and leaves a line only once it is full. So it raises
 /// fewer entries than there are lines.
 fn fill_lines<M: Traffic>(matrix: &mut M, sum: u32)
-    requires within { IsWithin (M.rows matrix.old) sum }
+    requires within { HasLinesWithin (M.rows matrix.old) sum }
     requires limit { sum ≤ SUM_LAST }
     requires room { 2 * length (M.rows matrix.old) ≤ M.room matrix.old + 1 }
     ensures size { length (M.rows matrix.new) ≡ length (M.rows matrix.old) }
@@ -59,7 +59,7 @@ fn fill_entry<M: Traffic>(matrix: &mut M, up: BeamNo, down: BeamNo, sum: u32)
     requires up { up.0 < length (M.rows matrix.old) }
     requires down { down.0 < length (M.rows matrix.old) }
     requires traffic { IsTraffic (M.rows matrix.old) }
-    requires within { IsWithin (M.rows matrix.old) sum }
+    requires within { HasLinesWithin (M.rows matrix.old) sum }
     requires limit { sum ≤ SUM_LAST }
     requires room { 1 ≤ M.room matrix.old }
     ensures filled { IsPartPadding (M.rows matrix.old) (M.rows matrix.new) sum }
