@@ -9,7 +9,7 @@ use std::marker::Model;
 pub struct Fail {
     /// Its number, counted from 0 over all calls but those of `faults`.
     pub call: u32,
-    /// The bytes of the piece that it keeps, the whole piece where that is shorter.
+    /// How many bytes of its piece it still takes, at most.
     pub kept: u32,
 }
 

@@ -27,7 +27,7 @@ impl Model for MemFiles {
 }
 
 impl MemFiles {
-    /// These files, a name and contents each. Of two with one name the first counts.
+    /// These files, a name and contents each. A later file of the same name is never read.
     pub fn new(files: Vec<(String, Vec<u8>)>, fails: Vec<Fail>) -> MemFiles
         ensures files { result.files ≡ named files.items }
         ensures calls { result.calls ≡ record { fails = fails.items; made = 0; faults = 0 } }
@@ -55,7 +55,7 @@ impl Files for MemFiles {
         ensures cause { HasCause FileFault.Failed self.old.calls.faults self.new.calls.faults result }
         ensures same { self.new.files ≡ self.old.files }
 
-        // It fails exactly where its number is in the list, or the file is missing.
+        // The listed calls fail and those for a missing file, and no others.
         ensures failed { IsErrOf result FileFault.Failed
             ↔ (IsSome (fail_at self.old.calls.fails self.old.calls.made) ⊎ IsNone (contents_of self.old.files name.now)) }
         ensures calls { Counts FileFault.Failed self.old.calls self.new.calls result }

@@ -60,7 +60,7 @@ impl Sink for MemSink {
         ensures out_of_memory { IsErrOf result SinkFault.OutOfMemory → Some self.new.bytes ≡ Some self.old.bytes }
         ensures cause { HasCause SinkFault.Failed self.old.calls.faults self.new.calls.faults result }
 
-        // Want of memory apart, it fails exactly where its number is in the list.
+        // The listed calls fail and no others, want of memory apart.
         ensures not_listed { OnOk result (IsNone (fail_at self.old.calls.fails self.old.calls.made)) }
         ensures listed { IsErrOf result SinkFault.Failed
             → IsSomeAnd (fail_at self.old.calls.fails self.old.calls.made)
@@ -81,7 +81,7 @@ impl Sink for MemSink {
     }
 }
 
-/// Keeps the first `kept` bytes of the piece, or the whole piece where it is shorter.
+/// Takes of the piece what a failing call still takes.
 fn keep_first(bytes: &mut Vec<u8>, piece: &[u8], kept: u32) -> Result<(), AllocError>
     ensures ok { OnOk result (bytes.new.items ≡ bytes.old.items ++ take kept piece.now) }
     ensures prefix { OnOk result (GainsPrefix (Some bytes.old.items) piece.now (Some bytes.new.items)) }

@@ -24,7 +24,7 @@ impl Model for SureFiles {
 }
 
 impl SureFiles {
-    /// These files, a name and contents each. Of two with one name the first counts.
+    /// These files, a name and contents each. A later file of the same name is never read.
     pub fn new(files: Vec<(String, Vec<u8>)>) -> SureFiles
         ensures { result ≡ named files.items }
     {

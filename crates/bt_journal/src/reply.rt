@@ -4,9 +4,9 @@ use bt_base::{BeamNo, EditionNo};
 /// The answer to a call. A refusal leaves the demand and its edition as they were.
 #[derive(Clone, Copy, Debug, PartialEq, Eq)]
 pub enum Reply {
-    /// The edit was taken: the new edition, and the new greatest line sum in slots.
+    /// The edit was taken and makes this edition; the heaviest line has so many slots then.
     Done { edition: EditionNo, length: u32 },
-    /// A link of the edit has equal ends.
+    /// Both ends of a link are one terminal.
     SameTerminal,
     /// The first link holds fewer units than the edit takes from it.
     NotThere { held: u32 },

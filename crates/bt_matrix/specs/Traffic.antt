@@ -1,5 +1,5 @@
--- A traffic matrix as a list of rows: entry j of row i is the slots per frame from uplink beam i to
--- downlink beam j. A line is a row or a column.
+-- A traffic matrix as a list of rows, one for each uplink beam, with an entry for each downlink beam: what the
+-- one asks for to the other, in slots per frame.
 use Rattle.std.specs.Prelude.{◌≡◌, ℕ, ◌<◌, ◌≤◌, List, [], length, All, sum, sum_by, slice_index, slice_set}
 use Rattle.std.specs.List.{slice_index_or}
 use Rattle.bt_base.specs.declared.schedule.Critical.{Critical}

@@ -13,7 +13,7 @@ use std::marker::Model;
 
 /// A network: its beams, its terminals, and the limits of its frames, its changes and its journal.
 ///
-/// Beams and terminals are numbered from 0 in the order of the file.
+/// Their order in the file numbers beams and terminals, from 0.
 #[derive(Drop)]
 pub struct Network {
     pub(crate) beams: Beams,

@@ -1,4 +1,5 @@
--- Which verdict a schedule gets for a matrix: the first by number, and within a number the first by place.
+-- Which verdict a schedule gets for a matrix: of all that is wrong, the fault of the lowest number, at its first
+-- place.
 use Rattle.std.specs.Prelude.{◌≡◌, ◌≢◌, ◌⊎◌, ℕ, ◌<◌, ◌≤◌, List, length, take, All}
 use Rattle.std.specs.List.{HoldsAt}
 use Rattle.bt_base.specs.declared.schedule.Schedule.{Schedule}

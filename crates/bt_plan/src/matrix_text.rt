@@ -14,7 +14,7 @@ const ENTRY_LAST: u64 = 4096;
 
 /// The traffic matrix that a text spells, or the first line with a fault.
 pub fn read_matrix(alloc: Global, bytes: &[u8]) -> Result<Dense, TextFault>
-    ensures { Gives (λ matrix. matrix) result (matrix_of bytes.now) }
+    ensures reading { Gives (λ matrix. matrix) result (matrix_of bytes.now) }
 {
     let rows = matrix_rows(alloc, bytes)?;
     Ok(Dense::of(rows))

@@ -14,7 +14,8 @@ const MOST_BEAMS: usize = 16;
 
 /// What is wrong first with a schedule for that matrix, or that it is good.
 ///
-/// It looks once at each beam of each mode and once at each entry of the matrix, and takes no memory.
+/// It looks twice at each beam of each mode, for its permutation and for its slots, and once at each entry of the
+/// matrix. It takes no memory.
 pub fn check_modes(matrix: &Dense, schedule: &Schedule) -> Verdict
     requires { IsLine matrix.now schedule.now.critical }
     ensures { IsVerdict matrix.now schedule.now result }

@@ -11,7 +11,7 @@ pub enum TextCode {
     X1,
     /// A number of a matrix is out of range.
     X2,
-    /// A line of a schedule leaves the grammar or a range, or is missing.
+    /// A line of a schedule is missing, out of range, or none of its grammar.
     M1,
     /// A line of a traffic text leaves the grammar.
     T1,
@@ -23,11 +23,11 @@ pub enum TextCode {
     T4,
     /// The link stood before.
     T5,
-    /// A line of a plan leaves the grammar or a range, or is missing.
+    /// A line of a plan is missing, out of range, or none of its grammar.
     P1,
     /// No terminal has that name.
     P2,
-    /// A burst is less than the one before.
+    /// A burst stands behind one that it belongs before.
     P3,
 }
 

@@ -21,7 +21,7 @@ pub enum Verdict {
         sum: u64,
         length: u32,
     },
-    /// The length is not the greatest line sum, or the critical line has another; this line has it.
+    /// The length or the critical line does not have the greatest line sum, which this line has.
     V4 {
         critical: Critical,
         sum: u64,
@@ -31,7 +31,7 @@ pub enum Verdict {
         first: u32,
         second: u32,
     },
-    /// That burst is empty, or lies in no mode that sends its uplink beam to its downlink beam.
+    /// That burst is empty, or no mode makes its connection for as long as it lasts.
     V6 {
         burst: u32,
     },
