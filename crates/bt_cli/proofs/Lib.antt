@@ -1,2 +1,4 @@
 pub mod Loads
+pub mod Others
 pub mod Words
+pub mod OneAnswer

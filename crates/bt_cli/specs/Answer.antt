@@ -4,14 +4,13 @@ use Rattle.bt_plan.specs.declared.text_fault.TextFault.{TextFault}
 use Rattle.bt_plan.specs.declared.text_fault.TextFault.TheVariants as fault
 use Rattle.bt_cli.specs.Lines.{text_fault}
 use Rattle.bt_cli.specs.Outcome.{Says}
-use Rattle.std.specs.String.{string_bytes}
 use Rattle.bt_cli.specs.declared.answer.Answer.{Answer}
 use Rattle.bt_cli.specs.declared.answer.Stop.{Stop}
 use Rattle.bt_cli.specs.declared.answer.Stop.TheVariants.{Early, OutOfMemory}
 
 -- the answer is one of these outcomes
 abbrev pub AnswerIs : (List ℕ → ℕ → Type 0) → Answer → Type 0
-AnswerIs Outcomes answer = Outcomes (string_bytes answer.text) answer.status
+AnswerIs Outcomes answer = Outcomes answer.text.items answer.status
 
 -- the early answer is one of these outcomes; want of memory says nothing
 abbrev pub StopIs : (List ℕ → ℕ → Type 0) → Stop → Type 0

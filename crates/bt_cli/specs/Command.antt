@@ -2,14 +2,16 @@
 use Rattle.std.specs.Prelude.{ℕ, List, codes, Option, Some, None}
 use Rattle.bt_cli.specs.declared.request.Command.{Command}
 use Rattle.bt_cli.specs.declared.request.Command.TheVariants as command
-use Rattle.bt_cli.specs.Request.{Request, Faulty, CheckModes}
+use Rattle.bt_cli.specs.Request.{Request, Faulty, CheckModes, PlanModes}
 
 -- what the command asks for
 abbrev pub asked : Command → Request
 asked command.Faulty = Faulty
 asked (command.CheckModes matrix modes) = CheckModes matrix.now modes.now
+asked (command.PlanModes matrix) = PlanModes matrix.now
 
 -- the name of the command
 abbrev pub name_of : Command → Option (List ℕ)
 name_of command.Faulty = None
 name_of (command.CheckModes _ _) = Some (codes "check")
+name_of (command.PlanModes _) = Some (codes "modes")

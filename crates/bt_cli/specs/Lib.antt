@@ -5,4 +5,5 @@ pub mod Printing
 pub mod Request
 pub mod Command
 pub mod Check
+pub mod Modes
 pub mod Top

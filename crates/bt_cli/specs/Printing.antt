@@ -1,6 +1,5 @@
 -- Printing what the work came to.
 use Rattle.std.specs.Prelude.{◌≡◌, ℕ, ◌⊎◌, codes, List, [], ◌∷◌, Option, Some, None, Result, Ok, Err}
-use Rattle.std.specs.String.{string_bytes}
 use Rattle.bt_cli.specs.declared.answer.Answer.{Answer}
 use Rattle.bt_cli.specs.declared.answer.Stop.{Stop}
 use Rattle.bt_cli.specs.declared.answer.Stop.TheVariants.{Early, OutOfMemory}
@@ -14,7 +13,7 @@ CameTo Outcomes (Err stop) = StopIs Outcomes stop
 
 -- how the program ends after this answer was to be printed
 abbrev pub EndsAfter : Option (List ℕ) → Option (List ℕ) → Type 0 → Answer → ℕ → Type 0
-EndsAfter old new failed answer status = (status ≡ 1) ⊎ Prints old new failed (string_bytes answer.text) answer.status status
+EndsAfter old new failed answer status = (status ≡ 1) ⊎ Prints old new failed answer.text.items answer.status status
 
 -- how the program ends after the work came to this
 abbrev pub EndsWith : Option (List ℕ) → Option (List ℕ) → Type 0 → Result Answer Stop → ℕ → Type 0

@@ -6,13 +6,19 @@ use Rattle.std.specs.Str.{bytes_eq}
 pub data Request : Type 0 where
   Faulty : Request
   CheckModes : List ℕ → List ℕ → Request
+  PlanModes : List ℕ → Request
 
 -- `check MATRIX MODES`; a word that names a file is not empty
 abbrev pub check_request : List ℕ → List ℕ → Request
 check_request matrix modes = if nat_lt 0 (length matrix) && nat_lt 0 (length modes) then CheckModes matrix modes else Faulty
 
+-- `modes MATRIX`
+abbrev pub modes_request : List ℕ → Request
+modes_request matrix = if nat_lt 0 (length matrix) then PlanModes matrix else Faulty
+
 -- what the words ask for
 abbrev pub request_of : List (List ℕ) → Request
+request_of (command ∷ first ∷ []) = if bytes_eq command (codes "modes") then modes_request first else Faulty
 request_of (command ∷ first ∷ second ∷ []) = if bytes_eq command (codes "check") then check_request first second else Faulty
 request_of _ = Faulty
 

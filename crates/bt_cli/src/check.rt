@@ -39,11 +39,12 @@ pub fn check_command<F: Files, O: Sink>(
 }
 
 fn check_words<F: Files>(alloc: Global, words: &[String], files: &mut F) -> Result<Answer, Stop>
+    requires { first_word (map string_bytes words.now) ≡ Some (codes "check") }
     ensures { CameTo (Answers (F.told files.old) (Rose (F.fault_count files.old) (F.fault_count files.new)) (request_of (map string_bytes words.now))) result }
 {
     match command_of(words) {
-        Command::Faulty => Ok(faulty_words(alloc)?),
         Command::CheckModes { matrix, modes } => check_files(alloc, files, matrix, modes),
+        _ => Ok(faulty_words(alloc)?),
     }
 }
 
@@ -77,10 +78,8 @@ fn judge(alloc: Global, matrix: &Dense, schedule: &Schedule) -> Result<Answer, S
     ensures { CameTo (Judges matrix.now schedule.now) result }
 {
     let verdict = check_modes(matrix, schedule);
-    Ok(Answer {
-        text: verdict_line(alloc, &verdict)?,
-        status: status_of(&verdict),
-    })
+    let line = verdict_line(alloc, &verdict)?;
+    Ok(Answer::line(line, status_of(&verdict)))
 }
 
 /// The status that goes with a verdict.

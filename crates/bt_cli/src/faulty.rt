@@ -14,10 +14,8 @@ use std::alloc::{AllocError, Global};
 pub fn faulty_words(alloc: Global) -> Result<Answer, AllocError>
     ensures { IfOk result (AnswerIs (Says (codes "fault" ∷ codes "words" ∷ []) 2)) }
 {
-    Ok(Answer {
-        text: format!(in alloc; "fault words\n")?,
-        status: 2,
-    })
+    let line = format!(in alloc; "fault words\n")?;
+    Ok(Answer::line(line, 2))
 }
 
 /// Prints that answer, and gives the status to end with.

@@ -7,8 +7,10 @@
 mod answer;
 mod check;
 mod faulty;
+mod laws;
 mod lines;
 mod load;
+mod modes;
 mod print;
 mod request;
 #[cfg(test)]
@@ -16,4 +18,6 @@ mod tests;
 mod top;
 
 pub use check::check_command;
+pub use laws::one_answer;
+pub use modes::modes_command;
 pub use top::{Ended, centre_main};

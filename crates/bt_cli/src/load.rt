@@ -27,14 +27,14 @@ pub fn read_file<F: Files>(alloc: Global, files: &mut F, name: &str) -> Result<V
 {
     match files.read(alloc, name, FILE_LAST) {
         Ok(bytes) => Ok(bytes),
-        Err(FileFault::Failed) => Err(Stop::Early(Answer {
-            text: format!(in alloc; "fault read {name}\n")?,
-            status: 5,
-        })),
-        Err(FileFault::TooLong) => Err(Stop::Early(Answer {
-            text: format!(in alloc; "fault too long {name}\n")?,
-            status: 10,
-        })),
+        Err(FileFault::Failed) => {
+            let line = format!(in alloc; "fault read {name}\n")?;
+            Err(Stop::Early(Answer::line(line, 5)))
+        }
+        Err(FileFault::TooLong) => {
+            let line = format!(in alloc; "fault too long {name}\n")?;
+            Err(Stop::Early(Answer::line(line, 10)))
+        }
         Err(FileFault::OutOfMemory) => Err(Stop::OutOfMemory),
     }
 }
@@ -46,7 +46,7 @@ pub fn text_stop(alloc: Global, fault: TextFault) -> Stop
     match fault {
         TextFault::OutOfMemory => Stop::OutOfMemory,
         TextFault::At { code, line } => match text_fault_line(alloc, code, line) {
-            Ok(text) => Stop::Early(Answer { text, status: 4 }),
+            Ok(line) => Stop::Early(Answer::line(line, 4)),
             Err(_) => Stop::OutOfMemory,
         },
     }

@@ -26,7 +26,7 @@ pub fn print<O: Sink>(alloc: Global, out: &mut O, outcome: Result<Answer, Stop>)
 fn print_answer<O: Sink>(alloc: Global, out: &mut O, answer: &Answer) -> u8
     ensures { EndsAfter (O.told out.old) (O.told out.new) (Rose (O.fault_count out.old) (O.fault_count out.new)) answer.now result }
 {
-    match out.write(alloc, answer.text.as_bytes()) {
+    match out.write(alloc, answer.text.as_slice()) {
         Ok(()) => answer.status,
         Err(SinkFault::Failed) => WRITE_FAILED,
         Err(SinkFault::OutOfMemory) => OUT_OF_MEMORY,

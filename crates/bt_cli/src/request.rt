@@ -1,7 +1,7 @@
 // What the words after the program's name ask for.
 ghost use Rattle.std.specs.Prelude.{◌≡◌, map, codes, IfSome};
 ghost use Rattle.std.specs.String.{string_bytes};
-ghost use Rattle.bt_cli.specs.Request.{check_request, first_word, request_of};
+ghost use Rattle.bt_cli.specs.Request.{check_request, first_word, modes_request, request_of};
 ghost use Rattle.bt_cli.specs.Command.{asked, name_of};
 
 /// A command with its words.
@@ -11,6 +11,8 @@ pub enum Command<'a> {
     Faulty,
     /// `check MATRIX MODES`.
     CheckModes { matrix: &'a str, modes: &'a str },
+    /// `modes MATRIX`.
+    PlanModes { matrix: &'a str },
 }
 
 /// The command that the words ask for.
@@ -19,6 +21,7 @@ pub fn command_of(words: &[String]) -> Command<'_>
     ensures named { IfSome (name_of result) (λ name. first_word (map string_bytes words.now) ≡ Some name) }
 {
     match words {
+        [command, matrix] if command.as_str() == "modes" => modes_of(matrix),
         [command, matrix, modes] if command.as_str() == "check" => check_of(matrix, modes),
         _ => Command::Faulty,
     }
@@ -32,5 +35,16 @@ fn check_of<'a>(matrix: &'a str, modes: &'a str) -> Command<'a>
         Command::Faulty
     } else {
         Command::CheckModes { matrix, modes }
+    }
+}
+
+fn modes_of(matrix: &str) -> Command<'_>
+    ensures asked { asked result ≡ modes_request matrix.now }
+    ensures named { IfSome (name_of result) (λ name. name ≡ codes "modes") }
+{
+    if matrix.is_empty() {
+        Command::Faulty
+    } else {
+        Command::PlanModes { matrix }
     }
 }

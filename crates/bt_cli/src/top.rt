@@ -7,6 +7,7 @@ ghost use Rattle.bt_cli.specs.Top.{Ends};
 
 use crate::check::check_command;
 use crate::faulty::print_faulty_words;
+use crate::modes::modes_command;
 use crate::request::{Command, command_of};
 use bt_base::{Files, Keeper, Sink};
 use std::alloc::Global;
@@ -50,6 +51,7 @@ pub fn centre_main<R: Threads + Wait + Sync, F: Files, O: Sink, K: Keeper + Send
     let status = match command_of(words) {
         Command::Faulty => print_faulty_words(alloc, out),
         Command::CheckModes { .. } => check_command(alloc, words, files, out),
+        Command::PlanModes { .. } => modes_command(alloc, words, files, out),
     };
     Ended { status, store }
 }

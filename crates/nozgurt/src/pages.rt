@@ -20,6 +20,11 @@ commands
       Modes and beams are counted from 0.
       example: nozgurt check examples/two-beams.matrix examples/two-beams.modes
 
+  modes MATRIX
+      Prints a switching schedule that carries the traffic matrix in the file
+      MATRIX in the least length, as `check` reads it.
+      example: nozgurt modes examples/two-beams.matrix
+
   --help      prints this page
   --version   prints the version
 

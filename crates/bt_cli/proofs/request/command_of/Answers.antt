@@ -7,5 +7,12 @@ use Rattle.bt_cli.proofs.request.command_of.Goals as goal
 
 pub returns-in-len3-clause-named : goal.returns-in-len3-clause-named
 returns-in-len3-clause-named c =
-    let is : string_bytes c.command-item.result ≡ codes "check" = search (rules, c.if-eq.true, c.as_str.ensures.value) in
-    named_first (name_of c.check_of.result) (codes "check") _ _ c.check_of.ensures.named is (first_word-map c.args.words.now c.command-item.result (omega arith) c.command-item.is)
+    let word = c.command-item-then-words-lt4 in
+    let is : string_bytes word.result ≡ codes "check" = search (rules, c.if-eq-2.true, c.as_str-then-words-lt4.ensures.value) in
+    named_first (name_of c.check_of.result) (codes "check") _ _ c.check_of.ensures.named is (first_word-map c.args.words.now word.result (omega arith) word.is)
+
+pub returns-in-len2-clause-named : goal.returns-in-len2-clause-named
+returns-in-len2-clause-named c =
+    let word = c.command-item in
+    let is : string_bytes word.result ≡ codes "modes" = search (rules, c.if-eq.true, c.as_str.ensures.value) in
+    named_first (name_of c.modes_of.result) (codes "modes") _ _ c.modes_of.ensures.named is (first_word-map c.args.words.now word.result (omega arith) word.is)

@@ -1,0 +1,35 @@
+-- A command's own call on words of that command's name that are not the command: they are words of no command.
+use Rattle.std.proofs.Common.{◌≡◌, ℕ, List, [], ◌∷◌, codes, Some, Option, None, IfSome, true, false, refl, sym, ◌∙◌, subst, Bor}
+use Rattle.std.specs.Str.{bytes_eq}
+use Rattle.std.proofs.lemmas.Option.{same_Some}
+use Rattle.std.proofs.lemmas.Slice.Eq.{bytes_eq-Decides}
+use Rattle.bt_cli.specs.declared.answer.Answer.{Answer}
+use Rattle.bt_cli.specs.declared.request.Command.{Command}
+use Rattle.bt_cli.specs.declared.request.Command.TheVariants as command
+use Rattle.bt_cli.specs.Answer.{AnswerIs}
+use Rattle.bt_cli.specs.Command.{asked, name_of}
+use Rattle.bt_cli.specs.Outcome.{Says}
+use Rattle.bt_cli.specs.Request.{Request, Faulty}
+use Rattle.bt_cli.specs.Top.{Answers}
+
+-- no word is two names
+two_names : (name text : List ℕ) (first : Option (List ℕ)) → bytes_eq name text ≡ false → first ≡ Some name → first ≡ Some text → ⊥
+two_names name text first other is also =
+    let same : bytes_eq name text ≡ true = (bytes_eq-Decides name text).1 (same_Some name text (sym is ∙ also)) in
+    let both : true ≡ false = sym same ∙ other in
+    cc
+
+-- what the words ask for, where the first of them is the name of a command that was not read off them
+pub faulty_check : (read : Command) (request : Request) (first : Option (List ℕ)) → asked read ≡ request → IfSome (name_of read) (λ name. first ≡ Some name) → first ≡ Some (codes "check") → ((matrix modes : Bor (List ℕ)) → read ≡ command.CheckModes matrix modes → ⊥) → request ≡ Faulty
+faulty_check command.Faulty request first is named check other = sym is
+faulty_check (command.CheckModes matrix modes) request first is named check other = absurd (other matrix modes refl)
+faulty_check (command.PlanModes matrix) request first is named check other = absurd (two_names (codes "modes") (codes "check") first refl named check)
+
+pub faulty_modes : (read : Command) (request : Request) (first : Option (List ℕ)) → asked read ≡ request → IfSome (name_of read) (λ name. first ≡ Some name) → first ≡ Some (codes "modes") → ((matrix : Bor (List ℕ)) → read ≡ command.PlanModes matrix → ⊥) → request ≡ Faulty
+faulty_modes command.Faulty request first is named modes other = sym is
+faulty_modes (command.CheckModes _ _) request first is named modes other = absurd (two_names (codes "check") (codes "modes") first refl named modes)
+faulty_modes (command.PlanModes matrix) request first is named modes other = absurd (other matrix refl)
+
+-- the answer to words of no command
+pub answers_faulty : (told : List ℕ → Option (List ℕ)) (failed : Type 0) (request : Request) (answer : Answer) → request ≡ Faulty → AnswerIs (Says (codes "fault" ∷ codes "words" ∷ []) 2) answer → AnswerIs (Answers told failed request) answer
+answers_faulty told failed request answer is says = subst (λ r. AnswerIs (Answers told failed r) answer) (sym is) says

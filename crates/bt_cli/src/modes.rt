@@ -1,0 +1,63 @@
+// `modes MATRIX`.
+ghost use Rattle.std.specs.Prelude.{◌≡◌, map, codes};
+ghost use Rattle.std.specs.String.{string_bytes};
+ghost use Rattle.bt_base.specs.Told.{Rose};
+ghost use Rattle.bt_cli.specs.Modes.{PrintsModes, PrintsSchedule};
+ghost use Rattle.bt_cli.specs.Printing.{CameTo};
+ghost use Rattle.bt_cli.specs.Request.{first_word, request_of};
+ghost use Rattle.bt_cli.specs.Top.{Answers, Ends};
+
+use crate::answer::{Answer, Stop};
+use crate::faulty::faulty_words;
+use crate::load::load_matrix;
+use crate::print::print;
+use crate::request::{Command, command_of};
+use bt_base::{Files, Sink};
+use bt_matrix::Dense;
+use bt_plan::schedule_text;
+use std::alloc::Global;
+
+/// Prints a switching schedule of the least length that carries a traffic matrix.
+///
+/// The words are those after the program's name, of which the first is `modes`. The status is 0 where the
+/// schedule is printed; the refusals are those of the top call.
+pub fn modes_command<F: Files, O: Sink>(
+    alloc: Global,
+    words: &[String],
+    files: &mut F,
+    out: &mut O,
+) -> u8
+    requires { first_word (map string_bytes words.now) ≡ Some (codes "modes") }
+    ensures { Ends (F.told files.old) (Rose (F.fault_count files.old) (F.fault_count files.new))
+        (O.told out.old) (O.told out.new) (Rose (O.fault_count out.old) (O.fault_count out.new))
+        (request_of (map string_bytes words.now)) result }
+{
+    let outcome = modes_words(alloc, words, files);
+    print(alloc, out, outcome)
+}
+
+fn modes_words<F: Files>(alloc: Global, words: &[String], files: &mut F) -> Result<Answer, Stop>
+    requires { first_word (map string_bytes words.now) ≡ Some (codes "modes") }
+    ensures { CameTo (Answers (F.told files.old) (Rose (F.fault_count files.old) (F.fault_count files.new)) (request_of (map string_bytes words.now))) result }
+{
+    match command_of(words) {
+        Command::PlanModes { matrix } => plan_modes(alloc, files, matrix),
+        _ => Ok(faulty_words(alloc)?),
+    }
+}
+
+fn plan_modes<F: Files>(alloc: Global, files: &mut F, matrix: &str) -> Result<Answer, Stop>
+    ensures { CameTo (PrintsModes (F.told files.old) (Rose (F.fault_count files.old) (F.fault_count files.new)) matrix.now) result }
+{
+    let matrix = load_matrix(alloc, files, matrix)?;
+    schedule_answer(alloc, &matrix)
+}
+
+/// The text of a schedule for the matrix.
+fn schedule_answer(alloc: Global, matrix: &Dense) -> Result<Answer, Stop>
+    ensures { CameTo (PrintsSchedule matrix.now) result }
+{
+    let schedule = bt_modes::schedule(alloc, matrix)?;
+    let text = schedule_text(alloc, &schedule)?;
+    Ok(Answer { text, status: 0 })
+}

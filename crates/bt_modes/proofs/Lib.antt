@@ -1,0 +1,5 @@
+pub mod Sums
+pub mod Fillings
+pub mod Positive
+pub mod Takes
+pub mod Parts

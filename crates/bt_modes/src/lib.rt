@@ -1,0 +1,17 @@
+//! Switching schedules of the least length. A traffic matrix is padded until all of its line sums are equal,
+//! and then taken apart into modes: permutations inside its positive entries, each held for its least entry.
+//!
+//! `specs/Padding.antt` says what a padding is, `specs/Decomposition.antt` when modes together are a matrix.
+#![tactic(auto)]
+
+mod decomposition;
+mod padding;
+mod planning;
+mod step;
+
+pub use decomposition::decompose;
+pub use padding::{Padded, pad};
+pub use planning::schedule;
+
+#[cfg(test)]
+mod tests;
