@@ -8,10 +8,9 @@ use Rattle.std.proofs.lemmas.List.FromFn.{length-range_with_len, get_or-map-rang
 use Rattle.std.proofs.lemmas.List.Sums.{sum-map, sum_by-cons, sum_by-set, sum_by-le, sum_by-le-sum_by, sum_by-take-le, sum_by_more}
 use Rattle.bt_base.specs.declared.numbers.BeamNo.{BeamNo}
 use Rattle.bt_base.specs.declared.numbers.TermNo.{TermNo}
-use Rattle.bt_base.specs.declared.schedule.Critical.{Critical}
 use Rattle.bt_base.specs.declared.schedule.Critical.TheVariants.{Row, Column}
 use Rattle.bt_net.specs.Network.{Net}
-use Rattle.bt_matrix.specs.Traffic.{row_of, entry, row_sum, column_sum, line_sum, with_entry}
+use Rattle.bt_matrix.specs.Traffic.{row_of, entry, row_sum, column_sum, with_entry}
 use Rattle.bt_plan.specs.declared.demand.Link.{Link}
 use Rattle.bt_plan.specs.Demand.{units_where, Gains}
 use Rattle.bt_plan.specs.Traffic.{is_in_beam, units_between, table_of, matrix_of, HasSumsTo}

@@ -1,12 +1,11 @@
 -- A demand is known by the slots of each link.
-use Rattle.std.proofs.Common.{◌≡◌, ℕ, zero, suc, ◌+◌, ◌<◌, ◌==◌, ◌&&◌, if◌then◌else◌, List, [], ◌∷◌, length, get_or, sum_by, All, AllPairs, refl, sym, ap, ◌∙◌, subst, arith}
+use Rattle.std.proofs.Common.{◌≡◌, ℕ, suc, ◌+◌, ◌<◌, List, [], ◌∷◌, All, refl, ap, ◌∙◌, arith}
 use Rattle.std.specs.declared.cmp.Ordering.{Ordering}
 use Rattle.std.specs.declared.cmp.Ordering.TheVariants.{Less, Equal, Greater}
 use Rattle.std.proofs.lemmas.List.Sums.{sum_by-cons}
-use Rattle.bt_base.specs.declared.numbers.TermNo.{TermNo}
 use Rattle.bt_plan.specs.declared.demand.Link.{Link}
-use Rattle.bt_plan.specs.Demand.{Ends, ends_of, IsBefore, IsLink, IsDemand, units_of}
-use Rattle.bt_plan.proofs.Links.{Says, says, ends_cmp, before_trans, not_before_itself, units_at, units_at-same, units_at-after, sum_by_none}
+use Rattle.bt_plan.specs.Demand.{Ends, ends_of, IsBefore, IsDemand, units_of}
+use Rattle.bt_plan.proofs.Links.{Says, says, before_trans, units_at, units_at-same, units_at-after, sum_by_none}
 
 -- the slots of a link with these ends
 abbrev units_for : List Link → Ends → ℕ

@@ -22,3 +22,6 @@ pub fn traffic_of(alloc: Global, net: &Network, demand: &Demand) -> Result<Dense
     }
     Ok(matrix)
 }
+
+#[cfg(test)]
+mod tests;
