@@ -1,0 +1,43 @@
+"""What the scripts of this folder share: the built program, its seconds and its memory."""
+import os
+import subprocess
+import sys
+import time
+
+ROOT = os.path.dirname(os.path.dirname(os.path.abspath(__file__)))
+PROGRAM = os.path.join(ROOT, "crates", "nozgurt", "out", "nozgurt")
+
+
+def program():
+    """The path of the built program."""
+    if not os.path.exists(PROGRAM):
+        sys.exit("bench: build the program first, by ./nozgurt --version")
+    return PROGRAM
+
+
+def seconds_of(words):
+    """The seconds of the fastest of three runs, and what the last one printed."""
+    best = None
+    for _ in range(3):
+        start = time.perf_counter()
+        done = subprocess.run(words, capture_output=True)
+        seconds = time.perf_counter() - start
+        if done.returncode != 0:
+            sys.exit(f"bench: {done.stdout!r} with status {done.returncode}")
+        best = seconds if best is None else min(best, seconds)
+    return best, done.stdout
+
+
+def memory_of(words):
+    """The most memory of a run in KiB, as far as the system shows it while it runs."""
+    most = 0
+    with subprocess.Popen(words, stdout=subprocess.DEVNULL) as running:
+        while running.poll() is None:
+            try:
+                with open(f"/proc/{running.pid}/status") as status:
+                    for line in status:
+                        if line.startswith("VmHWM:"):
+                            most = max(most, int(line.split()[1]))
+            except OSError:
+                break
+    return most
