@@ -1,0 +1,103 @@
+// A script from its text.
+ghost use Rattle.std.specs.Prelude.{◌≤◌, [], length, false, OnOk};
+ghost use Rattle.bt_base.specs.Text.{lines};
+ghost use Rattle.bt_script.specs.Reading.{Gives};
+ghost use Rattle.bt_script.specs.ScriptText.{limited_line, added, last_in, lines_in, script_of};
+
+use crate::items::items_of;
+use crate::line::{ScriptLine, read_line};
+use crate::lines::{fault_at, first_line};
+use crate::{Script, ScriptCode, ScriptFault};
+use bt_net::Network;
+use std::alloc::Global;
+
+/// The most lines of a script, those that are passed over included.
+const LINES_LAST: u32 = 20000;
+
+impl Script {
+    /// The script that the bytes spell for this network, or the first line with a fault.
+    pub fn read(alloc: Global, net: &Network, bytes: &[u8]) -> Result<Script, ScriptFault>
+        requires { length bytes.now ≤ 67108864 }
+        ensures { Gives (λ script. script) result (script_of net.now bytes.now) }
+    {
+        let said = read_lines(alloc, net, bytes)?;
+        let items = items_of(alloc, &said)?;
+        Ok(Script { items })
+    }
+}
+
+// What the lines of a text say.
+fn read_lines(alloc: Global, net: &Network, text: &[u8]) -> Result<Vec<ScriptLine>, ScriptFault>
+    ensures { Gives (λ said. said.items) result (lines_in net.now 1 false (lines text.now)) }
+{
+    let mut said = Vec::new(alloc);
+    let mut rest = text;
+    let mut is_open = false;
+    let mut at = 1;
+    while let Some((line, after)) = first_line(rest) {
+        is_open = add_line(alloc, net, at, is_open, line, &mut said)?;
+        rest = after;
+        at += 1;
+    }
+    last_line(at, rest)?;
+    Ok(said)
+}
+
+// Adds what the line says, and answers whether a round is open behind it.
+fn add_line(
+    alloc: Global,
+    net: &Network,
+    at: u32,
+    is_open: bool,
+    line: &[u8],
+    said: &mut Vec<ScriptLine>,
+) -> Result<bool, ScriptFault>
+    ensures reading { Gives (λ opened. (opened, said.new.items)) result
+        (added is_open said.old.items (limited_line net.now at is_open line.now)) }
+    ensures limit { OnOk result (at ≤ 20000) }
+{
+    match limited_line(alloc, net, at, is_open, line)? {
+        ScriptLine::PassedOver => {
+            said.push(ScriptLine::PassedOver)?;
+            Ok(is_open)
+        }
+        ScriptLine::Round => {
+            said.push(ScriptLine::Round)?;
+            Ok(true)
+        }
+        ScriptLine::Edit { desk, edit } => {
+            said.push(ScriptLine::Edit { desk, edit })?;
+            Ok(is_open)
+        }
+    }
+}
+
+// What a line with a newline behind it says, unless it is one too many.
+fn limited_line(
+    alloc: Global,
+    net: &Network,
+    at: u32,
+    is_open: bool,
+    line: &[u8],
+) -> Result<ScriptLine, ScriptFault>
+    ensures reading { Gives (λ line. line) result (limited_line net.now at is_open line.now) }
+    ensures limit { OnOk result (at ≤ 20000) }
+{
+    if at > LINES_LAST {
+        return Err(fault_at(ScriptCode::S5, at));
+    }
+    read_line(alloc, net, at, is_open, line)
+}
+
+// Nothing stands behind the last newline.
+fn last_line(at: u32, rest: &[u8]) -> Result<(), ScriptFault>
+    ensures { Gives (λ _. []) result (last_in at rest.now) }
+{
+    if rest.is_empty() {
+        Ok(())
+    } else if at > LINES_LAST {
+        Err(fault_at(ScriptCode::S5, at))
+    } else {
+        Err(fault_at(ScriptCode::S1, at))
+    }
+}
