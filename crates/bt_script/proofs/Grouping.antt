@@ -1,0 +1,13 @@
+-- Going through desks one after the other, as a loop does.
+use Rattle.std.proofs.Common.{◌≡◌, ℕ, suc, ◌+◌, ◌-◌, ◌<◌, List, ◌++◌, sym, ap, ◌∙◌, refl, append_assoc, arith}
+use Rattle.bt_script.specs.declared.line.ScriptLine.{ScriptLine}
+use Rattle.bt_script.specs.declared.script.DeskLine.{DeskLine}
+use Rattle.bt_script.specs.ScriptText.{lines_of, entry_of, desks_of}
+
+-- one desk further
+pub next_desk : (front : List (ℕ × List DeskLine)) (desk : ℕ) (said : List ScriptLine) (total : List (ℕ × List DeskLine)) → desk < 17
+    → front ++ desks_of desk (17 - desk) said ≡ total → (front ++ entry_of desk (lines_of desk said)) ++ desks_of (desk + 1) (17 - (desk + 1)) said ≡ total
+next_desk front desk said total more so_far =
+    let k : 17 - desk ≡ suc (17 - (desk + 1)) = omega arith in
+    let one : desks_of desk (17 - desk) said ≡ entry_of desk (lines_of desk said) ++ desks_of (desk + 1) (17 - (desk + 1)) said = rw k refl in
+    rw append_assoc (sym (ap (λ (rest : List (ℕ × List DeskLine)). front ++ rest) one) ∙ so_far)

@@ -1,0 +1,15 @@
+//! The script text: rounds, and in each round the lines of its desks.
+//!
+//! `specs/ScriptText.antt` has the grammar, line by line, with the fault of each line, and the script that the
+//! lines are.
+#![tactic(auto)]
+
+mod fault;
+mod items;
+mod line;
+mod lines;
+mod reader;
+mod script;
+
+pub use fault::{ScriptCode, ScriptFault};
+pub use script::{DeskLine, DeskLines, Desks, Item, Items, Round, Script};
