@@ -5,3 +5,4 @@ pub mod Words
 pub mod ScriptLines
 pub mod Grouping
 pub mod Edits
+pub mod Naming

@@ -1,7 +1,7 @@
 //! The script text: rounds, and in each round the lines of its desks.
 //!
 //! `specs/ScriptText.antt` has the grammar, line by line, with the fault of each line, and the script that the
-//! lines are.
+//! lines are; `specs/Named.antt` says which terminals a script names.
 #![tactic(auto)]
 
 mod fault;
