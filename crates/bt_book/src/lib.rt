@@ -1,0 +1,9 @@
+//! The book of changes: the desk machine that takes edits of the demand, or refuses them for one cause.
+//!
+//! `specs/Machine.antt` has the machine as a relation over the list of changes, with each sum taken afresh.
+#![tactic(auto)]
+
+mod book;
+mod desk;
+
+pub use book::Book;
