@@ -99,18 +99,23 @@ pub record OverfillsColumn (net : Net) (changes : List Change) (edit : Edit) (be
   pub number : sum ≡ column_sum (matrix_after net (with_edit changes edit)) beam.0
   pub over : net.slots < sum
 
--- the tests that an edit passes, each where it passed those before
+-- no link of the edit has equal ends
 abbrev pub HasEnds : Edit → Type 0
 HasEnds edit = ¬ (HasEqualEnds edit)
 
+-- the link that loses holds what the edit takes from it
 abbrev pub IsThere : List Change → Edit → Type 0
-IsThere changes edit = (held : ℕ) → ¬ (TakesTooMuch changes edit held)
+IsThere changes (Add _ _ _) = Unit {0}
+IsThere changes (Drop from to units) = units ≤ held_after changes from to
+IsThere changes (Move from to _ _ units) = units ≤ held_after changes from to
 
+-- after the edit the row of the link that gains is within the frame
 abbrev pub FitsRow : Net → List Change → Edit → Type 0
-FitsRow net changes edit = (beam : BeamNo) (sum : ℕ) → ¬ (OverfillsRow net changes edit beam sum)
+FitsRow net changes edit = (beam : BeamNo) → GainsFrom net edit beam → row_sum (matrix_after net (with_edit changes edit)) beam.0 ≤ net.slots
 
+-- after the edit the column of the link that gains is within the frame
 abbrev pub FitsColumn : Net → List Change → Edit → Type 0
-FitsColumn net changes edit = (beam : BeamNo) (sum : ℕ) → ¬ (OverfillsColumn net changes edit beam sum)
+FitsColumn net changes edit = (beam : BeamNo) → GainsTo net edit beam → column_sum (matrix_after net (with_edit changes edit)) beam.0 ≤ net.slots
 
 -- the edit has no cause of a refusal of its own
 abbrev pub IsGoodEdit : Net → List Change → Edit → Type 0
