@@ -1,2 +1,3 @@
 pub mod Start
 pub mod Tables
+pub mod After
