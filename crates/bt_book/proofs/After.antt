@@ -1,5 +1,5 @@
 -- The traffic matrix after one more edit, by the demand before it.
-use Rattle.std.proofs.Common.{◌≡◌, ◌≢◌, ℕ, ◌+◌, ◌-◌, ◌<◌, ◌≤◌, ◌==◌, ◌&&◌, if◌then◌else◌, Bool, true, false, List, [], ◌∷◌, ◌++◌, length, sum_by, refl, sym, ap, ◌∙◌, subst, arith, ⊎_elim}
+use Rattle.std.proofs.Common.{◌≡◌, ◌≢◌, ℕ, ◌+◌, ◌-◌, ◌<◌, ◌≤◌, ◌==◌, ◌&&◌, if◌then◌else◌, Bool, true, false, List, [], ◌∷◌, length, sum_by, refl, sym, ap, ◌∙◌, subst, arith, ⊎_elim}
 use Rattle.std.proofs.lemmas.Bool.{cases_eq}
 use Rattle.std.proofs.lemmas.Bool.Decides.{nat_tests}
 use Rattle.std.proofs.lemmas.List.Sums.{sum_by-append, sum_by-cons, sum_by-le-sum_by}
@@ -14,9 +14,9 @@ use Rattle.bt_journal.specs.declared.call.Edit.{Edit}
 use Rattle.bt_journal.specs.declared.call.Edit.TheVariants.{Add, Drop, Move}
 use Rattle.bt_journal.specs.declared.call.Change.{Change}
 use Rattle.bt_journal.specs.declared.call.Change.TheVariants as change
-use Rattle.bt_book.specs.Machine.{given, taken_from, slots_after, slots_between, matrix_after, with_edit, held_after}
+use Rattle.bt_book.specs.Machine.{given, taken_from, slots_after, slots_between, matrix_after, with_edit}
 use Rattle.bt_book.specs.Desk.{AddsUp}
-use Rattle.bt_book.proofs.Tables.{same_tables, Exceeds, table-Exceeds, LinesExceed, table-LinesExceed, length-table}
+use Rattle.bt_book.proofs.Tables.{same_tables, LinesExceed, table-LinesExceed}
 
 -- what one more change gives and takes
 given-more : (test : TermNo → TermNo → Bool) (changes : List Change) (edit : Edit)
@@ -136,8 +136,8 @@ lines-Move net changes links from to new_from new_to units up down new_up new_do
     let n = length net.beams in
     let mid : ℕ → ℕ → ℕ = λ i j. units_between net links i j - (if is_in_beam net i from && is_in_beam net j to then units else 0) in
     let lost = table-LinesExceed net n mid (units_between net links) from to units up down
-        (λ i j. omega (arith, units_of-in-beams net links from to units i j held)) up_is down_is a b in
+    (λ i j. omega (arith, units_of-in-beams net links from to units i j held)) up_is down_is a b in
     let gained = table-LinesExceed net n mid (slots_between net (with_edit changes e)) new_from new_to units new_up new_down
-        (λ i j. omega (arith, units_of-in-beams net links from to units i j held, slots_after-more changes links e adds (λ p q. is_in_beam net i p && is_in_beam net j q)))
-        new_up_is new_down_is c d in
+    (λ i j. omega (arith, units_of-in-beams net links from to units i j held, slots_after-more changes links e adds (λ p q. is_in_beam net i p && is_in_beam net j q)))
+    new_up_is new_down_is c d in
     by_both _ (table_of n mid) _ up.0 down.0 new_up.0 new_down.0 units lost gained

@@ -1,10 +1,10 @@
 -- What is kept before the first call.
-use Rattle.std.proofs.Common.{◌≡◌, ℕ, ◌<◌, List, [], length, replicate, slice_index, refl, sym, ap, ◌∙◌, subst, arith}
+use Rattle.std.proofs.Common.{◌≡◌, ℕ, ◌<◌, List, [], length, replicate, slice_index, refl, sym, subst, arith}
 use Rattle.std.proofs.lemmas.List.{get_or-replicate, length-replicate}
 use Rattle.std.proofs.lemmas.List.Folds.{sum_by-replicate}
 use Rattle.bt_base.specs.declared.schedule.Critical.TheVariants.{Row, Column}
 use Rattle.bt_net.specs.Network.{Net}
-use Rattle.bt_plan.specs.Traffic.{HasSumsTo}
+use Rattle.bt_plan.specs.Traffic.{matrix_of, HasSumsTo}
 use Rattle.bt_plan.proofs.Matrices.{matrix_of-none}
 use Rattle.bt_journal.specs.declared.entry.Entry.{Entry}
 use Rattle.bt_journal.specs.Journal.{changes_of}
@@ -23,20 +23,21 @@ HasSumsTo-zeros size most (Column down) within =
     let nothing : slice_index zeros down.0 ≡ 0 = get_or-replicate size down.0 0 0 there in
     rw (sum_by-replicate (λ (row : List ℕ). slice_index row down.0) size zeros, nothing) (omega arith)
 
--- no change, no link and a matrix of zeros
-KeepsUp-start : (net : Net) (size : ℕ) (matrix : List (List ℕ)) → size ≡ length net.beams
-    → matrix ≡ replicate size (replicate size 0) → KeepsUp net [] [] matrix 0
-KeepsUp-start net size matrix size_is matrix_is = record {
+-- a matrix of zeros is that of no link
+pub matrix_of-start : (net original : Net) (links : List Link) (matrix : List (List ℕ)) (size : ℕ) → net ≡ original → links ≡ []
+    → size ≡ length original.beams → matrix ≡ replicate size (replicate size 0) → matrix ≡ matrix_of net links
+matrix_of-start net original links matrix size copied no_link size_is matrix_is =
+    rw (no_link, matrix_of-none net, copied, ← size_is) matrix_is
+
+-- no change and no link
+KeepsUp-start : (net : Net) → KeepsUp net [] [] 0
+KeepsUp-start net = record {
   adds_up = λ test. refl;
-  of_demand = matrix_is ∙ (ap (λ (n : ℕ). replicate n (replicate n 0)) size_is ∙ sym (matrix_of-none net));
   fits = subst (HasSumsTo net.slots) (sym (matrix_of-none net)) (HasSumsTo-zeros (length net.beams) net.slots);
   counted = refl;
   bounded = omega arith;
 }
 
--- the same, as a copy of the network and empty collections have it
-pub KeepsUp-open : (net original : Net) (history : List Entry) (links : List Link) (matrix : List (List ℕ)) (size : ℕ) → net ≡ original
-    → history ≡ [] → links ≡ [] → size ≡ length original.beams → matrix ≡ replicate size (replicate size 0)
-    → KeepsUp net (changes_of history) links matrix 0
-KeepsUp-open net original history links matrix size copied no_entry no_link size_is matrix_is =
-    rw (no_entry, no_link) (KeepsUp-start net size matrix (size_is ∙ ap (λ (n : Net). length n.beams) (sym copied)) matrix_is)
+-- the same, as empty collections have it
+pub KeepsUp-open : (net : Net) (history : List Entry) (links : List Link) → history ≡ [] → links ≡ [] → KeepsUp net (changes_of history) links 0
+KeepsUp-open net history links no_entry no_link = rw (no_entry, no_link) (KeepsUp-start net)

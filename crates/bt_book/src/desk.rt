@@ -2,9 +2,9 @@
 ghost use Rattle.std.specs.Prelude.{◌≡◌, ℕ, [], length, IfOk};
 ghost use Rattle.bt_book.specs.Machine.{edition, IsDemandAfter};
 
+use crate::load::Load;
 use bt_base::{EditionNo, OutOfMemory};
 use bt_journal::Entry;
-use bt_matrix::Dense;
 use bt_net::Network;
 use bt_plan::Demand;
 use std::alloc::Global;
@@ -13,11 +13,9 @@ use std::marker::Model;
 /// The network, the history of the calls, the demand after them and its traffic.
 #[derive(Drop)]
 pub(crate) struct Desk {
-    net: Network,
+    load: Load,
     history: Vec<Entry>,
     count: u32,
-    demand: Demand,
-    matrix: Dense,
 }
 
 impl Model for Desk {
@@ -26,9 +24,9 @@ impl Model for Desk {
 
     ghost Value = { Records };
 
-    ghost view = { λ a. record { net = a.net; changes = changes_of a.history.items; history = a.history.items } };
+    ghost view = { λ a. record { net = a.load.net; changes = changes_of a.history.items; history = a.history.items } };
 
-    ghost invariant = { λ a. KeepsUp a.net (changes_of a.history.items) a.demand a.matrix a.count };
+    ghost invariant = { λ a. KeepsUp a.load.net (changes_of a.history.items) a.load.links a.count };
 }
 
 impl Desk {
@@ -39,11 +37,9 @@ impl Desk {
         ensures history { IfOk result (λ desk. desk.history ≡ []) }
     {
         Ok(Desk {
-            net: net.copy(alloc)?,
+            load: Load::new(alloc, net)?,
             history: Vec::new(alloc),
             count: 0,
-            demand: Demand::empty(alloc),
-            matrix: Dense::new(alloc, net.beam_count())?,
         })
     }
 
@@ -65,8 +61,7 @@ impl Desk {
     pub(crate) fn demand(&self) -> &Demand
         ensures { IsDemandAfter self.now.changes result.now }
     {
-        let _links = self.demand.as_slice();
-        &self.demand
+        self.load.demand()
     }
 
     /// The entries of all calls, in order.

@@ -5,5 +5,6 @@
 
 mod book;
 mod desk;
+mod load;
 
 pub use book::Book;
