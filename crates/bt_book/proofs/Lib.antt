@@ -2,3 +2,4 @@ pub mod Start
 pub mod Tables
 pub mod After
 pub mod Loads
+pub mod Causes

@@ -13,9 +13,9 @@ use std::marker::Model;
 /// The network, the history of the calls, the demand after them and its traffic.
 #[derive(Drop)]
 pub(crate) struct Desk {
-    load: Load,
-    history: Vec<Entry>,
-    count: u32,
+    pub(crate) load: Load,
+    pub(crate) history: Vec<Entry>,
+    pub(crate) count: u32,
 }
 
 impl Model for Desk {

@@ -4,7 +4,9 @@
 #![tactic(auto)]
 
 mod book;
+mod cause;
 mod desk;
+mod lines;
 mod load;
 
 pub use book::Book;

@@ -6,7 +6,7 @@ ghost use Rattle.bt_plan.specs.Demand.{units_of, Gains, IsDemand};
 ghost use Rattle.bt_plan.specs.Traffic.{matrix_of, HasSumsTo, IsInBeam};
 
 use bt_base::{BeamNo, OutOfMemory, TermNo, Units};
-use bt_matrix::{Dense, Traffic};
+use bt_matrix::{Dense, SUM_LAST, Traffic};
 use bt_net::Network;
 use bt_plan::Demand;
 use std::alloc::Global;
@@ -76,8 +76,10 @@ impl Load {
         ensures beam { IsInBeam self.now.net from result.0 }
         ensures in_range { result.0.0 < length self.now.net.beams }
         ensures sum { result.1 ≡ row_sum (matrix_of self.now.net self.now.links) result.0.0 }
+        ensures small { result.1 ≤ SUM_LAST }
     {
         let beam = self.net.beam_of(from);
+        let _size = self.matrix.size();
         (beam, self.matrix.row_sum(beam))
     }
 
@@ -87,8 +89,10 @@ impl Load {
         ensures beam { IsInBeam self.now.net to result.0 }
         ensures in_range { result.0.0 < length self.now.net.beams }
         ensures sum { result.1 ≡ column_sum (matrix_of self.now.net self.now.links) result.0.0 }
+        ensures small { result.1 ≤ SUM_LAST }
     {
         let beam = self.net.beam_of(to);
+        let _size = self.matrix.size();
         (beam, self.matrix.column_sum(beam))
     }
 
