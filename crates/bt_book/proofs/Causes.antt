@@ -1,5 +1,5 @@
 -- The first cause of a refusal, by the lines of the link that gains.
-use Rattle.std.proofs.Common.{◌≡◌, ℕ, ◌+◌, ◌-◌, ◌<◌, ◌≤◌, ◌==◌, ◌&&◌, if◌then◌else◌, List, length, Option, Some, None, sym, ap, ◌∙◌, subst, arith}
+use Rattle.std.proofs.Common.{◌≡◌, ℕ, ◌+◌, ◌-◌, ◌<◌, ◌≤◌, ◌==◌, ◌&&◌, if◌then◌else◌, List, length, Option, Some, None, sym, ap, ◌∙◌, subst, arith, refl}
 use Rattle.bt_base.specs.declared.numbers.BeamNo.{BeamNo}
 use Rattle.bt_base.specs.declared.numbers.TermNo.{TermNo}
 use Rattle.bt_net.specs.Network.{Net}
@@ -13,8 +13,8 @@ use Rattle.bt_journal.specs.declared.call.Change.{Change}
 use Rattle.bt_journal.specs.declared.reply.Reply.{Reply}
 use Rattle.bt_journal.specs.declared.reply.Reply.TheVariants.{Done, SameTerminal, NotThere, RowFull, ColumnFull, BookFull}
 use Rattle.bt_book.specs.declared.lines.Lines.{Lines}
-use Rattle.bt_book.specs.Machine.{GainsFrom, GainsTo, matrix_after, with_edit, held_after, HasEnds, IsThere, FitsRow, FitsColumn}
-use Rattle.bt_book.specs.Desk.{Records, KeepsUp, AreLinesAfter, IsFullLine, IsFirstCause, AddsUp}
+use Rattle.bt_book.specs.Machine.{GainsFrom, GainsTo, matrix_after, with_edit, held_after, HasEnds, IsThere, FitsRow, FitsColumn, IsGoodEdit, IsCause}
+use Rattle.bt_book.specs.Desk.{Records, KeepsUp, AreLinesAfter, IsFullLine, IsFirstCause, IsRefusal, IsBookFull, AddsUp}
 use Rattle.bt_book.proofs.After.{lines-Add, lines-Move, slots_after-AddsUp}
 
 -- a terminal is in one beam
@@ -134,3 +134,18 @@ now_lines-Move inside now links count from to new_from new_to units slots up dow
     up_is down_is new_up_is new_down_is a b c d row_is column_is
     (of_row_is ∙ ap (λ (n : ℕ). if up.0 == new_up.0 then n else 0) same) (of_column_is ∙ ap (λ (n : ℕ). if down.0 == new_down.0 then n else 0) same)) in
     subst (λ (r : Records). AreLinesAfter r.net r.changes (Move from to new_from new_to units) lines) view are
+
+-- a cause is the answer, and takes no change
+pub refused_by_cause : (net : Net) (changes : List Change) (edit : Edit) (reply : Reply) → IsCause net changes edit reply → IsRefusal net changes edit (Some reply)
+refused_by_cause net changes edit SameTerminal is = ((is, refl), refl)
+refused_by_cause net changes edit (NotThere held) is = ((is, refl), refl)
+refused_by_cause net changes edit (RowFull beam sum) is = ((is, refl), refl)
+refused_by_cause net changes edit (ColumnFull beam sum) is = ((is, refl), refl)
+refused_by_cause net changes edit (BookFull count) is = absurd is
+refused_by_cause net changes edit (Done edition most) is = absurd is
+
+-- a good edit is refused where the book is full
+pub refused_by_book : (net : Net) (changes : List Change) (edit : Edit) (result : Option Reply) → IsGoodEdit net changes edit → IsBookFull changes result
+    → IsRefusal net changes edit result
+refused_by_book net changes edit None good full = (good, full)
+refused_by_book net changes edit (Some reply) good full = rw full.1 ((good, full.0, refl, refl), refl)

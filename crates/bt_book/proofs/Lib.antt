@@ -3,3 +3,5 @@ pub mod Tables
 pub mod After
 pub mod Loads
 pub mod Causes
+pub mod Done
+pub mod Entries

@@ -3,16 +3,19 @@ use Rattle.std.specs.Prelude.{◌≡◌, ℕ, ◌+◌, ◌≤◌, Bool, List, le
 use Rattle.bt_base.specs.declared.numbers.TermNo.{TermNo}
 use Rattle.bt_net.specs.Network.{Net}
 use Rattle.bt_plan.specs.declared.demand.Link.{Link}
-use Rattle.bt_plan.specs.Demand.{units_where}
+use Rattle.bt_plan.specs.Demand.{units_where, units_of, Gains}
 use Rattle.bt_plan.specs.Traffic.{matrix_of, HasSumsTo}
 use Rattle.bt_journal.specs.declared.call.Change.{Change}
 use Rattle.bt_journal.specs.declared.entry.Entry.{Entry}
 use Rattle.bt_journal.specs.declared.call.Edit.{Edit}
+use Rattle.bt_journal.specs.declared.call.Edit.TheVariants.{Add, Drop, Move}
+use Rattle.bt_journal.specs.declared.call.Call.TheVariants as call
+use Rattle.bt_journal.specs.Journal.{taken}
 use Rattle.bt_journal.specs.declared.reply.Reply.{Reply}
 use Rattle.bt_journal.specs.declared.reply.Reply.TheVariants.{Done, SameTerminal, NotThere, RowFull, ColumnFull, BookFull}
 use Rattle.bt_matrix.specs.Traffic.{row_sum, column_sum}
 use Rattle.bt_book.specs.declared.lines.Lines.{Lines}
-use Rattle.bt_book.specs.Machine.{given, taken_from, most_changes, GainsFrom, GainsTo, matrix_after, with_edit, held_after, IsGoodEdit, IsCause}
+use Rattle.bt_book.specs.Machine.{given, taken_from, most_changes, GainsFrom, GainsTo, matrix_after, with_edit, held_after, IsGoodEdit, IsCause, EditStep}
 
 -- a network, and the links of the demand on it
 pub record Loaded : Type 0 where
@@ -67,3 +70,25 @@ IsShortOf changes from to units (Some (Done _ _)) = ⊥
 abbrev pub IsFirstCause : Net → List Change → Edit → Option Reply → Type 0
 IsFirstCause net changes edit None = IsGoodEdit net changes edit
 IsFirstCause net changes edit (Some reply) = IsCause net changes edit reply
+
+-- the links before and after an edit; what a move gives comes before what it takes
+abbrev pub EditsLinks : List Link → Edit → List Link → Type 0
+EditsLinks old (Add from to units) new = Gains old new from to units
+EditsLinks old (Drop from to units) new = Gains new old from to units
+EditsLinks old (Move from to new_from new_to units) new = (both : List Link) × Gains old both new_from new_to units × Gains new both from to units
+
+-- the link that loses has what the edit takes from it
+abbrev pub HoldsTaken : List Link → Edit → Type 0
+HoldsTaken links (Add _ _ _) = Unit {0}
+HoldsTaken links (Drop from to units) = units ≤ units_of links from to
+HoldsTaken links (Move from to _ _ units) = units ≤ units_of links from to
+
+-- the refusal where the book has as many changes as it takes, and none before
+abbrev pub IsBookFull : List Change → Option Reply → Type 0
+IsBookFull changes None = length changes < most_changes
+IsBookFull changes (Some reply) = (most_changes ≤ length changes) × (reply ≡ BookFull (length changes))
+
+-- the refusal of an edit, or none where it is to be done
+abbrev pub IsRefusal : Net → List Change → Edit → Option Reply → Type 0
+IsRefusal net changes edit None = IsGoodEdit net changes edit × (length changes < most_changes)
+IsRefusal net changes edit (Some reply) = EditStep net changes edit reply changes × (taken (call.Edit edit) reply ≡ None)

@@ -1,20 +1,45 @@
 // The first cause for which an edit is refused. Nothing changes while it is looked for.
 ghost use Rattle.std.specs.Prelude.{◌≡◌, ◌==◌, ◌<◌, ◌≤◌, if◌then◌else◌, length};
 ghost use Rattle.bt_book.specs.Machine.{held_after, NamesTerminals};
-ghost use Rattle.bt_book.specs.Desk.{AreLinesAfter, IsFirstCause, IsShortOf};
+ghost use Rattle.bt_book.specs.Desk.{AreLinesAfter, IsBookFull, IsFirstCause, IsRefusal, IsShortOf};
 
 use crate::desk::Desk;
 use crate::lines::{Lines, full_line};
 use bt_base::{BeamNo, TermNo, Units};
 use bt_journal::{Edit, Reply};
 
+/// The most changes that a book takes.
+const MOST_CHANGES: u32 = 8_000_000;
+
 impl Desk {
-    /// The first cause of a refusal in the edit itself.
-    pub(crate) fn cause_of(&self, edit: Edit) -> Option<Reply>
-        requires { NamesTerminals self.now.net edit }
-        ensures { IsFirstCause self.now.net self.now.changes edit result }
+    /// The refusal of an edit: its own first cause, or that the book is full.
+    pub(crate) fn refusal_of(&self, edit: &Edit) -> Option<Reply>
+        requires { NamesTerminals self.now.net edit.now }
+        ensures { IsRefusal self.now.net self.now.changes edit.now result }
     {
-        match edit {
+        match self.cause_of(edit) {
+            Some(cause) => Some(cause),
+            None => self.book_full(),
+        }
+    }
+
+    /// The refusal of a good edit where the book has as many changes as it takes.
+    fn book_full(&self) -> Option<Reply>
+        ensures { IsBookFull self.now.changes result }
+    {
+        if self.count < MOST_CHANGES {
+            None
+        } else {
+            Some(Reply::BookFull { length: self.count })
+        }
+    }
+
+    /// The first cause of a refusal in the edit itself.
+    pub(crate) fn cause_of(&self, edit: &Edit) -> Option<Reply>
+        requires { NamesTerminals self.now.net edit.now }
+        ensures { IsFirstCause self.now.net self.now.changes edit.now result }
+    {
+        match *edit {
             Edit::Add { from, to, units } => self.cause_of_add(from, to, units),
             Edit::Drop { from, to, units } => self.cause_of_drop(from, to, units),
             Edit::Move {

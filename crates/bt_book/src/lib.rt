@@ -3,6 +3,7 @@
 //! `specs/Machine.antt` has the machine as a relation over the list of changes, with each sum taken afresh.
 #![tactic(auto)]
 
+mod apply;
 mod book;
 mod cause;
 mod desk;

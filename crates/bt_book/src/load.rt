@@ -4,8 +4,12 @@ ghost use Rattle.bt_base.specs.declared.schedule.Critical.{Critical};
 ghost use Rattle.bt_matrix.specs.Traffic.{row_sum, column_sum, IsHeaviest};
 ghost use Rattle.bt_plan.specs.Demand.{units_of, Gains, IsDemand};
 ghost use Rattle.bt_plan.specs.Traffic.{matrix_of, HasSumsTo, IsInBeam};
+ghost use Rattle.bt_net.specs.Network.{IsSound};
+ghost use Rattle.bt_book.specs.Machine.{HasEnds, NamesTerminals};
+ghost use Rattle.bt_book.specs.Desk.{EditsLinks, HoldsTaken};
 
 use bt_base::{BeamNo, OutOfMemory, TermNo, Units};
+use bt_journal::Edit;
 use bt_matrix::{Dense, SUM_LAST, Traffic};
 use bt_net::Network;
 use bt_plan::Demand;
@@ -59,7 +63,9 @@ impl Load {
     pub(crate) fn slots(&self) -> u32
         ensures same { result ≡ self.now.net.slots }
         ensures in_range { result ≤ 4096 }
+        ensures sound { IsSound self.now.net }
     {
+        let _beams = self.net.beam_count();
         self.net.slots()
     }
 
@@ -101,6 +107,32 @@ impl Load {
         ensures { (line : Critical) × IsHeaviest (matrix_of self.now.net self.now.links) line result }
     {
         self.matrix.heaviest().1
+    }
+
+    /// Makes an edit. Where memory runs out all is as it was.
+    pub(crate) fn edit(&mut self, alloc: Global, edit: &Edit) -> Result<(), OutOfMemory>
+        requires terminals { NamesTerminals self.old.net edit.now }
+        requires ends { HasEnds edit.now }
+        requires held { HoldsTaken self.old.links edit.now }
+        requires small { HasSumsTo 4096 (matrix_of self.old.net self.old.links) }
+        ensures ok { OnOk result (EditsLinks self.old.links edit.now self.new.links) }
+        ensures net { self.new.net ≡ self.old.net }
+        ensures err { OnErr result (self.new.links ≡ self.old.links) }
+    {
+        match *edit {
+            Edit::Add { from, to, units } => self.gain(alloc, from, to, units),
+            Edit::Drop { from, to, units } => Ok(self.lose(from, to, units)),
+            Edit::Move {
+                from,
+                to,
+                new_from,
+                new_to,
+                units,
+            } => {
+                self.gain(alloc, new_from, new_to, units)?;
+                Ok(self.lose(from, to, units))
+            }
+        }
     }
 
     /// A link asks for so many slots more.
