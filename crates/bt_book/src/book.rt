@@ -1,10 +1,10 @@
 // The book of changes, with the store of its records.
-ghost use Rattle.std.specs.Prelude.{◌≡◌, ℕ, [], length, IfOk, IfErr};
-ghost use Rattle.bt_book.specs.Machine.{edition, IsDemandAfter};
+ghost use Rattle.std.specs.Prelude.{◌≡◌, ◌++◌, ◌∷◌, [], length, IfOk, IfErr, OnErr};
+ghost use Rattle.bt_book.specs.Machine.{edition, IsDemandAfter, IsOfNetwork, Step};
 
 use crate::desk::Desk;
 use bt_base::{EditionNo, Keeper, OutOfMemory};
-use bt_journal::Entry;
+use bt_journal::{Call, Entry, Reply};
 use bt_net::Network;
 use bt_plan::Demand;
 use std::alloc::Global;
@@ -30,6 +30,23 @@ impl<K: Keeper> Book<K> {
         match Desk::open(alloc, net) {
             Ok(desk) => Ok(Book { desk, store }),
             Err(fault) => Err((store, fault)),
+        }
+    }
+
+    /// Answers a call, and keeps its entry. Each terminal of the call is one of the network's.
+    ///
+    /// A refusal leaves the changes as they were, and want of memory leaves all as it was.
+    pub fn apply(&mut self, alloc: Global, caller: u32, call: Call) -> Result<Reply, OutOfMemory>
+        requires { IsOfNetwork self.old.desk.net call }
+        ensures step { IfOk result (λ reply. Step self.old.desk.net self.old.desk.changes call reply self.new.desk.changes) }
+        ensures entry { IfOk result (λ reply. self.new.desk.history
+            ≡ self.old.desk.history ++ record { caller = caller; call = call; reply = reply } ∷ []) }
+        ensures net { self.new.desk.net ≡ self.old.desk.net }
+        ensures store { self.new.store ≡ self.old.store }
+        ensures err { OnErr result (self.new.desk ≡ self.old.desk) }
+    {
+        match call {
+            Call::Edit(edit) => self.desk.apply(alloc, caller, &edit),
         }
     }
 
