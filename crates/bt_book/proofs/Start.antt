@@ -1,0 +1,43 @@
+-- What is kept before the first call.
+use Rattle.std.proofs.Common.{◌≡◌, ℕ, ◌<◌, List, [], length, replicate, slice_index, refl, sym, subst, arith}
+use Rattle.std.proofs.lemmas.List.{get_or-replicate, length-replicate}
+use Rattle.std.proofs.lemmas.List.Folds.{sum_by-replicate}
+use Rattle.bt_base.specs.declared.schedule.Critical.TheVariants.{Row, Column}
+use Rattle.bt_net.specs.Network.{Net}
+use Rattle.bt_plan.specs.Traffic.{matrix_of, HasSumsTo}
+use Rattle.bt_plan.proofs.Matrices.{matrix_of-none}
+use Rattle.bt_journal.specs.declared.entry.Entry.{Entry}
+use Rattle.bt_journal.specs.Journal.{changes_of}
+use Rattle.bt_plan.specs.declared.demand.Link.{Link}
+use Rattle.bt_book.specs.Desk.{KeepsUp}
+
+-- the lines of a matrix of zeros ask for nothing
+HasSumsTo-zeros : (size most : ℕ) → HasSumsTo most (replicate size (replicate size 0))
+HasSumsTo-zeros size most (Row up) within =
+    let zeros : List ℕ = replicate size 0 in
+    let there : up.0 < size = omega (arith, length-replicate size zeros) in
+    rw (get_or-replicate size up.0 zeros [] there) (omega (arith, sum_by-replicate (λ (x : ℕ). x) size 0))
+HasSumsTo-zeros size most (Column down) within =
+    let zeros : List ℕ = replicate size 0 in
+    let there : down.0 < size = omega (arith, length-replicate size zeros) in
+    let nothing : slice_index zeros down.0 ≡ 0 = get_or-replicate size down.0 0 0 there in
+    rw (sum_by-replicate (λ (row : List ℕ). slice_index row down.0) size zeros, nothing) (omega arith)
+
+-- a matrix of zeros is that of no link
+pub matrix_of-start : (net original : Net) (links : List Link) (matrix : List (List ℕ)) (size : ℕ) → net ≡ original → links ≡ []
+    → size ≡ length original.beams → matrix ≡ replicate size (replicate size 0) → matrix ≡ matrix_of net links
+matrix_of-start net original links matrix size copied no_link size_is matrix_is =
+    rw (no_link, matrix_of-none net, copied, ← size_is) matrix_is
+
+-- no change and no link
+KeepsUp-start : (net : Net) → KeepsUp net [] [] 0
+KeepsUp-start net = record {
+  adds_up = λ test. refl;
+  fits = subst (HasSumsTo net.slots) (sym (matrix_of-none net)) (HasSumsTo-zeros (length net.beams) net.slots);
+  counted = refl;
+  bounded = omega arith;
+}
+
+-- the same, as empty collections have it
+pub KeepsUp-open : (net : Net) (history : List Entry) (links : List Link) → history ≡ [] → links ≡ [] → KeepsUp net (changes_of history) links 0
+KeepsUp-open net history links no_entry no_link = rw (no_entry, no_link) (KeepsUp-start net)
