@@ -1,9 +1,17 @@
 // What holds of the program's answers, whatever it does.
-ghost use Rattle.std.specs.Prelude.{ℕ, List, Option};
+ghost use Rattle.std.specs.Prelude.{◌≡◌, ℕ, List, [], ◌∷◌, length, codes, Option, Ok};
+ghost use Rattle.bt_base.specs.declared.schedule.Schedule.{Schedule};
+ghost use Rattle.bt_matrix.specs.Good.{IsGood};
+ghost use Rattle.bt_plan.specs.MatrixText.{matrix_of};
+ghost use Rattle.bt_plan.specs.ScheduleSpelling.{schedule_spelling};
+ghost use Rattle.bt_plan.specs.ScheduleText.{schedule_of};
+ghost use Rattle.bt_cli.specs.Check.{Judges};
+ghost use Rattle.bt_cli.specs.Lines.{line_of};
+ghost use Rattle.bt_cli.specs.Outcome.{Says};
 ghost use Rattle.bt_cli.specs.Request.{Request};
 ghost use Rattle.bt_cli.specs.Top.{Answers, AreTold, IsOneAnswer};
 
-use bt_plan::one_verdict;
+use bt_plan::{one_verdict, schedules_have_one_spelling};
 
 /// Where the files that are asked for are told and none of them failed, what is asked has one answer: no two
 /// cases of the promise hold together. Of the good schedules for a matrix any may be printed.
@@ -12,4 +20,17 @@ pub fn one_answer()
         → (a : List ℕ) (m : ℕ) (b : List ℕ) (n : ℕ) → Answers told ⊥ request a m → Answers told ⊥ request b n → IsOneAnswer request a m b n }
 {
     one_verdict();
+}
+
+/// What `modes` prints for a matrix is read back by `check`, for that matrix, as the schedule that was printed; and
+/// the line of its verdict is `good`, with status 0, and no other.
+pub fn printed_schedules_are_read_back()
+    ensures read { (text : List ℕ) (rows : List (List ℕ)) (schedule : Schedule) → matrix_of text ≡ Ok rows → IsGood rows schedule
+        → schedule_of (length rows) (schedule_spelling schedule) ≡ Ok schedule }
+    ensures judged { (rows : List (List ℕ)) (schedule : Schedule) → IsGood rows schedule → Judges rows schedule (line_of (codes "good" ∷ [])) 0 }
+    ensures alone { (rows : List (List ℕ)) (schedule : Schedule) (text : List ℕ) (status : ℕ) → IsGood rows schedule
+        → Judges rows schedule text status → Says (codes "good" ∷ []) 0 text status }
+{
+    one_verdict();
+    schedules_have_one_spelling();
 }

@@ -18,6 +18,6 @@ mod tests;
 mod top;
 
 pub use check::check_command;
-pub use laws::one_answer;
+pub use laws::{one_answer, printed_schedules_are_read_back};
 pub use modes::modes_command;
 pub use top::{Ended, centre_main};
