@@ -193,7 +193,7 @@ fn a_file_may_have_four_mebibytes(rt: HostRuntime) -> Result<(), Fail> {
 }
 
 #[test]
-fn a_command_answers_by_itself(rt: HostRuntime) -> Result<(), Fail> {
+fn commands_answer_by_themselves(rt: HostRuntime) -> Result<(), Fail> {
     let alloc = rt.alloc();
     let mut files = SureFiles::new(stored(alloc)?);
     let mut out = SureSink::new(alloc);
@@ -205,6 +205,15 @@ fn a_command_answers_by_itself(rt: HostRuntime) -> Result<(), Fail> {
     let status = check_command(alloc, &words, &mut files, &mut out);
     assert_eq!(rt; status, 9);
     assert_eq!(rt; out.written(), b"V8 0 1 3 0\n".as_slice());
+
+    let mut out = SureSink::new(alloc);
+    let words = vec![in alloc;
+        String::from_str(alloc, "modes")?,
+        String::from_str(alloc, "three.matrix")?,
+    ]?;
+    let status = modes_command(alloc, &words, &mut files, &mut out);
+    assert_eq!(rt; status, 0);
+    assert!(rt; out.written().starts_with(b"length 4\ncritical row 1\n"));
     Ok(())
 }
 
