@@ -1,3 +1,5 @@
 pub mod TextLines
 pub mod TextNumbers
+pub mod FirstLine
+pub mod Front
 mod LookUp

@@ -1,4 +1,5 @@
 pub mod Told
 pub mod Text
+pub mod Reading
 pub mod Calls
 pub mod Held

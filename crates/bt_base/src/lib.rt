@@ -3,7 +3,8 @@
 //!
 //! `docs/definitions.md` has the meaning of each word. `specs/Told.antt` says what the outside promises,
 //! `specs/Held.antt` and `specs/Calls.antt` what its objects in memory are seen as, `specs/Text.antt` what a
-//! number, a word and a line of a text are, and `spelling.rt` that each is spelled in one way.
+//! number, a word and a line of a text are, `specs/Reading.antt` how a reader goes through them to the first fault,
+//! and `spelling.rt` that each is spelled in one way.
 #![tactic(auto)]
 
 mod dir_files;
@@ -42,4 +43,4 @@ pub use std_sink::StdSink;
 pub use sure_files::SureFiles;
 pub use sure_keeper::SureKeeper;
 pub use sure_sink::SureSink;
-pub use text::{all_numbers, lines, next_line, number, number_text, words};
+pub use text::{all_numbers, first_line, lines, next_line, number, number_text, words};

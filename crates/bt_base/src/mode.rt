@@ -1,6 +1,8 @@
 // Switching modes: settings of the on-board switch, each held for some slots of the frame.
-ghost use Rattle.std.specs.Prelude.{◌≡◌, ◌≤◌, length, vec_len};
+ghost use Rattle.std.specs.Prelude.{◌≡◌, ◌≤◌, length, vec_len, IfOk};
 
+use crate::OutOfMemory;
+use std::alloc::Global;
 use std::marker::Model;
 
 /// The most entries that a list of columns or of modes may have.
@@ -38,6 +40,15 @@ impl Columns {
     {
         self.values.as_slice()
     }
+
+    /// The same values.
+    pub fn copy(&self, alloc: Global) -> Result<Columns, OutOfMemory>
+        ensures { IfOk result (λ copy. copy ≡ self.now) }
+    {
+        Ok(Columns {
+            values: Vec::from_slice(alloc, self.values.as_slice())?,
+        })
+    }
 }
 
 /// One setting of the on-board switch and the slots for which it is held.
@@ -47,6 +58,18 @@ pub struct Mode {
     pub duration: u32,
     /// The downlink of each uplink.
     pub perm: Columns,
+}
+
+impl Mode {
+    /// The same setting, held for as long.
+    pub fn copy(&self, alloc: Global) -> Result<Mode, OutOfMemory>
+        ensures { IfOk result (λ copy. copy ≡ self.now) }
+    {
+        Ok(Mode {
+            duration: self.duration,
+            perm: self.perm.copy(alloc)?,
+        })
+    }
 }
 
 /// A list of modes in the order in which the switch takes them.
@@ -81,5 +104,16 @@ impl Modes {
         ensures few { length result.now ≤ MOST_ENTRIES }
     {
         self.modes.as_slice()
+    }
+
+    /// The same modes.
+    pub fn copy(&self, alloc: Global) -> Result<Modes, OutOfMemory>
+        ensures { IfOk result (λ copy. copy ≡ self.now) }
+    {
+        let mut modes = Vec::with_capacity(alloc, self.modes.len())?;
+        for mode in self.modes.as_slice() {
+            modes.push(mode.copy(alloc)?)?;
+        }
+        Ok(Modes { modes })
     }
 }

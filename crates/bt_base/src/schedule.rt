@@ -1,5 +1,8 @@
 // A switching schedule: the modes of a frame, its length, and the line of the matrix that asks for so much.
-use crate::{BeamNo, Modes};
+ghost use Rattle.std.specs.Prelude.{◌≡◌, IfOk};
+
+use crate::{BeamNo, Modes, OutOfMemory};
+use std::alloc::Global;
 
 /// A line of a traffic matrix, by the number of its beam.
 #[derive(Clone, Copy, Debug, PartialEq, Eq)]
@@ -19,4 +22,17 @@ pub struct Schedule {
     pub critical: Critical,
     /// The modes, in order.
     pub modes: Modes,
+}
+
+impl Schedule {
+    /// The same schedule.
+    pub fn copy(&self, alloc: Global) -> Result<Schedule, OutOfMemory>
+        ensures { IfOk result (λ copy. copy ≡ self.now) }
+    {
+        Ok(Schedule {
+            length: self.length,
+            critical: self.critical,
+            modes: self.modes.copy(alloc)?,
+        })
+    }
 }

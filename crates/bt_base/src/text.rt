@@ -86,6 +86,16 @@ pub fn next_line(bytes: &[u8], place: usize) -> Option<(usize, usize)>
     Some((place, place + length))
 }
 
+/// The first line of a text and what follows its newline; None where the text has no newline.
+pub fn first_line(text: &[u8]) -> Option<(&[u8], &[u8])>
+    ensures line { IfSome result (λ cut. lines text.now ≡ cut.0.now ∷ lines cut.1.now) }
+    ensures shorter { IfSome result (λ cut. length cut.1.now < length text.now) }
+    ensures none { IfNone result (lines text.now ≡ text.now ∷ []) }
+{
+    let (_, end) = next_line(text, 0)?;
+    Some((&text[..end], &text[end + 1..]))
+}
+
 /// The words of a line, cut at every single space.
 pub fn words(alloc: Global, line: &[u8]) -> Result<Vec<&[u8]>, OutOfMemory>
     ensures words { IfOk result (λ v. map (λ word. word.now) v.items ≡ words line.now) }

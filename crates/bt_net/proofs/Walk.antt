@@ -19,7 +19,8 @@ use Rattle.bt_net.specs.declared.fault.Path.{Path}
 use Rattle.bt_net.specs.declared.fault.Path.TheVariants as path
 use Rattle.bt_net.specs.Name.{is_name, is_terminal_name}
 use Rattle.bt_net.specs.Network.{names_of, IsWithin, AreNames, AreBeams, AreTerminals}
-use Rattle.bt_net.specs.Reading.{◌>>=◌, text_at, checked, numbered, beam_at, with_beam, with_terminal, through, Fails}
+use Rattle.bt_base.specs.Reading.{◌>>=◌}
+use Rattle.bt_net.specs.Reading.{text_at, checked, numbered, beam_at, with_beam, with_terminal, through, Fails}
 
 -- the value of a step that went well
 bind_ok : {A B : Type 0} (r : Result A NetFault) (f : A → Result B NetFault) (y : B) → (r >>= f) ≡ Ok y → (x : A) × (r ≡ Ok x) × (f x ≡ Ok y)

@@ -6,6 +6,7 @@ use Rattle.std.specs.Str.{bytes_eq, is_utf8}
 use Rattle.serde_json.specs.Data.{Data, Items, no_items, item}
 use Rattle.serde_json.specs.Find.{get, as_u64, as_number, as_str, as_array, as_object}
 use Rattle.serde_json.specs.Read as json
+use Rattle.bt_base.specs.Reading.{◌>>=◌}
 use Rattle.bt_base.specs.declared.numbers.BeamNo.{BeamNo}
 use Rattle.bt_net.specs.declared.fault.NetFault.{NetFault}
 use Rattle.bt_net.specs.declared.fault.NetFault.TheVariants.{N1, N2, N3, N4, N5, N6, OutOfMemory}
@@ -13,12 +14,6 @@ use Rattle.bt_net.specs.declared.fault.Path.{Path}
 use Rattle.bt_net.specs.declared.fault.Path.TheVariants as path
 use Rattle.bt_net.specs.Name.{is_name, is_terminal_name}
 use Rattle.bt_net.specs.Network.{Net, names_of}
-
-infixl 10 ◌>>=◌
--- goes on with what a step gave; the first fault stays
-abbrev pub ◌>>=◌ : {A B : Type 0} → Result A NetFault → (A → Result B NetFault) → Result B NetFault
-(Ok x) >>= f = f x
-(Err fault) >>= f = Err fault
 
 -- a call ended with this fault: the walk has it, unless memory ran out
 abbrev pub Fails : {A : Type 0} → NetFault → Result A NetFault → Type 0

@@ -2,7 +2,8 @@
 use Rattle.std.proofs.Common.{refl}
 use Rattle.bt_plan.specs.declared.text_fault.TextFault.{TextFault}
 use Rattle.bt_plan.specs.declared.text_fault.TextFault.TheVariants.{At, OutOfMemory}
-use Rattle.bt_plan.specs.Reading.{Reading, ◌>>=◌, IsFaultOf}
+use Rattle.bt_base.specs.Reading.{◌>>=◌}
+use Rattle.bt_plan.specs.Reading.{Reading, IsFaultOf}
 
 pub IsFaultOf-then : {A B : Type 0} (fault : TextFault) (reading : Reading A) (after : A → Reading B) → IsFaultOf reading fault → IsFaultOf (reading >>= after) fault
 IsFaultOf-then (At code line) reading after is = rw is refl

@@ -1,6 +1,5 @@
 pub mod Capped
 pub mod Faults
-pub mod Front
 pub mod Matrices
 pub mod ModeLines
 pub mod Links
@@ -12,5 +11,4 @@ pub mod Rows
 mod SameDemand
 mod Seen
 pub mod Spelled
-pub mod TextLines
 mod Walk

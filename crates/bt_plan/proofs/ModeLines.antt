@@ -10,10 +10,11 @@ use Rattle.bt_base.specs.declared.mode.Mode.{Mode}
 use Rattle.bt_plan.specs.declared.text_fault.TextCode.TheVariants.{M1}
 use Rattle.bt_plan.specs.declared.text_fault.TextFault.{TextFault}
 use Rattle.bt_plan.specs.declared.text_fault.TextFault.TheVariants.{At, OutOfMemory}
-use Rattle.bt_plan.specs.Reading.{Reading, ◌>>=◌, or_fault, IsFaultOf}
+use Rattle.bt_base.specs.Reading.{◌>>=◌, or_fault}
+use Rattle.bt_plan.specs.Reading.{Fault, Reading, IsFaultOf}
 use Rattle.bt_plan.specs.ScheduleText.{is_word, mode_with, mode_in, end_in, modes_in, critical_in, critical_and_modes, length_in, schedule_in, schedule_of}
-use Rattle.bt_plan.proofs.Front.{with_front, regroup}
-use Rattle.bt_plan.proofs.TextLines.{lines-HasFirst, lines_after_end}
+use Rattle.bt_base.proofs.Front.{with_front, regroup}
+use Rattle.bt_base.proofs.FirstLine.{lines-HasFirst, lines_after_end}
 use Rattle.bt_plan.proofs.Capped.{leb-capped, list_all-capped, capped-small, map-capped, and_parts, cond-at_true}
 
 -- the mode is that of the numbers as they are capped
@@ -29,19 +30,19 @@ mode_with-capped size (duration ∷ perm) =
     let small = and_parts (eqb (length perm) size) (list_all (λ down. leb down 255) perm) parts.1 in
     rw (capped-small 65536 duration (lit< tt) (leb-true duration 65536 parts.0), map-capped 255 perm (lit< tt) small.1) refl))
 
-pub mode_from_numbers : (size at : ℕ) (o : Option (List ℕ)) → or_fault M1 at (option_and_then (mode_with size) o) ≡ (or_fault M1 at (option_map (map capped) o) >>= λ ns. or_fault M1 at (mode_with size ns))
+pub mode_from_numbers : (size at : ℕ) (o : Option (List ℕ)) → or_fault {Fault = Fault} (M1, at) (option_and_then (mode_with size) o) ≡ (or_fault {Fault = Fault} (M1, at) (option_map (map capped) o) >>= λ ns. or_fault {Fault = Fault} (M1, at) (mode_with size ns))
 mode_from_numbers size at None = refl
-mode_from_numbers size at (Some ns) = ap (or_fault M1 at) (mode_with-capped size ns)
+mode_from_numbers size at (Some ns) = ap (or_fault {Fault = Fault} (M1, at)) (mode_with-capped size ns)
 
 -- the first line of the modes, and those that follow it
-modes_in-line : (size at : ℕ) (line after : List ℕ) → modes_in size at (line ∷ lines after) ≡ cond (is_word (codes "end") line) (end_in (at + 1) (lines after)) (or_fault M1 at (mode_in size (words line)) >>= λ mode. modes_in size (at + 1) (lines after) >>= λ modes. Ok (mode ∷ modes))
+modes_in-line : (size at : ℕ) (line after : List ℕ) → modes_in size at (line ∷ lines after) ≡ cond (is_word (codes "end") line) (end_in (at + 1) (lines after)) (or_fault {Fault = Fault} (M1, at) (mode_in size (words line)) >>= λ mode. modes_in size (at + 1) (lines after) >>= λ modes. Ok (mode ∷ modes))
 modes_in-line size at line after =
     let next = lines-HasFirst after in
     rw next.2 refl
 
 -- one mode further
 pub goes_on : (size at : ℕ) (front : List Mode) (ls : List (List ℕ)) (line after : List ℕ) (mode : Mode) (total : Reading (List Mode))
-    → ls ≡ line ∷ lines after → is_word (codes "end") line ≡ false → or_fault M1 at (mode_in size (words line)) ≡ Ok mode
+    → ls ≡ line ∷ lines after → is_word (codes "end") line ≡ false → or_fault {Fault = Fault} (M1, at) (mode_in size (words line)) ≡ Ok mode
     → with_front front (modes_in size at ls) ≡ total → with_front (front ++ mode ∷ []) (modes_in size (at + 1) (lines after)) ≡ total
 goes_on size at front ls line after mode total cut no_end read so_far =
     let one : modes_in size at ls ≡ (modes_in size (at + 1) (lines after) >>= λ modes. Ok (mode ∷ modes)) = ap (modes_in size at) cut ∙ modes_in-line size at line after ∙ rw (no_end, read) refl in
@@ -49,7 +50,7 @@ goes_on size at front ls line after mode total cut no_end read so_far =
 
 -- a line that is no mode is the text's fault
 pub ends : (e : TextFault) (size at : ℕ) (front : List Mode) (ls : List (List ℕ)) (line after : List ℕ) (total : Reading (List Mode))
-    → ls ≡ line ∷ lines after → is_word (codes "end") line ≡ false → IsFaultOf (or_fault M1 at (mode_in size (words line))) e
+    → ls ≡ line ∷ lines after → is_word (codes "end") line ≡ false → IsFaultOf (or_fault (M1, at) (mode_in size (words line))) e
     → with_front front (modes_in size at ls) ≡ total → IsFaultOf total e
 ends OutOfMemory size at front ls line after total cut no_end read so_far = tt
 ends (At code line') size at front ls line after total cut no_end read so_far =
@@ -75,7 +76,7 @@ end_in-is at (b ∷ rest) false e =
       | inr more ↦ rw more.2 refl
     ]
 
-with_front-end : (front : List Mode) (empty : Bool) (at : ℕ) → with_front front (cond empty (Ok []) (Err (M1, at))) ≡ cond empty (Ok front) (Err (M1, at))
+with_front-end : (front : List Mode) (empty : Bool) (at : ℕ) → with_front {Fault = Fault} front (cond empty (Ok []) (Err (M1, at))) ≡ cond empty (Ok front) (Err (M1, at))
 with_front-end front true at = ap (λ (all : List Mode). Ok all) (append-nil front)
 with_front-end front false at = refl
 
@@ -88,13 +89,13 @@ ends_there size at front ls line after total cut is_end so_far =
     sym so_far ∙ ap (with_front front) (one ∙ end_in-is (at + 1) after (eqb (length after) 0) refl) ∙ with_front-end front (eqb (length after) 0) (at + 1)
 
 -- the length, and what follows it
-pub schedule_from_line : (size : ℕ) (text line rest : List ℕ) → lines text ≡ line ∷ lines rest → schedule_of size text ≡ (or_fault M1 1 (length_in (words line)) >>= λ slots. critical_and_modes size slots (lines rest))
+pub schedule_from_line : (size : ℕ) (text line rest : List ℕ) → lines text ≡ line ∷ lines rest → schedule_of size text ≡ (or_fault (M1, 1) (length_in (words line)) >>= λ slots. critical_and_modes size slots (lines rest))
 schedule_from_line size text line rest cut =
     let next = lines-HasFirst rest in
     ap (schedule_in size) cut ∙ rw next.2 refl
 
 -- the critical line, and what follows it
-pub critical_from_line : (size slots : ℕ) (ls : List (List ℕ)) (line rest : List ℕ) → ls ≡ line ∷ lines rest → critical_and_modes size slots ls ≡ (or_fault M1 2 (critical_in size (words line)) >>= λ critical. modes_in size 3 (lines rest) >>= λ modes. Ok (record { length = slots; critical = critical; modes = modes }))
+pub critical_from_line : (size slots : ℕ) (ls : List (List ℕ)) (line rest : List ℕ) → ls ≡ line ∷ lines rest → critical_and_modes size slots ls ≡ (or_fault (M1, 2) (critical_in size (words line)) >>= λ critical. modes_in size 3 (lines rest) >>= λ modes. Ok (record { length = slots; critical = critical; modes = modes }))
 critical_from_line size slots ls line rest cut =
     let next = lines-HasFirst rest in
     ap (critical_and_modes size slots) cut ∙ rw next.2 refl

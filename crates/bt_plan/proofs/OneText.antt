@@ -16,7 +16,8 @@ use Rattle.bt_base.proofs.TextNumbers.{decimal_from_number_of, decimals_from_num
 use Rattle.bt_plan.specs.declared.text_fault.TextCode.{TextCode}
 use Rattle.bt_plan.specs.declared.text_fault.TextCode.TheVariants.{M1}
 use Rattle.bt_plan.specs.Critical.{IsOfBeams}
-use Rattle.bt_plan.specs.Reading.{◌>>=◌, or_fault}
+use Rattle.bt_base.specs.Reading.{◌>>=◌, or_fault}
+use Rattle.bt_plan.specs.Reading.{Fault}
 use Rattle.bt_plan.specs.ScheduleText.{is_word, number_to, length_in, line_in, critical_in, mode_with, mode_in, end_in, modes_in, critical_and_modes, schedule_in, schedule_of}
 use Rattle.bt_plan.specs.ScheduleSpelling.{IsInRange, IsModeInRange, length_line, critical_line, mode_line, schedule_lines, schedule_spelling}
 use Rattle.bt_plan.proofs.ReadBack.{lines_from_modes, mode_numbers-small}
@@ -27,7 +28,7 @@ let_through : {A : Type 0} (b : Bool) (o : Option A) (x : A) → cond b o None �
 let_through true o x is = (refl, is)
 let_through false o x is = absurd cc
 
-or_fault_ok : {A : Type 0} (code : TextCode) (line : ℕ) (o : Option A) (x : A) → or_fault code line o ≡ Ok x → o ≡ Some x
+or_fault_ok : {A : Type 0} (code : TextCode) (line : ℕ) (o : Option A) (x : A) → or_fault {Fault = Fault} (code, line) o ≡ Ok x → o ≡ Some x
 or_fault_ok code line None x is = absurd cc
 or_fault_ok {A} code line (Some y) x is = ap (λ (z : A). Some z) (ok_is y x is)
 
@@ -125,13 +126,13 @@ end_spelled at ([] ∷ next ∷ rest) modes is = absurd cc
 end_spelled at ((b ∷ line) ∷ rest) modes is = absurd cc
 
 next_mode : (size at : ℕ) (line : List ℕ) (ls : List (List ℕ)) (modes : List Mode) (at_end : Bool) → is_word (codes "end") line ≡ at_end
-    → cond at_end (end_in (at + 1) ls) (or_fault M1 at (mode_in size (words line)) >>= λ mode. modes_in size (at + 1) ls >>= λ modes. Ok (mode ∷ modes)) ≡ Ok modes
+    → cond at_end (end_in (at + 1) ls) (or_fault (M1, at) (mode_in size (words line)) >>= λ mode. modes_in size (at + 1) ls >>= λ modes. Ok (mode ∷ modes)) ≡ Ok modes
     → ((others : List Mode) → modes_in size (at + 1) ls ≡ Ok others → AreLinesOf size ls others) → AreLinesOf size (line ∷ ls) modes
 next_mode size at line ls modes true named is behind =
     let end = end_spelled (at + 1) ls modes is in
     subst (AreLinesOf size (line ∷ ls)) end.1 (ap (λ l. l ∷ ls) (is_word-same (codes "end") line named) ∙ ap (λ rest. codes "end" ∷ rest) end.0, All-nil (IsModeInRange size))
 next_mode size at line ls modes false named is behind =
-    let first = bind_ok (or_fault M1 at (mode_in size (words line))) (λ mode. modes_in size (at + 1) ls >>= λ others. Ok (mode ∷ others)) modes is in
+    let first = bind_ok (or_fault (M1, at) (mode_in size (words line))) (λ mode. modes_in size (at + 1) ls >>= λ others. Ok (mode ∷ others)) modes is in
     let rest = bind_ok (modes_in size (at + 1) ls) (λ others. Ok (first.0 ∷ others)) modes first.2 in
     let here = mode_spelled size (words line) first.0 (or_fault_ok M1 at (mode_in size (words line)) first.0 first.1) in
     let others = behind rest.0 rest.1 in
@@ -157,7 +158,7 @@ critical_and_modes_spelled size slots [] schedule few is = absurd cc
 critical_and_modes_spelled size slots (line ∷ []) schedule few is = absurd cc
 critical_and_modes_spelled size slots (line ∷ next ∷ rest) schedule few is =
     let made : Critical → List Mode → Schedule = λ critical modes. record { length = slots; critical = critical; modes = modes } in
-    let first = bind_ok (or_fault M1 2 (critical_in size (words line))) (λ critical. modes_in size 3 (next ∷ rest) >>= λ modes. Ok (made critical modes)) schedule is in
+    let first = bind_ok (or_fault (M1, 2) (critical_in size (words line))) (λ critical. modes_in size 3 (next ∷ rest) >>= λ modes. Ok (made critical modes)) schedule is in
     let behind = bind_ok (modes_in size 3 (next ∷ rest)) (λ modes. Ok (made first.0 modes)) schedule first.2 in
     let here = critical_spelled size (words line) first.0 few (or_fault_ok M1 2 (critical_in size (words line)) first.0 first.1) in
     let modes = modes_spelled size 3 (next ∷ rest) behind.0 behind.1 in
@@ -174,7 +175,7 @@ schedule_in-spelled : (size : ℕ) (ls : List (List ℕ)) (schedule : Schedule) 
 schedule_in-spelled size [] schedule few is = absurd cc
 schedule_in-spelled size (line ∷ []) schedule few is = absurd cc
 schedule_in-spelled size (line ∷ next ∷ rest) schedule few is =
-    let first = bind_ok (or_fault M1 1 (length_in (words line))) (λ slots. critical_and_modes size slots (next ∷ rest)) schedule is in
+    let first = bind_ok (or_fault (M1, 1) (length_in (words line))) (λ slots. critical_and_modes size slots (next ∷ rest)) schedule is in
     let here = length_spelled (words line) first.0 (or_fault_ok M1 1 (length_in (words line)) first.0 first.1) in
     let behind = critical_and_modes_spelled size first.0 (next ∷ rest) schedule few first.2 in
     let line_is : line ≡ length_line schedule.length = sym (spaced-words line) ∙ ap spaced here.0 ∙ ap length_line behind.slots_are in

@@ -13,7 +13,7 @@ use Rattle.bt_base.proofs.TextLines.{words-spaced, lines-ended, lacks-spaced}
 use Rattle.bt_base.proofs.TextNumbers.{lacks-decimal, lacks-decimals, number_of-decimal, numbers_of-decimals}
 use Rattle.bt_plan.specs.declared.text_fault.TextCode.TheVariants.{M1}
 use Rattle.bt_plan.specs.Critical.{IsOfBeams}
-use Rattle.bt_plan.specs.Reading.{◌>>=◌, or_fault}
+use Rattle.bt_base.specs.Reading.{◌>>=◌, or_fault}
 use Rattle.bt_plan.specs.ScheduleText.{is_word, number_to, length_in, line_in, critical_in, mode_with, mode_in, end_in, modes_in, critical_and_modes, schedule_in, schedule_of}
 use Rattle.bt_plan.specs.ScheduleSpelling.{IsInRange, IsModeInRange, length_line, critical_line, mode_line, schedule_lines, schedule_spelling}
 
@@ -60,7 +60,7 @@ mode_read size mode range =
     ∙ mode_with-is size mode range
 
 -- the modes, and the end
-pub modes_in-more : (size at : ℕ) (line : List ℕ) (ls : List (List ℕ)) → 0 < length ls → modes_in size at (line ∷ ls) ≡ cond (is_word (codes "end") line) (end_in (at + 1) ls) (or_fault M1 at (mode_in size (words line)) >>= λ mode. modes_in size (at + 1) ls >>= λ modes. Ok (mode ∷ modes))
+pub modes_in-more : (size at : ℕ) (line : List ℕ) (ls : List (List ℕ)) → 0 < length ls → modes_in size at (line ∷ ls) ≡ cond (is_word (codes "end") line) (end_in (at + 1) ls) (or_fault (M1, at) (mode_in size (words line)) >>= λ mode. modes_in size (at + 1) ls >>= λ modes. Ok (mode ∷ modes))
 modes_in-more size at line [] some = absurd (omega arith)
 modes_in-more size at line (next ∷ rest) some = refl
 
@@ -79,7 +79,7 @@ modes_read size at (mode ∷ modes) range =
     modes_in-more size at (mode_line mode) (lines_from_modes modes) (some_lines modes) ∙ rw (here, behind) refl
 
 -- the critical line, and what follows it
-critical_and_modes-more : (size slots : ℕ) (line : List ℕ) (ls : List (List ℕ)) → 0 < length ls → critical_and_modes size slots (line ∷ ls) ≡ (or_fault M1 2 (critical_in size (words line)) >>= λ critical. modes_in size 3 ls >>= λ modes. Ok (record { length = slots; critical = critical; modes = modes }))
+critical_and_modes-more : (size slots : ℕ) (line : List ℕ) (ls : List (List ℕ)) → 0 < length ls → critical_and_modes size slots (line ∷ ls) ≡ (or_fault (M1, 2) (critical_in size (words line)) >>= λ critical. modes_in size 3 ls >>= λ modes. Ok (record { length = slots; critical = critical; modes = modes }))
 critical_and_modes-more size slots line [] some = absurd (omega arith)
 critical_and_modes-more size slots line (next ∷ rest) some = refl
 
@@ -115,7 +115,7 @@ schedule_lines-lack size schedule few range =
 -- the lines of a schedule in range are read as that schedule
 schedule_in-is : (size : ℕ) (schedule : Schedule) → size ≤ 16 → IsInRange size schedule → schedule_in size (length_line schedule.length ∷ critical_line schedule.critical ∷ lines_from_modes schedule.modes) ≡ Ok schedule
 schedule_in-is size schedule few range =
-    ap (λ o. or_fault M1 1 o >>= λ slots. critical_and_modes size slots (critical_line schedule.critical ∷ lines_from_modes schedule.modes)) (length_read schedule.length range.slots)
+    ap (λ o. or_fault (M1, 1) o >>= λ slots. critical_and_modes size slots (critical_line schedule.critical ∷ lines_from_modes schedule.modes)) (length_read schedule.length range.slots)
     ∙ critical_and_modes-more size schedule.length (critical_line schedule.critical) (lines_from_modes schedule.modes) (some_lines schedule.modes)
     ∙ rw (critical_read size schedule.critical few range.critical, modes_read size 3 schedule.modes range.modes) refl
 

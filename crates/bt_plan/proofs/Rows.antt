@@ -7,10 +7,11 @@ use Rattle.bt_base.specs.Text.{words, lines, numbers_of, capped}
 use Rattle.bt_plan.specs.declared.text_fault.TextCode.TheVariants.{X1, X2}
 use Rattle.bt_plan.specs.declared.text_fault.TextFault.{TextFault}
 use Rattle.bt_plan.specs.declared.text_fault.TextFault.TheVariants.{At, OutOfMemory}
-use Rattle.bt_plan.specs.Reading.{Reading, ◌>>=◌, or_fault, IsFaultOf}
+use Rattle.bt_base.specs.Reading.{◌>>=◌, or_fault}
+use Rattle.bt_plan.specs.Reading.{Reading, IsFaultOf}
 use Rattle.bt_plan.specs.MatrixText.{size_in, row_in, rows_in, matrix_in, matrix_of}
-use Rattle.bt_plan.proofs.Front.{with_front, regroup}
-use Rattle.bt_plan.proofs.TextLines.{lines-HasFirst, lines_after_end}
+use Rattle.bt_base.proofs.Front.{with_front, regroup}
+use Rattle.bt_base.proofs.FirstLine.{lines-HasFirst, lines_after_end}
 use Rattle.bt_plan.proofs.Capped.{list_all-capped, map-capped, cond-at_true}
 
 -- the size, and the rows that follow it
@@ -32,7 +33,7 @@ row_in-some size at ns =
     (ap (λ (r : Reading (List ℕ)). cond (eqb (length ns) size) r (Err (X1, at)))
     (cond-at_true (list_all (λ n. leb n 4096) ns) (Ok ns) (Ok (map capped ns)) (Err (X2, at)) (λ e. ap (λ (row : List ℕ). Ok row) (sym (map-capped 4096 ns (lit< tt) e)))))
 
-pub row_from_numbers : (size at : ℕ) (o : Option (List ℕ)) → row_in size at o ≡ (or_fault X1 at (option_map (map capped) o) >>= λ ns. row_in size at (Some ns))
+pub row_from_numbers : (size at : ℕ) (o : Option (List ℕ)) → row_in size at o ≡ (or_fault (X1, at) (option_map (map capped) o) >>= λ ns. row_in size at (Some ns))
 row_from_numbers size at None = refl
 row_from_numbers size at (Some ns) = row_in-some size at ns
 

@@ -8,7 +8,8 @@ use Rattle.bt_base.specs.Text.{words, lines, numbers_of}
 use Rattle.bt_matrix.specs.Traffic.{IsTraffic, column_sum}
 use Rattle.bt_plan.specs.declared.text_fault.TextCode.{TextCode}
 use Rattle.bt_plan.specs.declared.text_fault.TextCode.TheVariants.{X1, X2}
-use Rattle.bt_plan.specs.Reading.{Reading, ◌>>=◌}
+use Rattle.bt_base.specs.Reading.{◌>>=◌}
+use Rattle.bt_plan.specs.Reading.{Reading}
 use Rattle.bt_plan.specs.MatrixText.{size_in, row_in, rows_in, matrix_in, matrix_of}
 use Rattle.bt_plan.proofs.Capped.{and_parts}
 

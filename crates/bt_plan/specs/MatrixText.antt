@@ -3,7 +3,8 @@ use Rattle.std.specs.Prelude.{ℕ, zero, suc, ◌+◌, ◌==◌, ◌&&◌, if◌
 use Rattle.std.specs.List.{list_all}
 use Rattle.bt_base.specs.Text.{words, lines, numbers_of}
 use Rattle.bt_plan.specs.declared.text_fault.TextCode.TheVariants.{X1, X2}
-use Rattle.bt_plan.specs.Reading.{Reading, ◌>>=◌}
+use Rattle.bt_base.specs.Reading.{◌>>=◌}
+use Rattle.bt_plan.specs.Reading.{Reading}
 
 -- the size, 1 to 16, that the numbers of the first line say
 abbrev pub size_in : Option (List ℕ) → Reading ℕ

@@ -1,23 +1,16 @@
 -- What a reader of a text answers: the value, or the first fault with its code and its line, counted from 1.
-use Rattle.std.specs.Prelude.{◌≡◌, ℕ, Result, Ok, Err, Option, Some, None}
+use Rattle.std.specs.Prelude.{◌≡◌, ℕ, Result, Ok, Err}
 use Rattle.bt_plan.specs.declared.text_fault.TextCode.{TextCode}
 use Rattle.bt_plan.specs.declared.text_fault.TextFault.{TextFault}
 use Rattle.bt_plan.specs.declared.text_fault.TextFault.TheVariants.{At, OutOfMemory}
 
+-- a fault: its code, and its line
+abbrev pub Fault : Type 0
+Fault = TextCode × ℕ
+
 -- the value that a text spells, or its first fault
 abbrev pub Reading : Type 0 → Type 0
-Reading Value = Result Value (TextCode × ℕ)
-
--- goes on with what was read, or stops at the fault
-infixl 10 ◌>>=◌
-abbrev pub ◌>>=◌ : {A B : Type 0} → Reading A → (A → Reading B) → Reading B
-(Ok x) >>= after = after x
-(Err fault) >>= after = Err fault
-
--- the value where there is one, and else this fault
-abbrev pub or_fault : {A : Type 0} → TextCode → ℕ → Option A → Reading A
-or_fault code line None = Err (code, line)
-or_fault code line (Some x) = Ok x
+Reading Value = Result Value Fault
 
 -- the fault is the text's; want of memory says nothing of the text
 abbrev pub IsFaultOf : {A : Type 0} → Reading A → TextFault → Type 0

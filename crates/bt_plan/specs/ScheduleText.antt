@@ -8,7 +8,8 @@ use Rattle.bt_base.specs.declared.schedule.Critical.{Critical}
 use Rattle.bt_base.specs.declared.schedule.Critical.TheVariants.{Row, Column}
 use Rattle.bt_base.specs.declared.schedule.Schedule.{Schedule}
 use Rattle.bt_plan.specs.declared.text_fault.TextCode.TheVariants.{M1}
-use Rattle.bt_plan.specs.Reading.{Reading, ◌>>=◌, or_fault}
+use Rattle.bt_base.specs.Reading.{◌>>=◌, or_fault}
+use Rattle.bt_plan.specs.Reading.{Reading}
 
 -- the word is this one
 abbrev pub is_word : List ℕ → List ℕ → Bool
@@ -49,17 +50,17 @@ end_in at _ = Err (M1, at)
 
 -- modes, the first of them in line `at`, then `end`, and nothing behind its newline
 abbrev pub modes_in : ℕ → ℕ → List (List ℕ) → Reading (List Mode)
-modes_in size at (line ∷ next ∷ rest) = if is_word (codes "end") line then end_in (at + 1) (next ∷ rest) else (or_fault M1 at (mode_in size (words line)) >>= λ mode. modes_in size (at + 1) (next ∷ rest) >>= λ modes. Ok (mode ∷ modes))
+modes_in size at (line ∷ next ∷ rest) = if is_word (codes "end") line then end_in (at + 1) (next ∷ rest) else (or_fault (M1, at) (mode_in size (words line)) >>= λ mode. modes_in size (at + 1) (next ∷ rest) >>= λ modes. Ok (mode ∷ modes))
 modes_in size at _ = Err (M1, at)
 
 -- the critical line in line 2, and what follows it
 abbrev pub critical_and_modes : ℕ → ℕ → List (List ℕ) → Reading Schedule
-critical_and_modes size slots (line ∷ next ∷ rest) = or_fault M1 2 (critical_in size (words line)) >>= λ critical. modes_in size 3 (next ∷ rest) >>= λ modes. Ok (record { length = slots; critical = critical; modes = modes })
+critical_and_modes size slots (line ∷ next ∷ rest) = or_fault (M1, 2) (critical_in size (words line)) >>= λ critical. modes_in size 3 (next ∷ rest) >>= λ modes. Ok (record { length = slots; critical = critical; modes = modes })
 critical_and_modes size slots _ = Err (M1, 2)
 
 -- the schedule that these lines spell, the last of which has no newline behind it
 abbrev pub schedule_in : ℕ → List (List ℕ) → Reading Schedule
-schedule_in size (line ∷ next ∷ rest) = or_fault M1 1 (length_in (words line)) >>= λ slots. critical_and_modes size slots (next ∷ rest)
+schedule_in size (line ∷ next ∷ rest) = or_fault (M1, 1) (length_in (words line)) >>= λ slots. critical_and_modes size slots (next ∷ rest)
 schedule_in size _ = Err (M1, 1)
 
 -- the schedule that a text spells for so many beams

@@ -1,22 +1,13 @@
-// The lines of a text, one after the other, and the numbers in a line.
-ghost use Rattle.std.specs.Prelude.{◌≡◌, ◌<◌, ◌∷◌, [], length, map, IfSome, IfNone};
+// The numbers in a line.
+ghost use Rattle.std.specs.Prelude.{◌≡◌, map};
 ghost use Rattle.std.specs.Option.{option_map};
-ghost use Rattle.bt_base.specs.Text.{words, lines, numbers_of, capped};
-ghost use Rattle.bt_plan.specs.Reading.{Gives, or_fault};
+ghost use Rattle.bt_base.specs.Text.{words, numbers_of, capped};
+ghost use Rattle.bt_base.specs.Reading.{or_fault};
+ghost use Rattle.bt_plan.specs.Reading.{Gives};
 
 use crate::{TextCode, TextFault};
-use bt_base::{all_numbers, next_line, words};
+use bt_base::{all_numbers, words};
 use std::alloc::Global;
-
-/// The first line of a text and what follows its newline; None where the text has no newline.
-pub fn first_line(text: &[u8]) -> Option<(&[u8], &[u8])>
-    ensures line { IfSome result (λ cut. lines text.now ≡ cut.0.now ∷ lines cut.1.now) }
-    ensures shorter { IfSome result (λ cut. length cut.1.now < length text.now) }
-    ensures none { IfNone result (lines text.now ≡ text.now ∷ []) }
-{
-    let (_, end) = next_line(text, 0)?;
-    Some((&text[..end], &text[end + 1..]))
-}
 
 /// The numbers that the words of a line are, the last `u64` for every number from there on. Where a word
 /// is no number, that is the fault of this line.
@@ -27,7 +18,7 @@ pub fn line_numbers(
     line: &[u8],
 ) -> Result<Vec<u64>, TextFault>
     ensures { Gives (λ v. v.items) result
-        (or_fault code at (option_map (map capped) (numbers_of (words line.now)))) }
+        (or_fault (code, at) (option_map (map capped) (numbers_of (words line.now)))) }
 {
     let words = words(alloc, line)?;
     numbers_of_words(alloc, code, at, &words)
@@ -42,7 +33,7 @@ pub fn numbers_of_words(
     words: &[&[u8]],
 ) -> Result<Vec<u64>, TextFault>
     ensures { Gives (λ v. v.items) result
-        (or_fault code at (option_map (map capped)
+        (or_fault (code, at) (option_map (map capped)
         (numbers_of (map (λ word. word.now) words.now)))) }
 {
     all_numbers(alloc, words)?.ok_or(fault_at(code, at))

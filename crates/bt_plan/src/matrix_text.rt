@@ -4,8 +4,9 @@ ghost use Rattle.bt_base.specs.Text.{words, lines, numbers_of};
 ghost use Rattle.bt_plan.specs.Reading.{Gives};
 ghost use Rattle.bt_plan.specs.MatrixText.{size_in, row_in, rows_in, matrix_of};
 
-use crate::lines::{fault_at, first_line, line_numbers};
+use crate::lines::{fault_at, line_numbers};
 use crate::{TextCode, TextFault};
+use bt_base::first_line;
 use bt_matrix::Dense;
 use std::alloc::Global;
 

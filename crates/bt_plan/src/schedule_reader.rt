@@ -4,12 +4,13 @@ ghost use Rattle.std.specs.List.{list_all};
 ghost use Rattle.bt_base.specs.Text.{words, lines, numbers_of};
 ghost use Rattle.bt_plan.specs.declared.text_fault.TextCode.TheVariants.{M1};
 ghost use Rattle.bt_plan.specs.Critical.{IsOfBeams};
-ghost use Rattle.bt_plan.specs.Reading.{Gives, or_fault};
+ghost use Rattle.bt_base.specs.Reading.{or_fault};
+ghost use Rattle.bt_plan.specs.Reading.{Gives};
 ghost use Rattle.bt_plan.specs.ScheduleText.{is_word, number_to, length_in, line_in, critical_in, mode_with, mode_in, modes_in, critical_and_modes, schedule_of};
 
-use crate::lines::{fault_at, first_line, numbers_of_words};
+use crate::lines::{fault_at, numbers_of_words};
 use crate::{TextCode, TextFault};
-use bt_base::{BeamNo, Columns, Critical, Mode, Modes, Schedule, number, words};
+use bt_base::{BeamNo, Columns, Critical, Mode, Modes, Schedule, first_line, number, words};
 use std::alloc::Global;
 
 /// The greatest length of a schedule and of a mode in a text, in slots.
@@ -54,7 +55,7 @@ fn number_to(most: u64, word: &[u8]) -> Option<u64>
 
 // The length that the first line says.
 fn length_line(alloc: Global, line: &[u8]) -> Result<u32, TextFault>
-    ensures { Gives (λ slots. slots) result (or_fault M1 1 (length_in (words line.now))) }
+    ensures { Gives (λ slots. slots) result (or_fault (M1, 1) (length_in (words line.now))) }
 {
     let words = words(alloc, line)?;
     slots(&words).ok_or(fault(1))
@@ -99,7 +100,7 @@ fn critical_and_modes(
 fn critical_line(alloc: Global, size: u32, line: &[u8]) -> Result<Critical, TextFault>
     requires { size ≤ 16 }
     ensures { Gives (λ critical. critical) result
-        (or_fault M1 2 (critical_in size (words line.now))) }
+        (or_fault (M1, 2) (critical_in size (words line.now))) }
 {
     let words = words(alloc, line)?;
     critical(size, &words).ok_or(fault(2))
@@ -172,7 +173,7 @@ fn end(modes: Vec<Mode>, at: u32, rest: &[u8]) -> Result<Modes, TextFault>
 // The mode in line `at`.
 fn mode_line(alloc: Global, size: u32, at: u32, line: &[u8]) -> Result<Mode, TextFault>
     requires { size ≤ 16 }
-    ensures { Gives (λ mode. mode) result (or_fault M1 at (mode_in size (words line.now))) }
+    ensures { Gives (λ mode. mode) result (or_fault (M1, at) (mode_in size (words line.now))) }
 {
     let words = words(alloc, line)?;
     mode_of_words(alloc, size, at, &words)
@@ -181,7 +182,7 @@ fn mode_line(alloc: Global, size: u32, at: u32, line: &[u8]) -> Result<Mode, Tex
 fn mode_of_words(alloc: Global, size: u32, at: u32, words: &[&[u8]]) -> Result<Mode, TextFault>
     requires { size ≤ 16 }
     ensures { Gives (λ mode. mode) result
-        (or_fault M1 at (mode_in size (map (λ word. word.now) words.now))) }
+        (or_fault (M1, at) (mode_in size (map (λ word. word.now) words.now))) }
 {
     match words {
         [name, values @ ..] if is_word(name, b"mode") => mode_of_values(alloc, size, at, values),
@@ -193,7 +194,7 @@ fn mode_of_words(alloc: Global, size: u32, at: u32, words: &[&[u8]]) -> Result<M
 fn mode_of_values(alloc: Global, size: u32, at: u32, words: &[&[u8]]) -> Result<Mode, TextFault>
     requires { size ≤ 16 }
     ensures { Gives (λ mode. mode) result
-        (or_fault M1 at (option_and_then (mode_with size) (numbers_of (map (λ word. word.now) words.now)))) }
+        (or_fault (M1, at) (option_and_then (mode_with size) (numbers_of (map (λ word. word.now) words.now)))) }
 {
     let numbers = numbers_of_words(alloc, TextCode::M1, at, words)?;
     mode(alloc, size, at, &numbers)
@@ -202,7 +203,7 @@ fn mode_of_values(alloc: Global, size: u32, at: u32, words: &[&[u8]]) -> Result<
 // A duration, and a downlink for each uplink beam.
 fn mode(alloc: Global, size: u32, at: u32, numbers: &[u64]) -> Result<Mode, TextFault>
     requires { size ≤ 16 }
-    ensures { Gives (λ mode. mode) result (or_fault M1 at (mode_with size numbers.now)) }
+    ensures { Gives (λ mode. mode) result (or_fault (M1, at) (mode_with size numbers.now)) }
 {
     match numbers {
         [duration, perm @ ..] if *duration <= SLOTS_LAST && perm.len() == size as usize => {

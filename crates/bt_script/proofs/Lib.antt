@@ -1,6 +1,4 @@
 pub mod Faults
-pub mod Front
-pub mod TextLines
 pub mod Words
 pub mod ScriptLines
 pub mod Grouping

@@ -18,7 +18,8 @@ use Rattle.bt_script.specs.declared.script.DeskLine.{DeskLine}
 use Rattle.bt_script.specs.declared.script.DeskLine.TheVariants as desk_line
 use Rattle.bt_script.specs.declared.script.Item.{Item}
 use Rattle.bt_script.specs.declared.script.Item.TheVariants as item
-use Rattle.bt_script.specs.Reading.{Reading, ◌>>=◌, or_fault}
+use Rattle.bt_base.specs.Reading.{◌>>=◌, or_fault}
+use Rattle.bt_script.specs.Reading.{Reading}
 use Rattle.bt_script.specs.ScriptText.{is_word, terminal_of, numbers_in, are_names, link_in, ranges_in, one_link, two_links, one_link_in, two_links_in, add_or_drop, move_in, move_by, edit_by, edit_in, desk_in, is_passed_over, desk_line_in, line_in, is_round, limited_line, last_in, lines_in, own_lines, lines_of, entry_of, desks_of, rounds_at, items_of}
 use Rattle.bt_script.specs.Named.{NamesTerminals, IsLineFor, IsItemFor}
 
@@ -43,7 +44,7 @@ chosen P false a b h k = k
 abbrev pub IsTerm : Net → TermNo → Type 0
 IsTerm net t = t.0 < length net.terminals
 
-found : (net : Net) (at : ℕ) (name : List ℕ) (o : Option ℕ) → position (bytes_eq name) (names_of net.terminals) ≡ o → Reads (IsTerm net) (or_fault S2 at (option_map (λ (place : ℕ). record { 0 = place }) o))
+found : (net : Net) (at : ℕ) (name : List ℕ) (o : Option ℕ) → position (bytes_eq name) (names_of net.terminals) ≡ o → Reads (IsTerm net) (or_fault (S2, at) (option_map (λ (place : ℕ). record { 0 = place }) o))
 found net at name None e = tt
 found net at name (Some i) e = let p = position-Some (bytes_eq name) (names_of net.terminals) i [] e in omega (arith, p.0, length-map net.terminals (λ (t : List ℕ × BeamNo). t.0))
 
@@ -52,8 +53,8 @@ IsLink net l = IsTerm net l.0 × IsTerm net l.1
 
 link_in-Reads : (net : Net) (at : ℕ) (from to : List ℕ) → Reads (IsLink net) (link_in net at from to)
 link_in-Reads net at from to =
-    then (IsTerm net) (IsLink net) (or_fault S2 at (terminal_of net from)) (λ f. or_fault S2 at (terminal_of net to) >>= λ t. Ok (f, t)) (found net at from _ refl)
-    (λ f hf. then (IsTerm net) (IsLink net) (or_fault S2 at (terminal_of net to)) (λ t. Ok (f, t)) (found net at to _ refl) (λ t ht. (hf, ht)))
+    then (IsTerm net) (IsLink net) (or_fault (S2, at) (terminal_of net from)) (λ f. or_fault (S2, at) (terminal_of net to) >>= λ t. Ok (f, t)) (found net at from _ refl)
+    (λ f hf. then (IsTerm net) (IsLink net) (or_fault (S2, at) (terminal_of net to)) (λ t. Ok (f, t)) (found net at to _ refl) (λ t ht. (hf, ht)))
 
 abbrev pub IsOne : Net → (ℕ × ℕ) × (TermNo × TermNo) → Type 0
 IsOne net l = IsLink net l.1

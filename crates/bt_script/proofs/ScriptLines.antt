@@ -6,10 +6,11 @@ use Rattle.bt_script.specs.declared.fault.ScriptCode.{ScriptCode}
 use Rattle.bt_script.specs.declared.fault.ScriptFault.{ScriptFault}
 use Rattle.bt_script.specs.declared.fault.ScriptFault.TheVariants.{At, OutOfMemory}
 use Rattle.bt_script.specs.declared.line.ScriptLine.{ScriptLine}
-use Rattle.bt_script.specs.Reading.{Reading, ◌>>=◌, IsFaultOf}
+use Rattle.bt_base.specs.Reading.{◌>>=◌}
+use Rattle.bt_script.specs.Reading.{Reading, IsFaultOf}
 use Rattle.bt_script.specs.ScriptText.{is_round, limited_line, last_in, lines_in, added}
-use Rattle.bt_script.proofs.Front.{with_front, regroup}
-use Rattle.bt_script.proofs.TextLines.{lines-HasFirst}
+use Rattle.bt_base.proofs.Front.{with_front, regroup}
+use Rattle.bt_base.proofs.FirstLine.{lines-HasFirst}
 
 -- the first line, and those that follow it
 lines_in-line : (net : Net) (at : ℕ) (is_open : Bool) (line after : List ℕ) → lines_in net at is_open (line ∷ lines after) ≡ (limited_line net at is_open line >>= λ one. lines_in net (at + 1) (is_open || is_round one) (lines after) >>= λ more. Ok (one ∷ more))

@@ -15,7 +15,8 @@ use Rattle.bt_script.specs.declared.script.DeskLine.TheVariants as desk_line
 use Rattle.bt_script.specs.declared.script.Item.{Item}
 use Rattle.bt_script.specs.declared.script.Item.TheVariants as item
 use Rattle.bt_script.specs.declared.script.Script.{Script}
-use Rattle.bt_script.specs.Reading.{Reading, ◌>>=◌, or_fault}
+use Rattle.bt_base.specs.Reading.{◌>>=◌, or_fault}
+use Rattle.bt_script.specs.Reading.{Reading}
 
 -- the word is this one
 abbrev pub is_word : List ℕ → List ℕ → Bool
@@ -35,7 +36,7 @@ within at most number = if nat_le 1 number && nat_le number most then Ok number 
 
 -- the numbers of the desk and of the units
 abbrev pub numbers_in : ℕ → List ℕ → List ℕ → Reading (ℕ × ℕ)
-numbers_in at desk units = or_fault S1 at (short_number desk) >>= λ d. or_fault S1 at (short_number units) >>= λ u. Ok (d, u)
+numbers_in at desk units = or_fault (S1, at) (short_number desk) >>= λ d. or_fault (S1, at) (short_number units) >>= λ u. Ok (d, u)
 
 -- both words have the shape of a name
 abbrev pub are_names : List ℕ → List ℕ → Bool
@@ -43,7 +44,7 @@ are_names from to = is_name from && is_name to
 
 -- the terminals of two names
 abbrev pub link_in : Net → ℕ → List ℕ → List ℕ → Reading (TermNo × TermNo)
-link_in net at from to = or_fault S2 at (terminal_of net from) >>= λ f. or_fault S2 at (terminal_of net to) >>= λ t. Ok (f, t)
+link_in net at from to = or_fault (S2, at) (terminal_of net from) >>= λ f. or_fault (S2, at) (terminal_of net to) >>= λ t. Ok (f, t)
 
 -- a desk from 1 to 16, and units from 1 to 4096
 abbrev pub ranges_in : ℕ → ℕ × ℕ → Reading (ℕ × ℕ)

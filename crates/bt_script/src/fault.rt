@@ -51,3 +51,10 @@ impl From<bt_base::OutOfMemory> for ScriptFault {
         ScriptFault::OutOfMemory
     }
 }
+
+/// What is wrong with a line, counted from 1.
+pub(crate) fn fault_at(code: ScriptCode, line: u32) -> ScriptFault
+    ensures { result ≡ ScriptFault.At code line }
+{
+    ScriptFault::At { code, line }
+}

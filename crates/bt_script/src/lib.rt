@@ -7,7 +7,6 @@
 mod fault;
 mod items;
 mod line;
-mod lines;
 mod reader;
 mod script;
 

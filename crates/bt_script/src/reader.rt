@@ -5,10 +5,11 @@ ghost use Rattle.bt_script.specs.Named.{IsItemFor};
 ghost use Rattle.bt_script.specs.Reading.{Gives};
 ghost use Rattle.bt_script.specs.ScriptText.{limited_line, added, last_in, lines_in, script_of};
 
+use crate::fault::fault_at;
 use crate::items::items_of;
 use crate::line::{ScriptLine, read_line};
-use crate::lines::{fault_at, first_line};
 use crate::{Script, ScriptCode, ScriptFault};
+use bt_base::first_line;
 use bt_net::Network;
 use std::alloc::Global;
 

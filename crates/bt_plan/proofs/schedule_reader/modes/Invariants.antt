@@ -2,7 +2,7 @@
 use Rattle.std.proofs.Common.{◌≡◌, ◌+◌, ◌≤◌, length}
 use Rattle.bt_base.specs.Text.{lines}
 use Rattle.bt_plan.specs.ScheduleText.{modes_in}
-use Rattle.bt_plan.proofs.Front.{with_front}
+use Rattle.bt_base.proofs.Front.{with_front}
 use Rattle.bt_plan.proofs.schedule_reader.modes.Given as goal
 
 abbrev pub invariant-loop-line : goal.invariant-loop-line

@@ -2,7 +2,7 @@
 use Rattle.std.proofs.Common.{◌≡◌, ◌≤◌, false, length}
 use Rattle.bt_base.specs.Text.{lines}
 use Rattle.bt_script.specs.ScriptText.{lines_in}
-use Rattle.bt_script.proofs.Front.{with_front}
+use Rattle.bt_base.proofs.Front.{with_front}
 use Rattle.bt_script.proofs.reader.read_lines.Given as goal
 
 abbrev pub invariant-loop-line : goal.invariant-loop-line

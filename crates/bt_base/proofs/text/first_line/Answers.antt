@@ -2,7 +2,7 @@
 use Rattle.std.proofs.Common.{◌+◌, ◌∷◌, length, drop, ap, ◌∙◌, arith}
 use Rattle.std.proofs.lemmas.Slice.{between_to_end, between_from_start}
 use Rattle.bt_base.specs.Text.{lines}
-use Rattle.bt_script.proofs.lines.first_line.Goals as goal
+use Rattle.bt_base.proofs.text.first_line.Goals as goal
 
 pub returns-clause-line : goal.returns-clause-line
 returns-clause-line c =
