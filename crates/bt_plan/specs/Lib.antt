@@ -7,3 +7,6 @@ pub mod Critical
 pub mod Demand
 pub mod Traffic
 pub mod ScheduleSpelling
+pub mod Burst
+pub mod Plan
+pub mod PlanVerdict

@@ -7,11 +7,13 @@
 //! `demand_laws.rt` have what holds of them whatever the program does.
 #![tactic(auto)]
 
+mod burst;
 mod demand;
 mod demand_laws;
 mod laws;
 mod lines;
 mod matrix_text;
+mod plan;
 mod schedule_check;
 mod schedule_reader;
 mod schedule_writer;
@@ -19,12 +21,14 @@ mod text_fault;
 mod traffic;
 mod verdict;
 
+pub use burst::{Burst, Bursts, MOST_BURSTS};
 pub use demand::{Demand, Link};
 pub use demand_laws::{
     gain_adds_to_one_entry, gain_changes_one_link, links_tell_demands, small_demands_have_a_matrix,
 };
 pub use laws::{one_verdict, schedules_have_one_spelling};
 pub use matrix_text::read_matrix;
+pub use plan::Plan;
 pub use schedule_check::check_modes;
 pub use schedule_reader::read_schedule;
 pub use schedule_writer::schedule_text;

@@ -1,0 +1,12 @@
+//! The vocabulary of the air: orders to the satellite, messages byte by byte, and who hears them.
+//!
+//! `docs/formats.md` has each message with its offsets.
+#![tactic(auto)]
+
+mod message;
+mod order;
+mod sent;
+
+pub use message::Message;
+pub use order::{Armed, LAST_MARK, Order, Status};
+pub use sent::{Act, Answer, Heard, Place, Sent, Taken};
