@@ -14,7 +14,8 @@ use Rattle.bt_plan.proofs.Matrices.{length-matrix_of}
 use Rattle.bt_journal.specs.declared.call.Edit.{Edit}
 use Rattle.bt_journal.specs.declared.call.Edit.TheVariants.{Add, Drop, Move}
 use Rattle.bt_journal.specs.declared.call.Change.{Change}
-use Rattle.bt_book.specs.Machine.{with_edit, IsThere, IsGoodEdit, NamesTerminals}
+use Rattle.bt_journal.specs.Journal.{NamesTerminals}
+use Rattle.bt_book.specs.Machine.{with_edit, IsThere, IsGoodEdit}
 use Rattle.bt_book.specs.Desk.{AddsUp, EditsLinks, HoldsTaken}
 use Rattle.bt_book.proofs.Tables.{LinesExceed, table-LinesExceed}
 use Rattle.bt_book.proofs.After.{AddsUp-Add, AddsUp-Drop, AddsUp-Move, matrix_after-AddsUp}
@@ -87,7 +88,7 @@ fits_less net old new from to units up down edits fits (Column k) within =
     omega (arith, column-le _ _ up.0.0 down.0.0 units k.0 less, fits (Column k) (same_length net old new k.0 within))
 
 -- After a good edit each line is within the frame.
-pub fits_after : (net : Net) (changes : List Change) (old new : List Link) (edit : Edit) → IsSound net → NamesTerminals net edit → AddsUp changes old
+pub fits_after : (net : Net) (changes : List Change) (old new : List Link) (edit : Edit) → IsSound net → NamesTerminals (length net.terminals) edit → AddsUp changes old
     → HasSumsTo net.slots (matrix_of net old) → IsGoodEdit net changes edit → EditsLinks old edit new → HasSumsTo net.slots (matrix_of net new)
 fits_after net changes old new (Add from to units) sound names adds fits good edits =
     let e = Add from to units in

@@ -15,8 +15,8 @@ use Rattle.bt_journal.specs.declared.call.Change.TheVariants as change
 use Rattle.bt_journal.specs.declared.entry.Entry.{Entry}
 use Rattle.bt_journal.specs.declared.reply.Reply.{Reply}
 use Rattle.bt_journal.specs.declared.reply.Reply.TheVariants.{Done, SameTerminal, NotThere, RowFull, ColumnFull, BookFull}
-use Rattle.bt_journal.specs.Journal.{taken, changes_of}
-use Rattle.bt_book.specs.Machine.{with_edit, NamesTerminals, EditStep}
+use Rattle.bt_journal.specs.Journal.{NamesTerminals, changes_of, taken}
+use Rattle.bt_book.specs.Machine.{with_edit, EditStep}
 use Rattle.bt_book.specs.Desk.{Records, KeepsUp, AddsUp, EditsLinks, IsRefusal}
 use Rattle.bt_book.proofs.After.{matrix_after-AddsUp}
 use Rattle.bt_book.proofs.Done.{AddsUp-edit, fits_after}
@@ -53,10 +53,10 @@ done_changes caller edit edition most history reserved after same is =
 
 -- what is kept after an edit was done
 pub keeps_done : (inside now : Records) (net : Net) (after : List Change) (old new : List Link) (count : ℕ) (edit : Edit) → inside ≡ now → net ≡ inside.net
-    → after ≡ with_edit inside.changes edit → KeepsUp inside.net inside.changes old count → IsSound inside.net → NamesTerminals now.net edit
+    → after ≡ with_edit inside.changes edit → KeepsUp inside.net inside.changes old count → IsSound inside.net → NamesTerminals (length now.net.terminals) edit
     → IsRefusal now.net now.changes edit None → EditsLinks old edit new → KeepsUp net after new (count + 1)
 keeps_done inside now net after old new count edit view net_is after_is keeps sound names good edits =
-    let names_here = subst (λ (r : Records). NamesTerminals r.net edit) (sym view) names in
+    let names_here = subst (λ (r : Records). NamesTerminals (length r.net.terminals) edit) (sym view) names in
     let good_here = subst (λ (r : Records). IsRefusal r.net r.changes edit None) (sym view) good in
     let longer = length-append inside.changes (change.Edit edit ∷ []) in
     let kept : KeepsUp inside.net (with_edit inside.changes edit) new (count + 1) = record {

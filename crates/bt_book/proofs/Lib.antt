@@ -5,3 +5,4 @@ pub mod Loads
 pub mod Causes
 pub mod Done
 pub mod Entries
+pub mod Histories

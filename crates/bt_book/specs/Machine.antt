@@ -14,6 +14,7 @@ use Rattle.bt_journal.specs.declared.call.Call.{Call}
 use Rattle.bt_journal.specs.declared.call.Call.TheVariants as call
 use Rattle.bt_journal.specs.declared.call.Change.{Change}
 use Rattle.bt_journal.specs.declared.call.Change.TheVariants as change
+use Rattle.bt_journal.specs.Journal.{NamesTerminals}
 use Rattle.bt_journal.specs.declared.entry.Entry.{Entry}
 use Rattle.bt_journal.specs.declared.reply.Reply.{Reply}
 use Rattle.bt_journal.specs.declared.reply.Reply.TheVariants.{Done, SameTerminal, NotThere, RowFull, ColumnFull, BookFull}
@@ -150,13 +151,15 @@ abbrev pub Legal : Net → List Change → List Entry → Type 0
 Legal net changes [] = Unit {0}
 Legal net changes (entry ∷ entries) = (after : List Change) × Step net changes entry.call entry.reply after × Legal net after entries
 
--- each terminal that the edit names is one of the network's
-abbrev pub NamesTerminals : Net → Edit → Type 0
-NamesTerminals net (Add from to _) = (from.0 < length net.terminals) × (to.0 < length net.terminals)
-NamesTerminals net (Drop from to _) = (from.0 < length net.terminals) × (to.0 < length net.terminals)
-NamesTerminals net (Move from to new_from new_to _) = (from.0 < length net.terminals) × (to.0 < length net.terminals)
-    × (new_from.0 < length net.terminals) × (new_to.0 < length net.terminals)
-
 -- each terminal that the call names is one of the network's
 abbrev pub IsOfNetwork : Net → Call → Type 0
-IsOfNetwork net (call.Edit edit) = NamesTerminals net edit
+IsOfNetwork net (call.Edit edit) = NamesTerminals (length net.terminals) edit
+
+-- each beam that the reply names is one of the network's
+abbrev pub NamesBeams : Net → Reply → Type 0
+NamesBeams net (RowFull beam _) = beam.0 < length net.beams
+NamesBeams net (ColumnFull beam _) = beam.0 < length net.beams
+NamesBeams net SameTerminal = Unit {0}
+NamesBeams net (NotThere _) = Unit {0}
+NamesBeams net (BookFull _) = Unit {0}
+NamesBeams net (Done _ _) = Unit {0}

@@ -1,7 +1,7 @@
 // Each call is answered, and its entry kept.
-ghost use Rattle.std.specs.Prelude.{◌≡◌, ◌++◌, ◌∷◌, [], IfOk, OnErr, None};
-ghost use Rattle.bt_journal.specs.Journal.{taken};
-ghost use Rattle.bt_book.specs.Machine.{EditStep, IsOfNetwork, NamesTerminals, Step};
+ghost use Rattle.std.specs.Prelude.{◌≡◌, ◌++◌, ◌∷◌, [], length, IfOk, OnErr, None};
+ghost use Rattle.bt_journal.specs.Journal.{NamesTerminals, taken};
+ghost use Rattle.bt_book.specs.Machine.{EditStep, IsOfNetwork, Step};
 ghost use Rattle.bt_book.specs.Desk.{IsRefusal};
 
 use crate::desk::Desk;
@@ -17,7 +17,7 @@ impl Desk {
         caller: u32,
         edit: &Edit,
     ) -> Result<Reply, OutOfMemory>
-        requires { NamesTerminals self.old.net edit.now }
+        requires { NamesTerminals (length self.old.net.terminals) edit.now }
         ensures step { IfOk result (λ reply. EditStep self.old.net self.old.changes edit.now reply self.new.changes) }
         ensures entry { IfOk result (λ reply. self.new.history
             ≡ self.old.history ++ record { caller = caller; call = Call.Edit edit.now; reply = reply } ∷ []) }
@@ -50,7 +50,7 @@ impl Desk {
 
     /// Makes an edit that has no cause of a refusal. Room for its entry is taken first.
     fn make(&mut self, alloc: Global, caller: u32, edit: &Edit) -> Result<Reply, OutOfMemory>
-        requires terminals { NamesTerminals self.old.net edit.now }
+        requires terminals { NamesTerminals (length self.old.net.terminals) edit.now }
         requires good { IsRefusal self.old.net self.old.changes edit.now None }
         ensures step { IfOk result (λ reply. EditStep self.old.net self.old.changes edit.now reply self.new.changes) }
         ensures entry { IfOk result (λ reply. self.new.history

@@ -1,6 +1,7 @@
 // The first cause for which an edit is refused. Nothing changes while it is looked for.
 ghost use Rattle.std.specs.Prelude.{◌≡◌, ◌==◌, ◌<◌, ◌≤◌, if◌then◌else◌, length};
-ghost use Rattle.bt_book.specs.Machine.{held_after, NamesTerminals};
+ghost use Rattle.bt_journal.specs.Journal.{NamesTerminals};
+ghost use Rattle.bt_book.specs.Machine.{held_after};
 ghost use Rattle.bt_book.specs.Desk.{AreLinesAfter, IsBookFull, IsFirstCause, IsRefusal, IsShortOf};
 
 use crate::desk::Desk;
@@ -14,7 +15,7 @@ const MOST_CHANGES: u32 = 8_000_000;
 impl Desk {
     /// The refusal of an edit: its own first cause, or that the book is full.
     pub(crate) fn refusal_of(&self, edit: &Edit) -> Option<Reply>
-        requires { NamesTerminals self.now.net edit.now }
+        requires { NamesTerminals (length self.now.net.terminals) edit.now }
         ensures { IsRefusal self.now.net self.now.changes edit.now result }
     {
         match self.cause_of(edit) {
@@ -36,7 +37,7 @@ impl Desk {
 
     /// The first cause of a refusal in the edit itself.
     pub(crate) fn cause_of(&self, edit: &Edit) -> Option<Reply>
-        requires { NamesTerminals self.now.net edit.now }
+        requires { NamesTerminals (length self.now.net.terminals) edit.now }
         ensures { IsFirstCause self.now.net self.now.changes edit.now result }
     {
         match *edit {
@@ -53,7 +54,7 @@ impl Desk {
     }
 
     fn cause_of_add(&self, from: TermNo, to: TermNo, units: Units) -> Option<Reply>
-        requires { NamesTerminals self.now.net (Edit.Add from to units) }
+        requires { NamesTerminals (length self.now.net.terminals) (Edit.Add from to units) }
         ensures { IsFirstCause self.now.net self.now.changes (Edit.Add from to units) result }
     {
         if from == to {
@@ -64,7 +65,7 @@ impl Desk {
     }
 
     fn cause_of_drop(&self, from: TermNo, to: TermNo, units: Units) -> Option<Reply>
-        requires { NamesTerminals self.now.net (Edit.Drop from to units) }
+        requires { NamesTerminals (length self.now.net.terminals) (Edit.Drop from to units) }
         ensures { IsFirstCause self.now.net self.now.changes (Edit.Drop from to units) result }
     {
         if from == to {
@@ -82,7 +83,7 @@ impl Desk {
         new_to: TermNo,
         units: Units,
     ) -> Option<Reply>
-        requires { NamesTerminals self.now.net (Edit.Move from to new_from new_to units) }
+        requires { NamesTerminals (length self.now.net.terminals) (Edit.Move from to new_from new_to units) }
         ensures { IsFirstCause self.now.net self.now.changes (Edit.Move from to new_from new_to units) result }
     {
         if from == to || new_from == new_to {
@@ -111,7 +112,7 @@ impl Desk {
 
     /// The lines of a link after it gained.
     fn lines_after_add(&self, from: TermNo, to: TermNo, units: Units) -> Lines
-        requires { NamesTerminals self.now.net (Edit.Add from to units) }
+        requires { NamesTerminals (length self.now.net.terminals) (Edit.Add from to units) }
         ensures { AreLinesAfter self.now.net self.now.changes (Edit.Add from to units) result }
     {
         let (row, row_slots) = self.load.row_of(from);
@@ -134,7 +135,7 @@ impl Desk {
         new_to: TermNo,
         units: Units,
     ) -> Lines
-        requires terminals { NamesTerminals self.now.net (Edit.Move from to new_from new_to units) }
+        requires terminals { NamesTerminals (length self.now.net.terminals) (Edit.Move from to new_from new_to units) }
         requires held { units ≤ held_after self.now.changes from to }
         ensures { AreLinesAfter self.now.net self.now.changes (Edit.Move from to new_from new_to units) result }
     {

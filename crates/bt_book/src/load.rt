@@ -5,7 +5,8 @@ ghost use Rattle.bt_matrix.specs.Traffic.{row_sum, column_sum, IsHeaviest};
 ghost use Rattle.bt_plan.specs.Demand.{units_of, Gains, IsDemand};
 ghost use Rattle.bt_plan.specs.Traffic.{matrix_of, HasSumsTo, IsInBeam};
 ghost use Rattle.bt_net.specs.Network.{IsSound};
-ghost use Rattle.bt_book.specs.Machine.{HasEnds, NamesTerminals};
+ghost use Rattle.bt_journal.specs.Journal.{NamesTerminals};
+ghost use Rattle.bt_book.specs.Machine.{HasEnds};
 ghost use Rattle.bt_book.specs.Desk.{EditsLinks, HoldsTaken};
 
 use bt_base::{BeamNo, OutOfMemory, TermNo, Units};
@@ -111,7 +112,7 @@ impl Load {
 
     /// Makes an edit. Where memory runs out all is as it was.
     pub(crate) fn edit(&mut self, alloc: Global, edit: &Edit) -> Result<(), OutOfMemory>
-        requires terminals { NamesTerminals self.old.net edit.now }
+        requires terminals { NamesTerminals (length self.old.net.terminals) edit.now }
         requires ends { HasEnds edit.now }
         requires held { HoldsTaken self.old.links edit.now }
         requires small { HasSumsTo 4096 (matrix_of self.old.net self.old.links) }

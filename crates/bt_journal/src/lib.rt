@@ -8,5 +8,5 @@ mod entry;
 mod reply;
 
 pub use call::{Call, Change, Edit};
-pub use entry::Entry;
+pub use entry::{Entries, Entry};
 pub use reply::Reply;

@@ -4,3 +4,4 @@ pub mod ScriptLines
 pub mod Grouping
 pub mod Edits
 pub mod Naming
+pub mod Order

@@ -21,7 +21,8 @@ use Rattle.bt_script.specs.declared.script.Item.TheVariants as item
 use Rattle.bt_base.specs.Reading.{◌>>=◌, or_fault}
 use Rattle.bt_script.specs.Reading.{Reading}
 use Rattle.bt_script.specs.ScriptText.{is_word, terminal_of, numbers_in, are_names, link_in, ranges_in, one_link, two_links, one_link_in, two_links_in, add_or_drop, move_in, move_by, edit_by, edit_in, desk_in, is_passed_over, desk_line_in, line_in, is_round, limited_line, last_in, lines_in, own_lines, lines_of, entry_of, desks_of, rounds_at, items_of}
-use Rattle.bt_script.specs.Named.{NamesTerminals, IsLineFor, IsItemFor}
+use Rattle.bt_journal.specs.Journal.{NamesTerminals}
+use Rattle.bt_script.specs.Named.{IsLineFor, IsItemFor}
 
 -- whatever is read holds this
 abbrev pub Reads : {A : Type 0} → (A → Type 0) → Reading A → Type 0
@@ -86,7 +87,7 @@ two_links_in-Reads net at desk from to new_from new_to units =
     (after_any (IsTwo net) (numbers_in at desk units) (λ numbers. two_links net at numbers from to new_from new_to) (λ numbers. two_links-Reads net at numbers from to new_from new_to)) tt) tt
 
 abbrev pub IsEdit : Net → ℕ × Edit → Type 0
-IsEdit net e = NamesTerminals net e.1
+IsEdit net e = NamesTerminals (length net.terminals) e.1
 
 add_or_drop-Reads : (kind : List ℕ) (net : Net) (at : ℕ) (desk from to units : List ℕ) → Reads (IsEdit net) (add_or_drop kind net at desk from to units)
 add_or_drop-Reads kind net at desk from to units =
@@ -129,7 +130,7 @@ desk_in-Reads net at (head ∷ rest) = chosen (IsEdit net) (is_word (codes "desk
 abbrev pub IsSaid : Net → ScriptLine → Type 0
 IsSaid net line.PassedOver = Unit {0}
 IsSaid net line.Round = Unit {0}
-IsSaid net (line.Edit desk edit) = NamesTerminals net edit
+IsSaid net (line.Edit desk edit) = NamesTerminals (length net.terminals) edit
 
 line_in-Reads : (net : Net) (at : ℕ) (is_open : Bool) (text : List ℕ) → Reads (IsSaid net) (line_in net at is_open text)
 line_in-Reads net at is_open text =

@@ -1,7 +1,7 @@
 // A script from its text.
 ghost use Rattle.std.specs.Prelude.{◌≤◌, [], length, false, All, IfOk, OnOk};
 ghost use Rattle.bt_base.specs.Text.{lines};
-ghost use Rattle.bt_script.specs.Named.{IsItemFor};
+ghost use Rattle.bt_script.specs.Named.{HasDesksInOrder, IsItemFor};
 ghost use Rattle.bt_script.specs.Reading.{Gives};
 ghost use Rattle.bt_script.specs.ScriptText.{limited_line, added, last_in, lines_in, script_of};
 
@@ -19,12 +19,13 @@ const LINES_LAST: u32 = 20000;
 impl Script {
     /// The script that the bytes spell for this network, or the first line with a fault.
     ///
-    /// Its edits name terminals of the network alone.
-    #[tactic(auto, using(crate::proofs::Naming::items_named))]
+    /// Its edits name terminals of the network alone, and the desks of a round ascend by number.
+    #[tactic(auto, using(crate::proofs::Naming::items_named, crate::proofs::Order::items_in_order))]
     pub fn read(alloc: Global, net: &Network, bytes: &[u8]) -> Result<Script, ScriptFault>
         requires { length bytes.now ≤ 67108864 }
         ensures reading { Gives (λ script. script) result (script_of net.now bytes.now) }
         ensures terminals { IfOk result (λ script. All (IsItemFor net.now) script.items) }
+        ensures ascending { IfOk result (λ script. All HasDesksInOrder script.items) }
     {
         let said = read_lines(alloc, net, bytes)?;
         let items = items_of(alloc, &said)?;

@@ -1,0 +1,50 @@
+-- The desks of a round ascend by number.
+use Rattle.std.proofs.Common.{ℕ, zero, suc, ◌+◌, ◌<◌, ◌≤◌, Bool, true, false, cond, List, [], ◌∷◌, ◌++◌, All, arith}
+use Rattle.std.specs.Prelude.{AllPairs}
+use Rattle.std.proofs.lemmas.List.Elements.{All-append, All-nil, All-cons}
+use Rattle.std.proofs.lemmas.List.Kept.{AllPairs-cons}
+use Rattle.bt_script.specs.declared.line.ScriptLine.{ScriptLine}
+use Rattle.bt_script.specs.declared.script.DeskLine.{DeskLine}
+use Rattle.bt_script.specs.declared.script.Item.TheVariants as item
+use Rattle.bt_script.specs.ScriptText.{is_round, lines_of, entry_of, desks_of, rounds_at, items_of}
+use Rattle.bt_script.specs.Named.{HasDesksInOrder}
+
+-- a desk with its lines
+abbrev pub Desk : Type 0
+Desk = ℕ × List DeskLine
+
+-- one desk before another
+abbrev pub IsBefore : Desk → Desk → Type 0
+IsBefore a b = a.0 < b.0
+
+none_ordered : AllPairs IsBefore []
+none_ordered i j d before within = absurd (omega (arith, before, within))
+
+-- a desk in front of later ones
+with_first : (desk : ℕ) (own : List DeskLine) (rest : List Desk) → All (λ (b : Desk). desk < b.0) rest → AllPairs IsBefore rest → AllPairs IsBefore (entry_of desk own ++ rest)
+with_first desk [] rest later ordered = ordered
+with_first desk (first ∷ more) rest later ordered = AllPairs-cons IsBefore (desk, first ∷ more) rest later ordered
+
+-- so many desks from a number on are all at that number or later
+entry_from : (least desk : ℕ) (own : List DeskLine) → least ≤ desk → All (λ (b : Desk). least ≤ b.0) (entry_of desk own)
+entry_from least desk [] h = All-nil (λ (b : Desk). least ≤ b.0)
+entry_from least desk (first ∷ more) h = All-cons (λ (b : Desk). least ≤ b.0) (desk, first ∷ more) [] h (All-nil (λ (b : Desk). least ≤ b.0))
+
+desks_from : (least desk more : ℕ) (said : List ScriptLine) → least ≤ desk → All (λ (b : Desk). least ≤ b.0) (desks_of desk more said)
+desks_from least desk zero said h = All-nil (λ (b : Desk). least ≤ b.0)
+desks_from least desk (suc more) said h = All-append (λ (b : Desk). least ≤ b.0) (entry_of desk (lines_of desk said)) (desks_of (desk + 1) more said) (entry_from least desk (lines_of desk said) h) (desks_from least (desk + 1) more said (omega (arith, h)))
+
+desks_ordered : (desk more : ℕ) (said : List ScriptLine) → AllPairs IsBefore (desks_of desk more said)
+desks_ordered desk zero said = none_ordered
+desks_ordered desk (suc more) said =
+    let later : All (λ (b : Desk). desk + 1 ≤ b.0) (desks_of (desk + 1) more said) = desks_from (desk + 1) (desk + 1) more said (omega arith) in
+    with_first desk (lines_of desk said) (desks_of (desk + 1) more said) (λ i d within. omega (arith, later i d within)) (desks_ordered (desk + 1) more said)
+
+round_ordered : (opens : Bool) (said : List ScriptLine) → All HasDesksInOrder (cond opens (item.Round (record { desks = desks_of 1 16 said }) ∷ []) [])
+round_ordered true said = All-cons HasDesksInOrder (item.Round (record { desks = desks_of 1 16 said })) [] (desks_ordered 1 16 said) (All-nil HasDesksInOrder)
+round_ordered false said = All-nil HasDesksInOrder
+
+-- the desks of each round of a text ascend
+pub items_in_order : (said : List ScriptLine) → All HasDesksInOrder (items_of said)
+items_in_order [] = All-nil HasDesksInOrder
+items_in_order (first ∷ rest) = All-append HasDesksInOrder (rounds_at first rest) (items_of rest) (round_ordered (is_round first) rest) (items_in_order rest)
