@@ -3,10 +3,15 @@
 //! `docs/formats.md` has each message with its offsets.
 #![tactic(auto)]
 
+mod fault;
+mod field;
 mod message;
 mod order;
+mod reader;
 mod sent;
+mod unread;
 
+pub use fault::AirFault;
 pub use message::Message;
 pub use order::{Armed, LAST_MARK, Order, Status};
 pub use sent::{Act, Answer, Heard, Place, Sent, Taken};
