@@ -2,7 +2,6 @@
 use Rattle.std.specs.Prelude.{ℕ, zero, suc, ◌==◌, ◌&&◌, ◌||◌, if◌then◌else◌, nat_lt, Bool, false, length, List, [], ◌∷◌, Option, Some, None, Ok, Err}
 use Rattle.std.specs.Int.{w8}
 use Rattle.bt_base.specs.declared.mode.Mode.{Mode}
-use Rattle.bt_base.specs.declared.numbers.EditionNo.{EditionNo}
 use Rattle.bt_base.specs.declared.numbers.TermNo.{TermNo}
 use Rattle.bt_base.specs.Reading.{◌>>=◌}
 use Rattle.bt_plan.specs.declared.burst.Burst.{Burst}
@@ -10,7 +9,6 @@ use Rattle.bt_air.specs.declared.fault.AirFault.TheVariants.{A2, A3, A4}
 use Rattle.bt_air.specs.declared.message.Message.{Message}
 use Rattle.bt_air.specs.declared.message.Message.TheVariants as messages
 use Rattle.bt_air.specs.declared.order.Armed.{Armed}
-use Rattle.bt_air.specs.declared.order.Status.{Status}
 use Rattle.bt_air.specs.Reading.{Reading}
 use Rattle.bt_air.specs.Field.{Left, Read, number_in, command_in, last_command_in, edition_in, mark_in, due_in, terminal_in, flag_in, beams_in, mode_count_in, duration_in, downlink_in, burst_count_in, start_in, burst_length_in}
 
@@ -132,9 +130,19 @@ fields_in kind left =
     if kind == 6 then reference_in left else
     if kind == 7 then lost_in left else Err A2
 
--- the message that all of the bytes are: its kind, its fields, and nothing behind them
+-- a message: its kind, and its fields
+abbrev pub message_in : Left → Read Message
+message_in left = do
+  kind ← number_in w8 left
+  fields_in kind.0 kind.1
+
+-- nothing is left
+abbrev pub end_in : Left → Reading (Unit {0})
+end_in left = if length left.bytes == 0 then Ok tt else Err (A4 left.place)
+
+-- the message that all of the bytes are
 abbrev pub message_of : List ℕ → Reading Message
 message_of bytes = do
-  kind ← number_in w8 (record { bytes = bytes; place = 0 })
-  message ← fields_in kind.0 kind.1
-  if length message.1.bytes == 0 then Ok message.0 else Err (A4 message.1.place)
+  message ← message_in (record { bytes = bytes; place = 0 })
+  end ← end_in message.1
+  Ok message.0

@@ -14,4 +14,5 @@ mod unread;
 pub use fault::AirFault;
 pub use message::Message;
 pub use order::{Armed, LAST_MARK, Order, Status};
+pub use reader::decode;
 pub use sent::{Act, Answer, Heard, Place, Sent, Taken};

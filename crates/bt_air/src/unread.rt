@@ -2,6 +2,8 @@
 ghost use Rattle.std.specs.Prelude.{◌≡◌, ◌≤◌, ◌==◌, length};
 ghost use Rattle.std.specs.Int.{w8, w16, w32};
 ghost use Rattle.bt_air.specs.Field.{Takes, number_in, ranged_in};
+ghost use Rattle.bt_air.specs.MessageText.{end_in};
+ghost use Rattle.bt_air.specs.Reading.{Gives};
 
 use crate::AirFault;
 use std::marker::Model;
@@ -29,8 +31,7 @@ impl<'a> Unread<'a> {
     /// All the bytes of a message.
     pub fn of(bytes: &'a [u8]) -> Self
         requires { length bytes.now ≤ 67108864 }
-        ensures bytes { result.bytes ≡ bytes.now }
-        ensures place { result.place ≡ 0 }
+        ensures { result ≡ record { bytes = bytes.now; place = 0 } }
     {
         Unread { bytes, place: 0 }
     }
@@ -42,11 +43,15 @@ impl<'a> Unread<'a> {
         self.place
     }
 
-    /// Whether none are left.
-    pub fn is_empty(&self) -> bool
-        ensures { result ≡ (length self.now.bytes == 0) }
+    /// Nothing, if none are left.
+    pub fn end(&self) -> Result<(), AirFault>
+        ensures { Gives (λ nothing. nothing) result (end_in self.now) }
     {
-        self.bytes.is_empty()
+        if self.bytes.is_empty() {
+            Ok(())
+        } else {
+            Err(AirFault::A4 { place: self.place })
+        }
     }
 
     /// The number that the next byte is.
