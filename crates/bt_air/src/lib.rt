@@ -10,9 +10,11 @@ mod order;
 mod reader;
 mod sent;
 mod unread;
+mod writer;
 
 pub use fault::AirFault;
 pub use message::Message;
 pub use order::{Armed, LAST_MARK, Order, Status};
 pub use reader::decode;
 pub use sent::{Act, Answer, Heard, Place, Sent, Taken};
+pub use writer::encode;
