@@ -1,3 +1,8 @@
-pub mod Several
-pub mod Steps
-pub mod InOrder
+mod Several
+mod Steps
+mod InOrder
+mod Codec
+mod Fields
+mod ModesRead
+mod BurstsRead
+mod MessagesRead

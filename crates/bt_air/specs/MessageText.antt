@@ -33,14 +33,19 @@ mode_in beams left = do
   perm ← several_in (downlink_in beams) beams duration.1
   Ok (record { duration = duration.0; perm = perm.0 }, perm.1)
 
+-- modes: how many beams each of them has, how many they are, and each of them
+abbrev pub modes_in : Left → Read (List Mode)
+modes_in left = do
+  beams ← beams_in left
+  count ← mode_count_in beams.0 beams.1
+  several_in (mode_in beams.0) count.0 count.1
+
 -- the modes with which the satellite is loaded
 abbrev pub load_in : Left → Read Message
 load_in left = do
   command ← command_in left
   edition ← edition_in command.1
-  beams ← beams_in edition.1
-  count ← mode_count_in beams.0 beams.1
-  modes ← several_in (mode_in beams.0) count.0 count.1
+  modes ← modes_in edition.1
   Ok (messages.Load command.0 edition.0 modes.0, modes.1)
 
 -- the change for which the satellite is armed

@@ -1,5 +1,5 @@
 -- How a message is spelled: its kind, and its fields one behind the other, each number high byte first.
-use Rattle.std.specs.Prelude.{ℕ, length, List, [], ◌∷◌, ◌++◌, Option, Some, None}
+use Rattle.std.specs.Prelude.{ℕ, ◌<◌, All, length, List, [], ◌∷◌, ◌++◌, Option, Some, None}
 use Rattle.std.specs.List.{flat_map}
 use Rattle.std.specs.Int.{w16, w32, to_be_bytes}
 use Rattle.bt_base.specs.declared.mode.Mode.{Mode}
@@ -8,6 +8,10 @@ use Rattle.bt_air.specs.declared.message.Message.{Message}
 use Rattle.bt_air.specs.declared.message.Message.TheVariants.{Load, Arm, Status, PlanFor, Confirm, Reference, Lost}
 use Rattle.bt_air.specs.declared.order.Armed.{Armed}
 use Rattle.bt_air.specs.declared.order.Status.{Status as Telemetry}
+
+-- each number is one that a byte can be
+abbrev pub AreBytes : List ℕ → Type 0
+AreBytes bytes = All (λ byte. byte < 256) bytes
 
 -- the four bytes of a number
 abbrev pub word : ℕ → List ℕ

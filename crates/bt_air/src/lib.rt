@@ -5,6 +5,7 @@
 
 mod fault;
 mod field;
+mod laws;
 mod message;
 mod order;
 mod reader;
@@ -13,6 +14,7 @@ mod unread;
 mod writer;
 
 pub use fault::AirFault;
+pub use laws::messages_have_one_spelling;
 pub use message::Message;
 pub use order::{Armed, LAST_MARK, Order, Status};
 pub use reader::decode;

@@ -1,7 +1,7 @@
 // Reading a message from its bytes.
 ghost use Rattle.std.specs.Prelude.{◌≡◌, ◌≤◌, length, None, vec_len, IfOk};
 ghost use Rattle.bt_air.specs.Field.{Takes, edition_in, downlink_in};
-ghost use Rattle.bt_air.specs.MessageText.{arm_in, armed_in, burst_in, bursts_in, confirm_in, fields_in, is_less_than, load_in, lost_in, message_in, message_of, mode_in, optional_in, plan_for_in, reference_in, several_in, status_in};
+ghost use Rattle.bt_air.specs.MessageText.{arm_in, armed_in, burst_in, bursts_in, confirm_in, fields_in, is_less_than, load_in, lost_in, message_in, message_of, mode_in, modes_in, optional_in, plan_for_in, reference_in, several_in, status_in};
 ghost use Rattle.bt_air.specs.Reading.{Gives};
 
 use crate::unread::Unread;
@@ -51,9 +51,7 @@ fn load(alloc: Global, bytes: &mut Unread<'_>) -> Result<Message, AirFault>
 {
     let command = bytes.command()?;
     let edition = bytes.edition()?;
-    let beams = bytes.beams()?;
-    let count = bytes.mode_count(beams)?;
-    let modes = modes(alloc, beams, count, bytes)?;
+    let modes = modes(alloc, bytes)?;
     Ok(Message::Load {
         command,
         edition,
@@ -61,8 +59,22 @@ fn load(alloc: Global, bytes: &mut Unread<'_>) -> Result<Message, AirFault>
     })
 }
 
+// Modes: how many beams each of them has, how many they are, and each of them.
+fn modes(alloc: Global, bytes: &mut Unread<'_>) -> Result<Modes, AirFault>
+    ensures { Takes (λ modes. modes) result bytes.new (modes_in bytes.old) }
+{
+    let beams = bytes.beams()?;
+    let count = bytes.mode_count(beams)?;
+    several_modes(alloc, beams, count, bytes)
+}
+
 // So many modes for so many beams.
-fn modes(alloc: Global, beams: u8, count: u16, bytes: &mut Unread<'_>) -> Result<Modes, AirFault>
+fn several_modes(
+    alloc: Global,
+    beams: u8,
+    count: u16,
+    bytes: &mut Unread<'_>,
+) -> Result<Modes, AirFault>
     ensures { Takes (λ modes. modes) result bytes.new (several_in (mode_in beams) count bytes.old) }
 {
     let mut modes = Vec::new(alloc);

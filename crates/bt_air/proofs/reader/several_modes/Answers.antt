@@ -4,7 +4,7 @@ use Rattle.std.proofs.lemmas.List.{length-append}
 use Rattle.std.proofs.lemmas.Result.{err_from_is_err_and}
 use Rattle.bt_air.specs.MessageText.{mode_in, several_in}
 use Rattle.bt_air.proofs.Several.{goes_on, stops}
-use Rattle.bt_air.proofs.reader.modes.Goals as goal
+use Rattle.bt_air.proofs.reader.several_modes.Goals as goal
 
 pub returns-in_err-mode : goal.returns-in_err-mode
 returns-in_err-mode c =
