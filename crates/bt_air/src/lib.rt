@@ -20,3 +20,6 @@ pub use order::{Armed, LAST_MARK, Order, Status};
 pub use reader::decode;
 pub use sent::{Act, Answer, Heard, Place, Sent, Taken};
 pub use writer::encode;
+
+#[cfg(test)]
+mod tests;
