@@ -1,6 +1,9 @@
 //! The vocabulary of the air: orders to the satellite, messages byte by byte, and who hears them.
 //!
-//! `docs/formats.md` has each message with its offsets.
+//! `docs/formats.md` has each message with its fields. `specs/Field.antt` has the fields with their ranges,
+//! `specs/MessageText.antt` each kind of message as its fields, with the fault of each, `specs/Spelling.antt` the one
+//! spelling of each message, and `specs/Range.antt` which messages have one; `laws.rt` has what holds of them whatever
+//! the program does.
 #![tactic(auto)]
 
 mod fault;

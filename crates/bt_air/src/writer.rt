@@ -58,7 +58,8 @@ fn write_load(
     bytes: &mut Vec<u8>,
 ) -> Result<(), OutOfMemory>
     requires { AreModes modes.now }
-    ensures { OnOk result (bytes.new.items ≡ bytes.old.items ++ message_bytes (Message.Load command edition modes.now)) }
+    ensures { OnOk result (bytes.new.items ≡ bytes.old.items ++ message_bytes
+        (Message.Load command edition modes.now)) }
 {
     bytes.push(1)?;
     write_word(command.0, bytes)?;
