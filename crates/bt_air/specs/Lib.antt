@@ -1,0 +1,5 @@
+pub mod Reading
+pub mod Field
+pub mod MessageText
+pub mod Spelling
+pub mod Range

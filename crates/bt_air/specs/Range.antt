@@ -1,0 +1,86 @@
+-- Which messages have a spelling: those with each field in its range.
+use Rattle.std.specs.Prelude.{◌≡◌, ℕ, ◌<◌, ◌≤◌, length, List, IfSome, All, AllPairs}
+use Rattle.bt_base.specs.declared.mode.Mode.{Mode}
+use Rattle.bt_base.specs.declared.numbers.Command.{Command}
+use Rattle.bt_base.specs.declared.numbers.Mark.{Mark}
+use Rattle.bt_base.specs.declared.numbers.TermNo.{TermNo}
+use Rattle.bt_plan.specs.declared.burst.Burst.{Burst}
+use Rattle.bt_plan.specs.Burst.{IsNotAfter}
+use Rattle.bt_air.specs.declared.message.Message.{Message}
+use Rattle.bt_air.specs.declared.message.Message.TheVariants.{Load, Arm, Status, PlanFor, Confirm, Reference, Lost}
+use Rattle.bt_air.specs.declared.order.Armed.{Armed}
+use Rattle.bt_air.specs.declared.order.Status.{Status as Telemetry}
+use Rattle.bt_air.specs.Spelling.{beams_of}
+
+-- the number lies from `least` to `most`
+abbrev pub IsWithin : ℕ → ℕ → ℕ → Type 0
+IsWithin least most number = (least ≤ number) × (number ≤ most)
+
+-- any number of four bytes
+abbrev pub IsWord : ℕ → Type 0
+IsWord number = IsWithin 0 4294967295 number
+
+-- commands are counted from 1
+abbrev pub IsCommand : Command → Type 0
+IsCommand command = IsWithin 1 4294967295 command.0
+
+-- a superframe is at most the last mark
+abbrev pub IsMark : Mark → Type 0
+IsMark mark = IsWithin 0 4000000000 mark.0
+
+-- a superframe to come is not the first
+abbrev pub IsDue : Mark → Type 0
+IsDue due = IsWithin 1 4000000000 due.0
+
+-- there are at most 64 terminals
+abbrev pub IsTerminal : TermNo → Type 0
+IsTerminal terminal = IsWithin 0 63 terminal.0
+
+-- a mode of so many beams, each with one of them as its downlink
+pub record IsModeOf (beams : ℕ) (mode : Mode) : Type 0 where
+  pub duration : IsWithin 1 4096 mode.duration
+  pub width : length mode.perm ≡ beams
+  pub downlinks : All (λ down. down < beams) mode.perm
+
+-- modes that a message can carry: all for equally many beams, and for one at least where there are any
+pub record AreModes (modes : List Mode) : Type 0 where
+  pub beams : beams_of modes ≤ 16
+  pub some : 0 < length modes → 0 < beams_of modes
+  pub count : length modes ≤ 4096
+  pub each : All (IsModeOf (beams_of modes)) modes
+
+-- a change that is to come
+pub record IsArmed (armed : Armed) : Type 0 where
+  pub edition : IsWord armed.edition.0
+  pub due : IsDue armed.due
+
+-- what the satellite can say of itself
+pub record IsStatus (status : Telemetry) : Type 0 where
+  pub mark : IsMark status.mark
+  pub fore : IsWord status.fore.0
+  pub back : IsWord status.back.0
+  pub armed : IfSome status.armed IsArmed
+  pub last : IsWord status.last.0
+
+-- a burst that the terminal sends, within the slots of a frame's traffic part
+pub record IsBurstOf (from : TermNo) (burst : Burst) : Type 0 where
+  pub sender : burst.from ≡ from
+  pub receiver : IsTerminal burst.to
+  pub start : IsWithin 0 4095 burst.start
+  pub slots : IsWithin 1 4096 burst.length
+
+-- bursts that a message can carry to the terminal that sends them
+pub record AreBurstsOf (from : TermNo) (bursts : List Burst) : Type 0 where
+  pub count : length bursts ≤ 4096
+  pub each : All (IsBurstOf from) bursts
+  pub ordered : AllPairs IsNotAfter bursts
+
+-- each field of the message is in its range
+abbrev pub IsInRange : Message → Type 0
+IsInRange (Load command edition modes) = IsCommand command × IsWord edition.0 × AreModes modes
+IsInRange (Arm command edition due) = IsCommand command × IsWord edition.0 × IsDue due
+IsInRange (Status status) = IsStatus status
+IsInRange (PlanFor to edition bursts) = IsTerminal to × IsWord edition.0 × AreBurstsOf to bursts
+IsInRange (Confirm from edition) = IsTerminal from × IsWord edition.0
+IsInRange (Reference superframe in_force) = IsMark superframe × IfSome in_force (λ edition. IsWord edition.0)
+IsInRange (Lost from) = IsTerminal from
