@@ -1,5 +1,6 @@
 // A bank of the on-board switch.
-ghost use Rattle.std.specs.Prelude.{◌≡◌, []};
+ghost use Rattle.std.specs.Prelude.{◌≡◌};
+ghost use Rattle.bt_switch.specs.Satellite.{empty_bank};
 
 use bt_base::{EditionNo, Modes};
 use std::alloc::Global;
@@ -14,8 +15,7 @@ pub(crate) struct Bank {
 impl Bank {
     /// A bank of edition 0, without modes.
     pub(crate) fn empty(alloc: Global) -> Bank
-        ensures edition { result.edition.0 ≡ 0 }
-        ensures modes { result.modes ≡ [] }
+        ensures { result ≡ empty_bank }
     {
         Bank {
             edition: EditionNo(0),

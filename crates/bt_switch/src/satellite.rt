@@ -1,5 +1,5 @@
 // The satellite, a machine that takes commands and counts superframes.
-ghost use Rattle.std.specs.Prelude.{◌≡◌, ◌≤◌, ◌<◌, ◌↔◌, IfSome, IsNone};
+ghost use Rattle.std.specs.Prelude.{◌≡◌, ◌<◌, ◌≤◌, ◌↔◌, IfSome, IsNone};
 ghost use Rattle.bt_matrix.specs.Good.{total_duration};
 ghost use Rattle.bt_switch.specs.Slots.{HasSlot};
 ghost use Rattle.bt_switch.specs.Satellite.{new_at, step_of, ticked, status_of, is_due};
@@ -85,8 +85,30 @@ impl Satellite {
         ensures state { self.new ≡ (step_of self.old message).1 }
     {
         let answer = self.answer_to(&message);
-        if answer == Taken::Accepted {
-            self.carry_out(message);
+        match (answer, message) {
+            (
+                Taken::Accepted,
+                Message::Load {
+                    command,
+                    edition,
+                    modes,
+                },
+            ) => {
+                self.back = Bank { edition, modes };
+                self.last = command;
+            }
+            (
+                Taken::Accepted,
+                Message::Arm {
+                    command,
+                    edition,
+                    due,
+                },
+            ) => {
+                self.armed = Some(Armed { edition, due });
+                self.last = command;
+            }
+            _other => {}
         }
         answer
     }
@@ -107,32 +129,6 @@ impl Satellite {
             Message::Arm { due, .. } if *due <= self.mark                 => TooLate,
             Message::Arm { .. }                                           => Accepted,
             _                                                             => NotForMe,
-        }
-    }
-
-    // The effects of the table: what is done where it says `Accepted`.
-    fn carry_out(&mut self, message: Message)
-        requires { (step_of self.old message).0 ≡ Taken.Accepted }
-        ensures { self.new ≡ (step_of self.old message).1 }
-    {
-        match message {
-            Message::Load {
-                command,
-                edition,
-                modes,
-            } => {
-                self.back = Bank { edition, modes };
-                self.last = command;
-            }
-            Message::Arm {
-                command,
-                edition,
-                due,
-            } => {
-                self.armed = Some(Armed { edition, due });
-                self.last = command;
-            }
-            _other => {}
         }
     }
 

@@ -1,5 +1,5 @@
 // The terminal, a machine that takes reference bursts and its bursts of two editions.
-ghost use Rattle.std.specs.Prelude.{◌≡◌, ◌⊎◌};
+ghost use Rattle.std.specs.Prelude.{◌≡◌};
 ghost use Rattle.bt_plan.specs.Burst.{AreBursts};
 ghost use Rattle.bt_term.specs.Banks.{next_bank};
 ghost use Rattle.bt_term.specs.Terminal.{new_of, in_force, is_before, is_named, step_of, sent};
@@ -70,8 +70,30 @@ impl Terminal {
         ensures state { self.new ≡ (step_of self.old mark message).1 }
     {
         let answer = self.answer_to(mark, &message);
-        if answer == Heard::Took || answer == Heard::Stored {
-            self.carry_out(mark, message);
+        match (answer, message) {
+            (
+                Heard::Took,
+                Message::Reference {
+                    superframe,
+                    in_force,
+                },
+            ) => {
+                self.heard = Some(Reference {
+                    superframe,
+                    in_force,
+                });
+            }
+            (
+                Heard::Stored,
+                Message::PlanFor {
+                    edition,
+                    bursts,
+                    ..
+                },
+            ) => {
+                self.banks.store(Bank { edition, bursts });
+            }
+            _other => {}
         }
         answer
     }
@@ -92,32 +114,6 @@ impl Terminal {
             Message::PlanFor { .. } if self.is_in_use(mark)                     => InUse,
             Message::PlanFor { .. }                                             => Stored,
             _                                                                   => NotForMe,
-        }
-    }
-
-    // The effects of the table: what is done where it says `Took` or `Stored`.
-    fn carry_out(&mut self, mark: Mark, message: Message)
-        requires { ((step_of self.old mark message).0 ≡ Heard.Took) ⊎ ((step_of self.old mark message).0 ≡ Heard.Stored) }
-        ensures { self.new ≡ (step_of self.old mark message).1 }
-    {
-        match message {
-            Message::Reference {
-                superframe,
-                in_force,
-            } => {
-                self.heard = Some(Reference {
-                    superframe,
-                    in_force,
-                });
-            }
-            Message::PlanFor {
-                edition,
-                bursts,
-                ..
-            } => {
-                self.banks.store(Bank { edition, bursts });
-            }
-            _other => {}
         }
     }
 
