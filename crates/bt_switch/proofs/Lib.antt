@@ -1,0 +1,4 @@
+mod Rows
+mod Ascending
+mod Standing
+mod Ahead
