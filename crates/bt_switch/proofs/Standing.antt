@@ -1,7 +1,6 @@
--- A satellite is what its accepted orders say.
-use Rattle.std.proofs.Common.{◌≡◌, ◌⊎◌, inl, inr, ℕ, ◌+◌, ◌<◌, ◌≤◌, nat_le, true, false, List, [], ◌∷◌, ◌++◌, reverse, Option, Some, None, refl, sym, ◌∙◌, arith, subst, append_assoc}
+-- How a satellite stands after the orders that it accepted: idle, or armed by the last of them.
+use Rattle.std.proofs.Common.{◌≡◌, ◌⊎◌, inl, inr, ℕ, ◌+◌, ◌<◌, ◌≤◌, List, [], ◌∷◌, ◌++◌, reverse, Option, Some, None, refl, sym, arith, subst, append_assoc}
 use Rattle.std.proofs.lemmas.List.{append-nil, reverse-append}
-use Rattle.std.proofs.lemmas.Bool.Decides.{nat_tests}
 use Rattle.bt_base.specs.declared.mode.Mode.{Mode}
 use Rattle.bt_base.specs.declared.numbers.Command.{Command}
 use Rattle.bt_base.specs.declared.numbers.EditionNo.{EditionNo}
@@ -11,7 +10,7 @@ use Rattle.bt_air.specs.declared.order.Order.{Order}
 use Rattle.bt_air.specs.declared.order.Order.TheVariants.{Load, Arm}
 use Rattle.bt_switch.specs.Satellite.{State, new_at, ticked, changed, begun, loaded, with_armed}
 use Rattle.bt_switch.specs.Run.{Event, Begins, Hears, accepted, accepted_with, after_event, state_after}
-use Rattle.bt_switch.specs.Orders.{last_command, last_arm, to_come, fore_at, edition_of, ready_after, StandsFor}
+use Rattle.bt_switch.specs.Orders.{last_command, last_arm, edition_of, ready_after}
 use Rattle.bt_switch.proofs.Rows.{Nothing, Loads, Arms, does, ticked-idle, ticked-early, ticked-due}
 
 -- each Arm of the orders is due by this superframe
@@ -25,18 +24,6 @@ past-next : (orders : List Order) (mark : ℕ) → ArePast orders mark → ArePa
 past-next [] mark past = tt
 past-next (Load command edition ∷ earlier) mark past = past-next earlier mark past
 past-next (Arm command edition due ∷ earlier) mark past = let h : due.0 ≤ mark = past.0 in (omega arith, past-next earlier mark past.1)
-
--- where all Arms are past, none is to come
-past-to_come : (orders : List Order) (mark : ℕ) → ArePast orders mark → to_come (last_arm orders) mark ≡ None
-past-to_come [] mark past = refl
-past-to_come (Load command edition ∷ earlier) mark past = past-to_come earlier mark past
-past-to_come (Arm command edition due ∷ earlier) mark past = let h : due.0 ≤ mark = past.0 in let e : nat_le due.0 mark ≡ true = grind (arith, nat_tests) in rw e refl
-
--- where all Arms are past, the last of them is in front
-past-fore_at : (orders : List Order) (mark : ℕ) → ArePast orders mark → fore_at orders mark ≡ edition_of (last_arm orders)
-past-fore_at [] mark past = refl
-past-fore_at (Load command edition ∷ earlier) mark past = past-fore_at earlier mark past
-past-fore_at (Arm command edition due ∷ earlier) mark past = let h : due.0 ≤ mark = past.0 in let e : nat_le due.0 mark ≡ true = grind (arith, nat_tests) in rw e refl
 
 -- a satellite with nothing armed
 pub record IsIdle (orders : List Order) (s : State) : Type 0 where
@@ -174,35 +161,3 @@ new_stands mark = inl (record { armed = refl; past = tt; fore = refl; back = ref
 -- every run of a new satellite
 pub after_stands : (mark : Mark) (events : List Event) → Stands (reverse (accepted (new_at mark) events)) (state_after (new_at mark) events)
 after_stands mark events = rw append-nil at (run_stands [] (new_at mark) events (new_stands mark))
-
--- with nothing armed
-idle_says : (orders : List Order) (s : State) → IsIdle orders s → StandsFor orders s
-idle_says orders s idle =
-    let none : to_come (last_arm orders) s.mark.0 ≡ None = past-to_come orders s.mark.0 idle.past in record {
-      last = idle.last;
-      armed = idle.armed ∙ sym none;
-      fore = idle.fore ∙ sym (past-fore_at orders s.mark.0 idle.past);
-      back = rw none idle.back;
-    }
-
--- with a change to come
-waits_says : (orders : List Order) (s : State) → Waits orders s → StandsFor orders s
-waits_says orders s waits =
-    let h : s.mark.0 < waits.change.due.0 = waits.ahead in
-    let e : nat_le waits.change.due.0 s.mark.0 ≡ false = grind (arith, nat_tests) in
-    let P : List Order → Type 0 = λ list. StandsFor list s in
-    subst P (sym waits.by_last) (record {
-      last = waits.last;
-      armed = rw e waits.armed;
-      fore = rw e (waits.fore ∙ sym (past-fore_at waits.earlier s.mark.0 waits.past));
-      back = rw e waits.back;
-    })
-
--- what the orders say, with or without a change to come
-says : (orders : List Order) (s : State) → Stands orders s → StandsFor orders s
-says orders s (inl idle) = idle_says orders s idle
-says orders s (inr waits) = waits_says orders s waits
-
--- after every run a satellite is what the orders say that it accepted
-pub stands_for : (mark : Mark) (events : List Event) → StandsFor (reverse (accepted (new_at mark) events)) (state_after (new_at mark) events)
-stands_for mark events = says (reverse (accepted (new_at mark) events)) (state_after (new_at mark) events) (after_stands mark events)

@@ -14,3 +14,6 @@ pub use laws::{
     satellites_stand_for_their_orders, some_run_changes,
 };
 pub use satellite::Satellite;
+
+#[cfg(test)]
+mod tests;

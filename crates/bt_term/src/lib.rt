@@ -15,3 +15,6 @@ pub use laws::{
     unheard_superframes_are_silent,
 };
 pub use terminal::Terminal;
+
+#[cfg(test)]
+mod tests;

@@ -1,4 +1,4 @@
-use Rattle.bt_switch.proofs.Standing.{stands_for}
+use Rattle.bt_switch.proofs.Said.{stands_for}
 use Rattle.bt_switch.proofs.laws.satellites_stand_for_their_orders.Goals as goal
 
 pub returns : goal.returns
