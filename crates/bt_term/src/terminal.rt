@@ -31,6 +31,8 @@ impl Model for Terminal {
 
 impl Terminal {
     /// The terminal of this number: both banks empty, nothing heard.
+    ///
+    /// Empty banks need no allocator. It is taken as by every constructor of a type that keeps lists.
     pub fn new(_alloc: Global, number: TermNo) -> Terminal
         ensures { result ≡ new_of number }
     {
