@@ -1,0 +1,5 @@
+mod Rows
+mod Ascending
+mod Standing
+mod Said
+mod Ahead

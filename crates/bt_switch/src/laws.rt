@@ -1,0 +1,45 @@
+// What holds of the table and of every run of a satellite.
+ghost use Rattle.std.specs.Prelude.{◌≡◌, ◌≢◌, ◌<◌, List, [], ◌∷◌, ◌++◌, reverse, AllPairs, Some};
+ghost use Rattle.bt_base.specs.declared.mode.Mode.{Mode};
+ghost use Rattle.bt_base.specs.declared.numbers.Mark.{Mark};
+ghost use Rattle.bt_air.specs.declared.message.Message.{Message};
+ghost use Rattle.bt_air.specs.declared.order.Armed.{Armed};
+ghost use Rattle.bt_switch.specs.Satellite.{State, new_at, step_of};
+ghost use Rattle.bt_switch.specs.Orders.{StandsFor};
+ghost use Rattle.bt_switch.specs.Run.{Event, a_change, accepted, command_of, state_after};
+
+use bt_air::{Message, Order, Taken};
+
+/// Every answer but `Accepted` changes nothing.
+pub fn refusals_change_nothing()
+    ensures { (s : State) (message : Message) → (step_of s message).0 ≢ Taken.Accepted → (step_of s message).1 ≡ s }
+{}
+
+/// The numbers of the orders that a satellite accepts ascend, whatever it hears.
+pub fn accepted_commands_ascend()
+    ensures { (mark : Mark) (events : List Event)
+        → AllPairs (λ a b. (command_of a).0 < (command_of b).0) (accepted (new_at mark) events) }
+{}
+
+/// After every run a satellite is what the orders say that it accepted: their last command, the change that is to
+/// come, and the editions in front and in the background.
+pub fn satellites_stand_for_their_orders()
+    ensures { (mark : Mark) (events : List Event)
+        → StandsFor (reverse (accepted (new_at mark) events)) (state_after (new_at mark) events) }
+{}
+
+/// Once a satellite is armed, the edition of the change is in front in the superframe that it names, whatever else
+/// the satellite hears.
+pub fn armed_edition_comes_to_the_front()
+    ensures { (mark : Mark) (before events : List Event) (armed : Armed)
+        → (state_after (new_at mark) before).armed ≡ Some armed
+        → (state_after (new_at mark) (before ++ events)).mark ≡ armed.due
+        → (state_after (new_at mark) (before ++ events)).fore.edition ≡ armed.edition }
+{}
+
+/// A run in which an order to load and one to arm are accepted, and the change is made.
+pub fn some_run_changes()
+    ensures accepted { (modes : List Mode) → accepted (new_at (record { 0 = 4 })) (a_change modes) ≡
+        Order.Load (record { 0 = 1 }) (record { 0 = 7 }) ∷ Order.Arm (record { 0 = 2 }) (record { 0 = 7 }) (record { 0 = 6 }) ∷ [] }
+    ensures state { (modes : List Mode) → (state_after (new_at (record { 0 = 4 })) (a_change modes)).fore ≡ record { edition = record { 0 = 7 }; modes = modes } }
+{}

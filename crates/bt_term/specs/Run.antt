@@ -1,0 +1,45 @@
+-- Runs of a terminal: messages that it hears, each in a superframe, and restarts, in any order.
+use Rattle.std.specs.Prelude.{◌≡◌, ◌≢◌, List, [], ◌∷◌, Option, Some, None}
+use Rattle.bt_base.specs.declared.numbers.Mark.{Mark}
+use Rattle.bt_plan.specs.declared.burst.Burst.{Burst}
+use Rattle.bt_air.specs.declared.message.Message.{Message}
+use Rattle.bt_air.specs.declared.message.Message.TheVariants as message
+use Rattle.bt_term.specs.declared.bank.Bank.{Bank}
+use Rattle.bt_term.specs.Terminal.{State, new_of, step_of}
+
+-- what happens to a terminal: it hears a message in a superframe, or it restarts
+pub data Event : Type 0 where
+  Hears : Mark → Message → Event
+  Restarts : Event
+
+-- the state after one event
+abbrev pub after_event : State → Event → State
+after_event s (Hears mark message) = (step_of s mark message).1
+after_event s Restarts = new_of s.number
+
+-- the state after a run
+abbrev pub state_after : State → List Event → State
+state_after s [] = s
+state_after s (event ∷ events) = state_after (after_event s event) events
+
+-- the message is the reference burst of a superframe
+abbrev pub IsReferenceOf : Mark → Message → Type 0
+IsReferenceOf mark (message.Reference superframe in_force) = superframe ≡ mark
+IsReferenceOf mark _ = ⊥
+
+-- the terminal takes the reference burst of a superframe, which it does only in that superframe
+abbrev pub Takes : Mark → Event → Type 0
+Takes mark (Hears at message) = (at ≡ mark) × IsReferenceOf mark message
+Takes mark Restarts = ⊥
+
+-- no two banks hold one edition
+abbrev pub AreDistinct : Option Bank → Option Bank → Type 0
+AreDistinct None second = Unit {0}
+AreDistinct (Some first) None = Unit {0}
+AreDistinct (Some first) (Some second) = first.edition ≢ second.edition
+
+-- the bursts of edition 2 come for terminal 0, and then the reference burst of superframe 7 that names it
+abbrev pub a_frame : List Burst → List Event
+a_frame bursts =
+    Hears (record { 0 = 7 }) (message.PlanFor (record { 0 = 0 }) (record { 0 = 2 }) bursts)
+    ∷ Hears (record { 0 = 7 }) (message.Reference (record { 0 = 7 }) (Some (record { 0 = 2 }))) ∷ []

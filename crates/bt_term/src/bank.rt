@@ -1,0 +1,10 @@
+// A bank of a terminal.
+use bt_base::EditionNo;
+use bt_plan::Bursts;
+
+/// The bursts that a terminal transmits under an edition.
+#[derive(Drop)]
+pub(crate) struct Bank {
+    pub(crate) edition: EditionNo,
+    pub(crate) bursts: Bursts,
+}

@@ -1,0 +1,9 @@
+// The reference burst as a terminal keeps it.
+use bt_base::{EditionNo, Mark};
+
+/// A reference burst: the superframe that it begins, and the edition in force, where it names one.
+#[derive(Clone, Copy)]
+pub(crate) struct Reference {
+    pub(crate) superframe: Mark,
+    pub(crate) in_force: Option<EditionNo>,
+}
