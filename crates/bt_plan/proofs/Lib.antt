@@ -11,4 +11,6 @@ pub mod Rows
 mod SameDemand
 mod Seen
 pub mod Spelled
+pub mod TrafficLines
 mod Walk
+mod Words

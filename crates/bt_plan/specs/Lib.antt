@@ -10,4 +10,6 @@ pub mod ScheduleSpelling
 pub mod Burst
 pub mod Plan
 pub mod PlanVerdict
+pub mod TerminalNames
 pub mod PlanSpelling
+pub mod TrafficText

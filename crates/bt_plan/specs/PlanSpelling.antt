@@ -1,17 +1,13 @@
 -- How a burst time plan is spelled: its lines, each as its words, and a newline behind each of them.
-use Rattle.std.specs.Prelude.{ℕ, ◌<◌, ◌≤◌, codes, decimal, length, map, unwrap_or, option_map, slice_get, List, [], ◌∷◌, ◌++◌, All, AllPairs}
+use Rattle.std.specs.Prelude.{ℕ, ◌<◌, ◌≤◌, codes, decimal, length, map, List, [], ◌∷◌, ◌++◌, All, AllPairs}
 use Rattle.bt_base.specs.Text.{spaced, ended}
 use Rattle.bt_base.specs.declared.numbers.EditionNo.{EditionNo}
-use Rattle.bt_base.specs.declared.numbers.TermNo.{TermNo}
 use Rattle.bt_net.specs.Network.{Net}
 use Rattle.bt_plan.specs.declared.burst.Burst.{Burst}
 use Rattle.bt_plan.specs.declared.plan.Plan.{Plan}
 use Rattle.bt_plan.specs.Burst.{IsNotAfter}
 use Rattle.bt_plan.specs.ScheduleSpelling.{length_line, critical_line, mode_line, IsInRange}
-
--- the name of a terminal, and nothing where the network has none of that number
-abbrev pub name_at : Net → TermNo → List ℕ
-name_at net terminal = unwrap_or (option_map (λ t. t.0) (slice_get net.terminals terminal.0)) []
+use Rattle.bt_plan.specs.TerminalNames.{name_at}
 
 -- `plan E`
 abbrev pub edition_line : EditionNo → List ℕ

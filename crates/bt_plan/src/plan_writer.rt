@@ -1,8 +1,9 @@
 // Writing a burst time plan as its text.
 ghost use Rattle.std.specs.Prelude.{◌≡◌, ◌<◌, ◌++◌, ◌∷◌, [], IfOk, OnOk, length, map};
 ghost use Rattle.bt_base.specs.Text.{ended};
-ghost use Rattle.bt_plan.specs.PlanSpelling.{name_at, edition_line, burst_line, plan_spelling};
+ghost use Rattle.bt_plan.specs.PlanSpelling.{edition_line, burst_line, plan_spelling};
 ghost use Rattle.bt_plan.specs.PlanVerdict.{AreBetweenTerminals};
+ghost use Rattle.bt_plan.specs.TerminalNames.{name_at};
 
 use crate::schedule_writer::{write_next, write_schedule};
 use crate::{Burst, Plan};

@@ -38,7 +38,7 @@ fn fault(line: u32) -> TextFault
 }
 
 // The word is this one.
-fn is_word(word: &[u8], name: &[u8]) -> bool
+pub(crate) fn is_word(word: &[u8], name: &[u8]) -> bool
     ensures { result ≡ is_word name.now word.now }
 {
     word == name
