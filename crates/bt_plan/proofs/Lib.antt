@@ -3,8 +3,12 @@ pub mod Faults
 pub mod Matrices
 pub mod ModeLines
 pub mod Links
+mod NamedTerminals
+mod OneBurst
+mod OnePlan
 mod OneText
 mod OneVerdict
+pub mod PlanLines
 pub mod Printed
 pub mod ReadBack
 pub mod Rows

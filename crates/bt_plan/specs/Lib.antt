@@ -13,3 +13,4 @@ pub mod PlanVerdict
 pub mod TerminalNames
 pub mod PlanSpelling
 pub mod TrafficText
+pub mod PlanText

@@ -15,6 +15,7 @@ mod lines;
 mod matrix_text;
 mod names;
 mod plan;
+mod plan_reader;
 mod plan_writer;
 mod schedule_check;
 mod schedule_reader;
@@ -32,6 +33,7 @@ pub use demand_laws::{
 pub use laws::{one_verdict, schedules_have_one_spelling};
 pub use matrix_text::read_matrix;
 pub use plan::Plan;
+pub use plan_reader::read_plan;
 pub use plan_writer::plan_text;
 pub use schedule_check::check_modes;
 pub use schedule_reader::read_schedule;
