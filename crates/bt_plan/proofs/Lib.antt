@@ -9,6 +9,7 @@ mod OnePlan
 mod OneText
 mod OneVerdict
 pub mod PlanLines
+mod PlanReadBack
 pub mod Printed
 pub mod ReadBack
 pub mod Rows
