@@ -17,5 +17,6 @@ mod SameDemand
 mod Seen
 pub mod Spelled
 pub mod TrafficLines
+mod FewLinks
 mod Walk
 mod Words

@@ -43,6 +43,13 @@ with_link-All P link (first ∷ rest) here all =
     (λ _. All-cons P link (first ∷ rest) here all)
     (λ _. All-cons P first (with_link link rest) (All-head P first rest all) (with_link-All P link rest here (All-tail P first rest all)))
 
+-- one link more
+pub length-with_link : (link : Link) (links : List Link) → length (with_link link links) ≡ length links + 1
+length-with_link link [] = refl
+length-with_link link (first ∷ rest) =
+    chosen (λ (ls : List Link). length ls ≡ length (first ∷ rest) + 1) (belongs_before link first) (link ∷ first ∷ rest) (first ∷ with_link link rest)
+    (λ _. omega arith) (λ _. omega (arith, length-with_link link rest))
+
 -- the link gains its units
 pub with_link-Gains : (link : Link) (links : List Link) → Gains links (with_link link links) link.from link.to link.units
 with_link-Gains link [] test =

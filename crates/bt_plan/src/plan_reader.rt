@@ -289,3 +289,106 @@ fn burst_between(
         _ => Err(fault(at)),
     }
 }
+
+#[cfg(test)]
+mod tests {
+    use super::*;
+    use crate::plan_text;
+    use bt_base::{BeamNo, Critical, TermNo};
+    use std::test::Fail;
+
+    const NETWORK: &str =
+        r#"{"beams":["N","S"],"terminals":[{"name":"A","beam":"N"},{"name":"B","beam":"S"}],"slots":4,"frames":4,"lead":2,"patience":3}"#;
+
+    #[test]
+    fn a_plan_is_read_and_written_back(rt: HostRuntime) -> Result<(), Fail> {
+        let text =
+            "plan 1\nlength 3\ncritical row 0\nmode 3 1 0\nburst 0 2 A B\nburst 0 2 A B\nburst 0 3 B A\nend\n";
+        let net = Network::read(rt.alloc(), NETWORK.as_bytes())?;
+        let plan = read_plan(rt.alloc(), &net, text.as_bytes())?;
+        assert_eq!(rt; plan.edition, EditionNo(1));
+        assert_eq!(rt; plan.schedule.length, 3);
+        assert_eq!(rt; plan.schedule.critical, Critical::Row(BeamNo(0)));
+        assert_eq!(rt; plan.schedule.modes.as_slice().len(), 1);
+        let (a, b) = (TermNo(0), TermNo(1));
+        let first = Burst {
+            from: a,
+            to: b,
+            start: 0,
+            length: 2,
+        };
+        let last = Burst {
+            from: b,
+            to: a,
+            start: 0,
+            length: 3,
+        };
+        assert_eq!(rt; plan.bursts.as_slice(), [first, first, last].as_slice());
+        let written = plan_text(rt.alloc(), &net, &plan)?;
+        assert_eq!(rt; written.as_slice(), text.as_bytes());
+        Ok(())
+    }
+
+    #[test]
+    fn the_first_fault_of_a_plan_is_named(rt: HostRuntime) -> Result<(), Fail> {
+        use TextCode::*;
+        let faults = [
+            ("", P1, 1),
+            ("plan 4294967296\nlength 3\n", P1, 1),
+            ("plan 1\nlength 65537\n", P1, 2),
+            ("plan 1\nlength 3\ncritical row 2\n", P1, 3),
+            ("plan 1\nlength 3\ncritical row 0\n", P1, 4),
+            ("plan 1\nlength 3\ncritical row 0\nend", P1, 4),
+            ("plan 1\nlength 3\ncritical row 0\nend\n\n", P1, 5),
+            ("plan 1\nlength 3\ncritical row 0\nmode 3 1\nend\n", P1, 4),
+            (
+                "plan 1\nlength 3\ncritical row 0\nburst 0 1 A B\nmode 3 1 0\nend\n",
+                P1,
+                5,
+            ),
+            (
+                "plan 1\nlength 3\ncritical row 0\nburst 0 0 A B\nend\n",
+                P1,
+                4,
+            ),
+            (
+                "plan 1\nlength 3\ncritical row 0\nburst 0 65537 Q B\nend\n",
+                P1,
+                4,
+            ),
+            (
+                "plan 1\nlength 3\ncritical row 0\nburst 65536 1 A B\nend\n",
+                P1,
+                4,
+            ),
+            (
+                "plan 1\nlength 3\ncritical row 0\nburst 0 1 A 2\nend\n",
+                P1,
+                4,
+            ),
+            (
+                "plan 1\nlength 3\ncritical row 0\nburst 0 1 A Q\nend\n",
+                P2,
+                4,
+            ),
+            (
+                "plan 1\nlength 3\ncritical row 0\nburst 1 1 A B\nburst 0 1 B Q\nend\n",
+                P2,
+                5,
+            ),
+            (
+                "plan 1\nlength 3\ncritical row 0\nburst 0 1 B A\nburst 0 1 A B\nend\n",
+                P3,
+                5,
+            ),
+        ];
+        let net = Network::read(rt.alloc(), NETWORK.as_bytes())?;
+        for (text, code, line) in faults {
+            let bytes = text.as_bytes();
+            assert!(rt; bytes.len() <= 1000);
+            let fault = read_plan(rt.alloc(), &net, bytes).err();
+            assert_eq!(rt; fault, Some(TextFault::At { code, line }), "of {text:?}");
+        }
+        Ok(())
+    }
+}

@@ -1,5 +1,5 @@
 // The text of a demand: a line for each link, in any order.
-ghost use Rattle.std.specs.Prelude.{◌≡◌, ◌<◌, ◌≤◌, ◌≢◌, length, map, IfOk, IfErr, OnOk, IsTrue};
+ghost use Rattle.std.specs.Prelude.{◌≡◌, ◌+◌, ◌<◌, ◌≤◌, ◌≢◌, length, map, IfOk, IfErr, OnOk, IsTrue};
 ghost use Rattle.bt_base.specs.Text.{words, lines};
 ghost use Rattle.bt_plan.specs.Reading.{Gives};
 ghost use Rattle.bt_plan.specs.TerminalNames.{are_names};
@@ -22,7 +22,6 @@ const UNITS_LAST: u64 = 4096;
 ///
 /// Whether it fits the slots of the network is for the caller to ask.
 pub fn read_demand(alloc: Global, net: &Network, bytes: &[u8]) -> Result<Demand, TextFault>
-    requires short { length bytes.now ≤ 67108864 }
     ensures reading { Gives (λ demand. demand) result (demand_of net.now bytes.now) }
     ensures terminals { IfOk result (AreOfNetwork net.now) }
     ensures sums { IfOk result (λ demand. HasSumsTo SUM_LAST (matrix_of net.now demand)) }
@@ -55,6 +54,7 @@ fn add_line(
     ensures reading { Gives (λ _. demand.new) result
         (line_with net.now at demand.old (words line.now)) }
     ensures read { OnOk result (AreRead net.now demand.new matrix.new) }
+    ensures count { OnOk result (length demand.new ≡ length demand.old + 1) }
 {
     let link = link_line(alloc, net, at, line)?;
     add_link(alloc, net, at, link, demand, matrix)
@@ -73,6 +73,7 @@ fn add_link(
     requires read { AreRead net.now demand.old matrix.old }
     ensures reading { Gives (λ _. demand.new) result (links_with net.now at demand.old link) }
     ensures read { OnOk result (AreRead net.now demand.new matrix.new) }
+    ensures count { OnOk result (length demand.new ≡ length demand.old + 1) }
 {
     if demand.units(link.from, link.to) > 0 {
         return Err(fault_at(TextCode::T5, at));
@@ -181,4 +182,65 @@ fn link_between(at: u32, ends: (TermNo, TermNo), units: u32) -> Result<Link, Tex
         return Err(fault_at(TextCode::T4, at));
     }
     Ok(Link { from, to, units })
+}
+
+#[cfg(test)]
+mod tests {
+    use super::*;
+    use std::test::Fail;
+
+    const NETWORK: &str =
+        r#"{"beams":["N","S"],"terminals":[{"name":"A","beam":"N"},{"name":"B","beam":"S"},{"name":"C","beam":"N"}],"slots":4,"frames":4,"lead":2,"patience":3}"#;
+
+    #[test]
+    fn links_are_read_in_any_order(rt: HostRuntime) -> Result<(), Fail> {
+        let texts: [(&str, &[(u8, u8, u32)]); 3] = [
+            // text, and the links as from, to and units
+            ("", &[]),
+            ("link A B 3\nlink B A 2\n", &[(0, 1, 3), (1, 0, 2)]),
+            (
+                "link C B 1\nlink A C 4096\nlink A B 1\n",
+                &[(0, 1, 1), (0, 2, 4096), (2, 1, 1)],
+            ),
+        ];
+        let net = Network::read(rt.alloc(), NETWORK.as_bytes())?;
+        for (text, want) in texts {
+            let demand = read_demand(rt.alloc(), &net, text.as_bytes())?;
+            let mut links = Vec::new(rt.alloc());
+            for link in demand.as_slice() {
+                links.push((link.from.0, link.to.0, link.units))?;
+            }
+            assert_eq!(rt; links.as_slice(), want, "of {text:?}");
+        }
+        Ok(())
+    }
+
+    #[test]
+    fn the_first_fault_of_a_demand_is_named(rt: HostRuntime) -> Result<(), Fail> {
+        use TextCode::*;
+        let faults = [
+            ("link A B 3", T1, 1),
+            ("\n", T1, 1),
+            ("link A B\n", T1, 1),
+            ("link A B 3 4\n", T1, 1),
+            ("links A B 3\n", T1, 1),
+            ("link A 2 3\n", T1, 1),
+            ("link A B 03\n", T1, 1),
+            ("link A  B 3\n", T1, 1),
+            ("link A B 3\n\n", T1, 2),
+            ("link Q Q 0\n", T2, 1),
+            ("link A all 3\n", T2, 1),
+            ("link A A 0\n", T3, 1),
+            ("link A B 4097\n", T3, 1),
+            ("link A B 99999999999999999999999\n", T3, 1),
+            ("link A A 3\n", T4, 1),
+            ("link A B 3\nlink B A 2\nlink A B 1\n", T5, 3),
+        ];
+        let net = Network::read(rt.alloc(), NETWORK.as_bytes())?;
+        for (text, code, line) in faults {
+            let fault = read_demand(rt.alloc(), &net, text.as_bytes()).err();
+            assert_eq!(rt; fault, Some(TextFault::At { code, line }), "of {text:?}");
+        }
+        Ok(())
+    }
 }

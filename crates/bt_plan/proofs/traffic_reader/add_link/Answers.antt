@@ -4,7 +4,7 @@ use Rattle.bt_matrix.specs.Traffic.{row_sum, column_sum, IsTraffic}
 use Rattle.bt_plan.specs.declared.demand.Link.{Link}
 use Rattle.bt_plan.specs.Traffic.{matrix_of, AreOfNetwork}
 use Rattle.bt_plan.proofs.Matrices.{length-matrix_of, added}
-use Rattle.bt_plan.proofs.TrafficLines.{next, row_passes, column_passes, both_fit, still_traffic, with_link-All, is_with_link}
+use Rattle.bt_plan.proofs.TrafficLines.{next, length-with_link, row_passes, column_passes, both_fit, still_traffic, with_link-All, is_with_link}
 use Rattle.bt_plan.proofs.traffic_reader.add_link.Goals as goal
 
 row_is : (matrix rows : List (List ℕ)) (up sum : ℕ) → matrix ≡ rows → sum ≡ row_sum matrix up → sum ≡ row_sum rows up
@@ -57,3 +57,6 @@ returns-clause-read c =
       traffic = subst (λ (links : List Link). IsTraffic (matrix_of c.args.net.now links)) (sym is) (still_traffic c.args.net.now c.args.demand.now c.args.link c.beam_of-up.result c.beam_of-down.result (omega (arith, c.units.ensures, c.if-units-gt0.false)) c.requires.read.traffic c.beam_of-up.ensures.beam c.beam_of-down.ensures.beam c.beam_of-up.ensures.in_range c.beam_of-down.ensures.in_range (omega (arith, row_is c.args.matrix.now (matrix_of c.args.net.now c.args.demand.now) c.beam_of-up.result.0 c.row_sum.result c.requires.read.matrix c.row_sum.ensures, c.if-row_sum-link-gt-SUM_LAST.false)) (omega (arith, column_is c.args.matrix.now (matrix_of c.args.net.now c.args.demand.now) c.beam_of-down.result.0 c.column_sum.result c.requires.read.matrix c.column_sum.ensures, c.if-column_sum-link-gt-SUM_LAST.false)));
       matrix = added c.args.matrix.now c.add-2.new.self _ (matrix_of c.args.net.now c.add.new.self) _ _ _ c.requires.read.matrix c.add-2.ensures.rows (ap (matrix_of c.args.net.now) is ∙ next c.args.net.now c.args.demand.now c.args.link c.beam_of-up.result c.beam_of-down.result (omega (arith, c.units.ensures, c.if-units-gt0.false)) c.requires.read.traffic c.beam_of-up.ensures.beam c.beam_of-down.ensures.beam c.beam_of-up.ensures.in_range c.beam_of-down.ensures.in_range);
     }
+
+pub returns-clause-count : goal.returns-clause-count
+returns-clause-count c = ap length (is_with_link c.args.link c.args.demand.now c.add.new.self c.requires.read.demand c.in_ok-add.ensures.demand (record { differ = c.requires.link.differ; some = c.requires.link.some; few = omega (arith, c.requires.link.few) }) (omega (arith, c.units.ensures, c.if-units-gt0.false)) c.in_ok-add.ensures.ok) ∙ length-with_link c.args.link c.args.demand.now
