@@ -139,14 +139,14 @@ column_sum-le n f g down below le =
     omega (arith, first, second, sum_by-le-sum_by (λ (i : ℕ). at (map (f i) (beams_to n))) (λ (i : ℕ). at (map (g i) (beams_to n))) (beams_to n) each)
 
 -- the sums of the lines of an entry that gained
-row_sum-gained : (rows : List (List ℕ)) (up down units : ℕ) → up < length rows → down < length (row_of rows up)
+pub row_sum-gained : (rows : List (List ℕ)) (up down units : ℕ) → up < length rows → down < length (row_of rows up)
     → row_sum (with_entry rows up down (entry rows up down + units)) up ≡ row_sum rows up + units
 row_sum-gained rows up down units in_rows in_row =
     let number = entry rows up down + units in
     let changed = sum_by-set (λ (x : ℕ). x) (row_of rows up) down number 0 in_row in
     ap sum (get_or-set_same rows up (slice_set (row_of rows up) down number) [] in_rows) ∙ omega (arith, changed)
 
-column_sum-gained : (rows : List (List ℕ)) (up down units : ℕ) → up < length rows → down < length (row_of rows up)
+pub column_sum-gained : (rows : List (List ℕ)) (up down units : ℕ) → up < length rows → down < length (row_of rows up)
     → column_sum (with_entry rows up down (entry rows up down + units)) down ≡ column_sum rows down + units
 column_sum-gained rows up down units in_rows in_row =
     let number = entry rows up down + units in

@@ -24,26 +24,26 @@ use Rattle.bt_plan.proofs.ReadBack.{lines_from_modes, mode_numbers-small}
 use Rattle.bt_plan.proofs.Spelled.{bind_ok, ok_is}
 
 -- a value that a test let through
-let_through : {A : Type 0} (b : Bool) (o : Option A) (x : A) → cond b o None ≡ Some x → (b ≡ true) × (o ≡ Some x)
+pub let_through : {A : Type 0} (b : Bool) (o : Option A) (x : A) → cond b o None ≡ Some x → (b ≡ true) × (o ≡ Some x)
 let_through true o x is = (refl, is)
 let_through false o x is = absurd cc
 
-or_fault_ok : {A : Type 0} (code : TextCode) (line : ℕ) (o : Option A) (x : A) → or_fault {Fault = Fault} (code, line) o ≡ Ok x → o ≡ Some x
+pub or_fault_ok : {A : Type 0} (code : TextCode) (line : ℕ) (o : Option A) (x : A) → or_fault {Fault = Fault} (code, line) o ≡ Ok x → o ≡ Some x
 or_fault_ok code line None x is = absurd cc
 or_fault_ok {A} code line (Some y) x is = ap (λ (z : A). Some z) (ok_is y x is)
 
-is_word-same : (name word : List ℕ) → is_word name word ≡ true → word ≡ name
+pub is_word-same : (name word : List ℕ) → is_word name word ≡ true → word ≡ name
 is_word-same name word is = (bytes_eq-Decides word name).0 is
 
 -- the length
-number_to-spelled : (most : ℕ) (word : List ℕ) (n : ℕ) → most < 2 ^ 64 → number_to most word ≡ Some n → (word ≡ decimal n) × (n ≤ most)
+pub number_to-spelled : (most : ℕ) (word : List ℕ) (n : ℕ) → most < 2 ^ 64 → number_to most word ≡ Some n → (word ≡ decimal n) × (n ≤ most)
 number_to-spelled most word n small is =
     option_and_then_some (λ m. cond (leb m most) (Some m) None) (number_of word) n is (λ m read tested.
     let parts = cond_some (leb m most) m n tested in
     let within : n ≤ most = rw (← parts.1) (leb-true m most parts.0) in
     (decimal_from_number_of word n (omega arith) (read ∙ ap (λ (k : ℕ). Some k) parts.1), within))
 
-length_spelled : (ws : List (List ℕ)) (slots : ℕ) → length_in ws ≡ Some slots → (ws ≡ codes "length" ∷ decimal slots ∷ []) × (slots ≤ 65536)
+pub length_spelled : (ws : List (List ℕ)) (slots : ℕ) → length_in ws ≡ Some slots → (ws ≡ codes "length" ∷ decimal slots ∷ []) × (slots ≤ 65536)
 length_spelled [] slots is = absurd cc
 length_spelled (name ∷ []) slots is = absurd cc
 length_spelled (name ∷ word ∷ []) slots is =
@@ -71,7 +71,7 @@ of_kind size n kind critical within (inl row) =
 of_kind size n kind critical within (inr column) =
     subst (IsCriticalLine size (codes "critical" ∷ kind ∷ decimal n ∷ [])) column.0 (ap (λ k. spaced (codes "critical" ∷ k ∷ decimal n ∷ [])) column.1, within)
 
-critical_spelled : (size : ℕ) (ws : List (List ℕ)) (critical : Critical) → size ≤ 16 → critical_in size ws ≡ Some critical → IsCriticalLine size ws critical
+pub critical_spelled : (size : ℕ) (ws : List (List ℕ)) (critical : Critical) → size ≤ 16 → critical_in size ws ≡ Some critical → IsCriticalLine size ws critical
 critical_spelled size [] critical few is = absurd cc
 critical_spelled size (name ∷ []) critical few is = absurd cc
 critical_spelled size (name ∷ kind ∷ []) critical few is = absurd cc
@@ -106,7 +106,7 @@ mode_with-spelled size (duration ∷ perm) mode is =
       },
     )
 
-mode_spelled : (size : ℕ) (ws : List (List ℕ)) (mode : Mode) → mode_in size ws ≡ Some mode → (ws ≡ codes "mode" ∷ map decimal (mode.duration ∷ mode.perm)) × IsModeInRange size mode
+pub mode_spelled : (size : ℕ) (ws : List (List ℕ)) (mode : Mode) → mode_in size ws ≡ Some mode → (ws ≡ codes "mode" ∷ map decimal (mode.duration ∷ mode.perm)) × IsModeInRange size mode
 mode_spelled size [] mode is = absurd cc
 mode_spelled size (name ∷ numbers) mode is =
     let named = let_through (is_word (codes "mode") name) (option_and_then (mode_with size) (numbers_of numbers)) mode is in

@@ -18,17 +18,17 @@ use Rattle.bt_plan.specs.ScheduleText.{is_word, number_to, length_in, line_in, c
 use Rattle.bt_plan.specs.ScheduleSpelling.{IsInRange, IsModeInRange, length_line, critical_line, mode_line, schedule_lines, schedule_spelling}
 
 -- the length
-number_to-decimal : (most n : ℕ) → n ≤ most → most < 2 ^ 64 → number_to most (decimal n) ≡ Some n
+pub number_to-decimal : (most n : ℕ) → n ≤ most → most < 2 ^ 64 → number_to most (decimal n) ≡ Some n
 number_to-decimal most n within small =
     ap (option_and_then (λ m. cond (leb m most) (Some m) None)) (number_of-decimal n (omega arith)) ∙ ap (λ b. cond b (Some n) None) (le-leb n most within)
 
-length_read : (slots : ℕ) → slots ≤ 65536 → length_in (words (length_line slots)) ≡ Some slots
+pub length_read : (slots : ℕ) → slots ≤ 65536 → length_in (words (length_line slots)) ≡ Some slots
 length_read slots within =
     ap length_in (words-spaced (codes "length" ∷ decimal slots ∷ []) (omega arith) (rw (lacks-decimal 32 slots refl (omega arith)) refl))
     ∙ number_to-decimal 65536 slots within (lit< tt)
 
 -- the critical line
-critical_read : (size : ℕ) (critical : Critical) → size ≤ 16 → IsOfBeams size critical → critical_in size (words (critical_line critical)) ≡ Some critical
+pub critical_read : (size : ℕ) (critical : Critical) → size ≤ 16 → IsOfBeams size critical → critical_in size (words (critical_line critical)) ≡ Some critical
 critical_read size (Row up) few within =
     ap (critical_in size) (words-spaced (codes "critical" ∷ codes "row" ∷ decimal up.0 ∷ []) (omega arith) (rw (lacks-decimal 32 up.0 refl (omega arith)) refl))
     ∙ ap (option_and_then (line_in size (codes "row"))) (number_of-decimal up.0 (omega arith))
@@ -52,7 +52,7 @@ mode_with-is : (size : ℕ) (mode : Mode) → IsModeInRange size mode → mode_w
 mode_with-is size mode range =
     rw (le-leb mode.duration 65536 range.duration, eq-eqb (length mode.perm) size range.beams, columns-small mode.perm range.columns) refl
 
-mode_read : (size : ℕ) (mode : Mode) → IsModeInRange size mode → mode_in size (words (mode_line mode)) ≡ Some mode
+pub mode_read : (size : ℕ) (mode : Mode) → IsModeInRange size mode → mode_in size (words (mode_line mode)) ≡ Some mode
 mode_read size mode range =
     let small = mode_numbers-small size mode range in
     ap (mode_in size) (words-spaced (codes "mode" ∷ map decimal (mode.duration ∷ mode.perm)) (omega arith) (lacks-decimals 32 (mode.duration ∷ mode.perm) refl small))
@@ -84,7 +84,7 @@ critical_and_modes-more size slots line [] some = absurd (omega arith)
 critical_and_modes-more size slots line (next ∷ rest) some = refl
 
 -- no line has a newline inside
-mode_line-lacks : (size : ℕ) (mode : Mode) → IsModeInRange size mode → lacks 10 (mode_line mode) ≡ true
+pub mode_line-lacks : (size : ℕ) (mode : Mode) → IsModeInRange size mode → lacks 10 (mode_line mode) ≡ true
 mode_line-lacks size mode range =
     lacks-spaced 10 (codes "mode" ∷ map decimal (mode.duration ∷ mode.perm)) refl ∙ lacks-decimals 10 (mode.duration ∷ mode.perm) refl (mode_numbers-small size mode range)
 
@@ -95,11 +95,11 @@ modes_lack size (mode ∷ modes) range =
     let behind = modes_lack size modes (All-tail (IsModeInRange size) mode modes range) in
     ap (λ b. b && list_all (lacks 10) (map mode_line modes ++ codes "end" ∷ [])) here ∙ behind
 
-length_line-lacks : (slots : ℕ) → slots ≤ 65536 → lacks 10 (length_line slots) ≡ true
+pub length_line-lacks : (slots : ℕ) → slots ≤ 65536 → lacks 10 (length_line slots) ≡ true
 length_line-lacks slots within =
     lacks-spaced 10 (codes "length" ∷ decimal slots ∷ []) refl ∙ rw (lacks-decimal 10 slots refl (omega arith)) refl
 
-critical_line-lacks : (size : ℕ) (critical : Critical) → size ≤ 16 → IsOfBeams size critical → lacks 10 (critical_line critical) ≡ true
+pub critical_line-lacks : (size : ℕ) (critical : Critical) → size ≤ 16 → IsOfBeams size critical → lacks 10 (critical_line critical) ≡ true
 critical_line-lacks size (Row up) few within =
     lacks-spaced 10 (codes "critical" ∷ codes "row" ∷ decimal up.0 ∷ []) refl ∙ rw (lacks-decimal 10 up.0 refl (omega arith)) refl
 critical_line-lacks size (Column down) few within =

@@ -8,22 +8,22 @@ use Rattle.bt_plan.specs.Demand.{Ends, ends_of, IsBefore, IsDemand, units_of}
 use Rattle.bt_plan.proofs.Links.{Says, says, before_trans, units_at, units_at-same, units_at-after, sum_by_none}
 
 -- the slots of a link with these ends
-abbrev units_for : List Link → Ends → ℕ
+abbrev pub units_for : List Link → Ends → ℕ
 units_for links e = units_of links e.0 e.1
 
 -- the first link's slots and those of the rest
-units_for-cons : (link : Link) (links : List Link) (e : Ends) → units_for (link ∷ links) e ≡ units_at e link + units_for links e
+pub units_for-cons : (link : Link) (links : List Link) (e : Ends) → units_for (link ∷ links) e ≡ units_at e link + units_for links e
 units_for-cons link links e = sum_by-cons (units_at e) link links
 
 -- the rest of a demand is one
-tail_is : (link : Link) (links : List Link) → IsDemand (link ∷ links) → IsDemand links
+pub tail_is : (link : Link) (links : List Link) → IsDemand (link ∷ links) → IsDemand links
 tail_is link links is = record {
   ordered = λ i j d lt within. is.ordered (suc i) (suc j) d (omega arith) (omega arith);
   each = λ k d within. is.each (suc k) d (omega arith);
 }
 
 -- the first link stands before the rest
-first_is_before : (link : Link) (links : List Link) → IsDemand (link ∷ links) → All (λ other. IsBefore (ends_of link) (ends_of other)) links
+pub first_is_before : (link : Link) (links : List Link) → IsDemand (link ∷ links) → All (λ other. IsBefore (ends_of link) (ends_of other)) links
 first_is_before link links is k d within = is.ordered 0 (suc k) d (omega arith) (omega arith)
 
 -- ends before those of the first link have no slots

@@ -19,12 +19,12 @@ bind_ok (Ok x) after y e = (x, refl, e)
 bind_ok (Err fault) after y e = absurd cc
 
 -- a test that did not fail
-guard_ok : {A : Type 0} (b : Bool) (fault : TextCode × ℕ) (x y : A) → cond b (Ok x) (Err fault) ≡ Ok y → (b ≡ true) × (x ≡ y)
+pub guard_ok : {A : Type 0} (b : Bool) (fault : TextCode × ℕ) (x y : A) → cond b (Ok x) (Err fault) ≡ Ok y → (b ≡ true) × (x ≡ y)
 guard_ok true fault x y e = (refl, cc)
 guard_ok false fault x y e = absurd cc
 
 -- the same, where another step follows
-guard_ok-then : {A : Type 0} (b : Bool) (fault : TextCode × ℕ) (reading : Reading A) (y : A) → cond b reading (Err fault) ≡ Ok y → (b ≡ true) × (reading ≡ Ok y)
+pub guard_ok-then : {A : Type 0} (b : Bool) (fault : TextCode × ℕ) (reading : Reading A) (y : A) → cond b reading (Err fault) ≡ Ok y → (b ≡ true) × (reading ≡ Ok y)
 guard_ok-then true fault reading y e = (refl, e)
 guard_ok-then false fault reading y e = absurd cc
 

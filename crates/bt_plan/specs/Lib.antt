@@ -10,3 +10,7 @@ pub mod ScheduleSpelling
 pub mod Burst
 pub mod Plan
 pub mod PlanVerdict
+pub mod TerminalNames
+pub mod PlanSpelling
+pub mod TrafficText
+pub mod PlanText

@@ -5,6 +5,9 @@
 //! the table of verdicts, `specs/MatrixText.antt` and `specs/ScheduleText.antt` the grammars, line by line, with the
 //! fault of each line, and `specs/ScheduleSpelling.antt` the one text of each schedule; `laws.rt` and
 //! `demand_laws.rt` have what holds of them whatever the program does.
+//!
+//! `specs/TrafficText.antt` and `specs/PlanText.antt` are the grammars of demands and of plans, and
+//! `specs/PlanSpelling.antt` has the one text of each plan.
 #![tactic(auto)]
 
 mod burst;
@@ -13,12 +16,16 @@ mod demand_laws;
 mod laws;
 mod lines;
 mod matrix_text;
+mod names;
 mod plan;
+mod plan_reader;
+mod plan_writer;
 mod schedule_check;
 mod schedule_reader;
 mod schedule_writer;
 mod text_fault;
 mod traffic;
+mod traffic_reader;
 mod verdict;
 
 pub use burst::{Burst, Bursts, MOST_BURSTS};
@@ -26,12 +33,15 @@ pub use demand::{Demand, Link};
 pub use demand_laws::{
     gain_adds_to_one_entry, gain_changes_one_link, links_tell_demands, small_demands_have_a_matrix,
 };
-pub use laws::{one_verdict, schedules_have_one_spelling};
+pub use laws::{one_verdict, plans_have_one_spelling, schedules_have_one_spelling};
 pub use matrix_text::read_matrix;
 pub use plan::Plan;
+pub use plan_reader::read_plan;
+pub use plan_writer::plan_text;
 pub use schedule_check::check_modes;
 pub use schedule_reader::read_schedule;
 pub use schedule_writer::schedule_text;
 pub use text_fault::{TextCode, TextFault};
 pub use traffic::traffic_of;
+pub use traffic_reader::read_demand;
 pub use verdict::Verdict;

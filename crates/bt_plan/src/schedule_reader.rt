@@ -26,7 +26,7 @@ pub fn read_schedule(alloc: Global, size: u32, bytes: &[u8]) -> Result<Schedule,
     let Some((line, rest)) = first_line(bytes) else {
         return Err(fault(1));
     };
-    let slots = length_line(alloc, line)?;
+    let slots = length_line(alloc, TextCode::M1, 1, line)?;
     critical_and_modes(alloc, size, slots, rest)
 }
 
@@ -38,14 +38,14 @@ fn fault(line: u32) -> TextFault
 }
 
 // The word is this one.
-fn is_word(word: &[u8], name: &[u8]) -> bool
+pub(crate) fn is_word(word: &[u8], name: &[u8]) -> bool
     ensures { result ≡ is_word name.now word.now }
 {
     word == name
 }
 
 // The number that the word is, at most `most`.
-fn number_to(most: u64, word: &[u8]) -> Option<u64>
+pub(crate) fn number_to(most: u64, word: &[u8]) -> Option<u64>
     requires { most < 2 ^ 64 - 1 }
     ensures { result ≡ number_to most word.now }
 {
@@ -53,12 +53,17 @@ fn number_to(most: u64, word: &[u8]) -> Option<u64>
     if number <= most { Some(number) } else { None }
 }
 
-// The length that the first line says.
-fn length_line(alloc: Global, line: &[u8]) -> Result<u32, TextFault>
-    ensures { Gives (λ slots. slots) result (or_fault (M1, 1) (length_in (words line.now))) }
+/// The length that line `at` says, or the fault of that code.
+pub(crate) fn length_line(
+    alloc: Global,
+    code: TextCode,
+    at: u32,
+    line: &[u8],
+) -> Result<u32, TextFault>
+    ensures { Gives (λ slots. slots) result (or_fault (code, at) (length_in (words line.now))) }
 {
     let words = words(alloc, line)?;
-    slots(&words).ok_or(fault(1))
+    slots(&words).ok_or(fault_at(code, at))
 }
 
 fn slots(words: &[&[u8]]) -> Option<u32>
@@ -87,7 +92,7 @@ fn critical_and_modes(
     let Some((line, rest)) = first_line(text) else {
         return Err(fault(2));
     };
-    let critical = critical_line(alloc, size, line)?;
+    let critical = critical_line(alloc, TextCode::M1, 2, size, line)?;
     let modes = modes(alloc, size, rest)?;
     Ok(Schedule {
         length: slots,
@@ -96,14 +101,20 @@ fn critical_and_modes(
     })
 }
 
-// The critical line that line 2 names.
-fn critical_line(alloc: Global, size: u32, line: &[u8]) -> Result<Critical, TextFault>
+/// The critical line that line `at` names, or the fault of that code.
+pub(crate) fn critical_line(
+    alloc: Global,
+    code: TextCode,
+    at: u32,
+    size: u32,
+    line: &[u8],
+) -> Result<Critical, TextFault>
     requires { size ≤ 16 }
     ensures { Gives (λ critical. critical) result
-        (or_fault (M1, 2) (critical_in size (words line.now))) }
+        (or_fault (code, at) (critical_in size (words line.now))) }
 {
     let words = words(alloc, line)?;
-    critical(size, &words).ok_or(fault(2))
+    critical(size, &words).ok_or(fault_at(code, at))
 }
 
 fn critical(size: u32, words: &[&[u8]]) -> Option<Critical>
@@ -176,57 +187,78 @@ fn mode_line(alloc: Global, size: u32, at: u32, line: &[u8]) -> Result<Mode, Tex
     ensures { Gives (λ mode. mode) result (or_fault (M1, at) (mode_in size (words line.now))) }
 {
     let words = words(alloc, line)?;
-    mode_of_words(alloc, size, at, &words)
+    mode_of_words(alloc, TextCode::M1, size, at, &words)
 }
 
-fn mode_of_words(alloc: Global, size: u32, at: u32, words: &[&[u8]]) -> Result<Mode, TextFault>
+/// The mode that the words of line `at` say, or the fault of that code.
+pub(crate) fn mode_of_words(
+    alloc: Global,
+    code: TextCode,
+    size: u32,
+    at: u32,
+    words: &[&[u8]],
+) -> Result<Mode, TextFault>
     requires { size ≤ 16 }
     ensures { Gives (λ mode. mode) result
-        (or_fault (M1, at) (mode_in size (map (λ word. word.now) words.now))) }
+        (or_fault (code, at) (mode_in size (map (λ word. word.now) words.now))) }
 {
     match words {
-        [name, values @ ..] if is_word(name, b"mode") => mode_of_values(alloc, size, at, values),
-        _ => Err(fault(at)),
+        [name, values @ ..] if is_word(name, b"mode") => mode_of_values(
+            alloc, code, size, at, values,
+        ),
+        _ => Err(fault_at(code, at)),
     }
 }
 
 // The mode whose duration and downlinks these words are.
-fn mode_of_values(alloc: Global, size: u32, at: u32, words: &[&[u8]]) -> Result<Mode, TextFault>
+fn mode_of_values(
+    alloc: Global,
+    code: TextCode,
+    size: u32,
+    at: u32,
+    words: &[&[u8]],
+) -> Result<Mode, TextFault>
     requires { size ≤ 16 }
     ensures { Gives (λ mode. mode) result
-        (or_fault (M1, at) (option_and_then (mode_with size) (numbers_of (map (λ word. word.now) words.now)))) }
+        (or_fault (code, at) (option_and_then (mode_with size) (numbers_of (map (λ word. word.now) words.now)))) }
 {
-    let numbers = numbers_of_words(alloc, TextCode::M1, at, words)?;
-    mode(alloc, size, at, &numbers)
+    let numbers = numbers_of_words(alloc, code, at, words)?;
+    mode(alloc, code, size, at, &numbers)
 }
 
 // A duration, and a downlink for each uplink beam.
-fn mode(alloc: Global, size: u32, at: u32, numbers: &[u64]) -> Result<Mode, TextFault>
+fn mode(
+    alloc: Global,
+    code: TextCode,
+    size: u32,
+    at: u32,
+    numbers: &[u64],
+) -> Result<Mode, TextFault>
     requires { size ≤ 16 }
-    ensures { Gives (λ mode. mode) result (or_fault (M1, at) (mode_with size numbers.now)) }
+    ensures { Gives (λ mode. mode) result (or_fault (code, at) (mode_with size numbers.now)) }
 {
     match numbers {
         [duration, perm @ ..] if *duration <= SLOTS_LAST && perm.len() == size as usize => {
-            let perm = columns(alloc, at, perm)?;
+            let perm = columns(alloc, code, at, perm)?;
             Ok(Mode {
                 duration: *duration as u32,
                 perm,
             })
         }
-        _ => Err(fault(at)),
+        _ => Err(fault_at(code, at)),
     }
 }
 
 // The downlinks, each at most 255.
-fn columns(alloc: Global, at: u32, numbers: &[u64]) -> Result<Columns, TextFault>
+fn columns(alloc: Global, code: TextCode, at: u32, numbers: &[u64]) -> Result<Columns, TextFault>
     requires { length numbers.now ≤ 16 }
     ensures { Gives (λ columns. columns) result
-        (if list_all (λ down. nat_le down 255) numbers.now then Ok numbers.now else Err (M1, at)) }
+        (if list_all (λ down. nat_le down 255) numbers.now then Ok numbers.now else Err (code, at)) }
 {
     let mut columns = Vec::with_capacity(alloc, numbers.len())?;
     for down in numbers {
         if *down > 255 {
-            return Err(fault(at));
+            return Err(fault_at(code, at));
         }
         columns.push(*down as u8)?;
     }

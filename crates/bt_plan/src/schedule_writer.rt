@@ -11,13 +11,26 @@ pub fn schedule_text(alloc: Global, schedule: &Schedule) -> Result<Vec<u8>, OutO
     ensures { IfOk result (λ text. text.items ≡ schedule_spelling schedule.now) }
 {
     let mut text = Vec::new(alloc);
-    write_length(alloc, schedule.length, &mut text)?;
-    write_critical(alloc, schedule.critical, &mut text)?;
-    for mode in schedule.modes.as_slice() {
-        write_mode(alloc, mode, &mut text)?;
-    }
+    write_schedule(alloc, schedule, &mut text)?;
     text.extend_from_slice(b"end\n")?;
     Ok(text)
+}
+
+// Appends the length, the critical line and the modes.
+pub(crate) fn write_schedule(
+    alloc: Global,
+    schedule: &Schedule,
+    text: &mut Vec<u8>,
+) -> Result<(), OutOfMemory>
+    ensures { OnOk result (text.new.items ≡ text.old.items ++ ended (length_line schedule.now.length
+        ∷ critical_line schedule.now.critical ∷ map mode_line schedule.now.modes)) }
+{
+    write_length(alloc, schedule.length, text)?;
+    write_critical(alloc, schedule.critical, text)?;
+    for mode in schedule.modes.as_slice() {
+        write_mode(alloc, mode, text)?;
+    }
+    Ok(())
 }
 
 // Appends `length L`.
@@ -58,7 +71,7 @@ fn write_mode(alloc: Global, mode: &Mode, text: &mut Vec<u8>) -> Result<(), OutO
 }
 
 // Appends one more number of a line, behind a space.
-fn write_next(alloc: Global, number: u64, text: &mut Vec<u8>) -> Result<(), OutOfMemory>
+pub(crate) fn write_next(alloc: Global, number: u64, text: &mut Vec<u8>) -> Result<(), OutOfMemory>
     ensures { OnOk result (text.new.items ≡ text.old.items ++ 32 ∷ decimal number) }
 {
     text.push(b' ')?;

@@ -1,0 +1,20 @@
+-- the edition, and what follows it
+use Rattle.std.proofs.lemmas.Result.{err_from_is_err_and}
+use Rattle.bt_base.specs.Reading.{or_fault}
+use Rattle.bt_base.specs.Text.{words, lines}
+use Rattle.bt_plan.specs.declared.text_fault.TextCode.TheVariants.{P1}
+use Rattle.bt_plan.specs.PlanText.{edition_in, length_behind}
+use Rattle.bt_plan.proofs.Faults.{IsFaultOf-then}
+use Rattle.bt_plan.proofs.PlanLines.{first_line_says}
+use Rattle.bt_plan.proofs.plan_reader.read_plan.Goals as goal
+
+pub returns-in_err-edition-clause-reading : goal.returns-in_err-edition-clause-reading
+returns-in_err-edition-clause-reading c =
+    let p = err_from_is_err_and c.from_residual.result c.from_residual.ensures.1 in
+    let rest = c.in-Some.rest.now in
+    rw (p.1, p.2, first_line_says 1 edition_in (length_behind c.args.net.now) (lines c.args.bytes.now) c.in-Some.line.now rest c.in-Some.ensures.line)
+    (IsFaultOf-then c.in_err-edition.field-0.0 (or_fault (P1, 1) (edition_in (words c.in-Some.line.now))) (λ edition. length_behind c.args.net.now edition (lines rest)) c.in_err-edition.ensures)
+
+pub returns-clause-reading : goal.returns-clause-reading
+returns-clause-reading c =
+    rw (first_line_says 1 edition_in (length_behind c.args.net.now) (lines c.args.bytes.now) c.in-Some.line.now c.in-Some.rest.now c.in-Some.ensures.line, c.in_ok-edition.ensures) c.length_behind.ensures.reading
