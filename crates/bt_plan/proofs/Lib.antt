@@ -1,5 +1,6 @@
 pub mod Capped
 pub mod Faults
+pub mod LatestEnds
 pub mod Matrices
 pub mod ModeLines
 pub mod Links

@@ -10,3 +10,4 @@ pub mod ScheduleSpelling
 pub mod Burst
 pub mod Plan
 pub mod PlanVerdict
+pub mod Meeting

@@ -13,6 +13,7 @@ mod demand_laws;
 mod laws;
 mod lines;
 mod matrix_text;
+mod meetings;
 mod plan;
 mod schedule_check;
 mod schedule_reader;
