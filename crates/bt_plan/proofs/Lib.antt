@@ -1,3 +1,4 @@
+pub mod Begins
 pub mod Capped
 pub mod Faults
 pub mod LatestEnds

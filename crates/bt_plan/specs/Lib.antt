@@ -11,3 +11,4 @@ pub mod Burst
 pub mod Plan
 pub mod PlanVerdict
 pub mod Meeting
+pub mod Span

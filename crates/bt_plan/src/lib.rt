@@ -18,6 +18,7 @@ mod plan;
 mod schedule_check;
 mod schedule_reader;
 mod schedule_writer;
+mod spans;
 mod text_fault;
 mod traffic;
 mod verdict;

@@ -1,11 +1,11 @@
 // Which two bursts of a plan meet first?
-ghost use Rattle.std.specs.Prelude.{◌≡◌, ◌+◌, ◌<◌, ◌≤◌, ◌↔◌, length, IsTrue, MatchOption, All, AllPairs};
-ghost use Rattle.bt_plan.specs.Burst.{IsNotAfter};
+ghost use Rattle.std.specs.Prelude.{◌<◌, ◌≤◌, ◌↔◌, length, IsTrue, MatchOption, All, AllPairs};
+ghost use Rattle.bt_plan.specs.Burst.{AreBursts, IsNotAfter};
 ghost use Rattle.bt_plan.specs.Plan.{ShareABeam};
 ghost use Rattle.bt_plan.specs.PlanVerdict.{Collide, AreApart, IsFirstMeeting, AreBetweenTerminals};
 ghost use Rattle.bt_plan.specs.Meeting.{ShareASlot, IsFirstMet, IsFirstLate};
 
-use crate::{Burst, Bursts, MOST_BURSTS};
+use crate::{Burst, MOST_BURSTS};
 use bt_net::Network;
 
 /// The most beams of a network.
@@ -14,13 +14,13 @@ const MOST_BEAMS: usize = 16;
 /// The places of the first burst that meets an earlier one and of the earliest that it meets, the earlier place first.
 ///
 /// It looks once at each burst, and once more at those before the one that it finds.
-pub(crate) fn first_meeting(net: &Network, bursts: &Bursts) -> Option<(u32, u32)>
-    requires { AreBetweenTerminals net.now bursts.now }
+pub(crate) fn first_meeting(net: &Network, bursts: &[Burst]) -> Option<(u32, u32)>
+    requires between { AreBetweenTerminals net.now bursts.now }
+    requires bursts { AreBursts bursts.now }
     ensures { MatchOption result
         (AreApart net.now bursts.now)
         (λ places. IsFirstMeeting net.now bursts.now places.0 places.1) }
 {
-    let bursts = bursts.as_slice();
     let Some(second) = first_late(net, bursts) else {
         return None;
     };
@@ -48,7 +48,7 @@ fn first_late(net: &Network, bursts: &[Burst]) -> Option<u32>
             if u64::from(burst.start) < free {
                 return Some(place as u32);
             }
-            let end = end_of(burst);
+            let end = burst.end();
             up_ends[up] = end;
             down_ends[down] = end;
         }
@@ -88,7 +88,7 @@ fn share_a_slot(a: Burst, b: Burst) -> bool
     ensures { IsTrue result ↔ ShareASlot a b }
 {
     let start = a.start.max(b.start);
-    u64::from(start) < end_of(a).min(end_of(b))
+    u64::from(start) < a.end().min(b.end())
 }
 
 /// Do both bursts go up in one beam, or come down in one?
@@ -98,11 +98,4 @@ fn share_a_beam(net: &Network, a: Burst, b: Burst) -> bool
     ensures { IsTrue result ↔ ShareABeam net.now a.from a.to b.from b.to }
 {
     net.beam_of(a.from) == net.beam_of(b.from) || net.beam_of(a.to) == net.beam_of(b.to)
-}
-
-/// The slot behind a burst's last one.
-fn end_of(burst: Burst) -> u64
-    ensures { result ≡ burst.start + burst.length }
-{
-    u64::from(burst.start) + u64::from(burst.length)
 }
