@@ -12,5 +12,6 @@ pub mod ReadBack
 pub mod Rows
 mod SameDemand
 mod Seen
+pub mod SentTable
 pub mod Spelled
 mod Walk

@@ -12,3 +12,4 @@ pub mod Plan
 pub mod PlanVerdict
 pub mod Meeting
 pub mod Span
+pub mod Unserved

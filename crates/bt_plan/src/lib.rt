@@ -12,6 +12,7 @@ mod demand;
 mod demand_laws;
 mod laws;
 mod lines;
+mod links_served;
 mod matrix_text;
 mod meetings;
 mod plan;
