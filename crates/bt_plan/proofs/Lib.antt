@@ -1,7 +1,9 @@
 pub mod Capped
+pub mod Counts
 pub mod Faults
 pub mod Matrices
 pub mod ModeLines
+pub mod LineSums
 pub mod Links
 mod OneText
 mod OneVerdict
@@ -11,4 +13,5 @@ pub mod Rows
 mod SameDemand
 mod Seen
 pub mod Spelled
+pub mod Triples
 mod Walk
