@@ -1,3 +1,4 @@
+pub mod BurstTriples
 pub mod Capped
 pub mod Counts
 pub mod Faults
@@ -7,6 +8,8 @@ pub mod LineSums
 pub mod Links
 mod OneText
 mod OneVerdict
+pub mod Pairs
+pub mod PlanParts
 pub mod Printed
 pub mod ReadBack
 pub mod Rows

@@ -30,7 +30,9 @@ pub use demand_laws::{
 pub use laws::{one_verdict, schedules_have_one_spelling};
 pub use matrix_text::read_matrix;
 pub use plan::Plan;
-pub use plan_laws::no_assignment_is_shorter;
+pub use plan_laws::{
+    good_plans_have_their_parts, no_assignment_is_shorter, plans_are_good_by_their_parts,
+};
 pub use schedule_check::check_modes;
 pub use schedule_reader::read_schedule;
 pub use schedule_writer::schedule_text;
