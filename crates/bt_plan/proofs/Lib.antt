@@ -2,10 +2,12 @@ pub mod BurstTriples
 pub mod Capped
 pub mod Counts
 pub mod Faults
+pub mod FirstPlaces
 pub mod Matrices
 pub mod ModeLines
 pub mod LineSums
 pub mod Links
+mod OnePlanVerdict
 mod OneText
 mod OneVerdict
 pub mod Pairs

@@ -31,7 +31,8 @@ pub use laws::{one_verdict, schedules_have_one_spelling};
 pub use matrix_text::read_matrix;
 pub use plan::Plan;
 pub use plan_laws::{
-    good_plans_have_their_parts, no_assignment_is_shorter, plans_are_good_by_their_parts,
+    good_plans_have_their_parts, no_assignment_is_shorter, one_plan_verdict,
+    plans_are_good_by_their_parts,
 };
 pub use schedule_check::check_modes;
 pub use schedule_reader::read_schedule;

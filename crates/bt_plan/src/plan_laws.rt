@@ -1,14 +1,15 @@
 // Laws of burst time plans. Each holds of all of them, so that nothing runs.
-ghost use Rattle.std.specs.Prelude.{ℕ, ◌<◌, ◌≤◌, List, length, All};
+ghost use Rattle.std.specs.Prelude.{◌≡◌, ℕ, ◌<◌, ◌≤◌, List, length, All};
 ghost use Rattle.bt_base.specs.declared.numbers.TermNo.{TermNo};
 ghost use Rattle.bt_base.specs.declared.schedule.Critical.{Critical};
 ghost use Rattle.bt_matrix.specs.Traffic.{line_sum, IsLine};
 ghost use Rattle.bt_net.specs.Network.{Net};
 ghost use Rattle.bt_plan.specs.declared.demand.Link.{Link};
 ghost use Rattle.bt_plan.specs.declared.plan.Plan.{Plan};
+ghost use Rattle.bt_plan.specs.declared.verdict.Verdict.{Verdict};
 ghost use Rattle.bt_plan.specs.Demand.{IsDemand};
 ghost use Rattle.bt_plan.specs.Plan.{Triple, Carries, IsHeld, IsGoodPlan};
-ghost use Rattle.bt_plan.specs.PlanVerdict.{AreApart, AreBetweenTerminals, HasGoodModes, IsServed};
+ghost use Rattle.bt_plan.specs.PlanVerdict.{AreApart, AreBetweenTerminals, HasGoodModes, IsPlanVerdict, IsServed};
 ghost use Rattle.bt_plan.specs.Traffic.{matrix_of, AreOfNetwork};
 
 /// No assignment whatever carries a demand in fewer slots than a line of its matrix asks for: the triples of one
@@ -39,4 +40,10 @@ pub fn good_plans_have_their_parts()
         → All (IsHeld net plan.schedule.modes) plan.bursts }
     ensures served { (net : Net) (links : List Link) (plan : Plan) → IsGoodPlan net links plan
         → (from to : TermNo) → IsServed links plan.bursts from to }
+{}
+
+/// A plan has at most one verdict for a demand.
+pub fn one_plan_verdict()
+    ensures { (net : Net) (links : List Link) (plan : Plan) (a b : Verdict) → IsDemand links
+        → IsPlanVerdict net links plan a → IsPlanVerdict net links plan b → a ≡ b }
 {}
