@@ -17,6 +17,7 @@ use Rattle.bt_plan.specs.declared.burst.Burst.{Burst}
 use Rattle.bt_plan.specs.Burst.{Covers}
 use Rattle.bt_plan.specs.Plan.{Triple, triples_of, all_triples, occurrences, Meet, IsHeld}
 use Rattle.bt_plan.specs.PlanVerdict.{Collide, AreApart, slots_sent}
+use Rattle.bt_plan.proofs.Counts.{sum_by-zeros}
 use Rattle.bt_plan.proofs.Pairs.{AllPairs-append, All-across, AllPairs-second, All-first, All-second}
 
 -- the triple of a burst in a slot
@@ -92,19 +93,16 @@ bursts_apart net (burst ∷ bursts) apart =
     in_each_burst (Apart (triple_in burst collide.slot)) bursts rest k d within collide.slot collide.second (record { slot = refl; beam = collide.beam }))
     (bursts_apart net bursts (AllPairs-second Apart (triples_of burst) (all_triples bursts) apart))
 
--- a link occurs in a burst of its own as often as that has slots
+-- so many ones, or nothing
 sum_by-ones : {X : Type 0} (xs : List X) → sum_by (λ (x : X). 1) xs ≡ length xs
 sum_by-ones [] = refl
 sum_by-ones (x ∷ xs) = omega (arith, sum_by-cons (λ x. 1) x xs, sum_by-ones xs)
 
-sum_by-nothing : {X : Type 0} (xs : List X) → sum_by (λ (x : X). 0) xs ≡ 0
-sum_by-nothing [] = refl
-sum_by-nothing (x ∷ xs) = omega (arith, sum_by-cons (λ x. 0) x xs, sum_by-nothing xs)
-
 if_ones : {X : Type 0} (test : Bool) (xs : List X) → sum_by (λ (x : X). if test then 1 else 0) xs ≡ (if test then length xs else 0)
 if_ones true xs = sum_by-ones xs
-if_ones false xs = sum_by-nothing xs
+if_ones false xs = sum_by-zeros xs
 
+-- a link occurs in a burst of its own as often as that has slots
 occurrences-burst : (burst : Burst) (from to : TermNo)
     → occurrences (triples_of burst) from to ≡ (if burst.from.0 == from.0 && burst.to.0 == to.0 then burst.length else 0)
 occurrences-burst burst from to =

@@ -23,7 +23,7 @@ sum_by-add f g [] = refl
 sum_by-add f g (x ∷ xs) = omega (arith, sum_by-cons (λ x. f x + g x) x xs, sum_by-cons f x xs, sum_by-cons g x xs, sum_by-add f g xs)
 
 -- a sum of zeros
-sum_by-zeros : {X : Type 0} (xs : List X) → sum_by (λ (x : X). 0) xs ≡ 0
+pub sum_by-zeros : {X : Type 0} (xs : List X) → sum_by (λ (x : X). 0) xs ≡ 0
 sum_by-zeros xs = omega (arith, sum_by-le (λ x. 0) 0 xs (λ k d within. omega arith))
 
 -- sums over two lists may be taken in either order

@@ -1,5 +1,5 @@
 -- A plan is good by its modes and its bursts, and a good plan has such modes and bursts.
-use Rattle.std.proofs.Common.{◌≡◌, ℕ, ◌<◌, ◌≤◌, ◌==◌, ◌&&◌, if◌then◌else◌, List, length, get_or, All, sym, ◌∙◌, arith, inl, inr}
+use Rattle.std.proofs.Common.{◌≡◌, ◌⊎◌, ℕ, ◌<◌, ◌≤◌, ◌==◌, ◌&&◌, if◌then◌else◌, List, length, get_or, All, sym, ◌∙◌, arith, inl, inr}
 use Rattle.std.proofs.lemmas.Bool.{cases_lt}
 use Rattle.std.proofs.lemmas.Bool.Decides.{nat_tests}
 use Rattle.bt_base.specs.declared.numbers.TermNo.{TermNo}
@@ -16,31 +16,21 @@ use Rattle.bt_plan.proofs.Triples.{line_sum-le-slots}
 use Rattle.bt_plan.proofs.BurstTriples.{triples_apart, bursts_apart, All-all_triples, occurrences-all_triples, held_within}
 
 -- ends beyond the network's terminals are not those of a link or burst between them
-share_outside : (a b from to most units : ℕ) → a < most → most ≤ from → (if a == from && b == to then units else 0) ≡ 0
-share_outside a b from to most units below outside = grind (arith, nat_tests)
-
-share_outside_too : (a b from to most units : ℕ) → b < most → most ≤ to → (if a == from && b == to then units else 0) ≡ 0
-share_outside_too a b from to most units below outside = grind (arith, nat_tests)
+share_outside : (a b from to most units : ℕ) → a < most → b < most → (most ≤ from) ⊎ (most ≤ to) → (if a == from && b == to then units else 0) ≡ 0
+share_outside a b from to most units sends receives (inl past) = grind (arith, nat_tests)
+share_outside a b from to most units sends receives (inr past) = grind (arith, nat_tests)
 
 -- no link asks for slots beyond the network's terminals, and no burst sends any
-pub served_outside : (net : Net) (links : List Link) (bursts : List Burst) → AreOfNetwork net links → AreBetweenTerminals net bursts → (from to : TermNo)
-    → length net.terminals ≤ from.0 → IsServed links bursts from to
+served_outside : (net : Net) (links : List Link) (bursts : List Burst) → AreOfNetwork net links → AreBetweenTerminals net bursts → (from to : TermNo)
+    → (length net.terminals ≤ from.0) ⊎ (length net.terminals ≤ to.0) → IsServed links bursts from to
 served_outside net links bursts of_network between from to outside =
     let n = length net.terminals in
     let units = sum_by_none (λ (link : Link). if link.from.0 == from.0 && link.to.0 == to.0 then link.units else 0) links
-    (λ k d within. let link = get_or links k d in share_outside link.from.0 link.to.0 from.0 to.0 n link.units (of_network k d within).0 outside) in
+    (λ k d within. let link = get_or links k d in let ends = of_network k d within in
+    share_outside link.from.0 link.to.0 from.0 to.0 n link.units ends.0 ends.1 outside) in
     let slots = sum_by_none (λ (burst : Burst). if burst.from.0 == from.0 && burst.to.0 == to.0 then burst.length else 0) bursts
-    (λ k d within. let burst = get_or bursts k d in share_outside burst.from.0 burst.to.0 from.0 to.0 n burst.length (between k d within).0 outside) in
-    slots ∙ sym units
-
-pub served_outside_too : (net : Net) (links : List Link) (bursts : List Burst) → AreOfNetwork net links → AreBetweenTerminals net bursts → (from to : TermNo)
-    → length net.terminals ≤ to.0 → IsServed links bursts from to
-served_outside_too net links bursts of_network between from to outside =
-    let n = length net.terminals in
-    let units = sum_by_none (λ (link : Link). if link.from.0 == from.0 && link.to.0 == to.0 then link.units else 0) links
-    (λ k d within. let link = get_or links k d in share_outside_too link.from.0 link.to.0 from.0 to.0 n link.units (of_network k d within).1 outside) in
-    let slots = sum_by_none (λ (burst : Burst). if burst.from.0 == from.0 && burst.to.0 == to.0 then burst.length else 0) bursts
-    (λ k d within. let burst = get_or bursts k d in share_outside_too burst.from.0 burst.to.0 from.0 to.0 n burst.length (between k d within).1 outside) in
+    (λ k d within. let burst = get_or bursts k d in let ends = between k d within in
+    share_outside burst.from.0 burst.to.0 from.0 to.0 n burst.length ends.0 ends.1 outside) in
     slots ∙ sym units
 
 -- all links are served, where those between the network's terminals are
@@ -50,9 +40,9 @@ pub all_served : (net : Net) (links : List Link) (bursts : List Burst) → AreOf
 all_served net links bursts of_network between inside from to = elim (cases_lt from.0 (length net.terminals)) [
   | inl sends ↦ elim (cases_lt to.0 (length net.terminals)) [
     | inl receives ↦ inside from to sends receives
-    | inr past ↦ served_outside_too net links bursts of_network between from to past
+    | inr past ↦ served_outside net links bursts of_network between from to (inr past)
   ]
-  | inr past ↦ served_outside net links bursts of_network between from to past
+  | inr past ↦ served_outside net links bursts of_network between from to (inl past)
 ]
 
 -- bursts that lie within modes, do not meet and serve each link carry the demand

@@ -3,8 +3,8 @@
 //!
 //! `specs/Demand.antt` says what a demand is, and `specs/Traffic.antt` what its matrix is. `specs/Verdict.antt` has
 //! the table of verdicts, `specs/MatrixText.antt` and `specs/ScheduleText.antt` the grammars, line by line, with the
-//! fault of each line, and `specs/ScheduleSpelling.antt` the one text of each schedule; `laws.rt` and
-//! `demand_laws.rt` have what holds of them whatever the program does.
+//! fault of each line, and `specs/ScheduleSpelling.antt` the one text of each schedule; `laws.rt`,
+//! `demand_laws.rt` and `plan_laws.rt` have what holds of them whatever the program does.
 #![tactic(auto)]
 
 mod burst;
