@@ -101,6 +101,7 @@ none_holds net modes burst span at past held =
 pub is_first_unheld : (net : Net) (modes : List Mode) (xs : List Burst) (i : ℕ) → i < length xs → All (IsHeld net modes) (take i xs)
     → ¬ (IsHeld net modes (get_or xs i no_burst)) → IsFirstWithout (IsHeld net modes) xs i
 is_first_unheld net modes xs i within earlier not_held = record {
+  within = within;
   earlier = earlier;
   broken = λ d. subst (λ (b : Burst). IsHeld net modes b → ⊥) (get_or_default xs i no_burst d within) not_held;
 }

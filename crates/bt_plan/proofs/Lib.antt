@@ -1,12 +1,19 @@
 pub mod Begins
+pub mod BurstTriples
 pub mod Capped
+pub mod Counts
 pub mod Faults
 pub mod LatestEnds
+pub mod FirstPlaces
 pub mod Matrices
 pub mod ModeLines
+pub mod LineSums
 pub mod Links
+mod OnePlanVerdict
 mod OneText
 mod OneVerdict
+pub mod Pairs
+pub mod PlanParts
 pub mod Printed
 pub mod ReadBack
 pub mod Rows
@@ -14,4 +21,5 @@ mod SameDemand
 mod Seen
 pub mod SentTable
 pub mod Spelled
+pub mod Triples
 mod Walk

@@ -3,8 +3,8 @@
 //!
 //! `specs/Demand.antt` says what a demand is, and `specs/Traffic.antt` what its matrix is. `specs/Verdict.antt` has
 //! the table of verdicts, `specs/MatrixText.antt` and `specs/ScheduleText.antt` the grammars, line by line, with the
-//! fault of each line, and `specs/ScheduleSpelling.antt` the one text of each schedule; `laws.rt` and
-//! `demand_laws.rt` have what holds of them whatever the program does.
+//! fault of each line, and `specs/ScheduleSpelling.antt` the one text of each schedule; `laws.rt`,
+//! `demand_laws.rt` and `plan_laws.rt` have what holds of them whatever the program does.
 #![tactic(auto)]
 
 mod burst;
@@ -16,6 +16,7 @@ mod links_served;
 mod matrix_text;
 mod meetings;
 mod plan;
+mod plan_laws;
 mod schedule_check;
 mod schedule_reader;
 mod schedule_writer;
@@ -32,6 +33,10 @@ pub use demand_laws::{
 pub use laws::{one_verdict, schedules_have_one_spelling};
 pub use matrix_text::read_matrix;
 pub use plan::Plan;
+pub use plan_laws::{
+    good_plans_have_their_parts, no_assignment_is_shorter, one_plan_verdict,
+    plans_are_good_by_their_parts,
+};
 pub use schedule_check::check_modes;
 pub use schedule_reader::read_schedule;
 pub use schedule_writer::schedule_text;
