@@ -18,6 +18,7 @@ pub mod Printed
 pub mod ReadBack
 pub mod Rows
 mod SameDemand
+pub mod SumsSoFar
 mod Seen
 pub mod SentTable
 pub mod Spelled

@@ -10,6 +10,7 @@
 mod burst;
 mod demand;
 mod demand_laws;
+mod demand_lines;
 mod laws;
 mod lines;
 mod links_served;
