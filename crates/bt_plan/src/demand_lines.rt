@@ -3,10 +3,11 @@ ghost use Rattle.std.specs.Prelude.{◌≡◌, ◌≤◌, ℕ, List, length, Mat
 ghost use Rattle.bt_matrix.specs.Dense.{KeepsSums};
 ghost use Rattle.bt_matrix.specs.Good.{IsLeast};
 ghost use Rattle.bt_matrix.specs.Traffic.{line_sum, IsLine, IsHeaviest};
+ghost use Rattle.bt_net.specs.Network.{IsWithin};
 ghost use Rattle.bt_plan.specs.Critical.{IsOfBeams};
 ghost use Rattle.bt_plan.specs.Traffic.{matrix_of, AreOfNetwork, HasSumsTo};
 
-use crate::Demand;
+use crate::Link;
 use bt_base::{Critical, Schedule};
 use bt_matrix::{SUM_LAST, heaviest_line};
 use bt_net::Network;
@@ -26,19 +27,19 @@ struct LineSums {
 /// It looks once at each link.
 pub(crate) fn heaviest_unless_least(
     net: &Network,
-    demand: &Demand,
+    links: &[Link],
     schedule: &Schedule,
 ) -> Option<(Critical, u32)>
-    requires of_network { AreOfNetwork net.now demand.now }
-    requires sums { HasSumsTo SUM_LAST (matrix_of net.now demand.now) }
+    requires of_network { AreOfNetwork net.now links.now }
+    requires sums { HasSumsTo SUM_LAST (matrix_of net.now links.now) }
     requires critical { IsOfBeams (length net.now.beams) schedule.now.critical }
     ensures { MatchOption result
-        (IsLeast (matrix_of net.now demand.now) schedule.now)
-        (λ heaviest. ¬ (IsLeast (matrix_of net.now demand.now) schedule.now)
-        × IsHeaviest (matrix_of net.now demand.now) heaviest.0 heaviest.1) }
+        (IsLeast (matrix_of net.now links.now) schedule.now)
+        (λ heaviest. ¬ (IsLeast (matrix_of net.now links.now) schedule.now)
+        × IsHeaviest (matrix_of net.now links.now) heaviest.0 heaviest.1) }
 {
     let beams = net.beam_count() as usize;
-    let sums = line_sums(net, demand);
+    let sums = line_sums(net, links);
     let (line, most) = heaviest_line(&sums.rows[..beams], &sums.columns[..beams]);
     let reached = sum_of_line(&sums, schedule.critical);
     if schedule.length == most && reached == most {
@@ -49,15 +50,15 @@ pub(crate) fn heaviest_unless_least(
 }
 
 /// The slots that each line asks for.
-fn line_sums(net: &Network, demand: &Demand) -> LineSums
-    requires of_network { AreOfNetwork net.now demand.now }
-    requires sums { HasSumsTo SUM_LAST (matrix_of net.now demand.now) }
-    ensures { KeepsSums (matrix_of net.now demand.now) result.rows result.columns }
+fn line_sums(net: &Network, links: &[Link]) -> LineSums
+    requires beams { IsWithin 1 16 (length net.now.beams) }
+    requires of_network { AreOfNetwork net.now links.now }
+    requires sums { HasSumsTo SUM_LAST (matrix_of net.now links.now) }
+    ensures { KeepsSums (matrix_of net.now links.now) result.rows result.columns }
 {
-    let _beams = net.beam_count();
     let mut rows = [0; MOST_BEAMS];
     let mut columns = [0; MOST_BEAMS];
-    for link in demand.as_slice() {
+    for link in links {
         let up = net.beam_of(link.from);
         let down = net.beam_of(link.to);
         rows[up.0 as usize] += link.units;

@@ -17,6 +17,7 @@ mod links_served;
 mod matrix_text;
 mod meetings;
 mod plan;
+mod plan_check;
 mod plan_laws;
 mod schedule_check;
 mod schedule_reader;
@@ -34,6 +35,7 @@ pub use demand_laws::{
 pub use laws::{one_verdict, schedules_have_one_spelling};
 pub use matrix_text::read_matrix;
 pub use plan::Plan;
+pub use plan_check::check;
 pub use plan_laws::{
     good_plans_have_their_parts, no_assignment_is_shorter, one_plan_verdict,
     plans_are_good_by_their_parts,
