@@ -8,6 +8,13 @@ pub record KeepsSums (rows : List (List ℕ)) (row_sums column_sums : List ℕ) 
   pub of_rows : (up : ℕ) → up < length rows → slice_index row_sums up ≡ row_sum rows up
   pub of_columns : (down : ℕ) → down < length rows → slice_index column_sums down ≡ column_sum rows down
 
+-- these are the sums of all rows of a matrix, and of all its columns
+pub record AreLineSums (rows : List (List ℕ)) (row_sums column_sums : List ℕ) : Type 0 where
+  pub each_row : length row_sums ≡ length rows
+  pub each_column : length column_sums ≡ length rows
+  pub of_rows : (up : ℕ) → up < length rows → slice_index row_sums up ≡ row_sum rows up
+  pub of_columns : (down : ℕ) → down < length rows → slice_index column_sums down ≡ column_sum rows down
+
 -- the greatest of these numbers, and the first place that has it
 pub record IsFirstGreatest (numbers : List ℕ) (place most : ℕ) : Type 0 where
   pub within : place < length numbers

@@ -1,9 +1,8 @@
 // A traffic matrix kept in whole, one vector a row.
 ghost use Rattle.std.specs.Prelude.{◌≡◌, ℕ, ◌-◌, ◌<◌, ◌≤◌, ◌^◌, length, map, replicate, sum, sum_by, slice_index, All, IfOk};
 ghost use Rattle.bt_matrix.specs.Traffic.{row_sum, column_sum, IsTraffic};
-ghost use Rattle.bt_matrix.specs.Dense.{IsFirstGreatest};
 
-use crate::{SUM_LAST, Traffic};
+use crate::{SUM_LAST, Traffic, heaviest_line};
 use bt_base::{BeamNo, Critical, OutOfMemory};
 use std::alloc::Global;
 use std::marker::Model;
@@ -86,13 +85,7 @@ impl Traffic for Dense {
 
     fn heaviest(&self) -> (Critical, u32) {
         let size = self.rows.len();
-        let (up, most_up) = first_greatest(&self.row_sums[..size]);
-        let (down, most_down) = first_greatest(&self.column_sums[..size]);
-        if most_up < most_down {
-            (Critical::Column(BeamNo(down)), most_down)
-        } else {
-            (Critical::Row(BeamNo(up)), most_up)
-        }
+        heaviest_line(&self.row_sums[..size], &self.column_sums[..size])
     }
 
     fn spare(&self) -> u32 {
@@ -114,23 +107,6 @@ impl Traffic for Dense {
         self.row_sums[up.0 as usize] -= units;
         self.column_sums[down.0 as usize] -= units;
     }
-}
-
-/// The greatest number, and the first place that has it.
-fn first_greatest(numbers: &[u32]) -> (u8, u32)
-    requires some { 0 < length numbers.now }
-    requires few { length numbers.now ≤ 16 }
-    ensures { IsFirstGreatest numbers.now result.0 result.1 }
-{
-    let mut place = 0;
-    let mut most = numbers[0];
-    for k in 1..numbers.len() {
-        if most < numbers[k] {
-            place = k as u8;
-            most = numbers[k];
-        }
-    }
-    (place, most)
 }
 
 /// The sum of each row.

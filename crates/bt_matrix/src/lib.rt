@@ -5,9 +5,11 @@
 #![tactic(auto)]
 
 mod dense;
+mod heaviest;
 mod laws;
 mod traffic;
 
 pub use dense::Dense;
+pub use heaviest::heaviest_line;
 pub use laws::{no_schedule_is_shorter, one_line_is_heaviest, small_entries_make_traffic};
 pub use traffic::{SUM_LAST, Traffic};

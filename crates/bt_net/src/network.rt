@@ -99,6 +99,7 @@ impl Network {
         requires { terminal.0 < length self.now.terminals }
         ensures beam { option_map (λ t. t.1) (slice_get self.now.terminals terminal.0) ≡ Some result }
         ensures in_range { result.0 < length self.now.beams }
+        ensures few { result.0 < 16 }
     {
         self.terminals.at(terminal.0 as usize).1
     }

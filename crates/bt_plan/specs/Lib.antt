@@ -14,3 +14,6 @@ pub mod TerminalNames
 pub mod PlanSpelling
 pub mod TrafficText
 pub mod PlanText
+pub mod Meeting
+pub mod Span
+pub mod Unserved

@@ -1,5 +1,5 @@
 // Bursts: what a terminal sends to another in slots of the frame that follow each other.
-ghost use Rattle.std.specs.Prelude.{◌≡◌, ◌≤◌, length, vec_len, AllPairs, IfOk};
+ghost use Rattle.std.specs.Prelude.{◌≡◌, ◌+◌, ◌≤◌, length, vec_len, AllPairs, IfOk};
 ghost use Rattle.bt_plan.specs.Burst.{AreBursts, IsNotAfter};
 
 use bt_base::{OutOfMemory, TermNo};
@@ -22,6 +22,15 @@ pub struct Burst {
     pub start: u32,
     /// Slots.
     pub length: u32,
+}
+
+impl Burst {
+    /// The slot behind the last one.
+    pub(crate) fn end(self) -> u64
+        ensures { result ≡ self.start + self.length }
+    {
+        u64::from(self.start) + u64::from(self.length)
+    }
 }
 
 /// Bursts in order of their start, and where that is the same, of the terminal that sends and then of the one

@@ -3,8 +3,8 @@
 //!
 //! `specs/Demand.antt` says what a demand is, and `specs/Traffic.antt` what its matrix is. `specs/Verdict.antt` has
 //! the table of verdicts, `specs/MatrixText.antt` and `specs/ScheduleText.antt` the grammars, line by line, with the
-//! fault of each line, and `specs/ScheduleSpelling.antt` the one text of each schedule; `laws.rt` and
-//! `demand_laws.rt` have what holds of them whatever the program does.
+//! fault of each line, and `specs/ScheduleSpelling.antt` the one text of each schedule; `laws.rt`,
+//! `demand_laws.rt` and `plan_laws.rt` have what holds of them whatever the program does.
 //!
 //! `specs/TrafficText.antt` and `specs/PlanText.antt` are the grammars of demands and of plans, and
 //! `specs/PlanSpelling.antt` has the one text of each plan.
@@ -13,16 +13,22 @@
 mod burst;
 mod demand;
 mod demand_laws;
+mod demand_lines;
 mod laws;
 mod lines;
+mod links_served;
 mod matrix_text;
+mod meetings;
 mod names;
 mod plan;
+mod plan_check;
+mod plan_laws;
 mod plan_reader;
 mod plan_writer;
 mod schedule_check;
 mod schedule_reader;
 mod schedule_writer;
+mod spans;
 mod text_fault;
 mod traffic;
 mod traffic_reader;
@@ -36,6 +42,11 @@ pub use demand_laws::{
 pub use laws::{one_verdict, plans_have_one_spelling, schedules_have_one_spelling};
 pub use matrix_text::read_matrix;
 pub use plan::Plan;
+pub use plan_check::check;
+pub use plan_laws::{
+    good_plans_have_their_parts, no_assignment_is_shorter, one_plan_verdict,
+    plans_are_good_by_their_parts,
+};
 pub use plan_reader::read_plan;
 pub use plan_writer::plan_text;
 pub use schedule_check::check_modes;

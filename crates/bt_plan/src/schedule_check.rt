@@ -73,7 +73,7 @@ fn is_permutation(columns: &[u8], size: u32) -> bool
 }
 
 /// The first mode that is no permutation of so many beams.
-fn first_bad(modes: &Modes, size: u32) -> Option<u32>
+pub(crate) fn first_bad(modes: &Modes, size: u32) -> Option<u32>
     requires { size ≤ 16 }
     ensures { MatchOption result
         (All (λ m. IsPermutation size m.perm) modes.now)
@@ -88,7 +88,7 @@ fn first_bad(modes: &Modes, size: u32) -> Option<u32>
 }
 
 /// The first mode that is held for no slot.
-fn first_empty(modes: &Modes) -> Option<u32>
+pub(crate) fn first_empty(modes: &Modes) -> Option<u32>
     ensures { MatchOption result
         (All (λ m. 0 < m.duration) modes.now)
         (IsFirstWithout (λ m. 0 < m.duration) modes.now) }
@@ -102,7 +102,7 @@ fn first_empty(modes: &Modes) -> Option<u32>
 }
 
 /// The slots of all modes together.
-fn duration_sum(modes: &Modes) -> u64
+pub(crate) fn duration_sum(modes: &Modes) -> u64
     ensures { result ≡ total_duration modes.now }
 {
     let mut sum = 0;

@@ -1,6 +1,6 @@
 use Rattle.bt_matrix.specs.Dense.{IsFirstGreatest}
 use Rattle.std.proofs.Common.{take}
-use Rattle.bt_matrix.proofs.dense.first_greatest.Given as goal
+use Rattle.bt_matrix.proofs.heaviest.first_greatest.Given as goal
 
 -- the greatest of the numbers before place k
 abbrev pub invariant-loop-k : goal.invariant-loop-k
