@@ -2,3 +2,6 @@
 //!
 //! `specs/Cutting.antt` has the rule of the cutting.
 #![tactic(auto)]
+
+mod connection;
+mod table;
