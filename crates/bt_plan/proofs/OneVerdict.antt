@@ -1,51 +1,15 @@
 -- A schedule has at most one verdict for a matrix.
-use Rattle.std.proofs.Common.{◌≡◌, ◌≢◌, ◌⊎◌, ℕ, ◌<◌, ◌≤◌, List, length, take, All, arith, inl, inr, sym, ap, ◌∙◌, subst, refl, rules}
-use Rattle.std.specs.List.{HoldsAt, range_with_len}
-use Rattle.std.proofs.lemmas.Bool.{cases_order, cases_lt}
-use Rattle.std.proofs.lemmas.List.{get_or-take}
-use Rattle.std.proofs.lemmas.List.FromFn.{length-range_with_len, get_or-range_with_len}
-use Rattle.std.proofs.Math.ListN.{get_or-eq_default}
-use Rattle.bt_base.specs.declared.mode.Mode.{Mode}
+use Rattle.std.proofs.Common.{◌≡◌, ◌≢◌, ◌⊎◌, ℕ, ◌<◌, ◌≤◌, List, length, arith, inl, inr, sym, ap, ◌∙◌, refl, rules}
+use Rattle.std.proofs.lemmas.Bool.{cases_order}
 use Rattle.bt_base.specs.declared.schedule.Critical.{Critical}
 use Rattle.bt_base.specs.declared.schedule.Critical.TheVariants.{Row, Column}
 use Rattle.bt_base.specs.declared.schedule.Schedule.{Schedule}
 use Rattle.bt_matrix.specs.Traffic.{line_sum, IsBefore, IsHeaviest}
 use Rattle.bt_matrix.specs.Good.{IsPermutation, HasPermutations, HasDurations, IsFilled, CarriesAll, total_duration}
+use Rattle.bt_plan.proofs.FirstPlaces.{not_all, one_first}
 use Rattle.bt_plan.specs.Verdict.{IsFirstWithout, IsEarlier, IsFirstShort, IsVerdict}
 use Rattle.bt_plan.specs.declared.verdict.Verdict.{Verdict}
 use Rattle.bt_plan.specs.declared.verdict.Verdict.TheVariants.{Good, V1, V2, V3, V4, V8}
-
--- the beams in order are a permutation
-in_order : (size : ℕ) → IsPermutation size (range_with_len 0 size)
-in_order size = record {
-  count = length-range_with_len 0 size;
-  in_range = λ k d within. let below : k < size = omega (arith, length-range_with_len 0 size) in omega (arith, get_or-range_with_len 0 size k d below);
-  distinct = λ i j d before within same.
-      let below : j < size = omega (arith, length-range_with_len 0 size) in
-      let first : i < size = omega arith in
-      omega (arith, same, get_or-range_with_len 0 size i d first, get_or-range_with_len 0 size j d below);
-}
-
--- Where something keeps the rule, a broken place lies on the list: it contradicts that all items keep the rule.
-not_all : {X : Type 0} (Rule : X → Type 0) (some : X) → Rule some → (xs : List X) (place : ℕ) → HoldsAt (λ x. Rule x → ⊥) xs place → All Rule xs → ⊥
-not_all Rule some keeps xs place broken all = elim (cases_lt place (length xs)) [
-  | inl within ↦ broken some (all place some within)
-  | inr past ↦ broken some (subst Rule (sym (get_or-eq_default xs some past)) keeps)
-]
-
--- the same of a place before another one that is the first
-not_before : {X : Type 0} (Rule : X → Type 0) (some : X) → Rule some → (xs : List X) (i j : ℕ) → i < j → HoldsAt (λ x. Rule x → ⊥) xs i → All Rule (take j xs) → ⊥
-not_before Rule some keeps xs i j before broken earlier = not_all Rule some keeps (take j xs) i (λ d. rw (get_or-take j xs i d before) (broken d)) earlier
-
--- there is one first place
-one_first : {X : Type 0} (Rule : X → Type 0) (some : X) → Rule some → (xs : List X) (i j : ℕ) → IsFirstWithout Rule xs i → IsFirstWithout Rule xs j → i ≡ j
-one_first Rule some keeps xs i j a b = elim (cases_order i j) [
-  | inl same ↦ same
-  | inr order ↦ elim order [
-    | inl before ↦ absurd (not_before Rule some keeps xs i j before a.broken b.earlier)
-    | inr after ↦ absurd (not_before Rule some keeps xs j i after b.broken a.earlier)
-  ]
-]
 
 -- of two lines one is the first
 line_order : (a b : Critical) → (a ≡ b) ⊎ (IsBefore a b ⊎ IsBefore b a)
@@ -55,13 +19,13 @@ line_order (Column _) (Row _) = inr (inr tt)
 line_order (Column i) (Column j) = elim (cases_order i.0 j.0) [ inl same ↦ inl (ap (λ n. Column (record { 0 = n })) same) | inr order ↦ inr order ]
 
 -- there is one heaviest line, and one greatest sum
-one_sum : (rows : List (List ℕ)) (a b : Critical) (m n : ℕ) → IsHeaviest rows a m → IsHeaviest rows b n → m ≡ n
+pub one_sum : (rows : List (List ℕ)) (a b : Critical) (m n : ℕ) → IsHeaviest rows a m → IsHeaviest rows b n → m ≡ n
 one_sum rows a b m n x y =
     let low : line_sum rows a ≤ n = y.greatest a x.on_matrix in
     let high : line_sum rows b ≤ m = x.greatest b y.on_matrix in
     omega (arith, x.reached, y.reached)
 
-one_line : (rows : List (List ℕ)) (a b : Critical) (m n : ℕ) → IsHeaviest rows a m → IsHeaviest rows b n → a ≡ b
+pub one_line : (rows : List (List ℕ)) (a b : Critical) (m n : ℕ) → IsHeaviest rows a m → IsHeaviest rows b n → a ≡ b
 one_line rows a b m n x y = elim (line_order a b) [
   | inl same ↦ same
   | inr order ↦ elim order [
@@ -90,22 +54,18 @@ one_short rows schedule i j up down a b = elim (place_order i j up down) [
   ]
 ]
 
--- a mode for so many beams that is a permutation and is held for a slot
-abbrev some_mode : ℕ → Mode
-some_mode size = record { duration = 1; perm = range_with_len 0 size }
-
 -- a mode that is no permutation, and one that is held for no slot
-no_bad : (rows : List (List ℕ)) (schedule : Schedule) (mode : ℕ) → IsFirstWithout (λ m. IsPermutation (length rows) m.perm) schedule.modes mode → HasPermutations rows schedule → ⊥
-no_bad rows schedule mode first all = not_all (λ m. IsPermutation (length rows) m.perm) (some_mode (length rows)) (in_order (length rows)) schedule.modes mode first.broken all
+pub no_bad : (rows : List (List ℕ)) (schedule : Schedule) (mode : ℕ) → IsFirstWithout (λ m. IsPermutation (length rows) m.perm) schedule.modes mode → HasPermutations rows schedule → ⊥
+no_bad rows schedule mode first all = not_all (λ m. IsPermutation (length rows) m.perm) schedule.modes mode first all
 
-no_empty : (schedule : Schedule) (mode : ℕ) → IsFirstWithout (λ m. 0 < m.duration) schedule.modes mode → HasDurations schedule → ⊥
-no_empty schedule mode first all = not_all (λ m. 0 < m.duration) (some_mode 0) (omega arith) schedule.modes mode first.broken all
+pub no_empty : (schedule : Schedule) (mode : ℕ) → IsFirstWithout (λ m. 0 < m.duration) schedule.modes mode → HasDurations schedule → ⊥
+no_empty schedule mode first all = not_all (λ m. 0 < m.duration) schedule.modes mode first all
 
 -- a connection that gets too few slots
 no_short : (rows : List (List ℕ)) (schedule : Schedule) (up down : ℕ) → IsFirstShort rows schedule up down → CarriesAll rows schedule → ⊥
 no_short rows schedule up down first all = omega (arith, first.short, all up down first.up_on_matrix first.down_on_matrix)
 
-no_other_sum : (schedule : Schedule) (total length : ℕ) → total ≡ total_duration schedule.modes → length ≡ schedule.length → total ≢ length → IsFilled schedule → ⊥
+pub no_other_sum : (schedule : Schedule) (total length : ℕ) → total ≡ total_duration schedule.modes → length ≡ schedule.length → total ≢ length → IsFilled schedule → ⊥
 no_other_sum schedule total length is_total is_length differ filled = differ (is_total ∙ filled ∙ sym is_length)
 
 -- no two facts of verdicts of different kinds
@@ -114,8 +74,8 @@ ruleset kept_apart = (no_bad, no_empty, no_short, no_other_sum)
 -- the verdicts are the same
 pub the_same : (rows : List (List ℕ)) (schedule : Schedule) (a b : Verdict) → IsVerdict rows schedule a → IsVerdict rows schedule b → a ≡ b
 the_same rows schedule Good Good _ _ = refl
-the_same rows schedule (V1 m) (V1 n) x y = ap V1 (one_first (λ m. IsPermutation (length rows) m.perm) (some_mode (length rows)) (in_order (length rows)) schedule.modes m n x y)
-the_same rows schedule (V2 m) (V2 n) x y = ap V2 (one_first (λ m. 0 < m.duration) (some_mode 0) (omega arith) schedule.modes m n x.1 y.1)
+the_same rows schedule (V1 m) (V1 n) x y = ap V1 (one_first (λ m. IsPermutation (length rows) m.perm) schedule.modes m n x y)
+the_same rows schedule (V2 m) (V2 n) x y = ap V2 (one_first (λ m. 0 < m.duration) schedule.modes m n x.1 y.1)
 the_same rows schedule (V3 _ _) (V3 _ _) x y = cc
 the_same rows schedule (V4 a m) (V4 b n) x y = let line = one_line rows a b m n x.4 y.4 in let most = one_sum rows a b m n x.4 y.4 in cc
 the_same rows schedule (V8 i j _ _) (V8 up down _ _) x y = let place = one_short rows schedule i.0 j.0 up.0 down.0 x.4 y.4 in let up_is : i ≡ up = ap (λ n. record { 0 = n }) place.0 in let down_is : j ≡ down = ap (λ n. record { 0 = n }) place.1 in cc

@@ -10,6 +10,7 @@ use Rattle.bt_plan.specs.declared.verdict.Verdict.TheVariants.{Good, V1, V2, V3,
 
 -- the first place of a list whose item breaks a rule
 pub record IsFirstWithout {A : Type 0} (Rule : A → Type 0) (items : List A) (place : ℕ) : Type 0 where
+  pub within : place < length items
   pub earlier : All Rule (take place items)
   pub broken : HoldsAt (λ item. Rule item → ⊥) items place
 

@@ -14,6 +14,7 @@ mod laws;
 mod lines;
 mod matrix_text;
 mod plan;
+mod plan_laws;
 mod schedule_check;
 mod schedule_reader;
 mod schedule_writer;
@@ -29,6 +30,10 @@ pub use demand_laws::{
 pub use laws::{one_verdict, schedules_have_one_spelling};
 pub use matrix_text::read_matrix;
 pub use plan::Plan;
+pub use plan_laws::{
+    good_plans_have_their_parts, no_assignment_is_shorter, one_plan_verdict,
+    plans_are_good_by_their_parts,
+};
 pub use schedule_check::check_modes;
 pub use schedule_reader::read_schedule;
 pub use schedule_writer::schedule_text;
