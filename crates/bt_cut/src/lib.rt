@@ -3,5 +3,6 @@
 //! `specs/Cutting.antt` has the rule of the cutting.
 #![tactic(auto)]
 
+mod bursts;
 mod connection;
 mod table;
