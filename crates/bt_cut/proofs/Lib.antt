@@ -1,4 +1,6 @@
+pub mod Cuts
 pub mod Links
+pub mod Neighbours
 pub mod Numbers
 pub mod Parts
 pub mod Pieces

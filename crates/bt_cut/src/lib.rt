@@ -5,4 +5,5 @@
 
 mod bursts;
 mod connection;
+mod order;
 mod table;
