@@ -2,6 +2,7 @@
 use Rattle.std.proofs.Common.{◌≡◌, ◌↔◌, ℕ, ◌+◌, ◌-◌, ◌<◌, ◌≤◌, min, max, List, [], Option, Some, None, length, take, get_or, slice_get, option_map, refl, sym, ap, ◌∙◌, subst, inl, inr, arith}
 use Rattle.std.specs.List.{HoldsAt}
 use Rattle.std.proofs.lemmas.Bool.{cases_eq, cases_lt}
+use Rattle.std.proofs.lemmas.List.{get_or_default, get_or_past}
 use Rattle.bt_base.specs.declared.numbers.BeamNo.{BeamNo}
 use Rattle.bt_base.specs.declared.numbers.TermNo.{TermNo}
 use Rattle.bt_base.specs.declared.mode.Mode.{Mode}
@@ -15,7 +16,7 @@ use Rattle.bt_plan.specs.Traffic.{IsInBeam, units_between}
 use Rattle.bt_cut.specs.Cutting.{Takes, IsUnitOf, IsSlotOf, IsCut}
 use Rattle.bt_cut.specs.Parts.{IsPart}
 use Rattle.bt_cut.specs.Serving.{number_at, IsPiece}
-use Rattle.bt_cut.proofs.Numbers.{number_next}
+use Rattle.bt_cut.proofs.Numbers.{number_next, slots_in-le}
 use Rattle.bt_cut.proofs.Parts.{one_beam}
 
 -- The slot has a number that is among those of a link, and among those of a mode that begins at this slot.
@@ -125,3 +126,86 @@ numbered_takes net links modes link mode slot up down l within is sends receives
     place_in_mode = numbered.at;
   };
 }
+
+-- the part of a link in a mode is cut as the rule says
+pub IsCut-part : (net : Net) (links : List Link) (modes : List Mode) (link mode : ℕ) (burst : Burst) → link < length links → IsPart net links modes link mode burst
+    → IsCut net links modes link mode burst
+IsCut-part net links modes link mode burst within part =
+    let none : Link = record { from = record { 0 = 0 }; to = record { 0 = 0 }; units = 0 } in
+    let l = get_or links link none in
+    let is = λ (d : Link). get_or_default links link d none within in
+    let piece = part.piece none in
+    record {
+      ends = λ d. (ap (λ (x : Link). x.from) (is d) ∙ sym piece.sends, ap (λ (x : Link). x.to) (is d) ∙ sym piece.receives);
+      some = piece.some;
+      slots = λ slot. (
+        (λ covers. numbered_takes net links modes link mode slot part.up part.down l piece.in_range is (part.sends none) (part.receives none)
+            (numbered_inside burst.start burst.length _ _ _ _ _ slot piece.begins piece.ends covers.from_start covers.before_end)),
+        (λ takes.
+            let inside = inside_numbered burst.start burst.length _ _ _ _ _ slot piece.begins piece.ends
+            (takes_numbered net links modes link mode slot part.up part.down l piece.in_range (sym (is l)) (part.sends none) (part.receives none) takes) in
+            record { from_start = inside.0; before_end = inside.1 }),
+      );
+    }
+
+-- a link and a mode that a cut burst names are there
+link_there : (net : Net) (links : List Link) (modes : List Mode) (link mode : ℕ) (burst : Burst) → IsCut net links modes link mode burst → link < length links
+link_there net links modes link mode burst cut =
+    elim (cases_lt link (length links)) [
+      | inl inside ↦ inside
+      | inr beyond ↦
+          let other : Link = record { from = record { 0 = burst.from.0 + 1 }; to = burst.to; units = 0 } in
+          let from = ap (λ (l : Link). l.from.0) (get_or_past links link other beyond) in
+          let same = ap (λ (t : TermNo). t.0) (cut.ends other).0 in
+          absurd (omega (arith, from, same))
+    ]
+
+mode_there : (modes : List Mode) (up down : BeamNo) (mode number slot : ℕ) → IsSlotOf modes up down mode number slot → mode < length modes
+mode_there modes up down mode number slot is =
+    elim (cases_lt mode (length modes)) [
+      | inl inside ↦ inside
+      | inr beyond ↦
+          let other : Mode = record { duration = 0; perm = [] } in
+          let none = ap (λ (m : Mode). m.duration) (get_or_past modes mode other beyond) in
+          absurd (omega (arith, is.first, is.last other, none, slots_in-le up.0 down.0 (get_or modes mode other)))
+    ]
+
+-- what is cut as the rule says is the part of its link in its mode
+pub IsPart-cut : (net : Net) (links : List Link) (modes : List Mode) (link mode : ℕ) (burst : Burst) → IsCut net links modes link mode burst
+    → (link < length links) × IsPart net links modes link mode burst
+IsPart-cut net links modes link mode burst cut =
+    let none : Link = record { from = record { 0 = 0 }; to = record { 0 = 0 }; units = 0 } in
+    let within = link_there net links modes link mode burst cut in
+    let l = get_or links link none in
+    let is = λ (d : Link). get_or_default links link d none within in
+    let taken = (cut.slots burst.start).0 (record { from_start = omega arith; before_end = omega (arith, cut.some) }) in
+    let up = taken.up in
+    let down = taken.down in
+    let in_range = mode_there modes up down mode taken.unit burst.start taken.of_mode in
+    let first = units_between net (take link links) up.0 down.0 in
+    let low = number_at modes up.0 down.0 mode in
+    let high = number_at modes up.0 down.0 (mode + 1) in
+    let inside = λ (slot : ℕ) (from : burst.start ≤ slot) (to : slot < burst.start + burst.length).
+    takes_numbered net links modes link mode slot up down l in_range (sym (is l)) (taken.sends none) (taken.receives none)
+    ((cut.slots slot).0 (record { from_start = from; before_end = to })) in
+    let covered : (slot : ℕ) → IsNumbered first (first + l.units) low high (begin_of modes mode) slot → (burst.start ≤ slot) × (slot < burst.start + burst.length) = λ slot numbered.
+    let covers = (cut.slots slot).1 (numbered_takes net links modes link mode slot up down l in_range is (taken.sends none) (taken.receives none) numbered) in
+    (covers.from_start, covers.before_end) in
+    let begins = numbers_begin burst.start burst.length first (first + l.units) low high (begin_of modes mode) cut.some inside covered in
+    let ends = numbers_end burst.start burst.length first (first + l.units) low high (begin_of modes mode) cut.some begins inside covered in (
+      within,
+      record {
+        up = up;
+        down = down;
+        sends = taken.sends;
+        receives = taken.receives;
+        piece = λ d. record {
+          in_range = in_range;
+          sends = sym (cut.ends d).0;
+          receives = sym (cut.ends d).1;
+          some = cut.some;
+          begins = begins;
+          ends = ends ∙ ap (λ (x : Link). min (first + x.units) high) (sym (is d));
+        };
+      },
+    )

@@ -45,7 +45,7 @@ few_links net links is of few =
           omega (arith, ends_grow net links last d is of few within, ends.0, ends.1)
     ]
 
-share-same : (up down units : ℕ) → (if up == up && down == down then units else 0) ≡ units
+pub share-same : (up down units : ℕ) → (if up == up && down == down then units else 0) ≡ units
 share-same up down units = rw (eq-eqb up up refl, eq-eqb down down refl) refl
 
 share-other : (up down i j units : ℕ) → up * 16 + down ≢ i * 16 + j → (if up == i && down == j then units else 0) ≡ 0

@@ -1,6 +1,8 @@
 // The bursts of a demand, before they are put in order.
 ghost use Rattle.std.specs.Prelude.{◌≡◌, ℕ, ◌<◌, ◌≤◌, length, vec_len, All, IfOk};
 ghost use Rattle.bt_matrix.specs.Good.{IsPermutation, slots_of, total_duration};
+ghost use Rattle.bt_net.specs.Network.{IsSound};
+ghost use Rattle.bt_plan.specs.Demand.{IsDemand};
 ghost use Rattle.bt_plan.specs.Traffic.{units_between, AreOfNetwork};
 ghost use Rattle.bt_cut.specs.Parts.{AreParts};
 
@@ -23,6 +25,8 @@ pub(crate) fn bursts_of(
     requires short { total_duration modes.now ≤ 4096 }
     requires carried { (up down : ℕ) → up < length net.now.beams → down < length net.now.beams
         → units_between net.now demand.now up down ≤ slots_of modes.now up down }
+    ensures network { IfOk result (λ _. IsSound net.now) }
+    ensures demand { IfOk result (λ _. IsDemand demand.now) }
     ensures few { IfOk result (λ bursts. vec_len bursts ≤ MOST_BURSTS) }
     ensures parts { IfOk result (λ bursts. AreParts net.now demand.now modes.now (length demand.now) bursts.items) }
 {
