@@ -13,3 +13,6 @@ mod table;
 
 pub use cutting::cut;
 pub use planning::make_plan;
+
+#[cfg(test)]
+mod tests;
