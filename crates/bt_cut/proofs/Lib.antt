@@ -1,1 +1,13 @@
-pub mod CutBursts
+pub mod Apart
+pub mod Cuts
+pub mod Good
+pub mod Links
+pub mod Moved
+pub mod Neighbours
+pub mod Numbers
+pub mod Parts
+pub mod Pieces
+pub mod Plans
+pub mod Prefixes
+pub mod Served
+pub mod Tables

@@ -1,8 +1,18 @@
 //! Cutting: how the slots of the modes become the bursts of the links.
 //!
-//! `specs/Cutting.antt` has the rule of the cutting; `laws.rt` has what holds of cuttings whatever the program does.
+//! `specs/Cutting.antt` has the rule of the cutting. `specs/Serving.antt` and `specs/Parts.antt` say the same by the
+//! numbers of slots and units, as the code counts them.
 #![tactic(auto)]
 
-mod laws;
+mod bursts;
+mod connection;
+mod cutting;
+mod order;
+mod planning;
+mod table;
 
-pub use laws::cuttings_fit_their_modes;
+pub use cutting::cut;
+pub use planning::make_plan;
+
+#[cfg(test)]
+mod tests;

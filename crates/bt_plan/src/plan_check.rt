@@ -19,7 +19,7 @@ use bt_net::Network;
 ///
 /// It looks at the modes first: that each is a permutation and lasts, that they fill the length, and that the length is
 /// what the heaviest line of the demand asks for. Then it looks at the bursts: that no two meet, that a mode holds each,
-/// and that each link has the slots that it asks for. It walks four times along the bursts, once along the links, and a
+/// and that each link has the slots that it asks for. It walks three times along the bursts, once along the links, and a
 /// few times along the modes; where two bursts meet, a fifth time along those before. It takes no memory.
 pub fn check(net: &Network, demand: &Demand, plan: &Plan) -> Verdict
     requires demand { AreOfNetwork net.now demand.now }

@@ -1,0 +1,100 @@
+-- Links one after the other: how many there may be, and what each leaves of its connection.
+use Rattle.std.proofs.Common.{◌≡◌, ◌≢◌, ℕ, zero, suc, ◌+◌, ◌-◌, ◌*◌, ◌<◌, ◌≤◌, ◌==◌, ◌&&◌, if◌then◌else◌, Bool, true, false, List, length, take, get_or, slice_set, sum_by, refl, sym, ap, ◌∙◌, subst, inl, inr, arith, length-set, get_or-set_same, get_or-set_other, eq-eqb}
+use Rattle.std.specs.List.{HoldsAt}
+use Rattle.std.proofs.lemmas.Bool.{cases_eq, ne_eqb}
+use Rattle.std.proofs.lemmas.Bool.Decides.{nat_tests}
+use Rattle.std.proofs.lemmas.List.{take_all}
+use Rattle.std.proofs.lemmas.List.Sums.{sum_by-take-le, sum_by-le-sum_by}
+use Rattle.bt_base.specs.declared.numbers.BeamNo.{BeamNo}
+use Rattle.bt_base.specs.declared.mode.Mode.{Mode}
+use Rattle.bt_net.specs.Network.{Net}
+use Rattle.bt_matrix.specs.Good.{slots_in, slots_of, total_duration}
+use Rattle.bt_plan.specs.declared.demand.Link.{Link}
+use Rattle.bt_plan.specs.Demand.{IsDemand}
+use Rattle.bt_plan.specs.Traffic.{AreOfNetwork, IsInBeam, is_in_beam, units_between}
+use Rattle.bt_cut.specs.declared.connection.Connection.{Connection}
+use Rattle.bt_cut.specs.declared.connection.Span.{Span}
+use Rattle.bt_cut.specs.Serving.{number_at, slots_in_all, AreTurns, taken_of, HasGiven, HasSlots, IsTable}
+use Rattle.bt_cut.proofs.Numbers.{slots_in-le}
+use Rattle.bt_cut.proofs.Parts.{units_between-more}
+
+-- a link at a place has ends that are not before those of so many
+ends_grow : (net : Net) (links : List Link) (k : ℕ) (d : Link) → IsDemand links → AreOfNetwork net links → length net.terminals ≤ 64 → k < length links
+    → k ≤ (get_or links k d).from.0 * 64 + (get_or links k d).to.0
+ends_grow net links zero d is of few within = omega arith
+ends_grow net links (suc k) d is of few within =
+    let before = ends_grow net links k d is of few (omega arith) in
+    let less = is.ordered k (suc k) d (omega arith) within in
+    let here = of k d (omega arith) in
+    let next = of (suc k) d within in
+    elim (cases_eq (get_or links k d).from.0 (get_or links (suc k) d).from.0) [
+      | inl same ↦ omega (arith, before, less.to same, same)
+      | inr other ↦ let more : (get_or links k d).from.0 + 1 ≤ (get_or links (suc k) d).from.0 = omega (arith, less.from) in omega (arith, before, more, here.0, here.1)
+    ]
+
+-- so there are no more than pairs of terminals
+pub few_links : (net : Net) (links : List Link) → IsDemand links → AreOfNetwork net links → length net.terminals ≤ 64 → length links ≤ 4096
+few_links net links is of few =
+    elim (cases_eq (length links) 0) [
+      | inl none ↦ omega arith
+      | inr some ↦
+          let d : Link = record { from = record { 0 = 0 }; to = record { 0 = 0 }; units = 0 } in
+          let last = length links - 1 in
+          let within : last < length links = omega arith in
+          let ends = of last d within in
+          omega (arith, ends_grow net links last d is of few within, ends.0, ends.1)
+    ]
+
+pub share-same : (up down units : ℕ) → (if up == up && down == down then units else 0) ≡ units
+share-same up down units = rw (eq-eqb up up refl, eq-eqb down down refl) refl
+
+share-other : (up down i j units : ℕ) → up * 16 + down ≢ i * 16 + j → (if up == i && down == j then units else 0) ≡ 0
+share-other up down i j units other = grind (arith, nat_tests)
+
+-- there are enough slots for one link more
+pub enough_left : (net : Net) (links : List Link) (modes : List Mode) (k : ℕ) (link : Link) (up down : BeamNo) (connection : Connection) → k < length links
+    → HoldsAt (λ l. l ≡ link) links k → IsInBeam net link.from up → IsInBeam net link.to down
+    → units_between net links up.0 down.0 ≤ slots_of modes up.0 down.0
+    → HasSlots modes up.0 down.0 (length modes) (units_between net (take k links) up.0 down.0) connection
+    → taken_of connection + link.units ≤ slots_in_all connection.spans.items
+enough_left net links modes k link up down connection within is sends receives carried has =
+    let more = units_between-more net links k link up down up.0 down.0 within is sends receives in
+    let units = share-same up.0 down.0 link.units in
+    let le = sum_by-take-le (λ (l : Link). if is_in_beam net up.0 l.from && is_in_beam net down.0 l.to then l.units else 0) links (k + 1) in
+    let all = ap (λ (ms : List Mode). slots_of ms up.0 down.0) (take_all (length modes) modes (omega arith)) in
+    omega (arith, more, units, le, all, carried, has.all, has.so_many)
+
+-- the table after a link took its slots
+pub IsTable-given : (net : Net) (links : List Link) (modes : List Mode) (beams k : ℕ) (link : Link) (up down : BeamNo) (table : List Connection) (old new : Connection)
+    → beams ≤ 16 → k < length links → HoldsAt (λ l. l ≡ link) links k → IsInBeam net link.from up → IsInBeam net link.to down → up.0 < beams → down.0 < beams
+    → HasSlots modes up.0 down.0 (length modes) (units_between net (take k links) up.0 down.0) old → HasGiven old new link.units
+    → IsTable modes beams (length modes) (units_between net (take k links)) table
+    → IsTable modes beams (length modes) (units_between net (take (k + 1) links)) (slice_set table (up.0 * 16 + down.0) new)
+IsTable-given net links modes beams k link up down table old new few within is sends receives in_rows in_columns has given before =
+    let at = up.0 * 16 + down.0 in
+    let more = λ (i j : ℕ). units_between-more net links k link up down i j within is sends receives in
+    record {
+      count = length-set table at new ∙ before.count;
+      each = λ i j other row column.
+          elim (cases_eq (i * 16 + j) at) [
+            | inl same ↦
+                let row_is : i ≡ up.0 = omega arith in
+                let column_is : j ≡ down.0 = omega arith in
+                rw (row_is, column_is, get_or-set_same table at new other (omega (arith, before.count)))
+                (record {
+                  turns = subst (λ (spans : List Span). AreTurns modes up.0 down.0 spans) (sym given.spans) has.turns;
+                  all = ap slots_in_all given.spans ∙ has.all;
+                  ready = given.ready;
+                  so_many = given.taken ∙ omega (arith, has.so_many, more up.0 down.0, share-same up.0 down.0 link.units);
+                })
+            | inr apart ↦
+                let was = before.each i j other row column in
+                let none : (if up.0 == i && down.0 == j then link.units else 0) ≡ 0 = share-other up.0 down.0 i j link.units (λ equal. apart (sym equal)) in
+                rw (get_or-set_other table at (i * 16 + j) new other apart)
+                (record { turns = was.turns; all = was.all; ready = was.ready; so_many = was.so_many ∙ omega (arith, more i j, none) })
+          ];
+    }
+
+-- a connection has no more slots than the modes
+pub slots_few : (modes : List Mode) (up down : ℕ) → slots_of modes up down ≤ total_duration modes
+slots_few modes up down = sum_by-le-sum_by (slots_in up down) (λ (mode : Mode). mode.duration) modes (λ mode. slots_in-le up down mode)

@@ -1,0 +1,86 @@
+use Rattle.std.proofs.Common.{◌≡◌, ℕ, ◌+◌, ◌*◌, ◌<◌, ◌≤◌, List, ◌++◌, length, take, get_or, slice_set, sym, ap, ◌∙◌, subst, arith}
+use Rattle.std.proofs.lemmas.List.{get_or_default, take_all, length-append}
+use Rattle.bt_base.specs.declared.mode.Mode.{Mode}
+use Rattle.bt_base.specs.declared.numbers.TermNo.{TermNo}
+use Rattle.bt_matrix.specs.Good.{slots_of}
+use Rattle.bt_plan.specs.declared.demand.Link.{Link}
+use Rattle.bt_plan.specs.declared.burst.Burst.{Burst}
+use Rattle.bt_plan.specs.Demand.{IsDemand}
+use Rattle.bt_plan.specs.Traffic.{AreOfNetwork, units_between}
+use Rattle.bt_cut.specs.declared.connection.Connection.{Connection}
+use Rattle.bt_cut.specs.Serving.{number_at, ArePieces, HasSlots, IsTable}
+use Rattle.bt_cut.specs.Parts.{AreParts}
+use Rattle.bt_cut.proofs.Links.{enough_left, few_links, slots_few, IsTable-given}
+use Rattle.bt_cut.proofs.Parts.{AreParts-more}
+use Rattle.bt_cut.proofs.bursts.bursts_of.Goals as goal
+
+-- the connection has slots for the link
+pub serve-requires-clause-enough : goal.serve-requires-clause-enough
+serve-requires-clause-enough c =
+    let links = c.as_slice-link-items.result.now in
+    let at = c.loop-link.link-index in
+    let none : Link = record { from = record { 0 = 0 }; to = record { 0 = 0 }; units = 0 } in
+    let up = c.beam_of.result in
+    let down = c.beam_of-in-loop-link.result in
+    let old = c.index_mut.result.now in
+    let read : old ≡ get_or c.loop-link.connections.items (up.0 * 16 + down.0) old =
+    c.index_mut.ensures.value ∙ ap (λ (n : ℕ). get_or c.loop-link.connections.items n old) c.place_of-place.ensures in
+    let has = subst (λ (x : Connection). HasSlots c.args.modes.now up.0 down.0 (length c.args.modes.now) (units_between c.args.net.now (take at links) up.0 down.0) x) (sym read)
+    (c.loop-link.invariant.table.each up.0 down.0 old c.beam_of.ensures.in_range c.beam_of-in-loop-link.ensures.in_range) in
+    let carried = subst (λ (ls : List Link). units_between c.args.net.now ls up.0 down.0 ≤ slots_of c.args.modes.now up.0 down.0) (sym c.as_slice-link-items.ensures.same)
+    (c.requires.carried up.0 down.0 c.beam_of.ensures.in_range c.beam_of-in-loop-link.ensures.in_range) in
+    enough_left c.args.net.now links c.args.modes.now at (get_or links at none) up down old c.loop-link-test.true (λ d. get_or_default links at d none c.loop-link-test.true)
+    c.beam_of.ensures.beam c.beam_of-in-loop-link.ensures.beam carried has
+
+-- one link more is served
+pub loop-link-preserved : goal.loop-link-preserved
+loop-link-preserved c =
+    let links = c.as_slice-link-items.result.now in
+    let at = c.loop-link.link-index in
+    let none : Link = record { from = record { 0 = 0 }; to = record { 0 = 0 }; units = 0 } in
+    let link = get_or links at none in
+    let up = c.beam_of.result in
+    let down = c.beam_of-in-loop-link.result in
+    let old = c.index_mut.result.now in
+    let modes = c.args.modes.now in
+    let is = λ (d : Link). get_or_default links at d none c.loop-link-test.true in
+    let read : old ≡ get_or c.loop-link.connections.items (up.0 * 16 + down.0) old =
+    c.index_mut.ensures.value ∙ ap (λ (n : ℕ). get_or c.loop-link.connections.items n old) c.place_of-place.ensures in
+    let has = subst (λ (x : Connection). HasSlots modes up.0 down.0 (length modes) (units_between c.args.net.now (take at links) up.0 down.0) x) (sym read)
+    (c.loop-link.invariant.table.each up.0 down.0 old c.beam_of.ensures.in_range c.beam_of-in-loop-link.ensures.in_range) in
+    let served = c.in_ok-serve.ensures.served in
+    let pieces = subst (λ (n : ℕ). ArePieces modes up.0 down.0 link.from link.to n link.units served.more) has.so_many (served.pieces modes up.0 down.0 has.turns) in
+    let all = ap (λ (ms : List Mode). slots_of ms up.0 down.0) (take_all (length modes) modes (omega arith)) in
+    let demand = subst (λ (ls : List Link). IsDemand ls) (sym c.as_slice-link-items.ensures.same) c.as_slice-link-items.ensures.demand in
+    let carried = subst (λ (ls : List Link). units_between c.args.net.now ls up.0 down.0 ≤ slots_of modes up.0 down.0) (sym c.as_slice-link-items.ensures.same)
+    (c.requires.carried up.0 down.0 c.beam_of.ensures.in_range c.beam_of-in-loop-link.ensures.in_range) in
+    let enough = enough_left c.args.net.now links modes at link up down old c.loop-link-test.true is c.beam_of.ensures.beam c.beam_of-in-loop-link.ensures.beam carried has in
+    record {
+      table = rw c.place_of-place.ensures
+          (IsTable-given c.args.net.now links modes (length c.args.net.now.beams) at link up down c.loop-link.connections.items old c.serve.new.self
+          (omega (arith, c.beam_count.ensures.in_range.1, c.beam_count.ensures.count)) c.loop-link-test.true is c.beam_of.ensures.beam c.beam_of-in-loop-link.ensures.beam
+          c.beam_of.ensures.in_range c.beam_of-in-loop-link.ensures.in_range has c.in_ok-serve.ensures.given c.loop-link.invariant.table);
+      parts = rw served.behind
+          (AreParts-more c.args.net.now links modes at c.loop-link.bursts.items served.more link up down demand c.loop-link-test.true is
+          c.beam_of.ensures.beam c.beam_of-in-loop-link.ensures.beam pieces served.slots c.loop-link.invariant.parts);
+      few = omega (
+        arith,
+        ap length served.behind,
+        length-append c.loop-link.bursts.items served.more,
+        served.few,
+        c.loop-link.invariant.few,
+        enough,
+        has.all,
+        all,
+        slots_few modes up.0 down.0,
+        c.requires.short,
+      );
+    }
+
+-- no more bursts than units
+pub returns-clause-few : goal.returns-clause-few
+returns-clause-few c =
+    let of = subst (λ (links : List Link). AreOfNetwork c.args.net.now links) (sym c.as_slice-link-items.ensures.same) c.requires.terminals in
+    let demand = subst (λ (ls : List Link). IsDemand ls) (sym c.as_slice-link-items.ensures.same) c.as_slice-link-items.ensures.demand in
+    let few = few_links c.args.net.now c.as_slice-link-items.result.now demand of c.beam_count.ensures.sound.terminals.count.1 in
+    omega (arith, few, c.loop-link.invariant.few, c.loop-link.bursts.ok.0, c.loop-link.auto.link-index-end)

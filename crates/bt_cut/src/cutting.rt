@@ -1,0 +1,42 @@
+// The cutting of a schedule's modes into the bursts of a demand.
+ghost use Rattle.std.specs.Prelude.{◌≡◌, IfOk};
+ghost use Rattle.bt_matrix.specs.Good.{IsGood};
+ghost use Rattle.bt_plan.specs.Plan.{IsGoodPlan};
+ghost use Rattle.bt_plan.specs.PlanVerdict.{AreBetweenTerminals};
+ghost use Rattle.bt_plan.specs.Traffic.{matrix_of, AreOfNetwork, HasSumsTo};
+ghost use Rattle.bt_cut.specs.Cutting.{IsCutting};
+
+use crate::bursts::bursts_of;
+use crate::order::in_order;
+use bt_base::{EditionNo, OutOfMemory, Schedule};
+use bt_net::Network;
+use bt_plan::{Bursts, Demand, Plan};
+use std::alloc::Global;
+
+/// The plan of a demand that goes through the modes of this schedule, which is good for the demand's matrix.
+///
+/// No line of the matrix asks for more than 4096 slots. Each connection gives its slots to its links one after the
+/// other; slots that no link asks for stay silent.
+pub fn cut(
+    alloc: Global,
+    net: &Network,
+    demand: &Demand,
+    edition: EditionNo,
+    schedule: Schedule,
+) -> Result<Plan, OutOfMemory>
+    requires terminals { AreOfNetwork net.now demand.now }
+    requires fits { HasSumsTo 4096 (matrix_of net.now demand.now) }
+    requires good { IsGood (matrix_of net.now demand.now) schedule }
+    ensures edition { IfOk result (λ plan. plan.edition ≡ edition) }
+    ensures schedule { IfOk result (λ plan. plan.schedule ≡ schedule) }
+    ensures bursts { IfOk result (λ plan. IsCutting net.now demand.now schedule.modes plan.bursts) }
+    ensures terminals { IfOk result (λ plan. AreBetweenTerminals net.now plan.bursts) }
+    ensures good_plan { IfOk result (λ plan. IsGoodPlan net.now demand.now plan) }
+{
+    let bursts = bursts_of(alloc, net, demand, schedule.modes.as_slice())?;
+    Ok(Plan {
+        edition,
+        schedule,
+        bursts: Bursts::of(in_order(bursts)),
+    })
+}

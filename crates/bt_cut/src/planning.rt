@@ -1,0 +1,32 @@
+// The plan of a demand.
+ghost use Rattle.std.specs.Prelude.{◌≡◌, IfOk};
+ghost use Rattle.bt_matrix.specs.Traffic.{IsHeaviest};
+ghost use Rattle.bt_plan.specs.Plan.{IsGoodPlan};
+ghost use Rattle.bt_plan.specs.PlanVerdict.{AreBetweenTerminals};
+ghost use Rattle.bt_plan.specs.Traffic.{matrix_of, AreOfNetwork, HasSumsTo};
+
+use crate::cut;
+use bt_base::{EditionNo, OutOfMemory};
+use bt_modes::schedule;
+use bt_net::Network;
+use bt_plan::{Demand, Plan, traffic_of};
+use std::alloc::Global;
+
+/// A plan of the demand, than which none is shorter. No line of its matrix asks for more than 4096 slots.
+pub fn make_plan(
+    alloc: Global,
+    net: &Network,
+    demand: &Demand,
+    edition: EditionNo,
+) -> Result<Plan, OutOfMemory>
+    requires terminals { AreOfNetwork net.now demand.now }
+    requires fits { HasSumsTo 4096 (matrix_of net.now demand.now) }
+    ensures edition { IfOk result (λ plan. plan.edition ≡ edition) }
+    ensures terminals { IfOk result (λ plan. AreBetweenTerminals net.now plan.bursts) }
+    ensures good { IfOk result (λ plan. IsGoodPlan net.now demand.now plan) }
+    ensures heaviest { IfOk result (λ plan. IsHeaviest (matrix_of net.now demand.now) plan.schedule.critical plan.schedule.length) }
+{
+    let matrix = traffic_of(alloc, net, demand)?;
+    let modes = schedule(alloc, &matrix)?;
+    cut(alloc, net, demand, edition, modes)
+}
