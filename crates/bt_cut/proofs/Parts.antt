@@ -70,7 +70,7 @@ sent_together (burst ∷ bursts) from to a b ends =
     omega (arith, sum_by-cons f burst bursts, here, rest, one_more test burst.length (sum_by (λ x. x.length) bursts), total)
 
 -- links at two places have other ends
-other_ends : (links : List Link) (i j : ℕ) (d : Link) → IsDemand links → i < j → j < length links
+pub other_ends : (links : List Link) (i j : ℕ) (d : Link) → IsDemand links → i < j → j < length links
     → (get_or links i d).from ≡ (get_or links j d).from → (get_or links i d).to ≡ (get_or links j d).to → ⊥
 other_ends links i j d is less within from to =
     let before = is.ordered i j d less within in

@@ -1,9 +1,10 @@
 -- The plan of a cutting.
-use Rattle.std.proofs.Common.{◌≡◌, ℕ, ◌+◌, ◌<◌, ◌≤◌, List, [], length, map, take, get_or, slice_index, All, AllPairs, Contains, refl, sym, ap, ◌∙◌, subst, arith, zero-add}
+use Rattle.std.proofs.Common.{◌≡◌, ℕ, ◌+◌, ◌<◌, ◌≤◌, List, [], length, map, take, get_or, slice_index, All, AllPairs, Contains, refl, sym, ap, ◌∙◌, subst, inl, inr, arith, zero-add}
 use Rattle.std.specs.List.{HoldsAt, range_with_len}
 use Rattle.std.specs.List.Sorted.{IsPermutation as IsMoved}
-use Rattle.std.proofs.lemmas.List.{take_all}
-use Rattle.std.proofs.lemmas.List.Elements.{at_from_Contains}
+use Rattle.std.proofs.lemmas.List.{take_all, get_or_past}
+use Rattle.std.proofs.lemmas.Bool.{cases_lt}
+use Rattle.std.proofs.lemmas.List.Elements.{at_from_Contains, Contains-from_at}
 use Rattle.std.proofs.lemmas.List.FromFn.{get_or-map-range_with_len}
 use Rattle.std.proofs.lemmas.List.Sorted.{All-permutation, Contains-permutation, sum_by-IsPermutation}
 use Rattle.bt_base.specs.declared.numbers.TermNo.{TermNo}
@@ -19,13 +20,14 @@ use Rattle.bt_plan.specs.Burst.{IsNotAfter}
 use Rattle.bt_plan.specs.Demand.{IsDemand, units_of}
 use Rattle.bt_plan.specs.Plan.{IsHeld, IsGoodPlan}
 use Rattle.bt_plan.specs.PlanVerdict.{AreApart, AreBetweenTerminals, HasGoodModes, slots_sent}
-use Rattle.bt_plan.specs.Traffic.{AreOfNetwork, HasSumsTo, matrix_of, units_between}
+use Rattle.bt_plan.specs.Traffic.{AreOfNetwork, matrix_of, units_between}
 use Rattle.bt_plan.proofs.Matrices.{length-matrix_of}
 use Rattle.bt_plan.proofs.PlanParts.{good_by_parts}
 use Rattle.bt_cut.specs.Cutting.{IsCut, IsCutting}
 use Rattle.bt_cut.specs.Parts.{IsPart, AreParts}
 use Rattle.bt_cut.proofs.Apart.{part_between, parts_that_meet}
 use Rattle.bt_cut.proofs.Cuts.{IsCut-part, IsPart-cut}
+use Rattle.bt_cut.proofs.Counted.{ArePartsOf, cutting_serves}
 use Rattle.bt_cut.proofs.Good.{part_held}
 use Rattle.bt_cut.proofs.Moved.{distinct_moved}
 
@@ -66,17 +68,15 @@ entry-matrix_of net links up down in_rows in_columns =
 -- What a good schedule for a demand's matrix says in terms of the demand.
 pub record IsFor (net : Net) (links : List Link) (schedule : Schedule) : Type 0 where
   pub permutations : All (λ mode. IsPermutation (length net.beams) mode.perm) schedule.modes
-  pub short : total_duration schedule.modes ≤ 4096
   pub carried : (up down : ℕ) → up < length net.beams → down < length net.beams → units_between net links up down ≤ slots_of schedule.modes up down
   pub modes : HasGoodModes net links schedule
 
-pub is_for : (net : Net) (links : List Link) (schedule : Schedule) → HasSumsTo 4096 (matrix_of net links) → IsGood (matrix_of net links) schedule → IsFor net links schedule
-is_for net links schedule fits good =
+pub is_for : (net : Net) (links : List Link) (schedule : Schedule) → IsGood (matrix_of net links) schedule → IsFor net links schedule
+is_for net links schedule good =
     let size = length-matrix_of net links in
     let permutations = subst (λ (n : ℕ). All (λ mode. IsPermutation n mode.perm) schedule.modes) size good.permutations in
     record {
       permutations = permutations;
-      short = omega (arith, good.filled, good.least.reached, fits schedule.critical good.least.on_matrix);
       carried = λ up down in_rows in_columns. omega (arith, good.carried up down (omega arith) (omega arith), entry-matrix_of net links up down in_rows in_columns);
       modes = record { permutations = permutations; durations = good.durations; filled = good.filled; least = good.least };
     }
@@ -109,3 +109,44 @@ pub parts_in_order : (net : Net) (links : List Link) (modes read : List Mode) (c
 parts_in_order net links modes read count bursts moved result same is in_order parts =
     subst (λ (bs : List Burst). AreParts net links modes count bs) (sym is)
     (subst (λ (ms : List Mode). AreParts net links ms count moved) same (AreParts-moved net links read count bursts moved in_order parts))
+
+-- a place that holds one burst alone is in the list
+there : (bursts : List Burst) (burst : Burst) (place : ℕ) → HoldsAt (λ b. b ≡ burst) bursts place → place < length bursts
+there bursts burst place is =
+    elim (cases_lt place (length bursts)) [
+      | inl inside ↦ inside
+      | inr beyond ↦
+          let other : Burst = record { from = burst.from; to = burst.to; start = burst.start; length = burst.length + 1 } in
+          let past = ap (λ (b : Burst). b.length) (get_or_past bursts place other beyond) in
+          let same = ap (λ (b : Burst). b.length) (is other) in
+          absurd (omega (arith, past, same))
+    ]
+
+-- the bursts of a cutting by parts
+cutting_parts : (net : Net) (links : List Link) (modes : List Mode) (bursts : List Burst) → IsCutting net links modes bursts → ArePartsOf net links modes bursts
+cutting_parts net links modes bursts cutting = record {
+  each = λ k d within.
+      let (link, mode, cut) = cutting.each k d within in
+      let (below, part) = IsPart-cut net links modes link mode (get_or bursts k d) cut in
+      (link, mode, below, part);
+  all = λ link mode burst below part.
+      let (place, is) = cutting.all link mode burst (IsCut-part net links modes link mode burst below part) in
+      (place, there bursts burst place is, is);
+  distinct = cutting.distinct;
+}
+
+-- the cutting of a good schedule makes a good plan
+pub cutting_good : (net : Net) (links : List Link) (plan : Plan) → IsSound net → IsDemand links → AreOfNetwork net links → IsGood (matrix_of net links) plan.schedule
+    → IsCutting net links plan.schedule.modes plan.bursts → IsGoodPlan net links plan
+cutting_good net links plan sound demand of good cutting =
+    let modes = plan.schedule.modes in
+    let is = is_for net links plan.schedule good in
+    let parts = cutting_parts net links modes plan.bursts cutting in
+    let served = cutting_serves net links modes plan.bursts demand sound of is.carried parts in
+    let all : AreParts net links modes (length links) plan.bursts = record {
+      each = parts.each;
+      all = λ link mode burst below part. let (k, inside, at) = parts.all link mode burst below part in Contains-from_at plan.bursts burst (k, inside, at);
+      distinct = parts.distinct;
+      served = λ from to. served from to ∙ ap (λ (ls : List Link). units_of ls from to) (sym (take_all (length links) links (omega arith)));
+    } in
+    good_plan net links plan sound demand of is all

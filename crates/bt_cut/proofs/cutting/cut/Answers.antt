@@ -14,11 +14,11 @@ use Rattle.bt_cut.proofs.cutting.cut.Goals as goal
 
 pub bursts_of-requires-clause-permutations : goal.bursts_of-requires-clause-permutations
 bursts_of-requires-clause-permutations c =
-    rw c.as_slice.ensures.same (is_for c.args.net.now c.args.demand.now c.args.schedule c.requires.fits c.requires.good).permutations
+    rw c.as_slice.ensures.same (is_for c.args.net.now c.args.demand.now c.args.schedule c.requires.good).permutations
 
 pub bursts_of-requires-clause-carried : goal.bursts_of-requires-clause-carried
 bursts_of-requires-clause-carried c =
-    rw c.as_slice.ensures.same (is_for c.args.net.now c.args.demand.now c.args.schedule c.requires.fits c.requires.good).carried
+    rw c.as_slice.ensures.same (is_for c.args.net.now c.args.demand.now c.args.schedule c.requires.good).carried
 
 pub of-requires-clause-few : goal.of-requires-clause-few
 of-requires-clause-few c =
@@ -42,4 +42,4 @@ pub returns-clause-good_plan : goal.returns-clause-good_plan
 returns-clause-good_plan c =
     good_plan c.args.net.now c.args.demand.now (record { edition = c.args.edition; schedule = c.args.schedule; bursts = c.of.result })
     c.in_ok-bursts.ensures.network c.in_ok-bursts.ensures.demand c.requires.terminals
-    (is_for c.args.net.now c.args.demand.now c.args.schedule c.requires.fits c.requires.good) (in_order_parts c)
+    (is_for c.args.net.now c.args.demand.now c.args.schedule c.requires.good) (in_order_parts c)
