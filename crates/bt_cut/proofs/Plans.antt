@@ -1,29 +1,29 @@
 -- The plan of a cutting.
-use Rattle.std.proofs.Common.{◌≡◌, ℕ, ◌+◌, ◌<◌, ◌≤◌, List, [], length, map, take, get_or, slice_index, All, AllPairs, Contains, refl, sym, ap, ◌∙◌, subst, inl, inr, arith, zero-add}
+use Rattle.std.proofs.Common.{◌≡◌, ℕ, ◌+◌, ◌<◌, ◌≤◌, List, [], length, map, get_or, slice_index, All, AllPairs, sym, ap, ◌∙◌, subst, inl, inr, arith, zero-add}
 use Rattle.std.specs.List.{HoldsAt, range_with_len}
 use Rattle.std.specs.List.Sorted.{IsPermutation as IsMoved}
-use Rattle.std.proofs.lemmas.List.{take_all, get_or_past}
+use Rattle.std.proofs.lemmas.List.{get_or_past}
 use Rattle.std.proofs.lemmas.Bool.{cases_lt}
 use Rattle.std.proofs.lemmas.List.Elements.{at_from_Contains, Contains-from_at}
 use Rattle.std.proofs.lemmas.List.FromFn.{get_or-map-range_with_len}
-use Rattle.std.proofs.lemmas.List.Sorted.{All-permutation, Contains-permutation, sum_by-IsPermutation}
+use Rattle.std.proofs.lemmas.List.Sorted.{All-permutation, Contains-permutation}
 use Rattle.bt_base.specs.declared.numbers.TermNo.{TermNo}
 use Rattle.bt_base.specs.declared.mode.Mode.{Mode}
 use Rattle.bt_base.specs.declared.schedule.Schedule.{Schedule}
 use Rattle.bt_net.specs.Network.{Net, IsSound}
-use Rattle.bt_matrix.specs.Good.{IsPermutation, IsGood, slots_of, total_duration}
+use Rattle.bt_matrix.specs.Good.{IsPermutation, IsGood, slots_of}
 use Rattle.bt_matrix.specs.Traffic.{entry}
 use Rattle.bt_plan.specs.declared.burst.Burst.{Burst}
 use Rattle.bt_plan.specs.declared.demand.Link.{Link}
 use Rattle.bt_plan.specs.declared.plan.Plan.{Plan}
 use Rattle.bt_plan.specs.Burst.{IsNotAfter}
 use Rattle.bt_plan.specs.Demand.{IsDemand, units_of}
-use Rattle.bt_plan.specs.Plan.{IsHeld, IsGoodPlan}
-use Rattle.bt_plan.specs.PlanVerdict.{AreApart, AreBetweenTerminals, HasGoodModes, slots_sent}
+use Rattle.bt_plan.specs.Plan.{IsGoodPlan}
+use Rattle.bt_plan.specs.PlanVerdict.{AreBetweenTerminals, HasGoodModes, slots_sent}
 use Rattle.bt_plan.specs.Traffic.{AreOfNetwork, matrix_of, units_between}
 use Rattle.bt_plan.proofs.Matrices.{length-matrix_of}
 use Rattle.bt_plan.proofs.PlanParts.{good_by_parts}
-use Rattle.bt_cut.specs.Cutting.{IsCut, IsCutting}
+use Rattle.bt_cut.specs.Cutting.{IsCutting}
 use Rattle.bt_cut.specs.Parts.{IsPart, AreParts}
 use Rattle.bt_cut.proofs.Apart.{part_between, parts_that_meet}
 use Rattle.bt_cut.proofs.Cuts.{IsCut-part, IsPart-cut}
@@ -38,7 +38,6 @@ AreParts-moved net links modes count bursts moved is parts = record {
   each = All-permutation (λ (burst : Burst). (link : ℕ) × (mode : ℕ) × (link < count) × IsPart net links modes link mode burst) bursts moved is parts.each;
   all = λ link mode burst below part. Contains-permutation bursts moved burst is (parts.all link mode burst below part);
   distinct = distinct_moved bursts moved is parts.distinct;
-  served = λ from to. sum_by-IsPermutation _ bursts moved is ∙ parts.served from to;
 }
 
 -- in order they are the cutting
@@ -82,9 +81,9 @@ is_for net links schedule good =
     }
 
 -- and then the plan is good
-pub good_plan : (net : Net) (links : List Link) (plan : Plan) → IsSound net → IsDemand links → AreOfNetwork net links → IsFor net links plan.schedule
-    → AreParts net links plan.schedule.modes (length links) plan.bursts → IsGoodPlan net links plan
-good_plan net links plan sound demand of is parts =
+good_plan : (net : Net) (links : List Link) (plan : Plan) → IsSound net → IsDemand links → AreOfNetwork net links → IsFor net links plan.schedule
+    → AreParts net links plan.schedule.modes (length links) plan.bursts → ((from to : TermNo) → slots_sent plan.bursts from to ≡ units_of links from to) → IsGoodPlan net links plan
+good_plan net links plan sound demand of is parts served =
     let modes = plan.schedule.modes in
     good_by_parts net links plan demand of
     (λ k d within. let (link, mode, below, part) = parts.each k d within in part_between net links modes link mode (get_or plan.bursts k d) of below part)
@@ -95,7 +94,7 @@ good_plan net links plan sound demand of is parts =
     parts.distinct i j d less within
     (parts_that_meet net links modes p q m n (get_or plan.bursts i d) (get_or plan.bursts j d) sound of is.permutations in_p in_q first second meet))
     (λ k d within. let (link, mode, below, part) = parts.each k d within in part_held net links modes link mode (get_or plan.bursts k d) part)
-    (λ from to _ _. parts.served from to ∙ ap (λ (ls : List Link). units_of ls from to) (take_all (length links) links (omega arith)))
+    (λ from to _ _. served from to)
 
 -- the bursts of all links are between terminals
 pub plan_between : (net : Net) (links : List Link) (modes : List Mode) (bursts : List Burst) → AreOfNetwork net links → AreParts net links modes (length links) bursts
@@ -142,11 +141,9 @@ cutting_good net links plan sound demand of good cutting =
     let modes = plan.schedule.modes in
     let is = is_for net links plan.schedule good in
     let parts = cutting_parts net links modes plan.bursts cutting in
-    let served = cutting_serves net links modes plan.bursts demand sound of is.carried parts in
     let all : AreParts net links modes (length links) plan.bursts = record {
       each = parts.each;
       all = λ link mode burst below part. let (k, inside, at) = parts.all link mode burst below part in Contains-from_at plan.bursts burst (k, inside, at);
       distinct = parts.distinct;
-      served = λ from to. served from to ∙ ap (λ (ls : List Link). units_of ls from to) (sym (take_all (length links) links (omega arith)));
     } in
-    good_plan net links plan sound demand of is all
+    good_plan net links plan sound demand of is all (cutting_serves net links modes plan.bursts demand sound of is.carried parts)
