@@ -1,5 +1,5 @@
 -- Bursts that are parts of links, and meet, are the same.
-use Rattle.std.proofs.Common.{◌≡◌, ◌≢◌, ◌⊎◌, ℕ, ◌+◌, ◌<◌, ◌≤◌, ◌==◌, ◌&&◌, if◌then◌else◌, List, [], Option, Some, length, take, get_or, slice_index, All, AllPairs, refl, sym, ap, ◌∙◌, subst, inl, inr, ⊎_elim, arith}
+use Rattle.std.proofs.Common.{◌≡◌, ◌⊎◌, ℕ, ◌+◌, ◌<◌, ◌≤◌, ◌&&◌, if◌then◌else◌, List, [], Some, length, take, get_or, slice_index, All, sym, ap, ◌∙◌, subst, inl, inr, ⊎_elim, arith}
 use Rattle.std.specs.List.{HoldsAt}
 use Rattle.std.proofs.lemmas.Bool.{cases_eq, cases_lt}
 use Rattle.std.proofs.lemmas.List.{get_or_default}
@@ -12,12 +12,12 @@ use Rattle.bt_plan.specs.declared.burst.Burst.{Burst}
 use Rattle.bt_plan.specs.declared.demand.Link.{Link}
 use Rattle.bt_plan.specs.Burst.{Covers}
 use Rattle.bt_plan.specs.Plan.{begin_of, beam_at}
-use Rattle.bt_plan.specs.PlanVerdict.{Collide, AreApart, AreBetweenTerminals}
+use Rattle.bt_plan.specs.PlanVerdict.{Collide}
 use Rattle.bt_plan.specs.Traffic.{IsInBeam, is_in_beam, AreOfNetwork, units_between}
 use Rattle.bt_cut.specs.Parts.{IsPart}
-use Rattle.bt_cut.specs.Serving.{number_at, IsPiece}
+use Rattle.bt_cut.specs.Serving.{IsPiece}
 use Rattle.bt_cut.proofs.Numbers.{begin_next, one_mode}
-use Rattle.bt_cut.proofs.Parts.{one_beam, units_between-more}
+use Rattle.bt_cut.proofs.Parts.{units_between-more}
 use Rattle.bt_cut.proofs.Links.{share-same}
 use Rattle.bt_cut.proofs.Pieces.{same_burst}
 use Rattle.bt_cut.proofs.Prefixes.{prefix_grows}

@@ -1,21 +1,19 @@
 -- The rule of the cutting, which speaks of single slots, and the part of a link in a mode, which counts them.
-use Rattle.std.proofs.Common.{◌≡◌, ◌↔◌, ℕ, ◌+◌, ◌-◌, ◌<◌, ◌≤◌, min, max, List, [], Option, Some, None, length, take, get_or, slice_get, option_map, refl, sym, ap, ◌∙◌, subst, inl, inr, arith}
+use Rattle.std.proofs.Common.{◌≡◌, ℕ, ◌+◌, ◌-◌, ◌<◌, ◌≤◌, min, max, List, [], length, take, get_or, sym, ap, ◌∙◌, subst, inl, inr, arith}
 use Rattle.std.specs.List.{HoldsAt}
-use Rattle.std.proofs.lemmas.Bool.{cases_eq, cases_lt}
+use Rattle.std.proofs.lemmas.Bool.{cases_lt}
 use Rattle.std.proofs.lemmas.List.{get_or_default, get_or_past}
 use Rattle.bt_base.specs.declared.numbers.BeamNo.{BeamNo}
 use Rattle.bt_base.specs.declared.numbers.TermNo.{TermNo}
 use Rattle.bt_base.specs.declared.mode.Mode.{Mode}
 use Rattle.bt_net.specs.Network.{Net}
-use Rattle.bt_matrix.specs.Good.{slots_in, slots_of}
 use Rattle.bt_plan.specs.declared.burst.Burst.{Burst}
 use Rattle.bt_plan.specs.declared.demand.Link.{Link}
-use Rattle.bt_plan.specs.Burst.{Covers}
 use Rattle.bt_plan.specs.Plan.{begin_of}
 use Rattle.bt_plan.specs.Traffic.{IsInBeam, units_between}
 use Rattle.bt_cut.specs.Cutting.{Takes, IsUnitOf, IsSlotOf, IsCut}
 use Rattle.bt_cut.specs.Parts.{IsPart}
-use Rattle.bt_cut.specs.Serving.{number_at, IsPiece}
+use Rattle.bt_cut.specs.Serving.{number_at}
 use Rattle.bt_cut.proofs.Numbers.{number_next, slots_in-le}
 use Rattle.bt_cut.proofs.Parts.{one_beam}
 

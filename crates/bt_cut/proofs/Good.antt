@@ -1,28 +1,20 @@
 -- Bursts that are parts of links do not meet, and are held by the modes.
-use Rattle.std.proofs.Common.{◌≡◌, ◌≢◌, ◌⊎◌, ℕ, ◌+◌, ◌<◌, ◌≤◌, ◌==◌, if◌then◌else◌, Bool, true, false, List, [], Option, Some, length, take, get_or, slice_index, slice_get, option_map, map, All, AllPairs, refl, sym, ap, ◌∙◌, subst, inl, inr, ⊎_elim, arith}
-use Rattle.std.specs.List.{HoldsAt}
-use Rattle.std.proofs.lemmas.Bool.{cases_eq, cases_lt, eqb-true, cases_Bool}
-use Rattle.std.proofs.lemmas.List.{get_or_default}
-use Rattle.std.proofs.lemmas.List.Sums.{sum_by_more}
+use Rattle.std.proofs.Common.{◌≡◌, ℕ, ◌+◌, ◌<◌, ◌≤◌, ◌==◌, if◌then◌else◌, Bool, true, false, List, [], Some, length, take, get_or, slice_index, option_map, refl, sym, ap, ◌∙◌, subst, arith}
+use Rattle.std.proofs.lemmas.Bool.{eqb-true}
 use Rattle.std.proofs.lemmas.Option.{slice_get-get_or}
 use Rattle.bt_base.specs.declared.numbers.BeamNo.{BeamNo}
 use Rattle.bt_base.specs.declared.numbers.TermNo.{TermNo}
 use Rattle.bt_base.specs.declared.mode.Mode.{Mode}
 use Rattle.bt_net.specs.Network.{Net, IsSound}
-use Rattle.bt_matrix.specs.Good.{IsPermutation, slots_in, slots_of}
+use Rattle.bt_matrix.specs.Good.{slots_in}
 use Rattle.bt_plan.specs.declared.burst.Burst.{Burst}
 use Rattle.bt_plan.specs.declared.demand.Link.{Link}
-use Rattle.bt_plan.specs.Burst.{Covers}
-use Rattle.bt_plan.specs.Plan.{begin_of, beam_at, Connects, IsWithinMode, IsHeld}
-use Rattle.bt_plan.specs.PlanVerdict.{Collide, AreApart, AreBetweenTerminals}
-use Rattle.bt_plan.specs.Traffic.{IsInBeam, AreOfNetwork, units_between}
+use Rattle.bt_plan.specs.Plan.{begin_of, IsHeld}
+use Rattle.bt_plan.specs.Traffic.{IsInBeam, units_between}
 use Rattle.bt_cut.specs.Parts.{IsPart}
-use Rattle.bt_cut.specs.Serving.{number_at, IsPiece}
-use Rattle.bt_cut.proofs.Numbers.{number_next, begin_next, slots_in-le, one_mode}
-use Rattle.bt_cut.proofs.Parts.{one_beam, units_between-more}
-use Rattle.bt_cut.proofs.Links.{share-same}
-use Rattle.bt_cut.proofs.Pieces.{same_burst}
-use Rattle.bt_cut.proofs.Prefixes.{prefix_grows}
+use Rattle.bt_cut.specs.Serving.{IsPiece}
+use Rattle.bt_cut.proofs.Numbers.{number_next, slots_in-le}
+use Rattle.bt_cut.proofs.Parts.{one_beam}
 
 if_some : (test : Bool) (n : ℕ) → 0 < (if test then n else 0) → test ≡ true
 if_some true n some = refl

@@ -1,4 +1,5 @@
 pub mod Apart
+pub mod Counted
 pub mod Cuts
 pub mod Good
 pub mod Links

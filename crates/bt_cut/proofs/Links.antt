@@ -1,7 +1,7 @@
 -- Links one after the other: how many there may be, and what each leaves of its connection.
-use Rattle.std.proofs.Common.{◌≡◌, ◌≢◌, ℕ, zero, suc, ◌+◌, ◌-◌, ◌*◌, ◌<◌, ◌≤◌, ◌==◌, ◌&&◌, if◌then◌else◌, Bool, true, false, List, length, take, get_or, slice_set, sum_by, refl, sym, ap, ◌∙◌, subst, inl, inr, arith, length-set, get_or-set_same, get_or-set_other, eq-eqb}
+use Rattle.std.proofs.Common.{◌≡◌, ◌≢◌, ℕ, zero, suc, ◌+◌, ◌-◌, ◌*◌, ◌<◌, ◌≤◌, ◌==◌, ◌&&◌, if◌then◌else◌, List, length, take, get_or, slice_set, refl, sym, ap, ◌∙◌, subst, inl, inr, arith, length-set, get_or-set_same, get_or-set_other, eq-eqb}
 use Rattle.std.specs.List.{HoldsAt}
-use Rattle.std.proofs.lemmas.Bool.{cases_eq, ne_eqb}
+use Rattle.std.proofs.lemmas.Bool.{cases_eq}
 use Rattle.std.proofs.lemmas.Bool.Decides.{nat_tests}
 use Rattle.std.proofs.lemmas.List.{take_all}
 use Rattle.std.proofs.lemmas.List.Sums.{sum_by-take-le, sum_by-le-sum_by}
@@ -14,7 +14,7 @@ use Rattle.bt_plan.specs.Demand.{IsDemand}
 use Rattle.bt_plan.specs.Traffic.{AreOfNetwork, IsInBeam, is_in_beam, units_between}
 use Rattle.bt_cut.specs.declared.connection.Connection.{Connection}
 use Rattle.bt_cut.specs.declared.connection.Span.{Span}
-use Rattle.bt_cut.specs.Serving.{number_at, slots_in_all, AreTurns, taken_of, HasGiven, HasSlots, IsTable}
+use Rattle.bt_cut.specs.Serving.{slots_in_all, AreTurns, taken_of, HasGiven, HasSlots, IsTable}
 use Rattle.bt_cut.proofs.Numbers.{slots_in-le}
 use Rattle.bt_cut.proofs.Parts.{units_between-more}
 

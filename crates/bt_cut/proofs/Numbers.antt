@@ -1,9 +1,9 @@
 -- The numbers of a connection's slots over the modes, and where modes begin.
-use Rattle.std.proofs.Common.{◌≡◌, ℕ, ◌+◌, ◌<◌, ◌≤◌, ◌==◌, if◌then◌else◌, Bool, true, false, List, [], length, take, get_or, slice_index, sum_by, inl, inr, arith}
+use Rattle.std.proofs.Common.{◌≡◌, ℕ, ◌+◌, ◌<◌, ◌≤◌, ◌==◌, if◌then◌else◌, Bool, true, false, List, [], length, get_or, slice_index, inl, inr, arith}
 use Rattle.std.proofs.lemmas.Bool.{cases_eq, cases_lt}
 use Rattle.std.proofs.lemmas.List.Sums.{sum_by_more}
 use Rattle.bt_base.specs.declared.mode.Mode.{Mode}
-use Rattle.bt_matrix.specs.Good.{slots_in, slots_of, total_duration}
+use Rattle.bt_matrix.specs.Good.{slots_in}
 use Rattle.bt_plan.specs.Plan.{begin_of}
 use Rattle.bt_cut.specs.Serving.{number_at}
 use Rattle.bt_cut.proofs.Prefixes.{prefix_grows}

@@ -1,19 +1,16 @@
 -- The bursts of the links, as one link more is served.
-use Rattle.std.proofs.Common.{◌≡◌, ◌⊎◌, ℕ, ◌+◌, ◌<◌, ◌≤◌, ◌==◌, ◌&&◌, if◌then◌else◌, Bool, true, false, List, [], ◌∷◌, ◌++◌, Option, Some, None, length, take, get_or, sum_by, slice_get, unwrap_or, option_map, All, AllPairs, Contains, refl, sym, ap, ◌∙◌, subst, inl, inr, ⊎_elim, arith}
+use Rattle.std.proofs.Common.{◌≡◌, ℕ, ◌+◌, ◌<◌, ◌==◌, ◌&&◌, if◌then◌else◌, Bool, false, List, [], ◌++◌, Option, Some, None, length, take, get_or, slice_get, unwrap_or, option_map, refl, sym, ap, ◌∙◌, subst, inl, inr, arith}
 use Rattle.std.specs.List.{HoldsAt}
-use Rattle.std.proofs.lemmas.Bool.{cases_eq, cases_lt}
-use Rattle.std.proofs.lemmas.Bool.Decides.{nat_tests}
-use Rattle.std.proofs.lemmas.List.Elements.{All-nil, All-append, All-head, All-tail, Contains-append_left, Contains-append_right}
-use Rattle.std.proofs.lemmas.List.Kept.{AllPairs-cons}
-use Rattle.std.proofs.lemmas.List.Sums.{sum_by_more, sum_by-cons, sum_by-append}
+use Rattle.std.proofs.lemmas.Bool.{cases_lt}
+use Rattle.std.proofs.lemmas.List.Elements.{All-nil, All-append, Contains-append_left, Contains-append_right}
+use Rattle.std.proofs.lemmas.List.Sums.{sum_by_more}
 use Rattle.bt_base.specs.declared.numbers.BeamNo.{BeamNo}
 use Rattle.bt_base.specs.declared.numbers.TermNo.{TermNo}
 use Rattle.bt_base.specs.declared.mode.Mode.{Mode}
 use Rattle.bt_net.specs.Network.{Net}
 use Rattle.bt_plan.specs.declared.burst.Burst.{Burst}
 use Rattle.bt_plan.specs.declared.demand.Link.{Link}
-use Rattle.bt_plan.specs.Demand.{ends_of, IsBefore, IsDemand, units_of}
-use Rattle.bt_plan.specs.PlanVerdict.{slots_sent}
+use Rattle.bt_plan.specs.Demand.{IsDemand}
 use Rattle.bt_plan.specs.Traffic.{IsInBeam, is_in_beam, units_between}
 use Rattle.bt_plan.proofs.Pairs.{AllPairs-append}
 use Rattle.bt_cut.specs.Serving.{IsPiece, ArePieces}
@@ -46,31 +43,8 @@ units_between-more net links k link up down i j within is sends receives =
     ∙ ap (λ (n : ℕ). units_between net (take k links) i j + n)
     (share (is_in_beam net i link.from) (is_in_beam net j link.to) up.0 down.0 i j link.units (in_its_beam net link.from up i sends) (in_its_beam net link.to down j receives)))
 
-none_either : (test : Bool) → ◌≡◌ {A = ℕ} 0 (if test then 0 else 0)
-none_either true = refl
-none_either false = refl
-
-one_more : (test : Bool) (first rest : ℕ) → (if test then first else 0) + (if test then rest else 0) ≡ (if test then first + rest else 0)
-one_more true first rest = refl
-one_more false first rest = refl
-
--- the slots that bursts of one link send on a link
-sent_together : (bursts : List Burst) (from to a b : TermNo) → All (λ burst. (burst.from ≡ from) × (burst.to ≡ to)) bursts
-    → slots_sent bursts a b ≡ (if from.0 == a.0 && to.0 == b.0 then sum_by (λ burst. burst.length) bursts else 0)
-sent_together [] from to a b ends = none_either (from.0 == a.0 && to.0 == b.0)
-sent_together (burst ∷ bursts) from to a b ends =
-    let f = λ (x : Burst). if x.from.0 == a.0 && x.to.0 == b.0 then x.length else 0 in
-    let test = from.0 == a.0 && to.0 == b.0 in
-    let HasEnds = λ (x : Burst). (x.from ≡ from) × (x.to ≡ to) in
-    let (sends, receives) = All-head HasEnds burst bursts ends in
-    let here : f burst ≡ (if test then burst.length else 0) =
-    ap (λ (t : TermNo). if t.0 == a.0 && burst.to.0 == b.0 then burst.length else 0) sends ∙ ap (λ (t : TermNo). if from.0 == a.0 && t.0 == b.0 then burst.length else 0) receives in
-    let rest : slots_sent bursts a b ≡ (if test then sum_by (λ x. x.length) bursts else 0) = sent_together bursts from to a b (All-tail HasEnds burst bursts ends) in
-    let total = ap (λ (n : ℕ). if test then n else 0) (sum_by-cons (λ (x : Burst). x.length) burst bursts) in
-    omega (arith, sum_by-cons f burst bursts, here, rest, one_more test burst.length (sum_by (λ x. x.length) bursts), total)
-
 -- links at two places have other ends
-other_ends : (links : List Link) (i j : ℕ) (d : Link) → IsDemand links → i < j → j < length links
+pub other_ends : (links : List Link) (i j : ℕ) (d : Link) → IsDemand links → i < j → j < length links
     → (get_or links i d).from ≡ (get_or links j d).from → (get_or links i d).to ≡ (get_or links j d).to → ⊥
 other_ends links i j d is less within from to =
     let before = is.ordered i j d less within in
@@ -82,9 +56,8 @@ other_ends links i j d is less within from to =
 pub AreParts-more : (net : Net) (links : List Link) (modes : List Mode) (count : ℕ) (bursts more : List Burst) (link : Link) (up down : BeamNo)
     → IsDemand links → count < length links → HoldsAt (λ l. l ≡ link) links count → IsInBeam net link.from up → IsInBeam net link.to down
     → ArePieces modes up.0 down.0 link.from link.to (units_between net (take count links) up.0 down.0) link.units more
-    → sum_by (λ burst. burst.length) more ≡ link.units
     → AreParts net links modes count bursts → AreParts net links modes (count + 1) (bursts ++ more)
-AreParts-more net links modes count bursts more link up down demand within is sends receives pieces slots parts =
+AreParts-more net links modes count bursts more link up down demand within is sends receives pieces parts =
     let piece_is = λ (u d : BeamNo) (l : Link) (mode : ℕ) (burst : Burst). IsPiece modes u.0 d.0 l.from l.to (units_between net (take count links) u.0 d.0) l.units mode burst in
     record {
       each = All-append (λ (burst : Burst). (at : ℕ) × (mode : ℕ) × (at < count + 1) × IsPart net links modes at mode burst) bursts more
@@ -121,12 +94,6 @@ AreParts-more net links modes count bursts more link up down demand within is se
           other_ends links at count link demand below within
           (sym old.sends ∙ (ap (λ (b : Burst). b.from) same ∙ (piece.sends ∙ ap (λ (l : Link). l.from) (sym (is link)))))
           (sym old.receives ∙ (ap (λ (b : Burst). b.to) same ∙ (piece.receives ∙ ap (λ (l : Link). l.to) (sym (is link))))));
-      served = λ from to.
-          let sent = sent_together more link.from link.to from to (λ k d inside. let (mode, piece) = pieces.each k d inside in (piece.sends, piece.receives)) in
-          let f = λ (l : Link). if l.from.0 == from.0 && l.to.0 == to.0 then l.units else 0 in
-          let units = sum_by_more f links count link within ∙ ap (λ (l : Link). units_of (take count links) from to + f l) (is link) in
-          let same = ap (λ (n : ℕ). if link.from.0 == from.0 && link.to.0 == to.0 then n else 0) slots in
-          omega (arith, sum_by-append (λ (b : Burst). if b.from.0 == from.0 && b.to.0 == to.0 then b.length else 0) bursts more, parts.served from to, sent, units, same);
     }
 
 -- no link is served
@@ -135,5 +102,4 @@ AreParts-none net links modes = record {
   each = All-nil (λ (burst : Burst). (at : ℕ) × (mode : ℕ) × (at < 0) × IsPart net links modes at mode burst);
   all = λ at mode burst below part. absurd (omega arith);
   distinct = λ i j d less within. absurd (omega arith);
-  served = λ from to. refl;
 }

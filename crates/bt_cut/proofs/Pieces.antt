@@ -1,5 +1,5 @@
 -- The pieces of a link, as the link gets more of its slots.
-use Rattle.std.proofs.Common.{◌≡◌, ◌⊎◌, ℕ, ◌+◌, ◌<◌, ◌≤◌, min, max, List, [], ◌∷◌, ◌++◌, length, take, get_or, sum_by, All, AllPairs, Contains, refl, sym, ap, ◌∙◌, subst, inl, inr, ⊎_elim, arith}
+use Rattle.std.proofs.Common.{◌≡◌, ◌⊎◌, ℕ, ◌+◌, ◌<◌, ◌≤◌, max, List, [], ◌∷◌, ◌++◌, length, get_or, Contains, sym, ap, ◌∙◌, subst, inl, inr, ⊎_elim, arith}
 use Rattle.std.proofs.lemmas.Bool.{cases_eq, cases_lt}
 use Rattle.std.proofs.lemmas.List.Elements.{All-nil, All-push, Contains-append_left, Contains-append_right, All-contains_itself}
 use Rattle.std.proofs.lemmas.List.Quantifiers.{all_pairs_push}
@@ -7,8 +7,7 @@ use Rattle.bt_base.specs.declared.numbers.TermNo.{TermNo}
 use Rattle.bt_base.specs.declared.mode.Mode.{Mode}
 use Rattle.bt_plan.specs.declared.burst.Burst.{Burst}
 use Rattle.bt_plan.specs.Plan.{begin_of}
-use Rattle.bt_cut.specs.declared.connection.Span.{Span}
-use Rattle.bt_cut.specs.Serving.{number_at, IsPiece, ArePieces, IsTurn}
+use Rattle.bt_cut.specs.Serving.{number_at, IsPiece, ArePieces}
 use Rattle.bt_cut.proofs.Numbers.{numbers_grow, begins_grow, numbers_step}
 
 -- bursts with equal fields are the same

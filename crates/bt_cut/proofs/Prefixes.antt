@@ -1,5 +1,5 @@
 -- Sums over the first elements of a list.
-use Rattle.std.proofs.Common.{◌≡◌, ℕ, zero, suc, ◌+◌, ◌<◌, ◌≤◌, List, [], ◌∷◌, length, take, get_or, sum_by, arith}
+use Rattle.std.proofs.Common.{ℕ, zero, suc, ◌+◌, ◌<◌, ◌≤◌, List, [], ◌∷◌, length, take, get_or, sum_by, arith}
 use Rattle.std.proofs.lemmas.List.Sums.{sum_by_more, sum_by-cons}
 
 -- the sum of more elements is no smaller

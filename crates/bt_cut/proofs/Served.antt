@@ -1,15 +1,13 @@
 -- A link that is served burst by burst.
-use Rattle.std.proofs.Common.{◌≡◌, ◌⊎◌, ℕ, ◌+◌, ◌-◌, ◌<◌, ◌≤◌, List, [], ◌∷◌, ◌++◌, length, take, get_or, sum_by, refl, sym, ap, ◌∙◌, subst, inl, inr, ⊎_elim, arith, append_assoc}
+use Rattle.std.proofs.Common.{◌≡◌, ◌⊎◌, ℕ, ◌+◌, ◌<◌, ◌≤◌, List, [], ◌∷◌, ◌++◌, length, sym, ap, ◌∙◌, inl, inr, ⊎_elim, arith, append_assoc}
 use Rattle.std.proofs.lemmas.Bool.{cases_lt}
 use Rattle.std.proofs.lemmas.List.{take_all, length-append, append-nil}
-use Rattle.std.proofs.lemmas.List.Sums.{sum_by_push}
 use Rattle.bt_base.specs.declared.numbers.TermNo.{TermNo}
-use Rattle.bt_base.specs.declared.mode.Mode.{Mode}
 use Rattle.bt_plan.specs.declared.burst.Burst.{Burst}
 use Rattle.bt_cut.specs.declared.connection.Connection.{Connection}
 use Rattle.bt_cut.specs.declared.connection.Span.{Span}
-use Rattle.bt_cut.specs.Serving.{slots_in_all, AreTurns, IsTurn, taken_of, IsReady, IsNext, HasGiven, IsServedBy}
-use Rattle.bt_cut.proofs.Pieces.{GoesOn, ArePieces-more, ArePieces-none}
+use Rattle.bt_cut.specs.Serving.{slots_in_all, taken_of, IsReady, IsNext, IsServedBy}
+use Rattle.bt_cut.proofs.Pieces.{ArePieces-more, ArePieces-none}
 
 -- where slots are left there is a next span
 pub next_span : (connection : Connection) (left : ℕ) → IsReady connection → 0 < left → taken_of connection + left ≤ slots_in_all connection.spans.items
@@ -28,7 +26,6 @@ served_none spans from to first old = record {
   more = [];
   behind = sym (append-nil old);
   few = omega arith;
-  slots = refl;
   pieces = λ modes up down turns. ArePieces-none modes up down from to first;
 }
 
@@ -43,7 +40,6 @@ served_more from to first done left old now connection new burst served at insid
       more = served.more ++ burst ∷ [];
       behind = ap (λ (l : List Burst). l ++ burst ∷ []) served.behind ∙ append_assoc old served.more (burst ∷ []);
       few = omega (arith, length-append served.more (burst ∷ []), served.few, is.some);
-      slots = omega (arith, sum_by_push (λ (b : Burst). b.length) served.more burst, served.slots);
       pieces = λ modes up down turns.
           let turn = turns connection.next other inside in
           ArePieces-more modes up down from to first done turn.place served.more burst

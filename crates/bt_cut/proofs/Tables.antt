@@ -1,13 +1,12 @@
 -- A table to which a mode is added row by row, and from which links take slots.
-use Rattle.std.proofs.Common.{◌≡◌, ◌≢◌, ℕ, ◌+◌, ◌*◌, ◌<◌, ◌≤◌, List, [], length, get_or, slice_index, slice_set, All, refl, sym, ap, ◌∙◌, subst, inl, inr, arith, length-set, get_or-set_same, get_or-set_other, eq-eqb}
+use Rattle.std.proofs.Common.{◌≡◌, ◌≢◌, ℕ, ◌+◌, ◌*◌, ◌<◌, ◌≤◌, List, length, get_or, slice_index, slice_set, refl, sym, ap, ◌∙◌, inl, inr, arith, get_or-set_same, get_or-set_other, eq-eqb}
 use Rattle.std.specs.List.{HoldsAt}
 use Rattle.std.proofs.lemmas.Bool.{cases_eq, ne_eqb}
 use Rattle.bt_base.specs.declared.mode.Mode.{Mode}
 use Rattle.bt_matrix.specs.Good.{IsPermutation, slots_in}
 use Rattle.bt_plan.specs.Plan.{begin_of}
 use Rattle.bt_cut.specs.declared.connection.Connection.{Connection}
-use Rattle.bt_cut.specs.declared.connection.Span.{Span}
-use Rattle.bt_cut.specs.Serving.{number_at, IsGivenBy, HasSlots, IsTable}
+use Rattle.bt_cut.specs.Serving.{number_at, IsGivenBy, HasSlots}
 use Rattle.bt_cut.proofs.Numbers.{number_next}
 
 -- a connection that the mode makes, and one that it does not

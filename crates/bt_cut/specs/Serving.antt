@@ -77,7 +77,6 @@ pub record IsServedBy (spans : List Span) (from to : TermNo) (first units : ℕ)
   pub more : List Burst
   pub behind : new ≡ old ++ more
   pub few : length more ≤ units
-  pub slots : sum_by (λ burst. burst.length) more ≡ units
   pub pieces : (modes : List Mode) (up down : ℕ) → AreTurns modes up down spans → ArePieces modes up down from to first units more
 
 -- the span is what the mode at that place gives the connection

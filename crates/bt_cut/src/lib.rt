@@ -7,11 +7,13 @@
 mod bursts;
 mod connection;
 mod cutting;
+mod laws;
 mod order;
 mod planning;
 mod table;
 
 pub use cutting::cut;
+pub use laws::cuttings_are_good;
 pub use planning::make_plan;
 
 #[cfg(test)]

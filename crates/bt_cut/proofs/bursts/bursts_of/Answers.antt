@@ -1,15 +1,12 @@
-use Rattle.std.proofs.Common.{◌≡◌, ℕ, ◌+◌, ◌*◌, ◌<◌, ◌≤◌, List, ◌++◌, length, take, get_or, slice_set, sym, ap, ◌∙◌, subst, arith}
+use Rattle.std.proofs.Common.{◌≡◌, ℕ, ◌+◌, ◌*◌, ◌≤◌, List, length, take, get_or, sym, ap, ◌∙◌, subst, arith}
 use Rattle.std.proofs.lemmas.List.{get_or_default, take_all, length-append}
 use Rattle.bt_base.specs.declared.mode.Mode.{Mode}
-use Rattle.bt_base.specs.declared.numbers.TermNo.{TermNo}
 use Rattle.bt_matrix.specs.Good.{slots_of}
 use Rattle.bt_plan.specs.declared.demand.Link.{Link}
-use Rattle.bt_plan.specs.declared.burst.Burst.{Burst}
 use Rattle.bt_plan.specs.Demand.{IsDemand}
 use Rattle.bt_plan.specs.Traffic.{AreOfNetwork, units_between}
 use Rattle.bt_cut.specs.declared.connection.Connection.{Connection}
-use Rattle.bt_cut.specs.Serving.{number_at, ArePieces, HasSlots, IsTable}
-use Rattle.bt_cut.specs.Parts.{AreParts}
+use Rattle.bt_cut.specs.Serving.{ArePieces, HasSlots}
 use Rattle.bt_cut.proofs.Links.{enough_left, few_links, slots_few, IsTable-given}
 use Rattle.bt_cut.proofs.Parts.{AreParts-more}
 use Rattle.bt_cut.proofs.bursts.bursts_of.Goals as goal
@@ -62,7 +59,7 @@ loop-link-preserved c =
           c.beam_of.ensures.in_range c.beam_of-in-loop-link.ensures.in_range has c.in_ok-serve.ensures.given c.loop-link.invariant.table);
       parts = rw served.behind
           (AreParts-more c.args.net.now links modes at c.loop-link.bursts.items served.more link up down demand c.loop-link-test.true is
-          c.beam_of.ensures.beam c.beam_of-in-loop-link.ensures.beam pieces served.slots c.loop-link.invariant.parts);
+          c.beam_of.ensures.beam c.beam_of-in-loop-link.ensures.beam pieces c.loop-link.invariant.parts);
       few = omega (
         arith,
         ap length served.behind,

@@ -1,4 +1,4 @@
-use Rattle.std.proofs.Common.{◌≡◌, ◌*◌, ◌≤◌, length, take}
+use Rattle.std.proofs.Common.{◌*◌, ◌≤◌, length, take}
 use Rattle.bt_plan.specs.Traffic.{units_between}
 use Rattle.bt_cut.specs.Parts.{AreParts}
 use Rattle.bt_cut.specs.Serving.{IsTable}

@@ -1,24 +1,18 @@
-use Rattle.std.proofs.Common.{◌≡◌, ◌≤◌, List, length, AllPairs, sym, subst, arith}
+use Rattle.std.proofs.Common.{List, length, AllPairs, sym, subst, arith}
 use Rattle.std.proofs.lemmas.List.Sorted.{length_permutation}
-use Rattle.bt_base.specs.declared.mode.Mode.{Mode}
-use Rattle.bt_matrix.specs.Good.{slots_of}
 use Rattle.bt_plan.specs.declared.burst.Burst.{Burst}
 use Rattle.bt_plan.specs.Burst.{IsNotAfter}
-use Rattle.bt_plan.specs.Plan.{IsGoodPlan}
-use Rattle.bt_plan.specs.PlanVerdict.{AreBetweenTerminals}
-use Rattle.bt_plan.specs.Traffic.{units_between}
-use Rattle.bt_cut.specs.Cutting.{IsCutting}
 use Rattle.bt_cut.specs.Parts.{AreParts}
-use Rattle.bt_cut.proofs.Plans.{IsCutting-parts, is_for, good_plan, plan_between, parts_in_order}
+use Rattle.bt_cut.proofs.Plans.{IsCutting-parts, is_for, cutting_good, plan_between, parts_in_order}
 use Rattle.bt_cut.proofs.cutting.cut.Goals as goal
 
 pub bursts_of-requires-clause-permutations : goal.bursts_of-requires-clause-permutations
 bursts_of-requires-clause-permutations c =
-    rw c.as_slice.ensures.same (is_for c.args.net.now c.args.demand.now c.args.schedule c.requires.fits c.requires.good).permutations
+    rw c.as_slice.ensures.same (is_for c.args.net.now c.args.demand.now c.args.schedule c.requires.good).permutations
 
 pub bursts_of-requires-clause-carried : goal.bursts_of-requires-clause-carried
 bursts_of-requires-clause-carried c =
-    rw c.as_slice.ensures.same (is_for c.args.net.now c.args.demand.now c.args.schedule c.requires.fits c.requires.good).carried
+    rw c.as_slice.ensures.same (is_for c.args.net.now c.args.demand.now c.args.schedule c.requires.good).carried
 
 pub of-requires-clause-few : goal.of-requires-clause-few
 of-requires-clause-few c =
@@ -40,6 +34,5 @@ returns-clause-terminals c = plan_between c.args.net.now c.args.demand.now c.arg
 
 pub returns-clause-good_plan : goal.returns-clause-good_plan
 returns-clause-good_plan c =
-    good_plan c.args.net.now c.args.demand.now (record { edition = c.args.edition; schedule = c.args.schedule; bursts = c.of.result })
-    c.in_ok-bursts.ensures.network c.in_ok-bursts.ensures.demand c.requires.terminals
-    (is_for c.args.net.now c.args.demand.now c.args.schedule c.requires.fits c.requires.good) (in_order_parts c)
+    cutting_good c.args.net.now c.args.demand.now (record { edition = c.args.edition; schedule = c.args.schedule; bursts = c.of.result })
+    c.in_ok-bursts.ensures.network c.in_ok-bursts.ensures.demand c.requires.terminals c.requires.good (returns-clause-bursts c)

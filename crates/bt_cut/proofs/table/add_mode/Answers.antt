@@ -1,7 +1,6 @@
-use Rattle.std.proofs.Common.{◌≡◌, ℕ, ◌+◌, ◌*◌, ◌<◌, List, length, slice_index, slice_set, get_or, sym, ap, ◌∙◌, subst, arith}
-use Rattle.bt_base.specs.declared.mode.Mode.{Mode}
+use Rattle.std.proofs.Common.{◌≡◌, ℕ, ◌+◌, ◌*◌, List, slice_index, slice_set, get_or, sym, ap, ◌∙◌, subst, arith}
 use Rattle.bt_cut.specs.declared.connection.Connection.{Connection}
-use Rattle.bt_cut.specs.Serving.{IsTable, HasSlots}
+use Rattle.bt_cut.specs.Serving.{HasSlots}
 use Rattle.bt_cut.proofs.Tables.{IsPartTable, IsPartTable-more}
 use Rattle.bt_cut.proofs.table.add_mode.Goals as goal
 

@@ -1,4 +1,4 @@
-use Rattle.std.proofs.Common.{ℕ, ◌+◌, ◌*◌, List, length, All, arith}
+use Rattle.std.proofs.Common.{ℕ, ◌+◌, ◌*◌, List, arith}
 use Rattle.std.proofs.lemmas.List.Elements.{All-push}
 use Rattle.bt_base.specs.declared.mode.Mode.{Mode}
 use Rattle.bt_cut.specs.declared.connection.Connection.{Connection}

@@ -1,7 +1,6 @@
-use Rattle.std.proofs.Common.{◌≡◌, ◌⊎◌, ℕ, ◌+◌, ◌-◌, ◌<◌, ◌≤◌, List, [], ◌∷◌, ◌++◌, length, sym, ap, ◌∙◌, subst, inl, inr, ⊎_elim, arith}
-use Rattle.bt_plan.specs.declared.burst.Burst.{Burst}
+use Rattle.std.proofs.Common.{◌≡◌, ℕ, ◌+◌, ◌-◌, ◌≤◌, List, [], ◌∷◌, ◌++◌, sym, ap, ◌∙◌, subst, inl, inr, ⊎_elim, arith}
 use Rattle.bt_cut.specs.declared.connection.Span.{Span}
-use Rattle.bt_cut.specs.Serving.{slots_in_all, taken_of, HasGiven, IsReady, IsServedBy}
+use Rattle.bt_cut.specs.Serving.{slots_in_all, taken_of, IsServedBy}
 use Rattle.bt_cut.proofs.Served.{next_span, served_more}
 use Rattle.bt_cut.proofs.connection.Connection.serve.Goals as goal
 

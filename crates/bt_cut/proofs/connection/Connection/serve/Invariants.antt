@@ -1,4 +1,4 @@
-use Rattle.std.proofs.Common.{◌≡◌, ◌⊎◌, ◌+◌, ◌-◌, ◌≤◌}
+use Rattle.std.proofs.Common.{◌≡◌, ◌⊎◌, ◌-◌, ◌≤◌}
 use Rattle.bt_cut.specs.Serving.{taken_of, HasGiven, IsServedBy}
 use Rattle.bt_cut.proofs.connection.Connection.serve.Given as goal
 

@@ -1,4 +1,4 @@
-use Rattle.std.proofs.Common.{◌≡◌, ◌+◌, ◌<◌, length, sum_by, take, refl, arith}
+use Rattle.std.proofs.Common.{◌+◌, refl, arith}
 use Rattle.std.proofs.lemmas.List.Sums.{sum_by_more}
 use Rattle.bt_cut.specs.declared.connection.Span.{Span}
 use Rattle.bt_cut.proofs.connection.Connection.use_slots.Goals as goal
