@@ -1,8 +1,8 @@
 -- Where modes begin, and which of them holds a burst.
-use Rattle.std.proofs.Common.{◌≡◌, ◌≢◌, ◌⊎◌, ◌↔◌, ℕ, ◌+◌, ◌<◌, ◌≤◌, List, [], length, All, Some, take, get_or, slice_index, inl, inr, sym, ap, ◌∙◌, subst, arith}
+use Rattle.std.proofs.Common.{◌≡◌, ◌↔◌, ℕ, ◌+◌, ◌<◌, ◌≤◌, List, [], length, All, take, get_or, slice_index, inl, inr, sym, ap, ◌∙◌, subst, arith}
 use Rattle.std.specs.List.{HoldsAt}
 use Rattle.std.proofs.lemmas.Bool.{cases_order, cases_lt}
-use Rattle.std.proofs.lemmas.List.{get_or_default, get_or_past, take-take, take_all}
+use Rattle.std.proofs.lemmas.List.{get_or_default, get_or_past, take-take}
 use Rattle.std.proofs.lemmas.List.Sums.{sum_by_more, sum_by-take-le}
 use Rattle.bt_base.specs.declared.numbers.BeamNo.{BeamNo}
 use Rattle.bt_base.specs.declared.numbers.TermNo.{TermNo}
@@ -11,8 +11,8 @@ use Rattle.bt_net.specs.Network.{Net}
 use Rattle.bt_matrix.specs.Good.{total_duration}
 use Rattle.bt_plan.specs.declared.burst.Burst.{Burst}
 use Rattle.bt_plan.specs.declared.spans.Span.{Span}
-use Rattle.bt_plan.specs.Plan.{begin_of, Connects, IsWithinMode, IsHeld}
-use Rattle.bt_plan.specs.Span.{IsSpan, IsSpanAt}
+use Rattle.bt_plan.specs.Plan.{begin_of, Connects, IsHeld}
+use Rattle.bt_plan.specs.Span.{IsSpanAt}
 use Rattle.bt_plan.specs.Traffic.{IsInBeam}
 use Rattle.bt_plan.specs.Verdict.{IsFirstWithout}
 use Rattle.bt_plan.proofs.LatestEnds.{no_burst}

@@ -1,5 +1,5 @@
 -- A table of the slots of bursts, a row for each terminal that sends.
-use Rattle.std.proofs.Common.{◌≡◌, ◌≢◌, ℕ, ◌+◌, ◌*◌, ◌<◌, ◌≤◌, ◌==◌, ◌&&◌, if◌then◌else◌, List, [], length, replicate, take, All, get_or, slice_index, slice_set, sum_by, refl, inl, inr, sym, ap, ◌∙◌, subst, arith}
+use Rattle.std.proofs.Common.{◌≡◌, ◌≢◌, ℕ, ◌+◌, ◌<◌, ◌≤◌, ◌==◌, ◌&&◌, if◌then◌else◌, List, [], length, replicate, take, get_or, slice_index, slice_set, refl, inl, inr, sym, ap, ◌∙◌, subst, arith}
 use Rattle.std.proofs.lemmas.Bool.{cases_eq, cases_lt}
 use Rattle.std.proofs.lemmas.Bool.Decides.{nat_tests}
 use Rattle.std.proofs.lemmas.List.{length-set, get_or-set_same, get_or-set_other, length-replicate, get_or-replicate}
@@ -11,7 +11,7 @@ use Rattle.bt_net.specs.Network.{Net}
 use Rattle.bt_plan.specs.declared.burst.Burst.{Burst}
 use Rattle.bt_plan.specs.declared.demand.Link.{Link}
 use Rattle.bt_plan.specs.declared.links_served.Unserved.{Unserved}
-use Rattle.bt_plan.specs.PlanVerdict.{slots_sent, IsServed, IsFirstUnserved, AreBetweenTerminals}
+use Rattle.bt_plan.specs.PlanVerdict.{IsServed, IsFirstUnserved, AreBetweenTerminals}
 use Rattle.bt_plan.specs.Traffic.{AreOfNetwork}
 use Rattle.bt_plan.specs.Unserved.{IsForTerminals, AreSlotsSent, IsFirstOther}
 use Rattle.bt_plan.proofs.LatestEnds.{no_burst}

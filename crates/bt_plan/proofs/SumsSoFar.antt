@@ -1,8 +1,7 @@
 -- The sums of the lines of a demand's matrix, as a walk along its links keeps them.
-use Rattle.std.proofs.Common.{◌≡◌, ◌≢◌, ◌⊎◌, ℕ, ◌+◌, ◌<◌, ◌≤◌, List, [], length, replicate, take, get_or, slice_index, slice_set, Option, Some, inl, inr, sym, ap, ◌∙◌, subst, arith, length-set}
+use Rattle.std.proofs.Common.{◌≡◌, ◌≢◌, ◌⊎◌, ℕ, ◌+◌, ◌<◌, ◌≤◌, List, [], length, replicate, take, slice_index, slice_set, inl, inr, sym, ◌∙◌, arith, length-set}
 use Rattle.std.proofs.lemmas.List.{length-replicate, get_or-replicate, length-take, get_or-take}
 use Rattle.std.proofs.lemmas.List.Folds.{sum_by-replicate}
-use Rattle.bt_base.specs.declared.numbers.BeamNo.{BeamNo}
 use Rattle.bt_base.specs.declared.schedule.Critical.{Critical}
 use Rattle.bt_base.specs.declared.schedule.Critical.TheVariants.{Row, Column}
 use Rattle.bt_base.specs.declared.schedule.Schedule.{Schedule}

@@ -1,5 +1,4 @@
-use Rattle.std.proofs.Common.{◌≡◌, ◌≢◌, ◌≤◌, ℕ, length, sym, ◌∙◌, inl, inr, rules, arith}
-use Rattle.bt_matrix.specs.Traffic.{IsLine, IsHeaviest, line_sum}
+use Rattle.std.proofs.Common.{◌≡◌, length, sym, ◌∙◌, inl, inr, rules}
 use Rattle.bt_plan.specs.Traffic.{matrix_of}
 use Rattle.bt_plan.proofs.Matrices.{length-matrix_of}
 use Rattle.bt_plan.proofs.SumsSoFar.{AreLineSums-take, line_of_beams, is_least, not_least}

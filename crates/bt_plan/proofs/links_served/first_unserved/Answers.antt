@@ -1,4 +1,4 @@
-use Rattle.std.proofs.Common.{◌≤◌, arith}
+use Rattle.std.proofs.Common.{◌≤◌}
 use Rattle.bt_plan.proofs.SentTable.{is_first_unserved}
 use Rattle.bt_plan.proofs.links_served.first_unserved.Goals as goal
 

@@ -1,4 +1,4 @@
-use Rattle.std.proofs.Common.{ℕ, ◌<◌}
+use Rattle.std.proofs.Common.{◌<◌}
 use Rattle.bt_base.specs.declared.numbers.TermNo.{TermNo}
 use Rattle.bt_plan.specs.PlanVerdict.{IsServed}
 use Rattle.bt_plan.proofs.links_served.first_unserved.Given as goal

@@ -1,5 +1,5 @@
-use Rattle.std.proofs.Common.{◌≡◌, ◌+◌, ◌*◌, ◌<◌, ◌≤◌, ℕ, ap, refl, arith, get_or}
-use Rattle.bt_matrix.specs.Traffic.{entry, with_entry}
+use Rattle.std.proofs.Common.{◌+◌, ◌*◌, ◌≤◌, ℕ, ap, refl, arith, get_or}
+use Rattle.bt_matrix.specs.Traffic.{entry}
 use Rattle.bt_plan.specs.declared.burst.Burst.{Burst}
 use Rattle.bt_plan.proofs.LatestEnds.{no_burst}
 use Rattle.bt_plan.proofs.SentTable.{no_slots, no_entry, one_more_burst, one_more_small}

@@ -1,7 +1,6 @@
-use Rattle.std.proofs.Common.{◌≡◌, ◌<◌, ◌⊎◌, ◌≤◌, take, get_or, slice_index, set, arith, subst, AllPairs, ap, rules}
+use Rattle.std.proofs.Common.{◌≤◌, take, get_or, slice_index, arith, subst, rules}
 use Rattle.std.proofs.lemmas.List.{take_all, take_more}
-use Rattle.bt_plan.specs.declared.burst.Burst.{Burst}
-use Rattle.bt_plan.specs.PlanVerdict.{Collide, AreApart}
+use Rattle.bt_plan.specs.PlanVerdict.{AreApart}
 use Rattle.bt_plan.proofs.LatestEnds.{no_burst, is_first_late, IsWalked-skip, IsWalked-add}
 use Rattle.bt_plan.proofs.meetings.first_late.Goals as goal
 use Rattle.bt_plan.proofs.meetings.first_late.Goals.{then-burst-ne0+else-from-free, else-burst-ne0}

@@ -1,9 +1,8 @@
-use Rattle.std.proofs.Common.{List, subst, sym, All, rules}
+use Rattle.std.proofs.Common.{List, subst, All}
 use Rattle.bt_base.specs.declared.mode.Mode.{Mode}
 use Rattle.bt_plan.specs.declared.burst.Burst.{Burst}
-use Rattle.bt_plan.specs.declared.verdict.Verdict.{Verdict}
 use Rattle.bt_plan.specs.Plan.{IsHeld}
-use Rattle.bt_plan.specs.PlanVerdict.{AreApart, IsFirstUnserved, IsPlanVerdict}
+use Rattle.bt_plan.specs.PlanVerdict.{AreApart, IsFirstUnserved}
 use Rattle.bt_plan.specs.Unserved.{AreServed}
 use Rattle.bt_plan.specs.Verdict.{IsFirstWithout}
 use Rattle.bt_plan.proofs.plan_check.bursts_verdict.Goals as goal

@@ -1,7 +1,5 @@
-use Rattle.std.proofs.Common.{◌≡◌, ◌<◌, ◌+◌, true, length, arith, ap, All, rules}
-use Rattle.std.proofs.lemmas.List.{get_or_default}
+use Rattle.std.proofs.Common.{◌≡◌, ◌+◌, true, arith, rules}
 use Rattle.std.proofs.lemmas.List.Elements.{All-more}
-use Rattle.bt_plan.specs.declared.burst.Burst.{Burst}
 use Rattle.bt_plan.specs.Plan.{IsHeld}
 use Rattle.bt_plan.proofs.LatestEnds.{no_burst}
 use Rattle.bt_plan.proofs.Walk.{All-whole}

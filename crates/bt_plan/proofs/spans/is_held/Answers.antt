@@ -1,5 +1,4 @@
-use Rattle.std.proofs.Common.{◌≡◌, ◌<◌, ◌≤◌, ◌+◌, true, false, length, arith}
-use Rattle.bt_plan.specs.Plan.{Connects}
+use Rattle.std.proofs.Common.{◌<◌, ◌≤◌, ◌+◌, length, arith}
 use Rattle.bt_plan.proofs.Begins.{held_by_its_mode, its_mode_holds, none_holds}
 use Rattle.bt_plan.proofs.spans.is_held.Goals as goal
 
