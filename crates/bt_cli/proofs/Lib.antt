@@ -3,3 +3,7 @@ pub mod Others
 pub mod Words
 pub mod OneAnswer
 pub mod Printed
+pub mod Misspelt
+pub mod LegalHistories
+pub mod Playing
+pub mod Totals

@@ -23,11 +23,13 @@ two_names name text first other is also =
 pub faulty_check : (read : Command) (request : Request) (first : Option (List ℕ)) → asked read ≡ request → IfSome (name_of read) (λ name. first ≡ Some name) → first ≡ Some (codes "check") → ((matrix modes : Bor (List ℕ)) → read ≡ command.CheckModes matrix modes → ⊥) → request ≡ Faulty
 faulty_check command.Faulty request first is named check other = sym is
 faulty_check (command.CheckModes matrix modes) request first is named check other = absurd (other matrix modes refl)
+faulty_check (command.RunScript _ _ _) request first is named check other = absurd (two_names (codes "run") (codes "check") first refl named check)
 faulty_check (command.PlanModes matrix) request first is named check other = absurd (two_names (codes "modes") (codes "check") first refl named check)
 
 pub faulty_modes : (read : Command) (request : Request) (first : Option (List ℕ)) → asked read ≡ request → IfSome (name_of read) (λ name. first ≡ Some name) → first ≡ Some (codes "modes") → ((matrix : Bor (List ℕ)) → read ≡ command.PlanModes matrix → ⊥) → request ≡ Faulty
 faulty_modes command.Faulty request first is named modes other = sym is
 faulty_modes (command.CheckModes _ _) request first is named modes other = absurd (two_names (codes "check") (codes "modes") first refl named modes)
+faulty_modes (command.RunScript _ _ _) request first is named modes other = absurd (two_names (codes "run") (codes "modes") first refl named modes)
 faulty_modes (command.PlanModes matrix) request first is named modes other = absurd (other matrix refl)
 
 -- the answer to words of no command

@@ -24,6 +24,7 @@ use Rattle.bt_plan.proofs.Capped.{and_parts}
 use Rattle.bt_plan.proofs.Spelled.{bind_ok, ok_is, matrix_of-IsTraffic}
 use Rattle.bt_cli.specs.Lines.{line_of}
 use Rattle.bt_cli.specs.Check.{Judges}
+use Rattle.bt_cli.specs.Outcome.{text_alone}
 
 -- each entry is one that a text can spell
 abbrev IsSmall : List ℕ → Type 0
@@ -109,5 +110,5 @@ printed-in_range text rows schedule spelled good =
     good-in_range rows schedule is (omega (arith, small, good.least.reached)) good
 
 -- the line of a good verdict
-pub good_line : (rows : List (List ℕ)) (schedule : Schedule) → IsGood rows schedule → Judges rows schedule (line_of (codes "good" ∷ [])) 0
-good_line rows schedule good = (Good, good, (refl, refl))
+pub good_line : (rows : List (List ℕ)) (schedule : Schedule) → IsGood rows schedule → Judges rows schedule (text_alone (line_of (codes "good" ∷ [])) 0)
+good_line rows schedule good = (Good, good, refl)

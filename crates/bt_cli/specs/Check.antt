@@ -4,10 +4,9 @@ use Rattle.bt_base.specs.declared.schedule.Schedule.{Schedule}
 use Rattle.bt_plan.specs.declared.verdict.Verdict.{Verdict}
 use Rattle.bt_plan.specs.declared.verdict.Verdict.TheVariants.{Good}
 use Rattle.bt_plan.specs.Verdict.{IsVerdict}
-use Rattle.bt_plan.specs.MatrixText.{matrix_of}
-use Rattle.bt_plan.specs.ScheduleText.{schedule_of}
 use Rattle.bt_cli.specs.Lines.{verdict_words}
-use Rattle.bt_cli.specs.Outcome.{Loads, Says}
+use Rattle.bt_cli.specs.Kinds.{matrix_file, schedule_file}
+use Rattle.bt_cli.specs.Outcome.{Outcome, Loads, Says}
 
 -- 0 where the verdict is good, and else 9
 abbrev pub verdict_status : Verdict → ℕ
@@ -15,13 +14,13 @@ verdict_status Good = 0
 verdict_status _ = 9
 
 -- the line of the verdict on the schedule
-abbrev pub Judges : List (List ℕ) → Schedule → List ℕ → ℕ → Type 0
-Judges rows schedule text status = (verdict : Verdict) × IsVerdict rows schedule verdict × Says (verdict_words verdict) (verdict_status verdict) text status
+abbrev pub Judges : List (List ℕ) → Schedule → Outcome → Type 0
+Judges rows schedule outcome = (verdict : Verdict) × IsVerdict rows schedule verdict × Says (verdict_words verdict) (verdict_status verdict) outcome
 
 -- the schedule is loaded, for as many beams as the matrix has, and judged
-abbrev pub ChecksSchedule : (List ℕ → Option (List ℕ)) → Type 0 → List ℕ → List (List ℕ) → List ℕ → ℕ → Type 0
-ChecksSchedule told failed modes rows = Loads (schedule_of (length rows)) told failed modes (λ schedule. Judges rows schedule)
+abbrev pub ChecksSchedule : (List ℕ → Option (List ℕ)) → Type 0 → List ℕ → List (List ℕ) → Outcome → Type 0
+ChecksSchedule told failed modes rows = Loads (schedule_file (length rows)) told failed modes (λ schedule. Judges rows schedule)
 
 -- the matrix is loaded, and then the schedule; each file is tested before the next is read
-abbrev pub ChecksModes : (List ℕ → Option (List ℕ)) → Type 0 → List ℕ → List ℕ → List ℕ → ℕ → Type 0
-ChecksModes told failed matrix modes = Loads matrix_of told failed matrix (λ rows. ChecksSchedule told failed modes rows)
+abbrev pub ChecksModes : (List ℕ → Option (List ℕ)) → Type 0 → List ℕ → List ℕ → Outcome → Type 0
+ChecksModes told failed matrix modes = Loads matrix_file told failed matrix (λ rows. ChecksSchedule told failed modes rows)

@@ -1,9 +1,14 @@
 pub mod Lines
 pub mod Outcome
+pub mod Kinds
 pub mod Answer
+pub mod Stops
 pub mod Printing
 pub mod Request
 pub mod Command
 pub mod Check
 pub mod Modes
+pub mod Timeline
+pub mod Run
+pub mod Progress
 pub mod Top

@@ -2,6 +2,11 @@
 use Rattle.std.specs.Prelude.{ℕ, ◌++◌, List, [], ◌∷◌, codes, decimal}
 use Rattle.bt_base.specs.declared.schedule.Critical.{Critical}
 use Rattle.bt_base.specs.declared.schedule.Critical.TheVariants.{Row, Column}
+use Rattle.bt_net.specs.declared.fault.NetFault.{NetFault}
+use Rattle.bt_net.specs.declared.fault.NetFault.TheVariants as net_fault
+use Rattle.bt_net.specs.Fault.{path_text}
+use Rattle.bt_script.specs.declared.fault.ScriptCode.{ScriptCode}
+use Rattle.bt_script.specs.declared.fault.ScriptCode.TheVariants.{S1, S2, S3, S4, S5}
 use Rattle.bt_plan.specs.declared.text_fault.TextCode.{TextCode}
 use Rattle.bt_plan.specs.declared.text_fault.TextCode.TheVariants.{X1, X2, M1, T1, T2, T3, T4, T5, P1, P2, P3}
 use Rattle.bt_plan.specs.declared.verdict.Verdict.{Verdict}
@@ -30,6 +35,28 @@ code_name P3 = codes "P3"
 -- the words of a text's first fault, with its line
 abbrev pub text_fault : TextCode → ℕ → List (List ℕ)
 text_fault code line = codes "fault" ∷ code_name code ∷ decimal line ∷ []
+
+-- the words of a network's first fault, with its place
+abbrev pub network_fault : NetFault → List (List ℕ)
+network_fault net_fault.N1 = codes "fault" ∷ codes "N1" ∷ []
+network_fault (net_fault.N2 path) = codes "fault" ∷ codes "N2" ∷ path_text path ∷ []
+network_fault (net_fault.N3 path) = codes "fault" ∷ codes "N3" ∷ path_text path ∷ []
+network_fault (net_fault.N4 path) = codes "fault" ∷ codes "N4" ∷ path_text path ∷ []
+network_fault (net_fault.N5 path) = codes "fault" ∷ codes "N5" ∷ path_text path ∷ []
+network_fault (net_fault.N6 path) = codes "fault" ∷ codes "N6" ∷ path_text path ∷ []
+network_fault net_fault.OutOfMemory = codes "fault" ∷ []
+
+-- the code of a script's fault
+abbrev pub script_code_name : ScriptCode → List ℕ
+script_code_name S1 = codes "S1"
+script_code_name S2 = codes "S2"
+script_code_name S3 = codes "S3"
+script_code_name S4 = codes "S4"
+script_code_name S5 = codes "S5"
+
+-- the words of a script's first fault, with its line
+abbrev pub script_fault : ScriptCode → ℕ → List (List ℕ)
+script_fault code line = codes "fault" ∷ script_code_name code ∷ decimal line ∷ []
 
 -- the words of a verdict
 abbrev pub verdict_words : Verdict → List (List ℕ)

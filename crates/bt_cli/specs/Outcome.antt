@@ -1,48 +1,69 @@
 -- What a run of the program may print and with which status it may end.
 --
--- An outcome is a relation on the text that is to be printed and the status. Outcomes are put together from
--- 'what comes after' functions in the order of the work, so that each refusal stands where its step stands.
-use Rattle.std.specs.Prelude.{◌≡◌, ℕ, ◌≤◌, ◌⊎◌, List, [], ◌∷◌, length, codes, Option, Err, Ok}
+-- Possible outcomes are put together from 'what comes after' functions in the order of the work, so that each refusal
+-- stands where its step stands.
+use Rattle.std.specs.Prelude.{◌≡◌, ℕ, ◌≤◌, ◌⊎◌, List, [], ◌∷◌, length, codes, Option, Result, Err, Ok}
 use Rattle.bt_base.specs.Told.{Gives, IsLonger, gained, GainsPrefix}
-use Rattle.bt_plan.specs.declared.text_fault.TextCode.{TextCode}
-use Rattle.bt_plan.specs.Reading.{Reading}
-use Rattle.bt_cli.specs.Lines.{line_of, text_fault}
+use Rattle.bt_cli.specs.declared.history.History.{History}
+use Rattle.bt_cli.specs.Lines.{line_of}
+
+-- what the work came to: the text to print, the status to end with, and the histories of a run
+pub record Outcome : Type 0 where
+  pub text : List ℕ
+  pub status : ℕ
+  pub histories : List History
+
+-- nothing was run, and a text is to be printed
+abbrev pub text_alone : List ℕ → ℕ → Outcome
+text_alone text status = record { text = text; status = status; histories = [] }
 
 -- one line of these words, with this status
-abbrev pub Says : List (List ℕ) → ℕ → List ℕ → ℕ → Type 0
-Says words number text status = (text ≡ line_of words) × (status ≡ number)
+abbrev pub Says : List (List ℕ) → ℕ → Outcome → Type 0
+Says words status outcome = outcome ≡ text_alone (line_of words) status
+
+-- A kind of file: what its bytes spell, or their first fault; and the words and the status that name a fault.
+pub record Kind (Value Fault : Type 0) : Type 0 where
+  pub reading : List ℕ → Result Value Fault
+  pub fault_words : Fault → List (List ℕ)
+  pub fault_status : ℕ
 
 -- the bytes of a file that was read: those told, where they are told, and no more than the limit of 4 MiB
 abbrev pub IsContent : (List ℕ → Option (List ℕ)) → List ℕ → List ℕ → Type 0
 IsContent told name bytes = Gives (told name) bytes × (length bytes ≤ 4194304)
 
 -- the file spells this value
-abbrev pub IsLoaded : {Value : Type 0} → (List ℕ → Reading Value) → (List ℕ → Option (List ℕ)) → List ℕ → Value → Type 0
-IsLoaded reading told name value = (bytes : List ℕ) × IsContent told name bytes × (reading bytes ≡ Ok value)
+abbrev pub IsLoaded : {Value Fault : Type 0} → Kind Value Fault → (List ℕ → Option (List ℕ)) → List ℕ → Value → Type 0
+IsLoaded kind told name value = (bytes : List ℕ) × IsContent told name bytes × (kind.reading bytes ≡ Ok value)
 
 -- the file could not be read, or is too long
-abbrev pub CannotRead : (List ℕ → Option (List ℕ)) → Type 0 → List ℕ → List ℕ → ℕ → Type 0
-CannotRead told failed name text status =
-    (failed × Says (codes "fault" ∷ codes "read" ∷ name ∷ []) 5 text status)
-    ⊎ (IsLonger (told name) 4194304 × Says (codes "fault" ∷ codes "too" ∷ codes "long" ∷ name ∷ []) 10 text status)
+abbrev pub CannotRead : (List ℕ → Option (List ℕ)) → Type 0 → List ℕ → Outcome → Type 0
+CannotRead told failed name outcome =
+    (failed × Says (codes "fault" ∷ codes "read" ∷ name ∷ []) 5 outcome)
+    ⊎ (IsLonger (told name) 4194304 × Says (codes "fault" ∷ codes "too" ∷ codes "long" ∷ name ∷ []) 10 outcome)
 
 -- the file spells no value, and its first fault is named
-abbrev pub Misspells : {Value : Type 0} → (List ℕ → Reading Value) → (List ℕ → Option (List ℕ)) → List ℕ → List ℕ → ℕ → Type 0
-Misspells reading told name text status =
-    (bytes : List ℕ) × (code : TextCode) × (line : ℕ) × IsContent told name bytes × (reading bytes ≡ Err (code, line)) × Says (text_fault code line) 4 text status
+abbrev pub Misspells : {Value Fault : Type 0} → Kind Value Fault → (List ℕ → Option (List ℕ)) → List ℕ → Outcome → Type 0
+Misspells {Value} {Fault} kind told name outcome =
+    (bytes : List ℕ) × (fault : Fault) × IsContent told name bytes × (kind.reading bytes ≡ Err fault) × Says (kind.fault_words fault) kind.fault_status outcome
 
 -- no value comes of the file
-abbrev pub StopsAtLoad : {Value : Type 0} → (List ℕ → Reading Value) → (List ℕ → Option (List ℕ)) → Type 0 → List ℕ → List ℕ → ℕ → Type 0
-StopsAtLoad reading told failed name text status = CannotRead told failed name text status ⊎ Misspells reading told name text status
+abbrev pub StopsAtLoad : {Value Fault : Type 0} → Kind Value Fault → (List ℕ → Option (List ℕ)) → Type 0 → List ℕ → Outcome → Type 0
+StopsAtLoad kind told failed name outcome = CannotRead told failed name outcome ⊎ Misspells kind told name outcome
 
 -- a file is loaded, and then the work goes on with its value
-abbrev pub Loads : {Value : Type 0} → (List ℕ → Reading Value) → (List ℕ → Option (List ℕ)) → Type 0 → List ℕ → (Value → List ℕ → ℕ → Type 0) → List ℕ → ℕ → Type 0
-Loads {Value} reading told failed name after text status =
-    StopsAtLoad reading told failed name text status
-    ⊎ ((value : Value) × IsLoaded reading told name value × after value text status)
+abbrev pub Loads : {Value Fault : Type 0} → Kind Value Fault → (List ℕ → Option (List ℕ)) → Type 0 → List ℕ → (Value → Outcome → Type 0) → Outcome → Type 0
+Loads {Value} kind told failed name after outcome =
+    StopsAtLoad kind told failed name outcome
+    ⊎ ((value : Value) × IsLoaded kind told name value × after value outcome)
 
--- The answer was written whole; or the sink failed, and a first part of the answer was written.
-abbrev pub Prints : Option (List ℕ) → Option (List ℕ) → Type 0 → List ℕ → ℕ → ℕ → Type 0
-Prints old new failed text answer status =
-    ((new ≡ gained old text) × (status ≡ answer))
-    ⊎ (failed × GainsPrefix old text new × (status ≡ 6))
+-- The text was written whole; or the sink failed, and a first part of the text was written.
+abbrev pub Prints : Option (List ℕ) → Option (List ℕ) → Type 0 → Outcome → ℕ → Type 0
+Prints old new failed outcome status =
+    ((new ≡ gained old outcome.text) × (status ≡ outcome.status))
+    ⊎ (failed × GainsPrefix old outcome.text new × (status ≡ 6))
+
+-- memory ran out, and left these histories; or the work had one of these outcomes, and it was printed
+abbrev pub EndsBy : (Outcome → Type 0) → (List History → Type 0) → Option (List ℕ) → Option (List ℕ) → Type 0 → ℕ → List History → Type 0
+EndsBy Outcomes Leaves old new failed status histories =
+    ((status ≡ 1) × Leaves histories)
+    ⊎ ((outcome : Outcome) × Outcomes outcome × (histories ≡ outcome.histories) × Prints old new failed outcome status)

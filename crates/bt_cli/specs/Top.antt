@@ -1,31 +1,47 @@
 -- The promise of the whole program: what it prints and the status that it ends with, for each command.
 use Rattle.std.specs.Prelude.{◌≡◌, ℕ, ◌⊎◌, List, [], ◌∷◌, codes, Option, Some}
-use Rattle.bt_cli.specs.Outcome.{Says, Prints}
-use Rattle.bt_cli.specs.Request.{Request, Faulty, CheckModes, PlanModes}
+use Rattle.bt_cli.specs.declared.history.History.{History}
+use Rattle.bt_cli.specs.Outcome.{Outcome, Says, EndsBy}
+use Rattle.bt_cli.specs.Request.{Request, Faulty, CheckModes, PlanModes, RunScript}
 use Rattle.bt_cli.specs.Check.{ChecksModes}
 use Rattle.bt_cli.specs.Modes.{PrintsModes}
+use Rattle.bt_cli.specs.Run.{Runs, AreLegal}
 
--- the answer to what is asked, by the command
-abbrev pub Answers : (List ℕ → Option (List ℕ)) → Type 0 → Request → List ℕ → ℕ → Type 0
+-- the outcome of what is asked, by the command
+abbrev pub Answers : (List ℕ → Option (List ℕ)) → Type 0 → Request → Outcome → Type 0
 Answers told failed Faulty = Says (codes "fault" ∷ codes "words" ∷ []) 2
 Answers told failed (CheckModes matrix modes) = ChecksModes told failed matrix modes
 Answers told failed (PlanModes matrix) = PrintsModes told failed matrix
+Answers told failed (RunScript net script _) = Runs told failed net script
 
--- Memory ran out; or an answer to what is asked was printed. `read_failed` and `write_failed` say that the
--- count of faults of the files and of the sink rose.
-abbrev pub Ends : (List ℕ → Option (List ℕ)) → Type 0 → Option (List ℕ) → Option (List ℕ) → Type 0 → Request → ℕ → Type 0
-Ends told read_failed written now_written write_failed request status =
-    (status ≡ 1)
-    ⊎ ((text : List ℕ) × (answer : ℕ) × Answers told read_failed request text answer × Prints written now_written write_failed text answer status)
+-- the histories that stand where memory ran out: none, or legal ones of a run
+abbrev pub LeavesHistories : (List ℕ → Option (List ℕ)) → Request → List History → Type 0
+LeavesHistories told Faulty histories = histories ≡ []
+LeavesHistories told (CheckModes _ _) histories = histories ≡ []
+LeavesHistories told (PlanModes _) histories = histories ≡ []
+LeavesHistories told (RunScript net _ _) histories = AreLegal told net histories
+
+-- Memory ran out; or what is asked had one of its outcomes, and it was printed. `read_failed` and `write_failed` say
+-- that the count of faults of the files and of the sink rose.
+abbrev pub Ends : (List ℕ → Option (List ℕ)) → Type 0 → Option (List ℕ) → Option (List ℕ) → Type 0 → Request → ℕ → List History → Type 0
+Ends told read_failed written now_written write_failed request status histories =
+    EndsBy (Answers told read_failed request) (LeavesHistories told request) written now_written write_failed status histories
+
+-- the file of that name is told
+abbrev pub IsTold : (List ℕ → Option (List ℕ)) → List ℕ → Type 0
+IsTold told name = (held : List ℕ) × (told name ≡ Some held)
 
 -- the files that are asked for are told
 abbrev pub AreTold : (List ℕ → Option (List ℕ)) → Request → Type 0
 AreTold told Faulty = Unit {0}
-AreTold told (CheckModes matrix modes) = ((held : List ℕ) × (told matrix ≡ Some held)) × ((held : List ℕ) × (told modes ≡ Some held))
-AreTold told (PlanModes matrix) = (held : List ℕ) × (told matrix ≡ Some held)
+AreTold told (CheckModes matrix modes) = IsTold told matrix × IsTold told modes
+AreTold told (PlanModes matrix) = IsTold told matrix
+AreTold told (RunScript net script _) = IsTold told net × IsTold told script
 
--- The same text and the same status; where a schedule is printed, any good one may stand in the other's place.
-abbrev pub IsOneAnswer : Request → List ℕ → ℕ → List ℕ → ℕ → Type 0
-IsOneAnswer Faulty a m b n = (a ≡ b) × (m ≡ n)
-IsOneAnswer (CheckModes _ _) a m b n = (a ≡ b) × (m ≡ n)
-IsOneAnswer (PlanModes _) a m b n = (m ≡ n) × ((m ≡ 0) ⊎ (a ≡ b))
+-- The same outcome; where a schedule is printed or a script is run, any good schedule and any run may stand in the
+-- other's place.
+abbrev pub IsOneAnswer : Request → Outcome → Outcome → Type 0
+IsOneAnswer Faulty a b = a ≡ b
+IsOneAnswer (CheckModes _ _) a b = a ≡ b
+IsOneAnswer (PlanModes _) a b = (a.status ≡ b.status) × ((a.status ≡ 0) ⊎ (a ≡ b))
+IsOneAnswer (RunScript _ _ _) a b = (a.status ≡ b.status) × ((a.status ≡ 0) ⊎ (a ≡ b))

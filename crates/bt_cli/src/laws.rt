@@ -7,17 +7,18 @@ ghost use Rattle.bt_plan.specs.ScheduleSpelling.{schedule_spelling};
 ghost use Rattle.bt_plan.specs.ScheduleText.{schedule_of};
 ghost use Rattle.bt_cli.specs.Check.{Judges};
 ghost use Rattle.bt_cli.specs.Lines.{line_of};
-ghost use Rattle.bt_cli.specs.Outcome.{Says};
+ghost use Rattle.bt_cli.specs.Outcome.{Outcome, Says, text_alone};
 ghost use Rattle.bt_cli.specs.Request.{Request};
 ghost use Rattle.bt_cli.specs.Top.{Answers, AreTold, IsOneAnswer};
 
 use bt_plan::{one_verdict, schedules_have_one_spelling};
 
 /// Where the files that are asked for are told and none of them failed, what is asked has one answer: no two
-/// cases of the promise hold together. Of the good schedules for a matrix any may be printed.
+/// cases of the promise hold together. Of the good schedules for a matrix any may be printed, and of the runs of a
+/// script any.
 pub fn one_answer()
     ensures { (told : List ℕ → Option (List ℕ)) (request : Request) → AreTold told request
-        → (a : List ℕ) (m : ℕ) (b : List ℕ) (n : ℕ) → Answers told ⊥ request a m → Answers told ⊥ request b n → IsOneAnswer request a m b n }
+        → (a b : Outcome) → Answers told ⊥ request a → Answers told ⊥ request b → IsOneAnswer request a b }
 {
     one_verdict();
 }
@@ -27,9 +28,9 @@ pub fn one_answer()
 pub fn printed_schedules_are_read_back()
     ensures read { (text : List ℕ) (rows : List (List ℕ)) (schedule : Schedule) → matrix_of text ≡ Ok rows → IsGood rows schedule
         → schedule_of (length rows) (schedule_spelling schedule) ≡ Ok schedule }
-    ensures judged { (rows : List (List ℕ)) (schedule : Schedule) → IsGood rows schedule → Judges rows schedule (line_of (codes "good" ∷ [])) 0 }
-    ensures alone { (rows : List (List ℕ)) (schedule : Schedule) (text : List ℕ) (status : ℕ) → IsGood rows schedule
-        → Judges rows schedule text status → Says (codes "good" ∷ []) 0 text status }
+    ensures judged { (rows : List (List ℕ)) (schedule : Schedule) → IsGood rows schedule → Judges rows schedule (text_alone (line_of (codes "good" ∷ [])) 0) }
+    ensures alone { (rows : List (List ℕ)) (schedule : Schedule) (outcome : Outcome) → IsGood rows schedule
+        → Judges rows schedule outcome → Says (codes "good" ∷ []) 0 outcome }
 {
     one_verdict();
     schedules_have_one_spelling();

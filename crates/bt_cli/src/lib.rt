@@ -7,17 +7,23 @@
 mod answer;
 mod check;
 mod faulty;
+mod history;
 mod laws;
 mod lines;
 mod load;
 mod modes;
+mod play;
 mod print;
 mod request;
+mod run;
+mod stops;
 #[cfg(test)]
 mod tests;
+mod timeline;
 mod top;
 
 pub use check::check_command;
+pub use history::{Histories, History};
 pub use laws::{one_answer, printed_schedules_are_read_back};
 pub use modes::modes_command;
 pub use top::{Ended, centre_main};

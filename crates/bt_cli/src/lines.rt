@@ -1,10 +1,13 @@
 // The lines that the program prints.
 ghost use Rattle.std.specs.Prelude.{◌≡◌, IfOk};
 ghost use Rattle.std.specs.String.{string_bytes};
-ghost use Rattle.bt_cli.specs.Lines.{code_name, line_of, text_fault, verdict_words};
+ghost use Rattle.bt_net.specs.Fault.{path_text};
+ghost use Rattle.bt_cli.specs.Lines.{code_name, line_of, network_fault, script_code_name, script_fault, text_fault, verdict_words};
 
 use bt_base::{Critical, OutOfMemory};
+use bt_net::NetFault;
 use bt_plan::{TextCode, Verdict};
+use bt_script::ScriptCode;
 use std::alloc::{AllocError, Global};
 use std::fmt;
 
@@ -31,6 +34,40 @@ pub fn text_fault_line(alloc: Global, code: TextCode, line: u32) -> Result<Strin
     ensures { IfOk result (λ text. string_bytes text ≡ line_of (text_fault code line)) }
 {
     format!(in alloc; "fault {} {line}\n", code_text(code))
+}
+
+fn script_code_text(code: ScriptCode) -> &'static str
+    ensures { result.now ≡ script_code_name code }
+{
+    match code {
+        ScriptCode::S1 => "S1",
+        ScriptCode::S2 => "S2",
+        ScriptCode::S3 => "S3",
+        ScriptCode::S4 => "S4",
+        ScriptCode::S5 => "S5",
+    }
+}
+
+/// The line of a script's first fault.
+pub fn script_fault_line(alloc: Global, code: ScriptCode, line: u32) -> Result<String, AllocError>
+    ensures { IfOk result (λ text. string_bytes text ≡ line_of (script_fault code line)) }
+{
+    format!(in alloc; "fault {} {line}\n", script_code_text(code))
+}
+
+/// The line of a network's first fault.
+pub fn network_fault_line(alloc: Global, fault: NetFault) -> Result<String, AllocError>
+    ensures { IfOk result (λ text. string_bytes text ≡ line_of (network_fault fault)) }
+{
+    match fault {
+        NetFault::N1 => format!(in alloc; "fault N1\n"),
+        NetFault::N2 { path } => format!(in alloc; "fault N2 {}\n", path.text(alloc)?),
+        NetFault::N3 { path } => format!(in alloc; "fault N3 {}\n", path.text(alloc)?),
+        NetFault::N4 { path } => format!(in alloc; "fault N4 {}\n", path.text(alloc)?),
+        NetFault::N5 { path } => format!(in alloc; "fault N5 {}\n", path.text(alloc)?),
+        NetFault::N6 { path } => format!(in alloc; "fault N6 {}\n", path.text(alloc)?),
+        NetFault::OutOfMemory => format!(in alloc; "fault\n"),
+    }
 }
 
 /// The line of a verdict.

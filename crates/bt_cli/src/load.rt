@@ -1,17 +1,20 @@
 // Files, read and tested one after the other.
-ghost use Rattle.std.specs.Prelude.{◌≡◌, ◌≤◌, IfOk, IfErr};
+ghost use Rattle.std.specs.Prelude.{◌≡◌, ◌≤◌, IfOk, IfErr, OnErr};
 ghost use Rattle.bt_base.specs.Told.{Rose};
-ghost use Rattle.bt_plan.specs.MatrixText.{matrix_of};
 ghost use Rattle.bt_plan.specs.Critical.{IsOfBeams};
-ghost use Rattle.bt_plan.specs.ScheduleText.{schedule_of};
+ghost use Rattle.bt_script.specs.Named.{HasDesksInOrder, IsItemFor};
 ghost use Rattle.bt_cli.specs.Outcome.{IsContent, CannotRead, IsLoaded, StopsAtLoad};
-ghost use Rattle.bt_cli.specs.Answer.{StopIs, NamesFault};
+ghost use Rattle.bt_cli.specs.Kinds.{matrix_file, network_file, schedule_file, script_file};
+ghost use Rattle.bt_cli.specs.Answer.{StopIs};
+ghost use Rattle.std.specs.Prelude.{All};
 
 use crate::answer::{Answer, Stop};
-use crate::lines::text_fault_line;
+use crate::stops::{network_stop, script_stop, text_stop};
 use bt_base::{FileFault, Files, Schedule};
 use bt_matrix::Dense;
-use bt_plan::{TextFault, read_matrix, read_schedule};
+use bt_net::Network;
+use bt_plan::{read_matrix, read_schedule};
+use bt_script::Script;
 use std::alloc::Global;
 
 /// The most bytes that a file may have: 4 MiB.
@@ -39,23 +42,11 @@ pub fn read_file<F: Files>(alloc: Global, files: &mut F, name: &str) -> Result<V
     }
 }
 
-/// The answer that names a text's first fault.
-pub fn text_stop(alloc: Global, fault: TextFault) -> Stop
-    ensures { StopIs (NamesFault fault) result }
-{
-    match fault {
-        TextFault::OutOfMemory => Stop::OutOfMemory,
-        TextFault::At { code, line } => match text_fault_line(alloc, code, line) {
-            Ok(line) => Stop::Early(Answer::line(line, 4)),
-            Err(_) => Stop::OutOfMemory,
-        },
-    }
-}
-
 /// The traffic matrix in a file.
+#[tactic(auto, using(crate::proofs::Misspelt::matrix_misspelt))]
 pub fn load_matrix<F: Files>(alloc: Global, files: &mut F, name: &str) -> Result<Dense, Stop>
-    ensures loaded { IfOk result (λ matrix. IsLoaded matrix_of (F.told files.old) name.now matrix) }
-    ensures stops { IfErr result (StopIs (StopsAtLoad matrix_of (F.told files.old)
+    ensures loaded { IfOk result (λ matrix. IsLoaded matrix_file (F.told files.old) name.now matrix) }
+    ensures stops { IfErr result (StopIs (StopsAtLoad matrix_file (F.told files.old)
         (Rose (F.fault_count files.old) (F.fault_count files.new)) name.now)) }
     ensures later { F.fault_count files.old ≤ F.fault_count files.new }
     ensures same { F.told files.new ≡ F.told files.old }
@@ -65,6 +56,7 @@ pub fn load_matrix<F: Files>(alloc: Global, files: &mut F, name: &str) -> Result
 }
 
 /// The switching schedule in a file, for so many beams.
+#[tactic(auto, using(crate::proofs::Misspelt::schedule_misspelt))]
 pub fn load_schedule<F: Files>(
     alloc: Global,
     files: &mut F,
@@ -73,12 +65,48 @@ pub fn load_schedule<F: Files>(
 ) -> Result<Schedule, Stop>
     requires few { size ≤ 16 }
     ensures critical { IfOk result (λ schedule. IsOfBeams size schedule.critical) }
-    ensures loaded { IfOk result (λ schedule. IsLoaded (schedule_of size) (F.told files.old) name.now schedule) }
-    ensures stops { IfErr result (StopIs (StopsAtLoad (schedule_of size) (F.told files.old)
+    ensures loaded { IfOk result (λ schedule. IsLoaded (schedule_file size) (F.told files.old) name.now schedule) }
+    ensures stops { IfErr result (StopIs (StopsAtLoad (schedule_file size) (F.told files.old)
         (Rose (F.fault_count files.old) (F.fault_count files.new)) name.now)) }
     ensures later { F.fault_count files.old ≤ F.fault_count files.new }
     ensures same { F.told files.new ≡ F.told files.old }
 {
     let bytes = read_file(alloc, files, name)?;
     read_schedule(alloc, size, &bytes).map_err(|fault| text_stop(alloc, fault))
+}
+
+/// The network in a file.
+#[tactic(auto, using(crate::proofs::Misspelt::network_misspelt))]
+pub fn load_network<F: Files>(alloc: Global, files: &mut F, name: &str) -> Result<Network, Stop>
+    ensures loaded { IfOk result (λ net. IsLoaded network_file (F.told files.old) name.now net) }
+    ensures stops { IfErr result (StopIs (StopsAtLoad network_file (F.told files.old)
+        (Rose (F.fault_count files.old) (F.fault_count files.new)) name.now)) }
+    ensures later { F.fault_count files.old ≤ F.fault_count files.new }
+    ensures same { F.told files.new ≡ F.told files.old }
+{
+    let bytes = read_file(alloc, files, name)?;
+    match Network::read(alloc, &bytes) {
+        Ok(net) => Ok(net),
+        Err(fault) => Err(network_stop(alloc, fault)),
+    }
+}
+
+/// The script in a file, for a network.
+#[tactic(auto, using(crate::proofs::Misspelt::script_misspelt))]
+pub fn load_script<F: Files>(
+    alloc: Global,
+    files: &mut F,
+    name: &str,
+    net: &Network,
+) -> Result<Script, Stop>
+    ensures terminals { IfOk result (λ script. All (IsItemFor net.now) script.items) }
+    ensures ascending { IfOk result (λ script. All HasDesksInOrder script.items) }
+    ensures loaded { IfOk result (λ script. IsLoaded (script_file net.now) (F.told files.old) name.now script) }
+    ensures stops { IfErr result (StopIs (StopsAtLoad (script_file net.now) (F.told files.old)
+        (Rose (F.fault_count files.old) (F.fault_count files.new)) name.now)) }
+    ensures later { F.fault_count files.old ≤ F.fault_count files.new }
+    ensures same { F.told files.new ≡ F.told files.old }
+{
+    let bytes = read_file(alloc, files, name)?;
+    Script::read(alloc, net, &bytes).map_err(|fault| script_stop(alloc, fault))
 }

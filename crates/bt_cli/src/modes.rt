@@ -1,5 +1,5 @@
 // `modes MATRIX`.
-ghost use Rattle.std.specs.Prelude.{◌≡◌, map, codes};
+ghost use Rattle.std.specs.Prelude.{◌≡◌, map, codes, []};
 ghost use Rattle.std.specs.String.{string_bytes};
 ghost use Rattle.bt_base.specs.Told.{Rose};
 ghost use Rattle.bt_cli.specs.Modes.{PrintsModes, PrintsSchedule};
@@ -30,7 +30,7 @@ pub fn modes_command<F: Files, O: Sink>(
     requires { first_word (map string_bytes words.now) ≡ Some (codes "modes") }
     ensures { Ends (F.told files.old) (Rose (F.fault_count files.old) (F.fault_count files.new))
         (O.told out.old) (O.told out.new) (Rose (O.fault_count out.old) (O.fault_count out.new))
-        (request_of (map string_bytes words.now)) result }
+        (request_of (map string_bytes words.now)) result [] }
 {
     let outcome = modes_words(alloc, words, files);
     print(alloc, out, outcome)

@@ -1,7 +1,7 @@
 // What the words after the program's name ask for.
 ghost use Rattle.std.specs.Prelude.{◌≡◌, map, codes, IfSome};
 ghost use Rattle.std.specs.String.{string_bytes};
-ghost use Rattle.bt_cli.specs.Request.{check_request, first_word, modes_request, request_of};
+ghost use Rattle.bt_cli.specs.Request.{check_request, first_word, modes_request, request_of, run_request};
 ghost use Rattle.bt_cli.specs.Command.{asked, name_of};
 
 /// A command with its words.
@@ -13,6 +13,12 @@ pub enum Command<'a> {
     CheckModes { matrix: &'a str, modes: &'a str },
     /// `modes MATRIX`.
     PlanModes { matrix: &'a str },
+    /// `run NET SCRIPT JOURNAL`.
+    RunScript {
+        net: &'a str,
+        script: &'a str,
+        journal: &'a str,
+    },
 }
 
 /// The command that the words ask for.
@@ -23,6 +29,9 @@ pub fn command_of(words: &[String]) -> Command<'_>
     match words {
         [command, matrix] if command.as_str() == "modes" => modes_of(matrix),
         [command, matrix, modes] if command.as_str() == "check" => check_of(matrix, modes),
+        [command, net, script, journal] if command.as_str() == "run" => {
+            run_of(net, script, journal)
+        }
         _ => Command::Faulty,
     }
 }
@@ -46,5 +55,20 @@ fn modes_of(matrix: &str) -> Command<'_>
         Command::Faulty
     } else {
         Command::PlanModes { matrix }
+    }
+}
+
+fn run_of<'a>(net: &'a str, script: &'a str, journal: &'a str) -> Command<'a>
+    ensures asked { asked result ≡ run_request net.now script.now journal.now }
+    ensures named { IfSome (name_of result) (λ name. name ≡ codes "run") }
+{
+    if net.is_empty() || script.is_empty() || journal.is_empty() {
+        Command::Faulty
+    } else {
+        Command::RunScript {
+            net,
+            script,
+            journal,
+        }
     }
 }

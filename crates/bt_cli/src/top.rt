@@ -1,14 +1,16 @@
 // The top call.
-ghost use Rattle.std.specs.Prelude.{◌≡◌, map};
+ghost use Rattle.std.specs.Prelude.{◌≡◌, map, []};
 ghost use Rattle.std.specs.String.{string_bytes};
 ghost use Rattle.bt_base.specs.Told.{Rose};
 ghost use Rattle.bt_cli.specs.Request.{request_of};
 ghost use Rattle.bt_cli.specs.Top.{Ends};
 
+use crate::Histories;
 use crate::check::check_command;
 use crate::faulty::print_faulty_words;
 use crate::modes::modes_command;
 use crate::request::{Command, command_of};
+use crate::run::run_files;
 use bt_base::{Files, Keeper, Sink};
 use std::alloc::Global;
 use std::sync::Wait;
@@ -21,6 +23,23 @@ pub struct Ended<K> {
     pub status: u8,
     /// The store, as the command left it.
     pub store: K,
+    /// The histories of a run; none where nothing was run.
+    pub histories: Histories,
+}
+
+impl<K> Ended<K> {
+    /// The end of a command that runs nothing.
+    pub(crate) fn without_run(alloc: Global, status: u8, store: K) -> Ended<K>
+        ensures status { result.status ≡ status }
+        ensures store { result.store ≡ store }
+        ensures histories { result.histories ≡ [] }
+    {
+        Ended {
+            status,
+            store,
+            histories: Histories::none(alloc),
+        }
+    }
 }
 
 /// Does what the words after the program's name ask for.
@@ -30,6 +49,7 @@ pub struct Ended<K> {
 /// | 0 | done |
 /// | 1 | memory ran out |
 /// | 2 | the words are none of a command |
+/// | 3 | the bytes of a network file are no network |
 /// | 4 | a text leaves its grammar or its limits |
 /// | 5 | a file could not be read |
 /// | 6 | the output could not be written |
@@ -45,13 +65,16 @@ pub fn centre_main<R: Threads + Wait + Sync, F: Files, O: Sink, K: Keeper + Send
 ) -> Ended<K>
     ensures ends { Ends (F.told files.old) (Rose (F.fault_count files.old) (F.fault_count files.new))
         (O.told out.old) (O.told out.new) (Rose (O.fault_count out.old) (O.fault_count out.new))
-        (request_of (map string_bytes words.now)) result.status }
+        (request_of (map string_bytes words.now)) result.status result.histories }
     ensures store { result.store ≡ store }
 {
     let status = match command_of(words) {
+        Command::RunScript { net, script, .. } => {
+            return run_files(alloc, net, script, files, out, store);
+        }
         Command::Faulty => print_faulty_words(alloc, out),
         Command::CheckModes { .. } => check_command(alloc, words, files, out),
         Command::PlanModes { .. } => modes_command(alloc, words, files, out),
     };
-    Ended { status, store }
+    Ended::without_run(alloc, status, store)
 }

@@ -1,7 +1,7 @@
 -- the matrix's size is the number of its rows
 use Rattle.std.proofs.Common.{ℕ, rules, subst}
 use Rattle.bt_base.specs.Told.{Rose}
-use Rattle.bt_plan.specs.ScheduleText.{schedule_of}
+use Rattle.bt_cli.specs.Kinds.{schedule_file}
 use Rattle.bt_cli.specs.Check.{Judges}
 use Rattle.bt_cli.specs.Outcome.{Loads}
 use Rattle.bt_cli.specs.Printing.{CameTo}
@@ -9,5 +9,5 @@ use Rattle.bt_cli.proofs.check.check_modes_file.Goals as goal
 
 pub returns-in_err-schedule : goal.returns-in_err-schedule
 returns-in_err-schedule g c =
-    let P : ℕ → Type 0 = λ size. CameTo (Loads (schedule_of size) (g.F.Files.told c.args.files.now) (Rose (g.F.Files.fault_count c.args.files.now) (g.F.Files.fault_count c.load_schedule.new.files)) c.args.modes.now (λ schedule. Judges c.args.matrix.now schedule)) c.from_residual.result in
+    let P : ℕ → Type 0 = λ size. CameTo (Loads (schedule_file size) (g.F.Files.told c.args.files.now) (Rose (g.F.Files.fault_count c.args.files.now) (g.F.Files.fault_count c.load_schedule.new.files)) c.args.modes.now (λ schedule. Judges c.args.matrix.now schedule)) c.from_residual.result in
     subst P c.size.ensures.size (search rules)

@@ -2,6 +2,7 @@
 use Rattle.std.proofs.Common.{[], ◌∷◌, codes, length}
 use Rattle.bt_plan.proofs.Spelled.{matrix_of-IsTraffic}
 use Rattle.bt_cli.specs.Lines.{line_of}
+use Rattle.bt_cli.specs.Outcome.{text_alone}
 use Rattle.bt_cli.proofs.OneAnswer.{Judges-same}
 use Rattle.bt_cli.proofs.Printed.{printed-in_range, good_line}
 use Rattle.bt_cli.proofs.laws.printed_schedules_are_read_back.Goals as goal
@@ -14,5 +15,5 @@ pub returns-clause-judged : goal.returns-clause-judged
 returns-clause-judged c = good_line
 
 pub returns-clause-alone : goal.returns-clause-alone
-returns-clause-alone c = λ rows schedule text status good judged.
-    Judges-same c.one_verdict.ensures rows schedule text status (line_of (codes "good" ∷ [])) 0 judged (good_line rows schedule good)
+returns-clause-alone c = λ rows schedule outcome good judged.
+    Judges-same c.one_verdict.ensures rows schedule outcome (text_alone (line_of (codes "good" ∷ [])) 0) judged (good_line rows schedule good)

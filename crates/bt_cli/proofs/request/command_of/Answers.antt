@@ -16,3 +16,9 @@ returns-in-len2-clause-named c =
     let word = c.command-item in
     let is : string_bytes word.result ≡ codes "modes" = search (rules, c.if-eq.true, c.as_str.ensures.value) in
     named_first (name_of c.modes_of.result) (codes "modes") _ _ c.modes_of.ensures.named is (first_word-map c.args.words.now word.result (omega arith) word.is)
+
+pub returns-in-len4-clause-named : goal.returns-in-len4-clause-named
+returns-in-len4-clause-named c =
+    let word = c.command-item-then-words-lt5 in
+    let is : string_bytes word.result ≡ codes "run" = search (rules, c.if-eq-3.true, c.as_str-then-words-lt5.ensures.value) in
+    named_first (name_of c.run_of.result) (codes "run") _ _ c.run_of.ensures.named is (first_word-map c.args.words.now word.result (omega arith) word.is)

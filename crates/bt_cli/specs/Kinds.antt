@@ -1,0 +1,34 @@
+-- The kinds of files that the program reads.
+use Rattle.std.specs.Prelude.{ℕ, List, [], ◌∷◌, codes}
+use Rattle.bt_base.specs.declared.schedule.Schedule.{Schedule}
+use Rattle.bt_net.specs.Network.{Net}
+use Rattle.bt_net.specs.Reading.{network_in}
+use Rattle.bt_net.specs.declared.fault.NetFault.{NetFault}
+use Rattle.bt_plan.specs.Reading.{Fault, Reading}
+use Rattle.bt_plan.specs.MatrixText.{matrix_of}
+use Rattle.bt_plan.specs.ScheduleText.{schedule_of}
+use Rattle.bt_script.specs.ScriptText.{script_of}
+use Rattle.bt_script.specs.declared.fault.ScriptCode.{ScriptCode}
+use Rattle.bt_script.specs.declared.script.Script.{Script}
+use Rattle.bt_cli.specs.Lines.{text_fault, network_fault, script_fault}
+use Rattle.bt_cli.specs.Outcome.{Kind}
+
+-- a text that is read line by line
+abbrev pub text_file : {Value : Type 0} → (List ℕ → Reading Value) → Kind Value Fault
+text_file reading = record { reading = reading; fault_words = λ fault. text_fault fault.0 fault.1; fault_status = 4 }
+
+-- a traffic matrix
+abbrev pub matrix_file : Kind (List (List ℕ)) Fault
+matrix_file = text_file matrix_of
+
+-- a switching schedule for so many beams
+abbrev pub schedule_file : ℕ → Kind Schedule Fault
+schedule_file size = text_file (schedule_of size)
+
+-- a network
+abbrev pub network_file : Kind Net NetFault
+network_file = record { reading = network_in; fault_words = network_fault; fault_status = 3 }
+
+-- a script for a network
+abbrev pub script_file : Net → Kind Script (ScriptCode × ℕ)
+script_file net = record { reading = script_of net; fault_words = λ fault. script_fault fault.0 fault.1; fault_status = 4 }
