@@ -7,3 +7,4 @@ pub mod Misspelt
 pub mod LegalHistories
 pub mod Playing
 pub mod Totals
+pub mod Named

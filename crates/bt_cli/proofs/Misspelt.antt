@@ -1,11 +1,13 @@
 -- A stop that names the first fault of a file's bytes is one that a load may make.
-use Rattle.std.proofs.Common.{◌≡◌, ℕ, List, Option, Result, Ok, Err, IfErr, inl, inr}
+use Rattle.std.proofs.Common.{ℕ, List, Option, inr}
 use Rattle.bt_net.specs.Network.{Net}
 use Rattle.bt_net.specs.Reading as net_reading
 use Rattle.bt_net.specs.declared.fault.NetFault.{NetFault}
 use Rattle.bt_net.specs.declared.fault.NetFault.TheVariants.{N1, N2, N3, N4, N5, N6, OutOfMemory}
 use Rattle.bt_plan.specs.Reading.{Reading, IsFaultOf}
 use Rattle.bt_plan.specs.MatrixText.{matrix_of}
+use Rattle.bt_plan.specs.TrafficText.{demand_of}
+use Rattle.bt_plan.specs.PlanText.{plan_of}
 use Rattle.bt_plan.specs.ScheduleText.{schedule_of}
 use Rattle.bt_plan.specs.declared.text_fault.TextFault.{TextFault}
 use Rattle.bt_plan.specs.declared.text_fault.TextFault.TheVariants as text_fault
@@ -17,7 +19,7 @@ use Rattle.bt_cli.specs.declared.answer.Stop.{Stop}
 use Rattle.bt_cli.specs.declared.answer.Stop.TheVariants as stop
 use Rattle.bt_cli.specs.Answer.{StopIs}
 use Rattle.bt_cli.specs.Outcome.{IsContent, StopsAtLoad}
-use Rattle.bt_cli.specs.Kinds.{text_file, matrix_file, schedule_file, network_file, script_file}
+use Rattle.bt_cli.specs.Kinds.{text_file, demand_file, matrix_file, plan_file, schedule_file, network_file, script_file}
 use Rattle.bt_cli.specs.Stops.{NamesTextFault, NamesNetworkFault, NamesScriptFault}
 
 text_misspelt : {Value : Type 0} (reading : List ℕ → Reading Value) (told : List ℕ → Option (List ℕ)) (failed : Type 0) (name bytes : List ℕ) (fault : TextFault) (why : Stop) → IsContent told name bytes → IsFaultOf (reading bytes) fault → StopIs (NamesTextFault fault) why → StopIs (StopsAtLoad (text_file reading) told failed name) why
@@ -45,3 +47,9 @@ matrix_misspelt = text_misspelt matrix_of
 
 pub schedule_misspelt : (size : ℕ) (told : List ℕ → Option (List ℕ)) (failed : Type 0) (name bytes : List ℕ) (fault : TextFault) (why : Stop) → IsContent told name bytes → IsFaultOf (schedule_of size bytes) fault → StopIs (NamesTextFault fault) why → StopIs (StopsAtLoad (schedule_file size) told failed name) why
 schedule_misspelt size = text_misspelt (schedule_of size)
+
+pub demand_misspelt : (net : Net) (told : List ℕ → Option (List ℕ)) (failed : Type 0) (name bytes : List ℕ) (fault : TextFault) (why : Stop) → IsContent told name bytes → IsFaultOf (demand_of net bytes) fault → StopIs (NamesTextFault fault) why → StopIs (StopsAtLoad (demand_file net) told failed name) why
+demand_misspelt net = text_misspelt (demand_of net)
+
+pub plan_misspelt : (net : Net) (told : List ℕ → Option (List ℕ)) (failed : Type 0) (name bytes : List ℕ) (fault : TextFault) (why : Stop) → IsContent told name bytes → IsFaultOf (plan_of net bytes) fault → StopIs (NamesTextFault fault) why → StopIs (StopsAtLoad (plan_file net) told failed name) why
+plan_misspelt net = text_misspelt (plan_of net)

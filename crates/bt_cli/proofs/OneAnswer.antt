@@ -1,17 +1,28 @@
 -- Where the files are told and no read failed, what is asked has one answer.
-use Rattle.std.proofs.Common.{◌≡◌, ℕ, ◌<◌, ◌≤◌, ◌⊎◌, inl, inr, List, [], ◌∷◌, length, codes, Option, Some, Result, Ok, Err, IfSome, sym, ap, ◌∙◌, subst, arith}
+use Rattle.std.proofs.Common.{◌≡◌, ℕ, ◌<◌, ◌≤◌, ◌⊎◌, inl, inr, List, length, Option, Some, Result, Ok, Err, sym, ap, ◌∙◌, subst, arith}
 use Rattle.bt_base.specs.Told.{Gives, IsLonger}
 use Rattle.bt_base.specs.declared.schedule.Schedule.{Schedule}
 use Rattle.bt_plan.specs.declared.verdict.Verdict.{Verdict}
+use Rattle.bt_base.specs.declared.schedule.Critical.{Critical}
+use Rattle.bt_matrix.specs.Traffic.{IsHeaviest}
+use Rattle.bt_net.specs.Network.{Net}
+use Rattle.bt_plan.specs.declared.demand.Link.{Link}
+use Rattle.bt_plan.specs.declared.plan.Plan.{Plan}
+use Rattle.bt_plan.specs.Demand.{IsDemand}
+use Rattle.bt_plan.specs.PlanVerdict.{IsPlanVerdict}
+use Rattle.bt_plan.specs.Traffic.{matrix_of}
 use Rattle.bt_plan.specs.Verdict.{IsVerdict}
+use Rattle.bt_cli.specs.CheckPlan.{plan_verdict_words, JudgesPlan, ChecksPlanText, ChecksDemand}
+use Rattle.bt_cli.specs.Fitting.{overload_words, Fits, NamesOverload, WhereItFits}
+use Rattle.bt_cli.specs.Plans.{PrintsPlan, PlansDemand}
 use Rattle.bt_cli.specs.Lines.{line_of, verdict_words}
 use Rattle.bt_cli.specs.Outcome.{Outcome, Kind, text_alone, IsContent, IsLoaded, Misspells, Loads}
-use Rattle.bt_cli.specs.Kinds.{matrix_file, schedule_file, network_file, script_file}
+use Rattle.bt_cli.specs.Kinds.{matrix_file, schedule_file, network_file, demand_file, plan_file, script_file}
 use Rattle.bt_cli.specs.Run.{RunsScript, IsRun}
 use Rattle.bt_cli.specs.Check.{ChecksSchedule, Judges, verdict_status}
 use Rattle.bt_cli.specs.Modes.{PrintsSchedule}
-use Rattle.bt_cli.specs.Request.{Request, Faulty, CheckModes, PlanModes, RunScript}
-use Rattle.bt_cli.specs.Top.{Answers, AreTold, IsOneAnswer}
+use Rattle.bt_cli.specs.Request.{Request, Faulty, CheckModes, CheckPlan, PlanModes, PlanDemand, RunScript}
+use Rattle.bt_cli.specs.Top.{Answers, IsTold, AreTold, IsOneAnswer}
 
 -- a told file has one content
 pub one_content : (told : List ℕ → Option (List ℕ)) (name held bytes : List ℕ) → told name ≡ Some held → IsContent told name bytes → bytes ≡ held
@@ -91,6 +102,45 @@ Judges-same law rows schedule a b (verdict, holds, says) (verdict', holds', says
     let one : verdict ≡ verdict' = law rows schedule verdict verdict' holds holds' in
     says ∙ ap (λ v. text_alone (line_of (verdict_words v)) (verdict_status v)) one ∙ sym says'
 
+-- a plan has at most one verdict for a demand
+abbrev pub OnePlanVerdict : Type 0
+OnePlanVerdict = (net : Net) (links : List Link) (plan : Plan) (a b : Verdict) → IsDemand links → IsPlanVerdict net links plan a → IsPlanVerdict net links plan b → a ≡ b
+
+-- so it has one outcome
+pub JudgesPlan-same : OnePlanVerdict → (net : Net) (links : List Link) (plan : Plan) → (a b : Outcome) → JudgesPlan net links plan a → JudgesPlan net links plan b → a ≡ b
+JudgesPlan-same law net links plan a b one other =
+    let same : one.verdict ≡ other.verdict = law net links plan one.verdict other.verdict one.demand one.is other.is in
+    one.says ∙ ap (λ v. text_alone (line_of (plan_verdict_words net v)) (verdict_status v)) same ∙ sym other.says
+
+-- a matrix has one heaviest line
+abbrev pub OneLine : Type 0
+OneLine = (rows : List (List ℕ)) (a b : Critical) (m n : ℕ) → IsHeaviest rows a m → IsHeaviest rows b n → a ≡ b
+
+-- and one greatest sum
+abbrev pub OneSum : Type 0
+OneSum = (rows : List (List ℕ)) (a b : Critical) (m n : ℕ) → IsHeaviest rows a m → IsHeaviest rows b n → m ≡ n
+
+-- a demand does not fit in one way
+overload_same : OneLine → OneSum → (net : Net) (links : List Link) (a b : Outcome) → NamesOverload net links a → NamesOverload net links b → a ≡ b
+overload_same lines sums net links a b (line, sum, is, over, says) (line', sum', is', over', says') =
+    let rows = matrix_of net links in
+    let same_line : line ≡ line' = lines rows line line' sum sum' is is' in
+    let same_sum : sum ≡ sum' = sums rows line line' sum sum' is is' in
+    says ∙ ap (λ (l : Critical). text_alone (line_of (overload_words l sum)) 4) same_line ∙ ap (λ (n : ℕ). text_alone (line_of (overload_words line' n)) 4) same_sum ∙ sym says'
+
+-- and one that does not fit does not fit
+never_both : (net : Net) (links : List Link) (a : Outcome) → NamesOverload net links a → Fits net links → ⊥
+never_both net links a (line, sum, is, over, says) fits =
+    let most = fits line is.on_matrix in
+    absurd (omega (arith, most, over, is.reached))
+
+-- what comes after a test of fit has one outcome where what comes after it has one
+pub WhereItFits-same : OneLine → OneSum → (One : Outcome → Outcome → Type 0) → ((a b : Outcome) → a ≡ b → One a b) → (net : Net) (links : List Link) (after : Outcome → Type 0) → ((a b : Outcome) → after a → after b → One a b) → (a b : Outcome) → WhereItFits net links after a → WhereItFits net links after b → One a b
+WhereItFits-same lines sums One one net links after same a b (inl over) (inl over') = one a b (overload_same lines sums net links a b over over')
+WhereItFits-same lines sums One one net links after same a b (inl over) (inr (fits, so)) = absurd (never_both net links a over fits)
+WhereItFits-same lines sums One one net links after same a b (inr (fits, so)) (inl over) = absurd (never_both net links b over fits)
+WhereItFits-same lines sums One one net links after same a b (inr (fits, so)) (inr (fits', so')) = same a b so so'
+
 -- two outcomes of which each is as good as the other where its status is 0
 abbrev pub AreAlike : Outcome → Outcome → Type 0
 AreAlike a b = (a.status ≡ b.status) × ((a.status ≡ 0) ⊎ (a ≡ b))
@@ -101,12 +151,44 @@ same_alike a b same = (ap (λ (o : Outcome). o.status) same, inr same)
 done_alike : (a b : Outcome) → a.status ≡ 0 → b.status ≡ 0 → AreAlike a b
 done_alike a b first second = (first ∙ sym second, inl first)
 
--- what is asked has one answer; of several good schedules any may be printed, and of several runs any
-pub Answers-same : OneVerdict → (told : List ℕ → Option (List ℕ)) (request : Request) → AreTold told request → (a b : Outcome) → Answers told ⊥ request a → Answers told ⊥ request b → IsOneAnswer request a b
-Answers-same law told Faulty _ a b first second = first ∙ sym second
-Answers-same law told (CheckModes matrix modes) (of_matrix, of_modes) a b first second =
-    Loads-same (λ a b. a ≡ b) (λ a b same. same) matrix_file told matrix of_matrix.0 of_matrix.1 (λ rows. ChecksSchedule told ⊥ modes rows) (λ rows. Loads-same (λ a b. a ≡ b) (λ a b same. same) (schedule_file (length rows)) told modes of_modes.0 of_modes.1 (λ schedule. Judges rows schedule) (λ schedule. Judges-same law rows schedule)) a b first second
-Answers-same law told (PlanModes matrix) of_matrix a b first second =
+-- the laws of verdicts and of heaviest lines
+pub record Laws : Type 0 where
+  pub verdict : OneVerdict
+  pub plan_verdict : OnePlanVerdict
+  pub line : OneLine
+  pub sum : OneSum
+
+-- outcomes that are the same are one
+abbrev IsOne : Outcome → Outcome → Type 0
+IsOne a b = a ≡ b
+
+is_one : (a b : Outcome) → a ≡ b → IsOne a b
+is_one a b same = same
+
+ChecksPlanText-same : Laws → (told : List ℕ → Option (List ℕ)) (plan held : List ℕ) → told plan ≡ Some held → (net : Net) (links : List Link) (a b : Outcome) → ChecksPlanText told ⊥ plan net links a → ChecksPlanText told ⊥ plan net links b → a ≡ b
+ChecksPlanText-same laws told plan held is net links =
+    Loads-same IsOne is_one (plan_file net) told plan held is (λ read. JudgesPlan net links read) (λ read. JudgesPlan-same laws.plan_verdict net links read)
+
+ChecksDemand-same : Laws → (told : List ℕ → Option (List ℕ)) (traffic plan : List ℕ) → IsTold told traffic → IsTold told plan → (net : Net) (a b : Outcome) → ChecksDemand told ⊥ traffic plan net a → ChecksDemand told ⊥ traffic plan net b → a ≡ b
+ChecksDemand-same laws told traffic plan of_traffic of_plan net =
+    Loads-same IsOne is_one (demand_file net) told traffic of_traffic.0 of_traffic.1 (λ links. WhereItFits net links (ChecksPlanText told ⊥ plan net links))
+    (λ links. WhereItFits-same laws.line laws.sum IsOne is_one net links (ChecksPlanText told ⊥ plan net links) (ChecksPlanText-same laws told plan of_plan.0 of_plan.1 net links))
+
+PlansDemand-same : Laws → (told : List ℕ → Option (List ℕ)) (traffic : List ℕ) → IsTold told traffic → (net : Net) (a b : Outcome) → PlansDemand told ⊥ traffic net a → PlansDemand told ⊥ traffic net b → AreAlike a b
+PlansDemand-same laws told traffic of_traffic net =
+    Loads-same AreAlike same_alike (demand_file net) told traffic of_traffic.0 of_traffic.1 (λ links. WhereItFits net links (PrintsPlan net links))
+    (λ links. WhereItFits-same laws.line laws.sum AreAlike same_alike net links (PrintsPlan net links) (λ a b one other. done_alike a b (ap (λ (o : Outcome). o.status) one.printed) (ap (λ (o : Outcome). o.status) other.printed)))
+
+-- what is asked has one answer; of several good schedules or plans any may be printed, and of several runs any
+pub Answers-same : Laws → (told : List ℕ → Option (List ℕ)) (request : Request) → AreTold told request → (a b : Outcome) → Answers told ⊥ request a → Answers told ⊥ request b → IsOneAnswer request a b
+Answers-same laws told Faulty _ a b first second = first ∙ sym second
+Answers-same laws told (CheckModes matrix modes) (of_matrix, of_modes) a b first second =
+    Loads-same IsOne is_one matrix_file told matrix of_matrix.0 of_matrix.1 (λ rows. ChecksSchedule told ⊥ modes rows) (λ rows. Loads-same IsOne is_one (schedule_file (length rows)) told modes of_modes.0 of_modes.1 (λ schedule. Judges rows schedule) (λ schedule. Judges-same laws.verdict rows schedule)) a b first second
+Answers-same laws told (CheckPlan net traffic plan) (of_net, of_traffic, of_plan) a b first second =
+    Loads-same IsOne is_one network_file told net of_net.0 of_net.1 (λ network. ChecksDemand told ⊥ traffic plan network) (ChecksDemand-same laws told traffic plan of_traffic of_plan) a b first second
+Answers-same laws told (PlanModes matrix) of_matrix a b first second =
     Loads-same AreAlike same_alike matrix_file told matrix of_matrix.0 of_matrix.1 (λ rows. PrintsSchedule rows) (λ rows a b one other. done_alike a b (ap (λ (o : Outcome). o.status) one.3) (ap (λ (o : Outcome). o.status) other.3)) a b first second
-Answers-same law told (RunScript net script _) (of_net, of_script) a b first second =
+Answers-same laws told (PlanDemand net traffic) (of_net, of_traffic) a b first second =
+    Loads-same AreAlike same_alike network_file told net of_net.0 of_net.1 (λ network. PlansDemand told ⊥ traffic network) (PlansDemand-same laws told traffic of_traffic) a b first second
+Answers-same laws told (RunScript net script _) (of_net, of_script) a b first second =
     Loads-same AreAlike same_alike network_file told net of_net.0 of_net.1 (λ network. RunsScript told ⊥ script network) (λ network. Loads-same AreAlike same_alike (script_file network) told script of_script.0 of_script.1 (λ read. IsRun network read) (λ read a b one other. done_alike a b one.done other.done)) a b first second

@@ -1,5 +1,5 @@
 -- A command's own call on words of that command's name that are not the command: they are words of no command.
-use Rattle.std.proofs.Common.{◌≡◌, ℕ, List, [], ◌∷◌, codes, Some, Option, None, IfSome, true, false, refl, sym, ◌∙◌, subst, Bor}
+use Rattle.std.proofs.Common.{◌≡◌, ℕ, List, [], ◌∷◌, codes, Some, Option, IfSome, true, false, refl, sym, ◌∙◌, subst, Bor}
 use Rattle.std.specs.Str.{bytes_eq}
 use Rattle.std.proofs.lemmas.Option.{same_Some}
 use Rattle.std.proofs.lemmas.Slice.Eq.{bytes_eq-Decides}
@@ -20,17 +20,29 @@ two_names name text first other is also =
     cc
 
 -- what the words ask for, where the first of them is the name of a command that was not read off them
-pub faulty_check : (read : Command) (request : Request) (first : Option (List ℕ)) → asked read ≡ request → IfSome (name_of read) (λ name. first ≡ Some name) → first ≡ Some (codes "check") → ((matrix modes : Bor (List ℕ)) → read ≡ command.CheckModes matrix modes → ⊥) → request ≡ Faulty
-faulty_check command.Faulty request first is named check other = sym is
-faulty_check (command.CheckModes matrix modes) request first is named check other = absurd (other matrix modes refl)
-faulty_check (command.RunScript _ _ _) request first is named check other = absurd (two_names (codes "run") (codes "check") first refl named check)
-faulty_check (command.PlanModes matrix) request first is named check other = absurd (two_names (codes "modes") (codes "check") first refl named check)
+pub faulty_check : (read : Command) (request : Request) (first : Option (List ℕ)) → asked read ≡ request → IfSome (name_of read) (λ name. first ≡ Some name) → first ≡ Some (codes "check") → ((matrix modes : Bor (List ℕ)) → read ≡ command.CheckModes matrix modes → ⊥) → ((net traffic plan : Bor (List ℕ)) → read ≡ command.CheckPlan net traffic plan → ⊥) → request ≡ Faulty
+faulty_check command.Faulty request first is named check other another = sym is
+faulty_check (command.CheckModes matrix modes) request first is named check other another = absurd (other matrix modes refl)
+faulty_check (command.CheckPlan net traffic plan) request first is named check other another = absurd (another net traffic plan refl)
+faulty_check (command.PlanDemand _ _) request first is named check other another = absurd (two_names (codes "plan") (codes "check") first refl named check)
+faulty_check (command.RunScript _ _ _) request first is named check other another = absurd (two_names (codes "run") (codes "check") first refl named check)
+faulty_check (command.PlanModes matrix) request first is named check other another = absurd (two_names (codes "modes") (codes "check") first refl named check)
 
 pub faulty_modes : (read : Command) (request : Request) (first : Option (List ℕ)) → asked read ≡ request → IfSome (name_of read) (λ name. first ≡ Some name) → first ≡ Some (codes "modes") → ((matrix : Bor (List ℕ)) → read ≡ command.PlanModes matrix → ⊥) → request ≡ Faulty
 faulty_modes command.Faulty request first is named modes other = sym is
 faulty_modes (command.CheckModes _ _) request first is named modes other = absurd (two_names (codes "check") (codes "modes") first refl named modes)
+faulty_modes (command.CheckPlan _ _ _) request first is named modes other = absurd (two_names (codes "check") (codes "modes") first refl named modes)
+faulty_modes (command.PlanDemand _ _) request first is named modes other = absurd (two_names (codes "plan") (codes "modes") first refl named modes)
 faulty_modes (command.RunScript _ _ _) request first is named modes other = absurd (two_names (codes "run") (codes "modes") first refl named modes)
 faulty_modes (command.PlanModes matrix) request first is named modes other = absurd (other matrix refl)
+
+pub faulty_plan : (read : Command) (request : Request) (first : Option (List ℕ)) → asked read ≡ request → IfSome (name_of read) (λ name. first ≡ Some name) → first ≡ Some (codes "plan") → ((net traffic : Bor (List ℕ)) → read ≡ command.PlanDemand net traffic → ⊥) → request ≡ Faulty
+faulty_plan command.Faulty request first is named plan other = sym is
+faulty_plan (command.CheckModes _ _) request first is named plan other = absurd (two_names (codes "check") (codes "plan") first refl named plan)
+faulty_plan (command.CheckPlan _ _ _) request first is named plan other = absurd (two_names (codes "check") (codes "plan") first refl named plan)
+faulty_plan (command.PlanModes _) request first is named plan other = absurd (two_names (codes "modes") (codes "plan") first refl named plan)
+faulty_plan (command.PlanDemand net traffic) request first is named plan other = absurd (other net traffic refl)
+faulty_plan (command.RunScript _ _ _) request first is named plan other = absurd (two_names (codes "run") (codes "plan") first refl named plan)
 
 -- the answer to words of no command
 pub answers_faulty : (told : List ℕ → Option (List ℕ)) (failed : Type 0) (request : Request) (answer : Answer) → request ≡ Faulty → AnswerIs (Says (codes "fault" ∷ codes "words" ∷ []) 2) answer → AnswerIs (Answers told failed request) answer

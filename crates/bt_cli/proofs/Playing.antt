@@ -1,6 +1,6 @@
 -- What the loops of a run add: a line to a desk's lines, a desk to a round's desks, a round to the rounds.
-use Rattle.std.proofs.Common.{◌≡◌, ℕ, suc, ◌+◌, ◌<◌, ◌≤◌, Bool, true, false, cond, eqb, List, [], ◌∷◌, ◌++◌, length, take, get_or, All, map, refl, sym, ap, ◌∙◌, subst, append_assoc, arith}
-use Rattle.std.specs.List.{flat_map, filter}
+use Rattle.std.proofs.Common.{◌≡◌, ℕ, suc, ◌+◌, ◌<◌, Bool, true, false, cond, eqb, List, [], ◌∷◌, ◌++◌, length, take, get_or, All, map, refl, sym, ap, ◌∙◌, subst, append_assoc, arith}
+use Rattle.std.specs.List.{flat_map}
 use Rattle.std.specs.Prelude.{AllPairs}
 use Rattle.std.proofs.Math.Seq.{take-suc}
 use Rattle.std.proofs.lemmas.Grind.{flat_map-append}
@@ -9,7 +9,6 @@ use Rattle.std.proofs.lemmas.List.Elements.{All-append, All-nil, All-cons, All-t
 use Rattle.bt_net.specs.Network.{Net}
 use Rattle.bt_journal.specs.declared.call.Call.{Call}
 use Rattle.bt_journal.specs.declared.entry.Entry.{Entry}
-use Rattle.bt_journal.specs.declared.reply.Reply.{Reply}
 use Rattle.bt_journal.specs.Journal.{calls_of}
 use Rattle.bt_script.specs.declared.script.DeskLine.{DeskLine}
 use Rattle.bt_script.specs.declared.script.Item.{Item}
@@ -183,12 +182,12 @@ text_in_round net front (desk ∷ desks) (part ∷ parts) so ordered none =
     let rest = all_entries parts in
     let caller = desk.0 + 1 in
     let own : calls_of (front ++ (part ++ rest)) caller ≡ part =
-        calls_of-append front (part ++ rest) caller
-        ∙ ap (λ x. x ++ calls_of (part ++ rest) caller) (none 0 desk (omega arith))
-        ∙ calls_of-append part rest caller
-        ∙ ap (λ x. x ++ calls_of rest caller) (own_calls part caller caller so.0.own ∙ ap (λ t. cond t part []) (same caller))
-        ∙ ap (λ x. part ++ x) (later_calls desks parts desk.0 later so.1)
-        ∙ append-nil part in
+    calls_of-append front (part ++ rest) caller
+    ∙ ap (λ x. x ++ calls_of (part ++ rest) caller) (none 0 desk (omega arith))
+    ∙ calls_of-append part rest caller
+    ∙ ap (λ x. x ++ calls_of rest caller) (own_calls part caller caller so.0.own ∙ ap (λ t. cond t part []) (same caller))
+    ∙ ap (λ x. part ++ x) (later_calls desks parts desk.0 later so.1)
+    ∙ append-nil part in
     let more = text_in_round net (front ++ part) desks parts so.1 (tail_ordered desk desks ordered) (none_more desk desks front part so.0 later (All-tail (λ (d : Desk). calls_of front (d.0 + 1) ≡ []) desk desks none)) in
     ap (λ x. desk_text net desk.0 x ++ flat_map (text_of net (front ++ (part ++ rest))) desks) own
     ∙ ap (λ all. desk_text net desk.0 part ++ flat_map (text_of net all) desks) (sym (append_assoc front part rest))
@@ -240,6 +239,6 @@ rounds_turn net items index one round h0 h1 h2 t0 t1 t2 within is round_is so al
       played = play_more (take index items) so.rounds (item.Round round) also.entries so.played also.played;
       kept = two_pieces h0 (all_entries so.rounds) also.entries h1 h2 so.kept also.kept ∙ ap (λ x. h0 ++ x) (sym (entries_more so.rounds also.entries));
       shown = two_pieces t0 (rounds_text net 1 (take index items) so.rounds) (round_text net (index + 1) round also.entries) t1 t2 so.shown also.shown
-        ∙ ap (λ n. t0 ++ (rounds_text net 1 (take index items) so.rounds ++ round_text net n round also.entries)) number
-        ∙ ap (λ x. t0 ++ x) (sym (rounds_more net 1 (take index items) so.rounds round also.entries so.played));
+          ∙ ap (λ n. t0 ++ (rounds_text net 1 (take index items) so.rounds ++ round_text net n round also.entries)) number
+          ∙ ap (λ x. t0 ++ x) (sym (rounds_more net 1 (take index items) so.rounds round also.entries so.played));
     })

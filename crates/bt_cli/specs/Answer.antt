@@ -1,5 +1,4 @@
 -- Answers and stops of the code, as outcomes.
-use Rattle.std.specs.Prelude.{List}
 use Rattle.bt_cli.specs.Outcome.{Outcome, text_alone}
 use Rattle.bt_cli.specs.declared.answer.Answer.{Answer}
 use Rattle.bt_cli.specs.declared.answer.Stop.{Stop}

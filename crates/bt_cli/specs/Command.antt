@@ -2,18 +2,22 @@
 use Rattle.std.specs.Prelude.{ℕ, List, codes, Option, Some, None}
 use Rattle.bt_cli.specs.declared.request.Command.{Command}
 use Rattle.bt_cli.specs.declared.request.Command.TheVariants as command
-use Rattle.bt_cli.specs.Request.{Request, Faulty, CheckModes, PlanModes, RunScript}
+use Rattle.bt_cli.specs.Request.{Request, Faulty, CheckModes, CheckPlan, PlanModes, PlanDemand, RunScript}
 
 -- what the command asks for
 abbrev pub asked : Command → Request
 asked command.Faulty = Faulty
 asked (command.CheckModes matrix modes) = CheckModes matrix.now modes.now
+asked (command.CheckPlan net traffic plan) = CheckPlan net.now traffic.now plan.now
 asked (command.PlanModes matrix) = PlanModes matrix.now
+asked (command.PlanDemand net traffic) = PlanDemand net.now traffic.now
 asked (command.RunScript net script journal) = RunScript net.now script.now journal.now
 
 -- the name of the command
 abbrev pub name_of : Command → Option (List ℕ)
 name_of command.Faulty = None
 name_of (command.CheckModes _ _) = Some (codes "check")
+name_of (command.CheckPlan _ _ _) = Some (codes "check")
 name_of (command.PlanModes _) = Some (codes "modes")
+name_of (command.PlanDemand _ _) = Some (codes "plan")
 name_of (command.RunScript _ _ _) = Some (codes "run")

@@ -1,11 +1,15 @@
 -- The kinds of files that the program reads.
-use Rattle.std.specs.Prelude.{ℕ, List, [], ◌∷◌, codes}
+use Rattle.std.specs.Prelude.{ℕ, List}
 use Rattle.bt_base.specs.declared.schedule.Schedule.{Schedule}
 use Rattle.bt_net.specs.Network.{Net}
 use Rattle.bt_net.specs.Reading.{network_in}
 use Rattle.bt_net.specs.declared.fault.NetFault.{NetFault}
 use Rattle.bt_plan.specs.Reading.{Fault, Reading}
+use Rattle.bt_plan.specs.declared.demand.Link.{Link}
+use Rattle.bt_plan.specs.declared.plan.Plan.{Plan}
 use Rattle.bt_plan.specs.MatrixText.{matrix_of}
+use Rattle.bt_plan.specs.TrafficText.{demand_of}
+use Rattle.bt_plan.specs.PlanText.{plan_of}
 use Rattle.bt_plan.specs.ScheduleText.{schedule_of}
 use Rattle.bt_script.specs.ScriptText.{script_of}
 use Rattle.bt_script.specs.declared.fault.ScriptCode.{ScriptCode}
@@ -24,6 +28,14 @@ matrix_file = text_file matrix_of
 -- a switching schedule for so many beams
 abbrev pub schedule_file : ℕ → Kind Schedule Fault
 schedule_file size = text_file (schedule_of size)
+
+-- a demand on a network
+abbrev pub demand_file : Net → Kind (List Link) Fault
+demand_file net = text_file (demand_of net)
+
+-- a burst time plan for a network
+abbrev pub plan_file : Net → Kind Plan Fault
+plan_file net = text_file (plan_of net)
 
 -- a network
 abbrev pub network_file : Kind Net NetFault

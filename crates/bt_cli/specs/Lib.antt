@@ -8,6 +8,9 @@ pub mod Request
 pub mod Command
 pub mod Check
 pub mod Modes
+pub mod Fitting
+pub mod Plans
+pub mod CheckPlan
 pub mod Timeline
 pub mod Run
 pub mod Progress

@@ -1,6 +1,5 @@
 -- How far a run has come: the entries and the lines that a part of it added.
 use Rattle.std.specs.Prelude.{◌≡◌, ℕ, ◌+◌, ◌-◌, ◌++◌, List, [], ◌∷◌, map, All, Vec, Result, Ok, Err}
-use Rattle.std.specs.List.{flat_map}
 use Rattle.std.specs.declared.alloc.Global.{Global}
 use Rattle.bt_base.specs.declared.numbers.OutOfMemory as none
 use Rattle.bt_net.specs.Network.{Net}

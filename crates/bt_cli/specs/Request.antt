@@ -1,12 +1,14 @@
 -- What the words after the program's name ask for.
-use Rattle.std.specs.Prelude.{ℕ, ◌&&◌, if◌then◌else◌, nat_lt, length, codes, List, [], ◌∷◌, Option, Some, None}
+use Rattle.std.specs.Prelude.{ℕ, ◌&&◌, if◌then◌else◌, nat_lt, length, codes, Bool, List, [], ◌∷◌, Option, Some, None}
 use Rattle.std.specs.Str.{bytes_eq}
 
 -- a command with its words, or words of no command
 pub data Request : Type 0 where
   Faulty : Request
   CheckModes : List ℕ → List ℕ → Request
+  CheckPlan : List ℕ → List ℕ → List ℕ → Request
   PlanModes : List ℕ → Request
+  PlanDemand : List ℕ → List ℕ → Request
   RunScript : List ℕ → List ℕ → List ℕ → Request
 
 -- `check MATRIX MODES`; a word that names a file is not empty
@@ -17,15 +19,43 @@ check_request matrix modes = if nat_lt 0 (length matrix) && nat_lt 0 (length mod
 abbrev pub modes_request : List ℕ → Request
 modes_request matrix = if nat_lt 0 (length matrix) then PlanModes matrix else Faulty
 
+-- three words, none of which is empty
+abbrev pub are_words : List ℕ → List ℕ → List ℕ → Bool
+are_words first second third = nat_lt 0 (length first) && (nat_lt 0 (length second) && nat_lt 0 (length third))
+
+-- `check NET TRAFFIC PLAN`
+abbrev pub check_plan_request : List ℕ → List ℕ → List ℕ → Request
+check_plan_request net traffic plan = if are_words net traffic plan then CheckPlan net traffic plan else Faulty
+
+-- `plan NET TRAFFIC`
+abbrev pub plan_request : List ℕ → List ℕ → Request
+plan_request net traffic = if nat_lt 0 (length net) && nat_lt 0 (length traffic) then PlanDemand net traffic else Faulty
+
 -- `run NET SCRIPT JOURNAL`
 abbrev pub run_request : List ℕ → List ℕ → List ℕ → Request
-run_request net script journal = if nat_lt 0 (length net) && (nat_lt 0 (length script) && nat_lt 0 (length journal)) then RunScript net script journal else Faulty
+run_request net script journal = if are_words net script journal then RunScript net script journal else Faulty
+
+-- what a command with one word asks for
+abbrev pub asked_with_one : List ℕ → List ℕ → Request
+asked_with_one command first = if bytes_eq command (codes "modes") then modes_request first else Faulty
+
+-- what a command with two words asks for
+abbrev pub asked_with_two : List ℕ → List ℕ → List ℕ → Request
+asked_with_two command first second =
+    if bytes_eq command (codes "check") then check_request first second
+    else (if bytes_eq command (codes "plan") then plan_request first second else Faulty)
+
+-- what a command with three words asks for
+abbrev pub asked_with_three : List ℕ → List ℕ → List ℕ → List ℕ → Request
+asked_with_three command first second third =
+    if bytes_eq command (codes "check") then check_plan_request first second third
+    else (if bytes_eq command (codes "run") then run_request first second third else Faulty)
 
 -- what the words ask for
 abbrev pub request_of : List (List ℕ) → Request
-request_of (command ∷ first ∷ []) = if bytes_eq command (codes "modes") then modes_request first else Faulty
-request_of (command ∷ first ∷ second ∷ []) = if bytes_eq command (codes "check") then check_request first second else Faulty
-request_of (command ∷ first ∷ second ∷ third ∷ []) = if bytes_eq command (codes "run") then run_request first second third else Faulty
+request_of (command ∷ first ∷ []) = asked_with_one command first
+request_of (command ∷ first ∷ second ∷ []) = asked_with_two command first second
+request_of (command ∷ first ∷ second ∷ third ∷ []) = asked_with_three command first second third
 request_of _ = Faulty
 
 -- the first word, where there is one

@@ -9,6 +9,7 @@ ghost use Rattle.bt_cli.specs.Request.{first_word, request_of};
 ghost use Rattle.bt_cli.specs.Top.{Answers, Ends};
 
 use crate::answer::{Answer, Stop};
+use crate::check_plan::check_plan_files;
 use crate::faulty::faulty_words;
 use crate::lines::verdict_line;
 use crate::load::{load_matrix, load_schedule};
@@ -19,7 +20,8 @@ use bt_matrix::{Dense, Traffic};
 use bt_plan::{Verdict, check_modes};
 use std::alloc::Global;
 
-/// Checks a switching schedule against a traffic matrix, and prints the verdict.
+/// Checks a switching schedule against a traffic matrix, or a burst time plan against a demand, and prints the
+/// verdict.
 ///
 /// The words are those after the program's name, of which the first is `check`. The status is 0 where the
 /// verdict is good, and 9 where it is not; the refusals are those of the top call.
@@ -44,6 +46,9 @@ fn check_words<F: Files>(alloc: Global, words: &[String], files: &mut F) -> Resu
 {
     match command_of(words) {
         Command::CheckModes { matrix, modes } => check_files(alloc, files, matrix, modes),
+        Command::CheckPlan { net, traffic, plan } => {
+            check_plan_files(alloc, files, net, traffic, plan)
+        }
         _ => Ok(faulty_words(alloc)?),
     }
 }
@@ -83,7 +88,7 @@ fn judge(alloc: Global, matrix: &Dense, schedule: &Schedule) -> Result<Answer, S
 }
 
 /// The status that goes with a verdict.
-fn status_of(verdict: &Verdict) -> u8
+pub(crate) fn status_of(verdict: &Verdict) -> u8
     ensures { result ≡ verdict_status verdict.now }
 {
     match verdict {

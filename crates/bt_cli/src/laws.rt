@@ -11,16 +11,19 @@ ghost use Rattle.bt_cli.specs.Outcome.{Outcome, Says, text_alone};
 ghost use Rattle.bt_cli.specs.Request.{Request};
 ghost use Rattle.bt_cli.specs.Top.{Answers, AreTold, IsOneAnswer};
 
-use bt_plan::{one_verdict, schedules_have_one_spelling};
+use bt_matrix::one_line_is_heaviest;
+use bt_plan::{one_plan_verdict, one_verdict, schedules_have_one_spelling};
 
 /// Where the files that are asked for are told and none of them failed, what is asked has one answer: no two
-/// cases of the promise hold together. Of the good schedules for a matrix any may be printed, and of the runs of a
-/// script any.
+/// cases of the promise hold together. Of the good schedules for a matrix any may be printed, of the good plans
+/// for a demand, and of the runs of a script.
 pub fn one_answer()
     ensures { (told : List ℕ → Option (List ℕ)) (request : Request) → AreTold told request
         → (a b : Outcome) → Answers told ⊥ request a → Answers told ⊥ request b → IsOneAnswer request a b }
 {
     one_verdict();
+    one_plan_verdict();
+    one_line_is_heaviest();
 }
 
 /// What `modes` prints for a matrix is read back by `check`, for that matrix, as the schedule that was printed; and

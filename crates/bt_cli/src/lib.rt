@@ -6,12 +6,15 @@
 
 mod answer;
 mod check;
+mod check_plan;
 mod faulty;
+mod fit;
 mod history;
 mod laws;
 mod lines;
 mod load;
 mod modes;
+mod plan;
 mod play;
 mod print;
 mod request;
@@ -26,4 +29,5 @@ pub use check::check_command;
 pub use history::{Histories, History};
 pub use laws::{one_answer, printed_schedules_are_read_back};
 pub use modes::modes_command;
+pub use plan::plan_command;
 pub use top::{Ended, centre_main};

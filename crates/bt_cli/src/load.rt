@@ -1,19 +1,20 @@
 // Files, read and tested one after the other.
-ghost use Rattle.std.specs.Prelude.{◌≡◌, ◌≤◌, IfOk, IfErr, OnErr};
+ghost use Rattle.std.specs.Prelude.{◌≡◌, ◌≤◌, All, IfOk, IfErr, length};
 ghost use Rattle.bt_base.specs.Told.{Rose};
 ghost use Rattle.bt_plan.specs.Critical.{IsOfBeams};
+ghost use Rattle.bt_plan.specs.PlanVerdict.{AreBetweenTerminals};
+ghost use Rattle.bt_plan.specs.Traffic.{matrix_of, AreOfNetwork, HasSumsTo};
 ghost use Rattle.bt_script.specs.Named.{HasDesksInOrder, IsItemFor};
 ghost use Rattle.bt_cli.specs.Outcome.{IsContent, CannotRead, IsLoaded, StopsAtLoad};
-ghost use Rattle.bt_cli.specs.Kinds.{matrix_file, network_file, schedule_file, script_file};
+ghost use Rattle.bt_cli.specs.Kinds.{demand_file, matrix_file, network_file, plan_file, schedule_file, script_file};
 ghost use Rattle.bt_cli.specs.Answer.{StopIs};
-ghost use Rattle.std.specs.Prelude.{All};
 
 use crate::answer::{Answer, Stop};
 use crate::stops::{network_stop, script_stop, text_stop};
 use bt_base::{FileFault, Files, Schedule};
-use bt_matrix::Dense;
+use bt_matrix::{Dense, SUM_LAST};
 use bt_net::Network;
-use bt_plan::{read_matrix, read_schedule};
+use bt_plan::{Demand, Plan, read_demand, read_matrix, read_plan, read_schedule};
 use bt_script::Script;
 use std::alloc::Global;
 
@@ -73,6 +74,49 @@ pub fn load_schedule<F: Files>(
 {
     let bytes = read_file(alloc, files, name)?;
     read_schedule(alloc, size, &bytes).map_err(|fault| text_stop(alloc, fault))
+}
+
+/// The demand on a network in a file.
+#[tactic(auto, using(crate::proofs::Misspelt::demand_misspelt))]
+pub fn load_demand<F: Files>(
+    alloc: Global,
+    files: &mut F,
+    name: &str,
+    net: &Network,
+) -> Result<Demand, Stop>
+    ensures terminals { IfOk result (λ demand. AreOfNetwork net.now demand) }
+    ensures sums { IfOk result (λ demand. HasSumsTo SUM_LAST (matrix_of net.now demand)) }
+    ensures loaded { IfOk result (λ demand. IsLoaded (demand_file net.now) (F.told files.old) name.now demand) }
+    ensures stops { IfErr result (StopIs (StopsAtLoad (demand_file net.now) (F.told files.old)
+        (Rose (F.fault_count files.old) (F.fault_count files.new)) name.now)) }
+    ensures later { F.fault_count files.old ≤ F.fault_count files.new }
+    ensures same { F.told files.new ≡ F.told files.old }
+{
+    let bytes = read_file(alloc, files, name)?;
+    match read_demand(alloc, net, &bytes) {
+        Ok(demand) => Ok(demand),
+        Err(fault) => Err(text_stop(alloc, fault)),
+    }
+}
+
+/// The burst time plan in a file, for a network.
+#[tactic(auto, using(crate::proofs::Misspelt::plan_misspelt))]
+pub fn load_plan<F: Files>(
+    alloc: Global,
+    files: &mut F,
+    name: &str,
+    net: &Network,
+) -> Result<Plan, Stop>
+    ensures terminals { IfOk result (λ plan. AreBetweenTerminals net.now plan.bursts) }
+    ensures critical { IfOk result (λ plan. IsOfBeams (length net.now.beams) plan.schedule.critical) }
+    ensures loaded { IfOk result (λ plan. IsLoaded (plan_file net.now) (F.told files.old) name.now plan) }
+    ensures stops { IfErr result (StopIs (StopsAtLoad (plan_file net.now) (F.told files.old)
+        (Rose (F.fault_count files.old) (F.fault_count files.new)) name.now)) }
+    ensures later { F.fault_count files.old ≤ F.fault_count files.new }
+    ensures same { F.told files.new ≡ F.told files.old }
+{
+    let bytes = read_file(alloc, files, name)?;
+    read_plan(alloc, net, &bytes).map_err(|fault| text_stop(alloc, fault))
 }
 
 /// The network in a file.

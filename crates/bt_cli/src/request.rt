@@ -1,7 +1,7 @@
 // What the words after the program's name ask for.
 ghost use Rattle.std.specs.Prelude.{◌≡◌, map, codes, IfSome};
 ghost use Rattle.std.specs.String.{string_bytes};
-ghost use Rattle.bt_cli.specs.Request.{check_request, first_word, modes_request, request_of, run_request};
+ghost use Rattle.bt_cli.specs.Request.{asked_with_one, asked_with_three, asked_with_two, check_plan_request, check_request, first_word, modes_request, plan_request, request_of, run_request};
 ghost use Rattle.bt_cli.specs.Command.{asked, name_of};
 
 /// A command with its words.
@@ -10,9 +10,25 @@ pub enum Command<'a> {
     /// The words are none of the table.
     Faulty,
     /// `check MATRIX MODES`.
-    CheckModes { matrix: &'a str, modes: &'a str },
+    CheckModes {
+        matrix: &'a str,
+        modes: &'a str,
+    },
+    /// `check NET TRAFFIC PLAN`.
+    CheckPlan {
+        net: &'a str,
+        traffic: &'a str,
+        plan: &'a str,
+    },
     /// `modes MATRIX`.
-    PlanModes { matrix: &'a str },
+    PlanModes {
+        matrix: &'a str,
+    },
+    /// `plan NET TRAFFIC`.
+    PlanDemand {
+        net: &'a str,
+        traffic: &'a str,
+    },
     /// `run NET SCRIPT JOURNAL`.
     RunScript {
         net: &'a str,
@@ -27,12 +43,50 @@ pub fn command_of(words: &[String]) -> Command<'_>
     ensures named { IfSome (name_of result) (λ name. first_word (map string_bytes words.now) ≡ Some name) }
 {
     match words {
-        [command, matrix] if command.as_str() == "modes" => modes_of(matrix),
-        [command, matrix, modes] if command.as_str() == "check" => check_of(matrix, modes),
-        [command, net, script, journal] if command.as_str() == "run" => {
-            run_of(net, script, journal)
-        }
+        [command, first] => with_one(command, first),
+        [command, first, second] => with_two(command, first, second),
+        [command, first, second, third] => with_three(command, first, second, third),
         _ => Command::Faulty,
+    }
+}
+
+/// The command of that name with one word.
+fn with_one<'a>(command: &str, first: &'a str) -> Command<'a>
+    ensures asked { asked result ≡ asked_with_one command.now first.now }
+    ensures named { IfSome (name_of result) (λ name. command.now ≡ name) }
+{
+    if command == "modes" {
+        modes_of(first)
+    } else {
+        Command::Faulty
+    }
+}
+
+/// The command of that name with two words.
+fn with_two<'a>(command: &str, first: &'a str, second: &'a str) -> Command<'a>
+    ensures asked { asked result ≡ asked_with_two command.now first.now second.now }
+    ensures named { IfSome (name_of result) (λ name. command.now ≡ name) }
+{
+    if command == "check" {
+        check_of(first, second)
+    } else if command == "plan" {
+        plan_of(first, second)
+    } else {
+        Command::Faulty
+    }
+}
+
+/// The command of that name with three words.
+fn with_three<'a>(command: &str, first: &'a str, second: &'a str, third: &'a str) -> Command<'a>
+    ensures asked { asked result ≡ asked_with_three command.now first.now second.now third.now }
+    ensures named { IfSome (name_of result) (λ name. command.now ≡ name) }
+{
+    if command == "check" {
+        check_plan_of(first, second, third)
+    } else if command == "run" {
+        run_of(first, second, third)
+    } else {
+        Command::Faulty
     }
 }
 
@@ -70,5 +124,27 @@ fn run_of<'a>(net: &'a str, script: &'a str, journal: &'a str) -> Command<'a>
             script,
             journal,
         }
+    }
+}
+
+fn check_plan_of<'a>(net: &'a str, traffic: &'a str, plan: &'a str) -> Command<'a>
+    ensures asked { asked result ≡ check_plan_request net.now traffic.now plan.now }
+    ensures named { IfSome (name_of result) (λ name. name ≡ codes "check") }
+{
+    if net.is_empty() || traffic.is_empty() || plan.is_empty() {
+        Command::Faulty
+    } else {
+        Command::CheckPlan { net, traffic, plan }
+    }
+}
+
+fn plan_of<'a>(net: &'a str, traffic: &'a str) -> Command<'a>
+    ensures asked { asked result ≡ plan_request net.now traffic.now }
+    ensures named { IfSome (name_of result) (λ name. name ≡ codes "plan") }
+{
+    if net.is_empty() || traffic.is_empty() {
+        Command::Faulty
+    } else {
+        Command::PlanDemand { net, traffic }
     }
 }

@@ -40,12 +40,7 @@ fn name_of_beam(net: &Network, beam: BeamNo) -> &str
 }
 
 /// The line of a reply to a desk.
-pub fn desk_line(
-    alloc: Global,
-    net: &Network,
-    desk: u8,
-    reply: Reply,
-) -> Result<String, AllocError>
+pub fn desk_line(alloc: Global, net: &Network, desk: u8, reply: Reply) -> Result<String, AllocError>
     requires { NamesBeams net.now reply }
     ensures { IfOk result (λ text. string_bytes text ≡ desk_line net.now desk reply) }
 {

@@ -9,6 +9,7 @@ use crate::Histories;
 use crate::check::check_command;
 use crate::faulty::print_faulty_words;
 use crate::modes::modes_command;
+use crate::plan::plan_command;
 use crate::request::{Command, command_of};
 use crate::run::run_files;
 use bt_base::{Files, Keeper, Sink};
@@ -50,7 +51,7 @@ impl<K> Ended<K> {
 /// | 1 | memory ran out |
 /// | 2 | the words are none of a command |
 /// | 3 | the bytes of a network file are no network |
-/// | 4 | a text leaves its grammar or its limits |
+/// | 4 | a text leaves its grammar or its limits, or a demand does not fit the frame |
 /// | 5 | a file could not be read |
 /// | 6 | the output could not be written |
 /// | 9 | the verdict of `check` is not good |
@@ -73,8 +74,11 @@ pub fn centre_main<R: Threads + Wait + Sync, F: Files, O: Sink, K: Keeper + Send
             return run_files(alloc, net, script, files, out, store);
         }
         Command::Faulty => print_faulty_words(alloc, out),
-        Command::CheckModes { .. } => check_command(alloc, words, files, out),
+        Command::CheckModes { .. } | Command::CheckPlan { .. } => {
+            check_command(alloc, words, files, out)
+        }
         Command::PlanModes { .. } => modes_command(alloc, words, files, out),
+        Command::PlanDemand { .. } => plan_command(alloc, words, files, out),
     };
     Ended::without_run(alloc, status, store)
 }

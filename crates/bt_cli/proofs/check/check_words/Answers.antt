@@ -10,5 +10,5 @@ pub returns-in_ok-faulty_words-in_default : goal.returns-in_ok-faulty_words-in_d
 returns-in_ok-faulty_words-in_default g c =
     let words = map string_bytes c.args.words.now in
     let files = c.args.files.now in
-    let faulty = faulty_check c.command_of.result (request_of words) (first_word words) c.command_of.ensures.asked c.command_of.ensures.named c.requires c.in_default.not-CheckModes in
+    let faulty = faulty_check c.command_of.result (request_of words) (first_word words) c.command_of.ensures.asked c.command_of.ensures.named c.requires c.in_default.not-CheckModes c.in_default.not-CheckPlan in
     answers_faulty (g.F.Files.told files) (Rose (g.F.Files.fault_count files) (g.F.Files.fault_count files)) (request_of words) c.in_ok-faulty_words-in_default.field-0 faulty c.in_ok-faulty_words-in_default.ensures

@@ -1,4 +1,3 @@
-use Rattle.bt_journal.specs.declared.call.Call.TheVariants as call
 use Rattle.bt_cli.proofs.LegalHistories.{still_legal}
 use Rattle.bt_cli.proofs.play.ask.Goals as goal
 

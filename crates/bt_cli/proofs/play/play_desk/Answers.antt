@@ -23,7 +23,7 @@ loop-line-preserved g c =
       legal = c.play_line.ensures.legal;
       store = c.play_line.ensures.store ∙ c.loop-line.invariant.store;
       played = desk_turn c.args.net.now c.args.desk c.args.lines.now index line _ _ _ _ _ _
-        (subst (λ (all : List DeskLine). index < length all) c.loop-line.invariant.same c.loop-line-test.true)
-        (subst (λ (all : List DeskLine). line ≡ get_or all index line) c.loop-line.invariant.same c.line-item.is)
-        c.loop-line.invariant.played c.in_ok-play_line.ensures.played;
+          (subst (λ (all : List DeskLine). index < length all) c.loop-line.invariant.same c.loop-line-test.true)
+          (subst (λ (all : List DeskLine). line ≡ get_or all index line) c.loop-line.invariant.same c.line-item.is)
+          c.loop-line.invariant.played c.in_ok-play_line.ensures.played;
     }

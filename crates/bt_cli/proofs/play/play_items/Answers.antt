@@ -1,6 +1,5 @@
 -- one round more
 use Rattle.std.proofs.Common.{◌∙◌, ◌+◌, subst, sym}
-
 use Rattle.bt_script.specs.Named.{HasDesksInOrder}
 use Rattle.bt_cli.proofs.Playing.{round_played, rounds_turn}
 use Rattle.bt_cli.proofs.play.play_items.Goals as goal
@@ -18,5 +17,5 @@ loop-index-preserved g c =
       legal = c.play_round.ensures.legal;
       store = c.play_round.ensures.store ∙ c.loop-index.invariant.store;
       played = rounds_turn c.args.net.now c.args.items.now index one round _ _ _ _ _ _ within c.index-items-index.is is c.loop-index.invariant.played
-        (round_played c.args.net.now (index + 1) round _ _ _ _ ordered c.in_ok-play_round.ensures.played);
+          (round_played c.args.net.now (index + 1) round _ _ _ _ ordered c.in_ok-play_round.ensures.played);
     }

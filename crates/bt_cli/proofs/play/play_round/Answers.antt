@@ -28,7 +28,7 @@ loop-desk-preserved g c =
       legal = c.play_desk.ensures.legal;
       store = c.play_desk.ensures.store ∙ c.loop-desk.invariant.store;
       played = desks_turn c.args.net.now c.args.round.now.desks index desk _ _ _ _ _ _
-        (subst (λ (all : List Desk). index < length all) c.loop-desk.invariant.same c.loop-desk-test.true)
-        (subst (λ (all : List Desk). desk ≡ get_or all index desk) c.loop-desk.invariant.same c.desk-item.is)
-        c.loop-desk.invariant.played c.in_ok-play_desk.ensures.played;
+          (subst (λ (all : List Desk). index < length all) c.loop-desk.invariant.same c.loop-desk-test.true)
+          (subst (λ (all : List Desk). desk ≡ get_or all index desk) c.loop-desk.invariant.same c.desk-item.is)
+          c.loop-desk.invariant.played c.in_ok-play_desk.ensures.played;
     }

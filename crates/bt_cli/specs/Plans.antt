@@ -1,0 +1,28 @@
+-- `plan NET TRAFFIC`: the network is loaded, then the demand, and a good plan for it is printed.
+use Rattle.std.specs.Prelude.{◌≡◌, ℕ, List, Option}
+use Rattle.bt_net.specs.Network.{Net}
+use Rattle.bt_matrix.specs.Traffic.{IsHeaviest}
+use Rattle.bt_plan.specs.declared.demand.Link.{Link}
+use Rattle.bt_plan.specs.declared.plan.Plan.{Plan}
+use Rattle.bt_plan.specs.Plan.{IsGoodPlan}
+use Rattle.bt_plan.specs.PlanSpelling.{plan_spelling}
+use Rattle.bt_plan.specs.Traffic.{matrix_of}
+use Rattle.bt_cli.specs.Fitting.{WhereItFits}
+use Rattle.bt_cli.specs.Kinds.{network_file, demand_file}
+use Rattle.bt_cli.specs.Outcome.{Outcome, text_alone, Loads}
+
+-- the text of a good plan of edition 1, with the first of the heaviest lines, and nothing else
+pub record PrintsPlan (net : Net) (links : List Link) (outcome : Outcome) : Type 0 where
+  pub plan : Plan
+  pub edition : plan.edition.0 ≡ 1
+  pub good : IsGoodPlan net links plan
+  pub heaviest : IsHeaviest (matrix_of net links) plan.schedule.critical plan.schedule.length
+  pub printed : outcome ≡ text_alone (plan_spelling net plan) 0
+
+-- the demand is loaded, and where it fits, a plan for it is printed
+abbrev pub PlansDemand : (List ℕ → Option (List ℕ)) → Type 0 → List ℕ → Net → Outcome → Type 0
+PlansDemand told failed traffic net = Loads (demand_file net) told failed traffic (λ links. WhereItFits net links (PrintsPlan net links))
+
+-- the network is loaded, and then the demand
+abbrev pub Plans : (List ℕ → Option (List ℕ)) → Type 0 → List ℕ → List ℕ → Outcome → Type 0
+Plans told failed net traffic = Loads network_file told failed net (λ network. PlansDemand told failed traffic network)

@@ -1,0 +1,128 @@
+// `check NET TRAFFIC PLAN`.
+ghost use Rattle.std.specs.Prelude.{◌≡◌, length, IfOk};
+ghost use Rattle.std.specs.String.{string_bytes};
+ghost use Rattle.bt_base.specs.Told.{Rose};
+ghost use Rattle.bt_plan.specs.Critical.{IsOfBeams};
+ghost use Rattle.bt_plan.specs.PlanVerdict.{AreBetweenTerminals, IsPlanVerdict};
+ghost use Rattle.bt_plan.specs.Traffic.{matrix_of, AreOfNetwork, HasSumsTo};
+ghost use Rattle.bt_cli.specs.Check.{verdict_status};
+ghost use Rattle.bt_cli.specs.CheckPlan.{plan_verdict_words, ChecksDemand, ChecksPlan, ChecksPlanText, JudgesPlan, NamesTheNetworks};
+ghost use Rattle.bt_cli.specs.Fitting.{WhereItFits};
+ghost use Rattle.bt_cli.specs.Lines.{line_of};
+ghost use Rattle.bt_cli.specs.Printing.{CameTo};
+
+use crate::answer::{Answer, Stop};
+use crate::check::status_of;
+use crate::fit::test_fit;
+use crate::lines::verdict_line;
+use crate::load::{load_demand, load_network, load_plan};
+use bt_base::Files;
+use bt_matrix::SUM_LAST;
+use bt_net::Network;
+use bt_plan::{Demand, Plan, Verdict, check};
+use std::alloc::{AllocError, Global};
+
+/// The verdict on the plan in a file, for the demand and the network in two others.
+pub fn check_plan_files<F: Files>(
+    alloc: Global,
+    files: &mut F,
+    net: &str,
+    traffic: &str,
+    plan: &str,
+) -> Result<Answer, Stop>
+    ensures { CameTo (ChecksPlan (F.told files.old) (Rose (F.fault_count files.old) (F.fault_count files.new)) net.now traffic.now plan.now) result }
+{
+    let net = load_network(alloc, files, net)?;
+    check_demand_file(alloc, files, &net, traffic, plan)
+}
+
+fn check_demand_file<F: Files>(
+    alloc: Global,
+    files: &mut F,
+    net: &Network,
+    traffic: &str,
+    plan: &str,
+) -> Result<Answer, Stop>
+    ensures { CameTo (ChecksDemand (F.told files.old) (Rose (F.fault_count files.old) (F.fault_count files.new)) traffic.now plan.now net.now) result }
+{
+    let demand = load_demand(alloc, files, traffic, net)?;
+    check_demand(alloc, files, net, &demand, plan)
+}
+
+/// The verdict on the plan in a file, where the demand fits.
+fn check_demand<F: Files>(
+    alloc: Global,
+    files: &mut F,
+    net: &Network,
+    demand: &Demand,
+    plan: &str,
+) -> Result<Answer, Stop>
+    requires terminals { AreOfNetwork net.now demand.now }
+    requires sums { HasSumsTo SUM_LAST (matrix_of net.now demand.now) }
+    ensures { CameTo (WhereItFits net.now demand.now (ChecksPlanText (F.told files.old) (Rose (F.fault_count files.old) (F.fault_count files.new)) plan.now net.now demand.now)) result }
+{
+    test_fit(alloc, net, demand)?;
+    check_plan_file(alloc, files, net, demand, plan)
+}
+
+fn check_plan_file<F: Files>(
+    alloc: Global,
+    files: &mut F,
+    net: &Network,
+    demand: &Demand,
+    plan: &str,
+) -> Result<Answer, Stop>
+    requires terminals { AreOfNetwork net.now demand.now }
+    requires sums { HasSumsTo SUM_LAST (matrix_of net.now demand.now) }
+    ensures { CameTo (ChecksPlanText (F.told files.old) (Rose (F.fault_count files.old) (F.fault_count files.new)) plan.now net.now demand.now) result }
+{
+    let plan = load_plan(alloc, files, plan, net)?;
+    judge_plan(alloc, net, demand, &plan)
+}
+
+/// The line of the verdict on the plan.
+fn judge_plan(alloc: Global, net: &Network, demand: &Demand, plan: &Plan) -> Result<Answer, Stop>
+    requires demand { AreOfNetwork net.now demand.now }
+    requires bursts { AreBetweenTerminals net.now plan.now.bursts }
+    requires critical { IsOfBeams (length net.now.beams) plan.now.schedule.critical }
+    requires sums { HasSumsTo SUM_LAST (matrix_of net.now demand.now) }
+    ensures { CameTo (JudgesPlan net.now demand.now plan.now) result }
+{
+    let _links = demand.as_slice();
+    let verdict = verdict_on(net, demand, plan);
+    let line = plan_verdict_line(alloc, net, &verdict)?;
+    Ok(Answer::line(line, status_of(&verdict)))
+}
+
+/// The verdict, which names terminals of the network alone.
+#[tactic(auto, using(crate::proofs::Named::verdict_names))]
+fn verdict_on(net: &Network, demand: &Demand, plan: &Plan) -> Verdict
+    requires demand { AreOfNetwork net.now demand.now }
+    requires bursts { AreBetweenTerminals net.now plan.now.bursts }
+    requires critical { IsOfBeams (length net.now.beams) plan.now.schedule.critical }
+    requires sums { HasSumsTo SUM_LAST (matrix_of net.now demand.now) }
+    ensures verdict { IsPlanVerdict net.now demand.now plan.now result }
+    ensures names { NamesTheNetworks net.now result }
+{
+    check(net, demand, plan)
+}
+
+/// The line of a verdict on a plan.
+fn plan_verdict_line(alloc: Global, net: &Network, verdict: &Verdict) -> Result<String, AllocError>
+    requires { NamesTheNetworks net.now verdict.now }
+    ensures { IfOk result (λ text. string_bytes text ≡ line_of (plan_verdict_words net.now verdict.now)) }
+{
+    match *verdict {
+        Verdict::V7 {
+            from,
+            to,
+            want,
+            have,
+        } => format!(in alloc;
+            "V7 {} {} {want} {have}\n",
+            net.name_of(from),
+            net.name_of(to)
+        ),
+        _ => verdict_line(alloc, verdict),
+    }
+}
