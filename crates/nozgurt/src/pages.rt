@@ -25,6 +25,32 @@ commands
       MATRIX in the least length, as `check` reads it.
       example: nozgurt modes examples/two-beams.matrix
 
+  plan NET TRAFFIC
+      Prints a burst time plan, as edition 1, that carries the traffic of the
+      terminals in the file TRAFFIC on the network in the file NET in the least
+      length. Where the traffic does not fit the frame, it prints the heaviest
+      row or column and its slots, as in `fault T6 row 0 5`.
+      example: nozgurt plan examples/two-beams.net examples/two-beams.traffic
+
+  check NET TRAFFIC PLAN
+      Prints `good` where the burst time plan in the file PLAN carries that
+      traffic in the least length. Else it prints what is wrong first, and ends
+      with status 9: V1 to V4 as above, or
+        V5 FIRST SECOND       these bursts are in one slot and at one beam
+        V6 BURST              the burst is empty, or in no mode of its beams
+        V7 FROM TO WANT HAVE  the bursts give that link another number of slots
+      Bursts are counted from 0. FROM and TO are the names of terminals.
+      example: nozgurt check examples/two-beams.net examples/two-beams.traffic
+               examples/two-beams.plan
+
+  run NET SCRIPT JOURNAL
+      Lets the desks of the script in the file SCRIPT edit the demand of the
+      network in the file NET, round by round, and prints the answer to each
+      edit, and how many were done and refused. Nothing is kept in JOURNAL yet:
+      each run begins with no edits.
+      example: nozgurt run examples/four-terminals.net
+               examples/four-terminals.script journal
+
   --help      prints this page
   --version   prints the version
 
@@ -32,7 +58,9 @@ exit status
   0   done
   1   memory ran out
   2   the words are none of a command      fault words
+  3   a network file is no network         fault CODE PLACE
   4   a file leaves its text's grammar     fault CODE LINE
+      the traffic does not fit the frame   fault T6 row BEAM SUM
   5   a file could not be read             fault read NAME
   6   the output could not be written
   9   check: the verdict is not good       the verdict's line
