@@ -15,6 +15,8 @@ mod lines;
 mod load;
 mod modes;
 mod plan;
+#[cfg(test)]
+mod plan_tests;
 mod play;
 mod print;
 mod request;

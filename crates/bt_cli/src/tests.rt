@@ -78,7 +78,7 @@ fn each_command_line_gets_its_answer(rt: HostRuntime) -> Result<(), Fail> {
         ("", "fault words\n", 2),
         ("check", "fault words\n", 2),
         ("check two.matrix", "fault words\n", 2),
-        ("check two.matrix two.modes more", "fault words\n", 2),
+        ("check a b c d", "fault words\n", 2),
         ("check  two.modes", "fault words\n", 2),
         ("check two.matrix ", "fault words\n", 2),
         ("Check two.matrix two.modes", "fault words\n", 2),
