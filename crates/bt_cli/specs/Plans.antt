@@ -1,9 +1,10 @@
 -- `plan NET TRAFFIC`: the network is loaded, then the demand, and a good plan for it is printed.
-use Rattle.std.specs.Prelude.{◌≡◌, ℕ, List, Option}
+use Rattle.std.specs.Prelude.{◌≡◌, ℕ, List, Option, AllPairs}
 use Rattle.bt_net.specs.Network.{Net}
 use Rattle.bt_matrix.specs.Traffic.{IsHeaviest}
 use Rattle.bt_plan.specs.declared.demand.Link.{Link}
 use Rattle.bt_plan.specs.declared.plan.Plan.{Plan}
+use Rattle.bt_plan.specs.Burst.{IsNotAfter}
 use Rattle.bt_plan.specs.Plan.{IsGoodPlan}
 use Rattle.bt_plan.specs.PlanSpelling.{plan_spelling}
 use Rattle.bt_plan.specs.Traffic.{matrix_of}
@@ -11,11 +12,12 @@ use Rattle.bt_cli.specs.Fitting.{WhereItFits}
 use Rattle.bt_cli.specs.Kinds.{network_file, demand_file}
 use Rattle.bt_cli.specs.Outcome.{Outcome, text_alone, Loads}
 
--- the text of a good plan of edition 1, with the first of the heaviest lines, and nothing else
+-- the text of a good plan of edition 1, with its bursts in order and the first of the heaviest lines, and nothing else
 pub record PrintsPlan (net : Net) (links : List Link) (outcome : Outcome) : Type 0 where
   pub plan : Plan
   pub edition : plan.edition.0 ≡ 1
   pub good : IsGoodPlan net links plan
+  pub ordered : AllPairs IsNotAfter plan.bursts
   pub heaviest : IsHeaviest (matrix_of net links) plan.schedule.critical plan.schedule.length
   pub printed : outcome ≡ text_alone (plan_spelling net plan) 0
 

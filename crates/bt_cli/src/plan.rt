@@ -96,6 +96,7 @@ fn plan_answer(alloc: Global, net: &Network, demand: &Demand) -> Result<Answer, 
 {
     let _slots = net.slots();
     let plan = make_plan(alloc, net, demand, EDITION)?;
+    let _bursts = plan.bursts.as_slice();
     let text = plan_text(alloc, net, &plan)?;
     Ok(Answer { text, status: 0 })
 }

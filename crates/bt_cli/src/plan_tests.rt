@@ -3,6 +3,8 @@ ghost use Rattle.std.specs.Prelude.{◌≤◌};
 
 use crate::centre_main;
 use bt_base::{SureFiles, SureKeeper, SureSink, number};
+use bt_net::Network;
+use bt_plan::{plan_text, read_plan};
 use std::alloc::Global;
 use std::sync::Wait;
 use std::test::Fail;
@@ -22,6 +24,7 @@ const CASES: &str = r#"
 plan; two; link A B 3|link B A 2| => 0 plan 1|length 3|critical row 0|mode 3 1 0|burst 0 3 A B|burst 0 2 B A|end|
 plan; two; => 0 plan 1|length 0|critical row 0|end|
 plan; two; link A B 5| => 4 fault T6 row 0 5|
+plan; four; link A B 3|link D B 2| => 4 fault T6 column 1 5|
 plan; two; link A B 5|link A| => 4 fault T1 2|
 plan; two; link A B 1 => 4 fault T1 1|
 plan; two; link A Q 1| => 4 fault T2 1|
@@ -40,6 +43,7 @@ check; two; link A B 3|link B A 2|; plan 1|length 4|critical row 0|mode 3 1 0|bu
 check; two; link A B 3|link B A 2|; plan 1|length 4|critical row 0|mode 4 1 0|burst 0 3 A B|burst 0 2 B A|end| => 9 V4 row 0 3|
 check; two; link A B 3|link B A 2|; plan 1|length 3|critical column 0|mode 3 1 0|burst 0 3 A B|burst 0 2 B A|end| => 9 V4 row 0 3|
 check; two; link A B 3|link B A 2|; plan 1|length 3|critical row 0|mode 3 1 1|burst 0 3 A B|burst 0 2 B A|end| => 9 V1 0|
+check; two; link A B 3|link B A 2|; plan 1|length 3|critical row 0|mode 0 0 1|mode 3 1 0|burst 0 3 A B|burst 0 2 B A|end| => 9 V2 0|
 check; two; link A B 3|link B A 2|; plan 1|length 3|critical row 0|mode 3 1 0|burst 0 2 B A|burst 0 3 A B|end| => 4 fault P3 6|
 check; two; link A B 3|link B A 2|; plan 1|length 3|critical row 0|mode 3 1 0|burst 0 3 A Q|burst 0 2 B A|end| => 4 fault P2 5|
 check; two; link A B 3|link B A 2|; plan 1|end| => 4 fault P1 2|
@@ -68,18 +72,22 @@ fn lines(alloc: Global, text: &str) -> Result<Vec<u8>, Fail> {
     Ok(bytes)
 }
 
-/// What is printed for a command with the names of its files, and the status.
+/// What is printed for a command with the names of its files, the status, and how many entries its histories have.
 fn answer<R: Threads + Wait + Sync>(
     rt: &R,
     alloc: Global,
     words: Vec<String>,
     files: Vec<(String, Vec<u8>)>,
-) -> Result<(Vec<u8>, u8), Fail> {
+) -> Result<(Vec<u8>, u8, usize), Fail> {
     let mut files = SureFiles::new(files);
     let mut out = SureSink::new(alloc);
     let store = SureKeeper::new(Vec::new(alloc));
     let ended = centre_main(rt, alloc, &words, &mut files, &mut out, store);
-    Ok((out.written().to_vec(alloc)?, ended.status))
+    let entries = match ended.histories.as_slice() {
+        [history] => history.entries.as_slice().len(),
+        _ => 0,
+    };
+    Ok((out.written().to_vec(alloc)?, ended.status, entries))
 }
 
 /// The words and the files that a case asks for.
@@ -114,7 +122,7 @@ fn plans_and_runs_get_their_answers(rt: HostRuntime) -> Result<(), Fail> {
             continue;
         };
         let (words, files) = asked(alloc, words)?;
-        let (printed, ended) = answer(&rt, alloc, words, files)?;
+        let (printed, ended, _entries) = answer(&rt, alloc, words, files)?;
         assert_eq!(rt;
             printed.as_slice(),
             lines(alloc, text)?.as_slice(),
@@ -122,6 +130,22 @@ fn plans_and_runs_get_their_answers(rt: HostRuntime) -> Result<(), Fail> {
         );
         assert_eq!(rt; Some(u64::from(ended)), number(status.as_bytes()), "{case}");
     }
+    Ok(())
+}
+
+#[test]
+fn a_copy_of_a_plan_has_its_text(rt: HostRuntime) -> Result<(), Fail> {
+    let alloc = rt.alloc();
+    let text = b"plan 1\nlength 3\ncritical row 0\nmode 3 1 0\nburst 0 3 A B\nend\n";
+    let Ok(net) = Network::read(alloc, TWO.as_bytes()) else {
+        panic!(rt; "the network");
+    };
+    let Ok(plan) = read_plan(alloc, &net, text) else {
+        panic!(rt; "the plan");
+    };
+    let copy = plan.copy(alloc)?;
+    let again = plan_text(alloc, &net, &copy)?;
+    assert_eq!(rt; again.as_slice(), text.as_slice());
     Ok(())
 }
 
@@ -143,8 +167,9 @@ fn desks_share_the_frame(rt: HostRuntime) -> Result<(), Fail> {
     for word in ["run", "net", "script", "journal"] {
         words.push(String::from_str(alloc, word)?)?;
     }
-    let (printed, status) = answer(&rt, alloc, words, files)?;
+    let (printed, status, entries) = answer(&rt, alloc, words, files)?;
     assert_eq!(rt; status, 0);
+    assert_eq!(rt; entries, 200);
     assert!(rt; printed.ends_with(b"desk 4 refused E3 N 121\ntotal done 120 refused 80 store 0\n"));
     Ok(())
 }
@@ -202,7 +227,7 @@ fn printed_plans_are_good(rt: HostRuntime) -> Result<(), Fail> {
         for word in ["plan", "net", "traffic"] {
             words.push(String::from_str(alloc, word)?)?;
         }
-        let (plan, status) = answer(&rt, alloc, words, files)?;
+        let (plan, status, _entries) = answer(&rt, alloc, words, files)?;
         assert_eq!(rt; status, 0, "{beams} {terminals}");
 
         let mut files = Vec::new(alloc);
@@ -213,7 +238,7 @@ fn printed_plans_are_good(rt: HostRuntime) -> Result<(), Fail> {
         for word in ["check", "net", "traffic", "plan"] {
             words.push(String::from_str(alloc, word)?)?;
         }
-        let (verdict, status) = answer(&rt, alloc, words, files)?;
+        let (verdict, status, _entries) = answer(&rt, alloc, words, files)?;
         assert_eq!(rt;
             verdict.as_slice(),
             b"good\n".as_slice(),

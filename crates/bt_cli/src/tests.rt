@@ -208,6 +208,15 @@ fn commands_answer_by_themselves(rt: HostRuntime) -> Result<(), Fail> {
 
     let mut out = SureSink::new(alloc);
     let words = vec![in alloc;
+        String::from_str(alloc, "plan")?,
+        String::from_str(alloc, "two.matrix")?,
+        String::from_str(alloc, "two.matrix")?,
+    ]?;
+    let status = plan_command(alloc, &words, &mut files, &mut out);
+    assert_eq!(rt; status, 3);
+
+    let mut out = SureSink::new(alloc);
+    let words = vec![in alloc;
         String::from_str(alloc, "modes")?,
         String::from_str(alloc, "three.matrix")?,
     ]?;

@@ -16,7 +16,7 @@ commands
         V3 SUM LENGTH         the durations have another sum than the length
         V4 row BEAM SUM       the length or the critical line is not that of the
         V4 column BEAM SUM    greatest line sum, which this line has
-        V8 UP DOWN WANT HAVE  the modes give that connection too few slots
+        V8 UP DOWN WANT HAVE  the modes give these two beams too few slots
       Modes and beams are counted from 0.
       example: nozgurt check examples/two-beams.matrix examples/two-beams.modes
 
