@@ -3,10 +3,10 @@ use Rattle.std.proofs.Common.{◌≡◌, ℕ, zero, suc, ◌≤◌, false, List,
 use Rattle.std.specs.List.{flat_map}
 use Rattle.std.proofs.lemmas.Bool.Decides.{nat_tests}
 use Rattle.std.proofs.lemmas.List.Elements.{All-cons, All-nil, All-head, All-tail}
-use Rattle.bt_base.specs.Reading.{◌>>=◌}
-use Rattle.bt_base.specs.declared.numbers.TermNo.{TermNo}
-use Rattle.bt_plan.specs.declared.burst.Burst.{Burst}
-use Rattle.bt_plan.specs.Burst.{IsNotAfter}
+use Rattle.bt_text.specs.Reading.{◌>>=◌}
+use Rattle.bt_frame.specs.declared.numbers.TermNo.{TermNo}
+use Rattle.bt_demand.specs.declared.burst.Burst.{Burst}
+use Rattle.bt_demand.specs.Burst.{IsNotAfter}
 use Rattle.bt_air.specs.declared.fault.AirFault.TheVariants.{A3}
 use Rattle.bt_air.specs.Field.{Left, burst_length_in}
 use Rattle.bt_air.specs.MessageText.{is_less_than, burst_in, bursts_in}

@@ -8,7 +8,7 @@ use Rattle.std.proofs.lemmas.List.Elements.{All-get_or}
 use Rattle.std.proofs.lemmas.Nat.{be_bytes_2, be_bytes_4, from_be_bytes-to_be_bytes_2, from_be_bytes-to_be_bytes_4}
 use Rattle.bt_air.specs.declared.fault.AirFault.TheVariants.{A1, A3}
 use Rattle.bt_air.specs.Field.{Left, Read, number_in, ranged_in}
-use Rattle.bt_air.specs.Range.{IsWithin}
+use Rattle.bt_frame.specs.Range.{IsWithin}
 use Rattle.bt_air.specs.Spelling.{AreBytes}
 use Rattle.bt_air.proofs.Steps.{step, same, passed, unmet}
 

@@ -4,11 +4,12 @@ use Rattle.std.specs.Prelude.{IfSome}
 use Rattle.std.specs.List.{flat_map}
 use Rattle.std.specs.Int.{w8, w16, w32, to_be_bytes}
 use Rattle.std.proofs.lemmas.List.Elements.{All-cons, All-nil, All-head, All-tail}
-use Rattle.bt_base.specs.Reading.{◌>>=◌}
+use Rattle.bt_text.specs.Reading.{◌>>=◌}
 use Rattle.bt_air.specs.declared.order.Armed.{Armed}
 use Rattle.bt_air.specs.Field.{Left, Read, command_in, last_command_in, edition_in, mark_in, due_in, terminal_in, flag_in, beams_in, duration_in, burst_count_in, start_in, burst_length_in}
 use Rattle.bt_air.specs.MessageText.{several_in, optional_in, armed_in}
-use Rattle.bt_air.specs.Range.{IsWithin, IsWord, IsCommand, IsMark, IsDue, IsTerminal, IsArmed}
+use Rattle.bt_air.specs.Range.{IsWord, IsCommand, IsMark, IsDue, IsTerminalNumber, IsArmed}
+use Rattle.bt_frame.specs.Range.{IsWithin}
 use Rattle.bt_air.specs.Reading.{Reading}
 use Rattle.bt_air.specs.Spelling.{word, short, optional, armed_bytes}
 use Rattle.bt_air.proofs.Codec.{IsBytes, behind, IsTaken, IsCodec, wide8, wide16, wide32, ranged_codec}
@@ -52,7 +53,7 @@ mark_codec = wrapped_codec (ranged_codec w32 (to_be_bytes w32) (2 ^ 32) wide32 0
 pub due_codec : IsCodec due_in (λ due. word due.0) IsDue
 due_codec = wrapped_codec (ranged_codec w32 (to_be_bytes w32) (2 ^ 32) wide32 1 4000000000 (lit< tt)) (λ n. record { 0 = n }) (λ due. due.0) (λ n. refl) (λ due. refl)
 
-pub terminal_codec : IsCodec terminal_in (λ terminal. terminal.0 ∷ []) IsTerminal
+pub terminal_codec : IsCodec terminal_in (λ terminal. terminal.0 ∷ []) IsTerminalNumber
 terminal_codec = wrapped_codec (ranged_codec w8 (λ n. n ∷ []) (2 ^ 8) wide8 0 63 (lit< tt)) (λ n. record { 0 = n }) (λ terminal. terminal.0) (λ n. refl) (λ terminal. refl)
 
 pub flag_codec : IsCodec flag_in (λ n. n ∷ []) (IsWithin 0 1)

@@ -5,7 +5,7 @@ use Rattle.std.specs.List.{flat_map}
 use Rattle.std.specs.Int.{w8, byte_len}
 use Rattle.std.proofs.lemmas.Bool.{eqb-true}
 use Rattle.std.proofs.lemmas.List.{append-nil, nil_from_length}
-use Rattle.bt_base.specs.Reading.{◌>>=◌}
+use Rattle.bt_text.specs.Reading.{◌>>=◌}
 use Rattle.bt_air.specs.declared.fault.AirFault.TheVariants.{A4}
 use Rattle.bt_air.specs.declared.message.Message.{Message}
 use Rattle.bt_air.specs.declared.message.Message.TheVariants.{Load, Arm, Status, PlanFor, Confirm, Reference, Lost}

@@ -1,9 +1,9 @@
 -- Reading several of a kind, one after the other, as a loop does.
 use Rattle.std.proofs.Common.{◌≡◌, ℕ, suc, ◌-◌, ◌+◌, ◌≤◌, ◌<◌, List, [], ◌∷◌, ◌++◌, Option, Some, Ok, Err, refl, sym, ap, ◌∙◌, append_assoc, arith}
 use Rattle.std.proofs.lemmas.List.{append-nil}
-use Rattle.bt_base.specs.declared.numbers.TermNo.{TermNo}
-use Rattle.bt_base.specs.Reading.{◌>>=◌}
-use Rattle.bt_plan.specs.declared.burst.Burst.{Burst}
+use Rattle.bt_frame.specs.declared.numbers.TermNo.{TermNo}
+use Rattle.bt_text.specs.Reading.{◌>>=◌}
+use Rattle.bt_demand.specs.declared.burst.Burst.{Burst}
 use Rattle.bt_air.specs.declared.fault.AirFault.{AirFault}
 use Rattle.bt_air.specs.declared.fault.AirFault.TheVariants.{A1, A2, A3, A4, OutOfMemory}
 use Rattle.bt_air.specs.Field.{Left, Read}

@@ -1,6 +1,6 @@
 -- What is known of a reader's steps where the whole of it had no fault.
 use Rattle.std.proofs.Common.{◌≡◌, Bool, true, false, cond, Ok, Err, refl}
-use Rattle.bt_base.specs.Reading.{◌>>=◌}
+use Rattle.bt_text.specs.Reading.{◌>>=◌}
 use Rattle.bt_air.specs.declared.fault.AirFault.{AirFault}
 use Rattle.bt_air.specs.Reading.{Reading}
 

@@ -2,11 +2,11 @@
 -- at the place at which it begins, and so has one that is out of range.
 use Rattle.std.specs.Prelude.{◌≡◌, ℕ, ◌+◌, ◌-◌, ◌==◌, ◌&&◌, if◌then◌else◌, nat_le, nat_lt, List, length, take, drop, Result, Ok, Err}
 use Rattle.std.specs.Int.{Width, w8, w16, w32, byte_len, from_be_bytes}
-use Rattle.bt_base.specs.declared.numbers.Command.{Command}
-use Rattle.bt_base.specs.declared.numbers.EditionNo.{EditionNo}
-use Rattle.bt_base.specs.declared.numbers.Mark.{Mark}
-use Rattle.bt_base.specs.declared.numbers.TermNo.{TermNo}
-use Rattle.bt_base.specs.Reading.{◌>>=◌}
+use Rattle.bt_frame.specs.declared.numbers.Command.{Command}
+use Rattle.bt_frame.specs.declared.numbers.EditionNo.{EditionNo}
+use Rattle.bt_frame.specs.declared.numbers.Mark.{Mark}
+use Rattle.bt_frame.specs.declared.numbers.TermNo.{TermNo}
+use Rattle.bt_text.specs.Reading.{◌>>=◌}
 use Rattle.bt_air.specs.declared.fault.AirFault.{AirFault}
 use Rattle.bt_air.specs.declared.fault.AirFault.TheVariants.{A1, A3}
 use Rattle.bt_air.specs.Reading.{Reading, IsFaultOf}

@@ -1,10 +1,10 @@
 -- Each kind of message as its fields, one behind the other.
 use Rattle.std.specs.Prelude.{ℕ, zero, suc, ◌==◌, ◌&&◌, ◌||◌, if◌then◌else◌, nat_lt, Bool, false, length, List, [], ◌∷◌, Option, Some, None, Ok, Err}
 use Rattle.std.specs.Int.{w8}
-use Rattle.bt_base.specs.declared.mode.Mode.{Mode}
-use Rattle.bt_base.specs.declared.numbers.TermNo.{TermNo}
-use Rattle.bt_base.specs.Reading.{◌>>=◌}
-use Rattle.bt_plan.specs.declared.burst.Burst.{Burst}
+use Rattle.bt_frame.specs.declared.mode.Mode.{Mode}
+use Rattle.bt_frame.specs.declared.numbers.TermNo.{TermNo}
+use Rattle.bt_text.specs.Reading.{◌>>=◌}
+use Rattle.bt_demand.specs.declared.burst.Burst.{Burst}
 use Rattle.bt_air.specs.declared.fault.AirFault.TheVariants.{A2, A3, A4}
 use Rattle.bt_air.specs.declared.message.Message.{Message}
 use Rattle.bt_air.specs.declared.message.Message.TheVariants as messages

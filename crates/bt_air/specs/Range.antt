@@ -1,20 +1,17 @@
 -- Which messages have a spelling: those with each field in its range.
 use Rattle.std.specs.Prelude.{◌≡◌, ℕ, ◌<◌, ◌≤◌, length, List, IfSome, All, AllPairs}
-use Rattle.bt_base.specs.declared.mode.Mode.{Mode}
-use Rattle.bt_base.specs.declared.numbers.Command.{Command}
-use Rattle.bt_base.specs.declared.numbers.Mark.{Mark}
-use Rattle.bt_base.specs.declared.numbers.TermNo.{TermNo}
-use Rattle.bt_plan.specs.declared.burst.Burst.{Burst}
-use Rattle.bt_plan.specs.Burst.{IsNotAfter}
+use Rattle.bt_frame.specs.declared.mode.Mode.{Mode}
+use Rattle.bt_frame.specs.Range.{IsWithin}
+use Rattle.bt_frame.specs.declared.numbers.Command.{Command}
+use Rattle.bt_frame.specs.declared.numbers.Mark.{Mark}
+use Rattle.bt_frame.specs.declared.numbers.TermNo.{TermNo}
+use Rattle.bt_demand.specs.declared.burst.Burst.{Burst}
+use Rattle.bt_demand.specs.Burst.{IsNotAfter}
 use Rattle.bt_air.specs.declared.message.Message.{Message}
 use Rattle.bt_air.specs.declared.message.Message.TheVariants.{Load, Arm, Status, PlanFor, Confirm, Reference, Lost}
 use Rattle.bt_air.specs.declared.order.Armed.{Armed}
 use Rattle.bt_air.specs.declared.order.Status.{Status as Telemetry}
 use Rattle.bt_air.specs.Spelling.{beams_of}
-
--- the number lies from `least` to `most`
-abbrev pub IsWithin : ℕ → ℕ → ℕ → Type 0
-IsWithin least most number = (least ≤ number) × (number ≤ most)
 
 -- any number of four bytes
 abbrev pub IsWord : ℕ → Type 0
@@ -33,8 +30,8 @@ abbrev pub IsDue : Mark → Type 0
 IsDue due = IsWithin 1 4000000000 due.0
 
 -- there are at most 64 terminals
-abbrev pub IsTerminal : TermNo → Type 0
-IsTerminal terminal = IsWithin 0 63 terminal.0
+abbrev pub IsTerminalNumber : TermNo → Type 0
+IsTerminalNumber terminal = IsWithin 0 63 terminal.0
 
 -- a mode of so many beams, each with one of them as its downlink
 pub record IsModeOf (beams : ℕ) (mode : Mode) : Type 0 where
@@ -65,7 +62,7 @@ pub record IsStatus (status : Telemetry) : Type 0 where
 -- a burst that the terminal sends, within the slots of a frame's traffic part
 pub record IsBurstOf (from : TermNo) (burst : Burst) : Type 0 where
   pub sender : burst.from ≡ from
-  pub receiver : IsTerminal burst.to
+  pub receiver : IsTerminalNumber burst.to
   pub start : IsWithin 0 4095 burst.start
   pub slots : IsWithin 1 4096 burst.length
 
@@ -80,7 +77,7 @@ abbrev pub IsInRange : Message → Type 0
 IsInRange (Load command edition modes) = IsCommand command × IsWord edition.0 × AreModes modes
 IsInRange (Arm command edition due) = IsCommand command × IsWord edition.0 × IsDue due
 IsInRange (Status status) = IsStatus status
-IsInRange (PlanFor to edition bursts) = IsTerminal to × IsWord edition.0 × AreBurstsOf to bursts
-IsInRange (Confirm from edition) = IsTerminal from × IsWord edition.0
+IsInRange (PlanFor to edition bursts) = IsTerminalNumber to × IsWord edition.0 × AreBurstsOf to bursts
+IsInRange (Confirm from edition) = IsTerminalNumber from × IsWord edition.0
 IsInRange (Reference superframe in_force) = IsMark superframe × IfSome in_force (λ edition. IsWord edition.0)
-IsInRange (Lost from) = IsTerminal from
+IsInRange (Lost from) = IsTerminalNumber from

@@ -4,7 +4,7 @@ ghost use Rattle.bt_air.specs.Field.{Takes, command_in, last_command_in, edition
 
 use crate::unread::Unread;
 use crate::{AirFault, LAST_MARK};
-use bt_base::{Command, EditionNo, Mark, TermNo};
+use bt_frame::{Command, EditionNo, Mark, TermNo};
 
 /// The most beams of a network.
 pub const MOST_BEAMS: u8 = 16;

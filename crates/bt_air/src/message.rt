@@ -1,7 +1,7 @@
 // The messages of the air.
 use crate::Status;
-use bt_base::{Command, EditionNo, Mark, Modes, TermNo};
-use bt_plan::Bursts;
+use bt_demand::Bursts;
+use bt_frame::{Command, EditionNo, Mark, Modes, TermNo};
 
 /// A message from one end of the air to another.
 #[derive(Debug, Drop)]

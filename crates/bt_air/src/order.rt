@@ -1,5 +1,5 @@
 // What the centre orders of the satellite, and what the satellite says of itself.
-use bt_base::{Command, EditionNo, Mark};
+use bt_frame::{Command, EditionNo, Mark};
 
 /// The last superframe mark.
 pub const LAST_MARK: u32 = 4_000_000_000;

@@ -6,8 +6,8 @@ ghost use Rattle.bt_air.specs.Reading.{Gives};
 
 use crate::unread::Unread;
 use crate::{AirFault, Armed, Message, Status};
-use bt_base::{Columns, EditionNo, Mode, Modes, TermNo};
-use bt_plan::{Burst, Bursts};
+use bt_demand::{Burst, Bursts};
+use bt_frame::{Columns, EditionNo, Mode, Modes, TermNo};
 use std::alloc::Global;
 
 /// The message that the bytes are, or their first fault from the left.

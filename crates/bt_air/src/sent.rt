@@ -1,6 +1,6 @@
 // What of a message is kept in a record of those sent, who hears it, and what the hearer says.
 use crate::{Order, Status};
-use bt_base::{Command, EditionNo, Mark, TermNo};
+use bt_frame::{Command, EditionNo, Mark, TermNo};
 
 /// A message that was sent, without its modes and bursts.
 #[derive(Clone, Copy, Debug, PartialEq, Eq)]

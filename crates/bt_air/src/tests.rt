@@ -2,8 +2,8 @@
 ghost use Rattle.std.specs.Prelude.{◌≤◌, length};
 
 use super::*;
-use bt_base::{Command, EditionNo, Mark, Modes, TermNo};
-use bt_plan::Bursts;
+use bt_demand::Bursts;
+use bt_frame::{Command, EditionNo, Mark, Modes, TermNo};
 use std::alloc::Global;
 use std::test::Fail;
 

@@ -5,8 +5,8 @@ ghost use Rattle.bt_air.specs.Range.{AreBurstsOf, AreModes, IsInRange};
 ghost use Rattle.bt_air.specs.Spelling.{armed_bytes, beams_of, burst_bytes, bursts_bytes, message_bytes, mode_bytes, modes_bytes, optional, short, word};
 
 use crate::{Armed, Message, Status};
-use bt_base::{Command, EditionNo, Mark, Mode, Modes, OutOfMemory, TermNo};
-use bt_plan::{Burst, Bursts};
+use bt_demand::{Burst, Bursts};
+use bt_frame::{Command, EditionNo, Mark, Mode, Modes, OutOfMemory, TermNo};
 use std::alloc::Global;
 
 /// The bytes of a message, as `decode` reads them.

@@ -1,5 +1,3 @@
 pub mod Told
-pub mod Text
-pub mod Reading
 pub mod Calls
 pub mod Held

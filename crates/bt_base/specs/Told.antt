@@ -11,8 +11,8 @@ abbrev pub IsLonger : Option (List ℕ) → ℕ → Type 0
 IsLonger told most = IfSome told (λ held. most < length held)
 
 -- so many bytes are held; nothing is asked where that is not told
-abbrev pub IsWithin : ℕ → Option (List ℕ) → Type 0
-IsWithin kept told = ForSome told (λ held. kept ≤ length held)
+abbrev pub HasBytes : ℕ → Option (List ℕ) → Type 0
+HasBytes kept told = ForSome told (λ held. kept ≤ length held)
 
 -- what is held once a piece was added at its end
 abbrev pub gained : Option (List ℕ) → List ℕ → Option (List ℕ)

@@ -1,7 +1,7 @@
 // The store in which the centre keeps its records.
 ghost use Rattle.std.specs.Prelude.{◌≡◌, ◌≤◌, ◌⊎◌, ℕ, List, Option, OnOk, IfOk, IsErrOf, vec_len};
 ghost use Rattle.bt_base.specs.declared.keeper.KeepFault.TheVariants.{OutOfMemory};
-ghost use Rattle.bt_base.specs.Told.{Gives, IsLonger, IsWithin, gained, GainsPrefix, shortened, HasCause};
+ghost use Rattle.bt_base.specs.Told.{Gives, IsLonger, HasBytes, gained, GainsPrefix, shortened, HasCause};
 
 use std::alloc::{AllocError, AllocFailed, Global};
 use thiserror::Error;
@@ -69,7 +69,7 @@ pub trait Keeper {
 
     /// Keeps the first `length` bytes. A failed call has cut, or has left all as it was.
     fn cut(&mut self, alloc: Global, length: u64) -> Result<(), KeepFault>
-        requires { IsWithin length (told self.old) }
+        requires { HasBytes length (told self.old) }
         ensures ok { OnOk result (told self.new ≡ shortened (told self.old) length) }
         ensures failed { IsErrOf result KeepFault.Failed
             → (told self.new ≡ told self.old) ⊎ (told self.new ≡ shortened (told self.old) length) }

@@ -1,6 +1,6 @@
 // A store in memory whose calls do not fail.
 ghost use Rattle.std.specs.Prelude.{◌≡◌, ◌≤◌, ◌⊎◌, Some, OnOk, IfOk, IsErrOf, vec_len};
-ghost use Rattle.bt_base.specs.Told.{Gives, IsLonger, IsWithin, gained, GainsPrefix, shortened, HasCause};
+ghost use Rattle.bt_base.specs.Told.{Gives, IsLonger, HasBytes, gained, GainsPrefix, shortened, HasCause};
 
 use crate::{KeepFault, Keeper, STORE_LAST};
 use std::alloc::Global;
@@ -72,7 +72,7 @@ impl Keeper for SureKeeper {
     }
 
     fn cut(&mut self, _alloc: Global, length: u64) -> Result<(), KeepFault>
-        requires { IsWithin length (Some self.old) }
+        requires { HasBytes length (Some self.old) }
         ensures ok { OnOk result (Some self.new ≡ shortened (Some self.old) length) }
         ensures failed { IsErrOf result KeepFault.Failed
             → (Some self.new ≡ Some self.old) ⊎ (Some self.new ≡ shortened (Some self.old) length) }
@@ -118,7 +118,7 @@ mod tests {
     }
 
     fn cut<K: Keeper>(store: &mut K, alloc: Global, length: u64) -> Result<(), KeepFault>
-        requires { IsWithin length (K.told store.old) }
+        requires { HasBytes length (K.told store.old) }
     {
         store.cut(alloc, length)
     }

@@ -1,16 +1,17 @@
 -- The traffic matrix kept beside a demand, where a link gains or loses.
 use Rattle.std.proofs.Common.{◌≡◌, ℕ, zero, suc, ◌+◌, ◌-◌, ◌<◌, ◌≤◌, ◌&&◌, if◌then◌else◌, List, [], ◌∷◌, length, slice_index, slice_set, refl, sym, ap, ◌∙◌, subst, arith, get_or-set_same}
 use Rattle.std.proofs.lemmas.List.{set-get_or}
-use Rattle.bt_base.specs.declared.numbers.BeamNo.{BeamNo}
-use Rattle.bt_base.specs.declared.numbers.TermNo.{TermNo}
-use Rattle.bt_base.specs.declared.schedule.Critical.{Critical}
-use Rattle.bt_base.specs.declared.schedule.Critical.TheVariants.{Row, Column}
+use Rattle.bt_frame.specs.declared.numbers.BeamNo.{BeamNo}
+use Rattle.bt_frame.specs.declared.numbers.TermNo.{TermNo}
+use Rattle.bt_frame.specs.declared.schedule.Critical.{Critical}
+use Rattle.bt_frame.specs.declared.schedule.Critical.TheVariants.{Row, Column}
 use Rattle.bt_net.specs.Network.{Net}
 use Rattle.bt_matrix.specs.Traffic.{row_of, entry, row_sum, column_sum, with_entry, IsHeaviest}
-use Rattle.bt_plan.specs.declared.demand.Link.{Link}
-use Rattle.bt_plan.specs.Demand.{units_of, Gains}
-use Rattle.bt_plan.specs.Traffic.{is_in_beam, units_between, matrix_of, HasSumsTo, IsInBeam}
-use Rattle.bt_plan.proofs.Matrices.{length-matrix_of, matrix_of-Gains}
+use Rattle.bt_demand.specs.declared.demand.Link.{Link}
+use Rattle.bt_demand.specs.Demand.{units_of, Gains}
+use Rattle.bt_demand.specs.Traffic.{units_between, matrix_of, HasSumsTo}
+use Rattle.bt_net.specs.Terminals.{is_in_beam, IsInBeam}
+use Rattle.bt_demand.proofs.Matrices.{length-matrix_of, matrix_of-Gains}
 use Rattle.bt_book.specs.Desk.{Loaded}
 use Rattle.bt_book.proofs.Tables.{length-row-table, table-LinesExceed}
 use Rattle.bt_book.proofs.After.{units_of-in-beams}

@@ -2,13 +2,13 @@
 use Rattle.std.proofs.Common.{◌≡◌, ℕ, ◌<◌, List, [], length, replicate, slice_index, refl, sym, subst, arith}
 use Rattle.std.proofs.lemmas.List.{get_or-replicate, length-replicate}
 use Rattle.std.proofs.lemmas.List.Folds.{sum_by-replicate}
-use Rattle.bt_base.specs.declared.schedule.Critical.TheVariants.{Row, Column}
+use Rattle.bt_frame.specs.declared.schedule.Critical.TheVariants.{Row, Column}
 use Rattle.bt_net.specs.Network.{Net}
-use Rattle.bt_plan.specs.Traffic.{matrix_of, HasSumsTo}
-use Rattle.bt_plan.proofs.Matrices.{matrix_of-none}
+use Rattle.bt_demand.specs.Traffic.{matrix_of, HasSumsTo}
+use Rattle.bt_demand.proofs.Matrices.{matrix_of-none}
 use Rattle.bt_journal.specs.declared.entry.Entry.{Entry}
 use Rattle.bt_journal.specs.Journal.{changes_of}
-use Rattle.bt_plan.specs.declared.demand.Link.{Link}
+use Rattle.bt_demand.specs.declared.demand.Link.{Link}
 use Rattle.bt_book.specs.Desk.{KeepsUp}
 
 -- the lines of a matrix of zeros ask for nothing

@@ -6,12 +6,13 @@ use Rattle.std.proofs.lemmas.Bool.Decides.{nat_tests}
 use Rattle.std.proofs.lemmas.List.{length-map, same_lists}
 use Rattle.std.proofs.lemmas.List.FromFn.{length-range_with_len, get_or-map-range_with_len}
 use Rattle.std.proofs.lemmas.List.Sums.{sum_by-set}
-use Rattle.bt_base.specs.declared.numbers.BeamNo.{BeamNo}
-use Rattle.bt_base.specs.declared.numbers.TermNo.{TermNo}
+use Rattle.bt_frame.specs.declared.numbers.BeamNo.{BeamNo}
+use Rattle.bt_frame.specs.declared.numbers.TermNo.{TermNo}
 use Rattle.bt_net.specs.Network.{Net}
 use Rattle.bt_matrix.specs.Traffic.{row_of, entry, row_sum, column_sum, with_entry}
 use Rattle.bt_matrix.proofs.Lines.{row_sum-with_entry_other, column_sum-with_entry_other}
-use Rattle.bt_plan.specs.Traffic.{is_in_beam, table_of, IsInBeam}
+use Rattle.bt_demand.specs.Traffic.{table_of}
+use Rattle.bt_net.specs.Terminals.{is_in_beam, IsInBeam}
 
 -- the numbers of so many beams
 abbrev beams_to : ℕ → List ℕ

@@ -1,13 +1,14 @@
 -- The desk machine: its state is the list of changes taken so far, and each sum is taken afresh from that list.
 use Rattle.std.specs.Prelude.{◌≡◌, ℕ, ◌-◌, ◌<◌, ◌≤◌, ◌==◌, ◌&&◌, ◌⊎◌, if◌then◌else◌, Bool, List, [], ◌∷◌, ◌++◌, length, sum_by}
-use Rattle.bt_base.specs.declared.numbers.BeamNo.{BeamNo}
-use Rattle.bt_base.specs.declared.numbers.TermNo.{TermNo}
-use Rattle.bt_base.specs.declared.schedule.Critical.{Critical}
+use Rattle.bt_frame.specs.declared.numbers.BeamNo.{BeamNo}
+use Rattle.bt_frame.specs.declared.numbers.TermNo.{TermNo}
+use Rattle.bt_frame.specs.declared.schedule.Critical.{Critical}
 use Rattle.bt_net.specs.Network.{Net}
 use Rattle.bt_matrix.specs.Traffic.{row_sum, column_sum, IsHeaviest}
-use Rattle.bt_plan.specs.declared.demand.Link.{Link}
-use Rattle.bt_plan.specs.Demand.{units_where, IsDemand}
-use Rattle.bt_plan.specs.Traffic.{IsInBeam, is_in_beam, table_of}
+use Rattle.bt_demand.specs.declared.demand.Link.{Link}
+use Rattle.bt_demand.specs.Demand.{units_where, IsDemand}
+use Rattle.bt_demand.specs.Traffic.{table_of}
+use Rattle.bt_net.specs.Terminals.{IsInBeam, is_in_beam}
 use Rattle.bt_journal.specs.declared.call.Edit.{Edit}
 use Rattle.bt_journal.specs.declared.call.Edit.TheVariants.{Add, Drop, Move}
 use Rattle.bt_journal.specs.declared.call.Call.{Call}

@@ -5,7 +5,7 @@ ghost use Rattle.bt_book.specs.Machine.{EditStep, IsOfNetwork, Step};
 ghost use Rattle.bt_book.specs.Desk.{IsRefusal};
 
 use crate::desk::Desk;
-use bt_base::{EditionNo, OutOfMemory};
+use bt_frame::{EditionNo, OutOfMemory};
 use bt_journal::{Call, Edit, Entry, Reply};
 use std::alloc::Global;
 

@@ -6,7 +6,7 @@ ghost use Rattle.bt_book.specs.Desk.{AreLinesAfter, IsBookFull, IsFirstCause, Is
 
 use crate::desk::Desk;
 use crate::lines::{Lines, full_line};
-use bt_base::{BeamNo, TermNo, Units};
+use bt_frame::{BeamNo, TermNo, Units};
 use bt_journal::{Edit, Reply};
 
 /// The most changes that a book takes.

@@ -1,7 +1,7 @@
 // The lines of the traffic matrix that an edit makes longer.
 ghost use Rattle.bt_book.specs.Desk.{IsFullLine};
 
-use bt_base::BeamNo;
+use bt_frame::BeamNo;
 use bt_journal::Reply;
 
 /// The row and the column of the link that gains, with their slots after the edit.

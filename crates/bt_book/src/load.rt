@@ -1,19 +1,20 @@
 // The demand on a network, with its traffic matrix beside it.
 ghost use Rattle.std.specs.Prelude.{◌≡◌, ◌≢◌, ◌<◌, ◌≤◌, [], length, IfOk, OnOk, OnErr};
-ghost use Rattle.bt_base.specs.declared.schedule.Critical.{Critical};
+ghost use Rattle.bt_frame.specs.declared.schedule.Critical.{Critical};
 ghost use Rattle.bt_matrix.specs.Traffic.{row_sum, column_sum, IsHeaviest};
-ghost use Rattle.bt_plan.specs.Demand.{units_of, Gains, IsDemand};
-ghost use Rattle.bt_plan.specs.Traffic.{matrix_of, HasSumsTo, IsInBeam};
+ghost use Rattle.bt_demand.specs.Demand.{units_of, Gains, IsDemand};
+ghost use Rattle.bt_demand.specs.Traffic.{matrix_of, HasSumsTo};
+ghost use Rattle.bt_net.specs.Terminals.{IsInBeam};
 ghost use Rattle.bt_net.specs.Network.{IsSound};
 ghost use Rattle.bt_journal.specs.Journal.{NamesTerminals};
 ghost use Rattle.bt_book.specs.Machine.{HasEnds};
 ghost use Rattle.bt_book.specs.Desk.{EditsLinks, HoldsTaken};
 
-use bt_base::{BeamNo, OutOfMemory, TermNo, Units};
+use bt_frame::{BeamNo, OutOfMemory, TermNo, Units};
 use bt_journal::Edit;
 use bt_matrix::{Dense, SUM_LAST, Traffic};
 use bt_net::Network;
-use bt_plan::Demand;
+use bt_demand::Demand;
 use std::alloc::Global;
 use std::marker::Model;
 
@@ -31,7 +32,7 @@ impl Model for Load {
     ghost Value = { Loaded };
 
     ghost use Rattle.std.specs.Prelude.{◌≡◌};
-    ghost use Rattle.bt_plan.specs.Traffic.{matrix_of};
+    ghost use Rattle.bt_demand.specs.Traffic.{matrix_of};
 
     ghost view = { λ a. record { net = a.net; links = a.demand } };
 

@@ -1,6 +1,6 @@
 -- A call on the book leaves a legal history.
 use Rattle.std.proofs.Common.{◌≡◌, ℕ, List, [], ◌∷◌, ◌++◌, Result, Ok, Err, IfOk, OnErr, sym, ap, ◌∙◌, subst}
-use Rattle.bt_base.specs.declared.numbers.OutOfMemory as none
+use Rattle.bt_frame.specs.declared.numbers.OutOfMemory as none
 use Rattle.bt_net.specs.Network.{Net}
 use Rattle.bt_journal.specs.declared.call.Call.{Call}
 use Rattle.bt_journal.specs.declared.call.Change.{Change}

@@ -6,7 +6,7 @@ use Rattle.bt_cli.specs.declared.answer.Stop.{Stop}
 use Rattle.bt_cli.specs.declared.answer.Stop.TheVariants.{Early, OutOfMemory}
 use Rattle.bt_cli.specs.declared.history.History.{History}
 use Rattle.bt_net.specs.Network.{Net}
-use Rattle.bt_plan.specs.declared.demand.Link.{Link}
+use Rattle.bt_demand.specs.declared.demand.Link.{Link}
 use Rattle.bt_cli.specs.Kinds.{demand_file, plan_file}
 use Rattle.bt_cli.specs.Fitting.{Fits, WhereItFits}
 use Rattle.bt_cli.specs.CheckPlan.{ChecksPlanText, ChecksDemand, JudgesPlan}

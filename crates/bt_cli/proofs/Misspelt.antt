@@ -4,17 +4,17 @@ use Rattle.bt_net.specs.Network.{Net}
 use Rattle.bt_net.specs.Reading as net_reading
 use Rattle.bt_net.specs.declared.fault.NetFault.{NetFault}
 use Rattle.bt_net.specs.declared.fault.NetFault.TheVariants.{N1, N2, N3, N4, N5, N6, OutOfMemory}
-use Rattle.bt_plan.specs.Reading.{Reading, IsFaultOf}
+use Rattle.bt_plan.specs.Reading.{Reading}
+use Rattle.bt_text.specs.Reading.{IsFaultOf}
 use Rattle.bt_plan.specs.MatrixText.{matrix_of}
 use Rattle.bt_plan.specs.TrafficText.{demand_of}
 use Rattle.bt_plan.specs.PlanText.{plan_of}
 use Rattle.bt_plan.specs.ScheduleText.{schedule_of}
-use Rattle.bt_plan.specs.declared.text_fault.TextFault.{TextFault}
-use Rattle.bt_plan.specs.declared.text_fault.TextFault.TheVariants as text_fault
-use Rattle.bt_script.specs.Reading as script_reading
+use Rattle.bt_plan.specs.declared.text_fault.TextCode.{TextCode}
+use Rattle.bt_script.specs.declared.fault.ScriptCode.{ScriptCode}
+use Rattle.bt_text.specs.declared.fault.LineFault.{LineFault}
+use Rattle.bt_text.specs.declared.fault.LineFault.TheVariants as line_fault
 use Rattle.bt_script.specs.ScriptText.{script_of}
-use Rattle.bt_script.specs.declared.fault.ScriptFault.{ScriptFault}
-use Rattle.bt_script.specs.declared.fault.ScriptFault.TheVariants as script_fault
 use Rattle.bt_cli.specs.declared.answer.Stop.{Stop}
 use Rattle.bt_cli.specs.declared.answer.Stop.TheVariants as stop
 use Rattle.bt_cli.specs.Answer.{StopIs}
@@ -22,15 +22,15 @@ use Rattle.bt_cli.specs.Outcome.{IsContent, StopsAtLoad}
 use Rattle.bt_cli.specs.Kinds.{text_file, demand_file, matrix_file, plan_file, schedule_file, network_file, script_file}
 use Rattle.bt_cli.specs.Stops.{NamesTextFault, NamesNetworkFault, NamesScriptFault}
 
-text_misspelt : {Value : Type 0} (reading : List ℕ → Reading Value) (told : List ℕ → Option (List ℕ)) (failed : Type 0) (name bytes : List ℕ) (fault : TextFault) (why : Stop) → IsContent told name bytes → IsFaultOf (reading bytes) fault → StopIs (NamesTextFault fault) why → StopIs (StopsAtLoad (text_file reading) told failed name) why
+text_misspelt : {Value : Type 0} (reading : List ℕ → Reading Value) (told : List ℕ → Option (List ℕ)) (failed : Type 0) (name bytes : List ℕ) (fault : LineFault TextCode) (why : Stop) → IsContent told name bytes → IsFaultOf (reading bytes) fault → StopIs (NamesTextFault fault) why → StopIs (StopsAtLoad (text_file reading) told failed name) why
 text_misspelt reading told failed name bytes fault stop.OutOfMemory content is names = tt
-text_misspelt reading told failed name bytes (text_fault.At code line) (stop.Early answer) content is names = inr (bytes, (code, line), content, is, names)
-text_misspelt reading told failed name bytes text_fault.OutOfMemory (stop.Early answer) content is names = absurd names
+text_misspelt reading told failed name bytes (line_fault.At code line) (stop.Early answer) content is names = inr (bytes, (code, line), content, is, names)
+text_misspelt reading told failed name bytes line_fault.OutOfMemory (stop.Early answer) content is names = absurd names
 
-pub script_misspelt : (net : Net) (told : List ℕ → Option (List ℕ)) (failed : Type 0) (name bytes : List ℕ) (fault : ScriptFault) (why : Stop) → IsContent told name bytes → script_reading.IsFaultOf (script_of net bytes) fault → StopIs (NamesScriptFault fault) why → StopIs (StopsAtLoad (script_file net) told failed name) why
+pub script_misspelt : (net : Net) (told : List ℕ → Option (List ℕ)) (failed : Type 0) (name bytes : List ℕ) (fault : LineFault ScriptCode) (why : Stop) → IsContent told name bytes → IsFaultOf (script_of net bytes) fault → StopIs (NamesScriptFault fault) why → StopIs (StopsAtLoad (script_file net) told failed name) why
 script_misspelt net told failed name bytes fault stop.OutOfMemory content is names = tt
-script_misspelt net told failed name bytes (script_fault.At code line) (stop.Early answer) content is names = inr (bytes, (code, line), content, is, names)
-script_misspelt net told failed name bytes script_fault.OutOfMemory (stop.Early answer) content is names = absurd names
+script_misspelt net told failed name bytes (line_fault.At code line) (stop.Early answer) content is names = inr (bytes, (code, line), content, is, names)
+script_misspelt net told failed name bytes line_fault.OutOfMemory (stop.Early answer) content is names = absurd names
 
 pub network_misspelt : (told : List ℕ → Option (List ℕ)) (failed : Type 0) (name bytes : List ℕ) (fault : NetFault) (why : Stop) → IsContent told name bytes → net_reading.Fails fault (net_reading.network_in bytes) → StopIs (NamesNetworkFault fault) why → StopIs (StopsAtLoad network_file told failed name) why
 network_misspelt told failed name bytes fault stop.OutOfMemory content is names = tt
@@ -42,14 +42,14 @@ network_misspelt told failed name bytes (N4 path) (stop.Early answer) content is
 network_misspelt told failed name bytes (N5 path) (stop.Early answer) content is names = inr (bytes, N5 path, content, is, names)
 network_misspelt told failed name bytes (N6 path) (stop.Early answer) content is names = inr (bytes, N6 path, content, is, names)
 
-pub matrix_misspelt : (told : List ℕ → Option (List ℕ)) (failed : Type 0) (name bytes : List ℕ) (fault : TextFault) (why : Stop) → IsContent told name bytes → IsFaultOf (matrix_of bytes) fault → StopIs (NamesTextFault fault) why → StopIs (StopsAtLoad matrix_file told failed name) why
+pub matrix_misspelt : (told : List ℕ → Option (List ℕ)) (failed : Type 0) (name bytes : List ℕ) (fault : LineFault TextCode) (why : Stop) → IsContent told name bytes → IsFaultOf (matrix_of bytes) fault → StopIs (NamesTextFault fault) why → StopIs (StopsAtLoad matrix_file told failed name) why
 matrix_misspelt = text_misspelt matrix_of
 
-pub schedule_misspelt : (size : ℕ) (told : List ℕ → Option (List ℕ)) (failed : Type 0) (name bytes : List ℕ) (fault : TextFault) (why : Stop) → IsContent told name bytes → IsFaultOf (schedule_of size bytes) fault → StopIs (NamesTextFault fault) why → StopIs (StopsAtLoad (schedule_file size) told failed name) why
+pub schedule_misspelt : (size : ℕ) (told : List ℕ → Option (List ℕ)) (failed : Type 0) (name bytes : List ℕ) (fault : LineFault TextCode) (why : Stop) → IsContent told name bytes → IsFaultOf (schedule_of size bytes) fault → StopIs (NamesTextFault fault) why → StopIs (StopsAtLoad (schedule_file size) told failed name) why
 schedule_misspelt size = text_misspelt (schedule_of size)
 
-pub demand_misspelt : (net : Net) (told : List ℕ → Option (List ℕ)) (failed : Type 0) (name bytes : List ℕ) (fault : TextFault) (why : Stop) → IsContent told name bytes → IsFaultOf (demand_of net bytes) fault → StopIs (NamesTextFault fault) why → StopIs (StopsAtLoad (demand_file net) told failed name) why
+pub demand_misspelt : (net : Net) (told : List ℕ → Option (List ℕ)) (failed : Type 0) (name bytes : List ℕ) (fault : LineFault TextCode) (why : Stop) → IsContent told name bytes → IsFaultOf (demand_of net bytes) fault → StopIs (NamesTextFault fault) why → StopIs (StopsAtLoad (demand_file net) told failed name) why
 demand_misspelt net = text_misspelt (demand_of net)
 
-pub plan_misspelt : (net : Net) (told : List ℕ → Option (List ℕ)) (failed : Type 0) (name bytes : List ℕ) (fault : TextFault) (why : Stop) → IsContent told name bytes → IsFaultOf (plan_of net bytes) fault → StopIs (NamesTextFault fault) why → StopIs (StopsAtLoad (plan_file net) told failed name) why
+pub plan_misspelt : (net : Net) (told : List ℕ → Option (List ℕ)) (failed : Type 0) (name bytes : List ℕ) (fault : LineFault TextCode) (why : Stop) → IsContent told name bytes → IsFaultOf (plan_of net bytes) fault → StopIs (NamesTextFault fault) why → StopIs (StopsAtLoad (plan_file net) told failed name) why
 plan_misspelt net = text_misspelt (plan_of net)

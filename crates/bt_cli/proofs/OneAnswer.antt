@@ -1,17 +1,17 @@
 -- Where the files are told and no read failed, what is asked has one answer.
 use Rattle.std.proofs.Common.{◌≡◌, ℕ, ◌<◌, ◌≤◌, ◌⊎◌, inl, inr, List, length, Option, Some, Result, Ok, Err, sym, ap, ◌∙◌, subst, arith}
 use Rattle.bt_base.specs.Told.{Gives, IsLonger}
-use Rattle.bt_base.specs.declared.schedule.Schedule.{Schedule}
-use Rattle.bt_plan.specs.declared.verdict.Verdict.{Verdict}
-use Rattle.bt_base.specs.declared.schedule.Critical.{Critical}
+use Rattle.bt_frame.specs.declared.schedule.Schedule.{Schedule}
+use Rattle.bt_verdict.specs.declared.verdict.Verdict.{Verdict}
+use Rattle.bt_frame.specs.declared.schedule.Critical.{Critical}
 use Rattle.bt_matrix.specs.Traffic.{IsHeaviest}
 use Rattle.bt_net.specs.Network.{Net}
-use Rattle.bt_plan.specs.declared.demand.Link.{Link}
-use Rattle.bt_plan.specs.declared.plan.Plan.{Plan}
-use Rattle.bt_plan.specs.Demand.{IsDemand}
-use Rattle.bt_plan.specs.PlanVerdict.{IsPlanVerdict}
-use Rattle.bt_plan.specs.Traffic.{matrix_of}
-use Rattle.bt_plan.specs.Verdict.{IsVerdict}
+use Rattle.bt_demand.specs.declared.demand.Link.{Link}
+use Rattle.bt_demand.specs.declared.plan.Plan.{Plan}
+use Rattle.bt_demand.specs.Demand.{IsDemand}
+use Rattle.bt_verdict.specs.PlanVerdict.{IsPlanVerdict}
+use Rattle.bt_demand.specs.Traffic.{matrix_of}
+use Rattle.bt_verdict.specs.Verdict.{IsVerdict}
 use Rattle.bt_cli.specs.CheckPlan.{plan_verdict_words, JudgesPlan, ChecksPlanText, ChecksDemand}
 use Rattle.bt_cli.specs.Fitting.{overload_words, Fits, NamesOverload, WhereItFits}
 use Rattle.bt_cli.specs.Plans.{PrintsPlan, PlansDemand}

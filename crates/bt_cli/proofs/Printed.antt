@@ -5,18 +5,18 @@ use Rattle.std.specs.List.{list_all, AllByRecursion}
 use Rattle.std.proofs.lemmas.Bool.{leb-true}
 use Rattle.std.proofs.lemmas.List.Elements.{All-from_recursion}
 use Rattle.std.proofs.lemmas.List.Sums.{sum_by-cons, get_or-le-sum_by}
-use Rattle.bt_base.specs.Text.{words, lines, numbers_of}
-use Rattle.bt_base.specs.declared.mode.Mode.{Mode}
-use Rattle.bt_base.specs.declared.schedule.Critical.{Critical}
-use Rattle.bt_base.specs.declared.schedule.Critical.TheVariants.{Row, Column}
-use Rattle.bt_base.specs.declared.schedule.Schedule.{Schedule}
+use Rattle.bt_text.specs.Text.{words, lines, numbers_of}
+use Rattle.bt_frame.specs.declared.mode.Mode.{Mode}
+use Rattle.bt_frame.specs.declared.schedule.Critical.{Critical}
+use Rattle.bt_frame.specs.declared.schedule.Critical.TheVariants.{Row, Column}
+use Rattle.bt_frame.specs.declared.schedule.Schedule.{Schedule}
 use Rattle.bt_matrix.specs.Traffic.{IsTraffic, IsLine, row_of, column_sum, line_sum}
 use Rattle.bt_matrix.specs.Good.{IsGood}
 use Rattle.bt_plan.specs.declared.text_fault.TextCode.{TextCode}
 use Rattle.bt_plan.specs.declared.text_fault.TextCode.TheVariants.{X1, X2}
-use Rattle.bt_plan.specs.declared.verdict.Verdict.TheVariants.{Good}
-use Rattle.bt_plan.specs.Critical.{IsOfBeams}
-use Rattle.bt_base.specs.Reading.{◌>>=◌}
+use Rattle.bt_verdict.specs.declared.verdict.Verdict.TheVariants.{Good}
+use Rattle.bt_frame.specs.Critical.{IsOfBeams}
+use Rattle.bt_text.specs.Reading.{◌>>=◌}
 use Rattle.bt_plan.specs.Reading.{Reading}
 use Rattle.bt_plan.specs.MatrixText.{size_in, row_in, rows_in, matrix_in, matrix_of}
 use Rattle.bt_plan.specs.ScheduleSpelling.{IsInRange}

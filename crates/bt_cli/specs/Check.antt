@@ -1,9 +1,9 @@
 -- `check MATRIX MODES`: the matrix is loaded, then the schedule, and the verdict is printed.
 use Rattle.std.specs.Prelude.{ℕ, List, length, Option}
-use Rattle.bt_base.specs.declared.schedule.Schedule.{Schedule}
-use Rattle.bt_plan.specs.declared.verdict.Verdict.{Verdict}
-use Rattle.bt_plan.specs.declared.verdict.Verdict.TheVariants.{Good}
-use Rattle.bt_plan.specs.Verdict.{IsVerdict}
+use Rattle.bt_frame.specs.declared.schedule.Schedule.{Schedule}
+use Rattle.bt_verdict.specs.declared.verdict.Verdict.{Verdict}
+use Rattle.bt_verdict.specs.declared.verdict.Verdict.TheVariants.{Good}
+use Rattle.bt_verdict.specs.Verdict.{IsVerdict}
 use Rattle.bt_cli.specs.Lines.{verdict_words}
 use Rattle.bt_cli.specs.Kinds.{matrix_file, schedule_file}
 use Rattle.bt_cli.specs.Outcome.{Outcome, Loads, Says}

@@ -1,13 +1,13 @@
 -- `check NET TRAFFIC PLAN`: the network is loaded, then the demand, then the plan, and the verdict is printed.
 use Rattle.std.specs.Prelude.{ℕ, ◌<◌, List, [], ◌∷◌, length, codes, decimal, Option}
 use Rattle.bt_net.specs.Network.{Net}
-use Rattle.bt_plan.specs.declared.demand.Link.{Link}
-use Rattle.bt_plan.specs.declared.plan.Plan.{Plan}
-use Rattle.bt_plan.specs.declared.verdict.Verdict.{Verdict}
-use Rattle.bt_plan.specs.declared.verdict.Verdict.TheVariants.{V7}
-use Rattle.bt_plan.specs.Demand.{IsDemand}
-use Rattle.bt_plan.specs.PlanVerdict.{IsPlanVerdict}
-use Rattle.bt_plan.specs.TerminalNames.{name_at}
+use Rattle.bt_demand.specs.declared.demand.Link.{Link}
+use Rattle.bt_demand.specs.declared.plan.Plan.{Plan}
+use Rattle.bt_verdict.specs.declared.verdict.Verdict.{Verdict}
+use Rattle.bt_verdict.specs.declared.verdict.Verdict.TheVariants.{V7}
+use Rattle.bt_demand.specs.Demand.{IsDemand}
+use Rattle.bt_verdict.specs.PlanVerdict.{IsPlanVerdict}
+use Rattle.bt_net.specs.Terminals.{name_at}
 use Rattle.bt_cli.specs.Check.{verdict_status}
 use Rattle.bt_cli.specs.Fitting.{WhereItFits}
 use Rattle.bt_cli.specs.Kinds.{network_file, demand_file, plan_file}

@@ -1,12 +1,12 @@
 -- The kinds of files that the program reads.
 use Rattle.std.specs.Prelude.{ℕ, List}
-use Rattle.bt_base.specs.declared.schedule.Schedule.{Schedule}
+use Rattle.bt_frame.specs.declared.schedule.Schedule.{Schedule}
 use Rattle.bt_net.specs.Network.{Net}
 use Rattle.bt_net.specs.Reading.{network_in}
 use Rattle.bt_net.specs.declared.fault.NetFault.{NetFault}
 use Rattle.bt_plan.specs.Reading.{Fault, Reading}
-use Rattle.bt_plan.specs.declared.demand.Link.{Link}
-use Rattle.bt_plan.specs.declared.plan.Plan.{Plan}
+use Rattle.bt_demand.specs.declared.demand.Link.{Link}
+use Rattle.bt_demand.specs.declared.plan.Plan.{Plan}
 use Rattle.bt_plan.specs.MatrixText.{matrix_of}
 use Rattle.bt_plan.specs.TrafficText.{demand_of}
 use Rattle.bt_plan.specs.PlanText.{plan_of}

@@ -1,6 +1,6 @@
 -- The lines that the program prints, each as its words.
 use Rattle.std.specs.Prelude.{ℕ, ◌++◌, List, [], ◌∷◌, codes, decimal}
-use Rattle.bt_base.specs.declared.schedule.Critical.TheVariants.{Row, Column}
+use Rattle.bt_frame.specs.declared.schedule.Critical.TheVariants.{Row, Column}
 use Rattle.bt_net.specs.declared.fault.NetFault.{NetFault}
 use Rattle.bt_net.specs.declared.fault.NetFault.TheVariants as net_fault
 use Rattle.bt_net.specs.Fault.{path_text}
@@ -8,8 +8,8 @@ use Rattle.bt_script.specs.declared.fault.ScriptCode.{ScriptCode}
 use Rattle.bt_script.specs.declared.fault.ScriptCode.TheVariants.{S1, S2, S3, S4, S5}
 use Rattle.bt_plan.specs.declared.text_fault.TextCode.{TextCode}
 use Rattle.bt_plan.specs.declared.text_fault.TextCode.TheVariants.{X1, X2, M1, T1, T2, T3, T4, T5, P1, P2, P3}
-use Rattle.bt_plan.specs.declared.verdict.Verdict.{Verdict}
-use Rattle.bt_plan.specs.declared.verdict.Verdict.TheVariants.{Good, V1, V2, V3, V4, V5, V6, V7, V8}
+use Rattle.bt_verdict.specs.declared.verdict.Verdict.{Verdict}
+use Rattle.bt_verdict.specs.declared.verdict.Verdict.TheVariants.{Good, V1, V2, V3, V4, V5, V6, V7, V8}
 
 -- the words of a line with a space between each two, and a newline behind the last
 abbrev pub line_of : List (List ℕ) → List ℕ

@@ -1,6 +1,6 @@
 -- `modes MATRIX`: the matrix is loaded, and a schedule that is good for it is printed.
 use Rattle.std.specs.Prelude.{◌≡◌, ℕ, List, Option}
-use Rattle.bt_base.specs.declared.schedule.Schedule.{Schedule}
+use Rattle.bt_frame.specs.declared.schedule.Schedule.{Schedule}
 use Rattle.bt_matrix.specs.Traffic.{IsHeaviest}
 use Rattle.bt_matrix.specs.Good.{IsGood}
 use Rattle.bt_plan.specs.ScheduleSpelling.{schedule_spelling}

@@ -2,12 +2,12 @@
 use Rattle.std.specs.Prelude.{◌≡◌, ℕ, List, Option, AllPairs}
 use Rattle.bt_net.specs.Network.{Net}
 use Rattle.bt_matrix.specs.Traffic.{IsHeaviest}
-use Rattle.bt_plan.specs.declared.demand.Link.{Link}
-use Rattle.bt_plan.specs.declared.plan.Plan.{Plan}
-use Rattle.bt_plan.specs.Burst.{IsNotAfter}
-use Rattle.bt_plan.specs.Plan.{IsGoodPlan}
+use Rattle.bt_demand.specs.declared.demand.Link.{Link}
+use Rattle.bt_demand.specs.declared.plan.Plan.{Plan}
+use Rattle.bt_demand.specs.Burst.{IsNotAfter}
+use Rattle.bt_demand.specs.Plan.{IsGoodPlan}
 use Rattle.bt_plan.specs.PlanSpelling.{plan_spelling}
-use Rattle.bt_plan.specs.Traffic.{matrix_of}
+use Rattle.bt_demand.specs.Traffic.{matrix_of}
 use Rattle.bt_cli.specs.Fitting.{WhereItFits}
 use Rattle.bt_cli.specs.Kinds.{network_file, demand_file}
 use Rattle.bt_cli.specs.Outcome.{Outcome, text_alone, Loads}

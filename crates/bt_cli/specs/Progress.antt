@@ -1,7 +1,7 @@
 -- How far a run has come: the entries and the lines that a part of it added.
 use Rattle.std.specs.Prelude.{◌≡◌, ℕ, ◌+◌, ◌-◌, ◌++◌, List, [], ◌∷◌, map, All, Vec, Result, Ok, Err}
 use Rattle.std.specs.declared.alloc.Global.{Global}
-use Rattle.bt_base.specs.declared.numbers.OutOfMemory as none
+use Rattle.bt_frame.specs.declared.numbers.OutOfMemory as none
 use Rattle.bt_net.specs.Network.{Net}
 use Rattle.bt_journal.specs.declared.call.Change.{Change}
 use Rattle.bt_journal.specs.declared.entry.Entry.{Entry}

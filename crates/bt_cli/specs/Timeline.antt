@@ -1,7 +1,7 @@
 -- The lines that a run prints, each as its words.
 use Rattle.std.specs.Prelude.{ℕ, ◌+◌, ◌++◌, List, [], ◌∷◌, length, codes, decimal}
 use Rattle.std.specs.List.{flat_map, slice_index_or}
-use Rattle.bt_base.specs.declared.numbers.BeamNo.{BeamNo}
+use Rattle.bt_frame.specs.declared.numbers.BeamNo.{BeamNo}
 use Rattle.bt_net.specs.Network.{Net}
 use Rattle.bt_journal.specs.declared.entry.Entry.{Entry}
 use Rattle.bt_journal.specs.declared.reply.Reply.{Reply}

@@ -42,10 +42,10 @@ impl From<AllocError> for Stop {
     }
 }
 
-impl From<bt_base::OutOfMemory> for Stop {
+impl From<bt_frame::OutOfMemory> for Stop {
     ghost from_gives = { λ _ e. e ≡ OutOfMemory };
 
-    fn from(_: bt_base::OutOfMemory) -> Self {
+    fn from(_: bt_frame::OutOfMemory) -> Self {
         Stop::OutOfMemory
     }
 }

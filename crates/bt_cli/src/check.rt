@@ -15,9 +15,10 @@ use crate::lines::verdict_line;
 use crate::load::{load_matrix, load_schedule};
 use crate::print::print;
 use crate::request::{Command, command_of};
-use bt_base::{Files, Schedule, Sink};
+use bt_base::{Files, Sink};
+use bt_frame::Schedule;
 use bt_matrix::{Dense, Traffic};
-use bt_plan::{Verdict, check_modes};
+use bt_verdict::{Verdict, check_modes};
 use std::alloc::Global;
 
 /// Checks a switching schedule against a traffic matrix, or a burst time plan against a demand, and prints the

@@ -2,9 +2,9 @@
 ghost use Rattle.std.specs.Prelude.{◌≡◌, length, IfOk};
 ghost use Rattle.std.specs.String.{string_bytes};
 ghost use Rattle.bt_base.specs.Told.{Rose};
-ghost use Rattle.bt_plan.specs.Critical.{IsOfBeams};
-ghost use Rattle.bt_plan.specs.PlanVerdict.{AreBetweenTerminals, IsPlanVerdict};
-ghost use Rattle.bt_plan.specs.Traffic.{matrix_of, AreOfNetwork, HasSumsTo};
+ghost use Rattle.bt_frame.specs.Critical.{IsOfBeams};
+ghost use Rattle.bt_verdict.specs.PlanVerdict.{AreBetweenTerminals, IsPlanVerdict};
+ghost use Rattle.bt_demand.specs.Traffic.{matrix_of, AreOfNetwork, HasSumsTo};
 ghost use Rattle.bt_cli.specs.Check.{verdict_status};
 ghost use Rattle.bt_cli.specs.CheckPlan.{plan_verdict_words, ChecksDemand, ChecksPlan, ChecksPlanText, JudgesPlan, NamesTheNetworks};
 ghost use Rattle.bt_cli.specs.Fitting.{WhereItFits};
@@ -19,7 +19,8 @@ use crate::load::{load_demand, load_network, load_plan};
 use bt_base::Files;
 use bt_matrix::SUM_LAST;
 use bt_net::Network;
-use bt_plan::{Demand, Plan, Verdict, check};
+use bt_demand::{Demand, Plan};
+use bt_verdict::{Verdict, check};
 use std::alloc::{AllocError, Global};
 
 /// The verdict on the plan in a file, for the demand and the network in two others.

@@ -1,16 +1,16 @@
 // Does a demand fit the slots of a frame?
 ghost use Rattle.std.specs.Prelude.{◌≡◌, ◌<◌, IfErr, IfOk, OnOk};
 ghost use Rattle.std.specs.String.{string_bytes};
-ghost use Rattle.bt_plan.specs.Traffic.{matrix_of, AreOfNetwork, HasSumsTo};
+ghost use Rattle.bt_demand.specs.Traffic.{matrix_of, AreOfNetwork, HasSumsTo};
 ghost use Rattle.bt_cli.specs.Answer.{StopIs};
 ghost use Rattle.bt_cli.specs.Fitting.{overload_words, Fits, NamesOverload};
 ghost use Rattle.bt_cli.specs.Lines.{line_of};
 
 use crate::answer::{Answer, Stop};
-use bt_base::Critical;
+use bt_frame::Critical;
 use bt_matrix::{SUM_LAST, Traffic};
 use bt_net::Network;
-use bt_plan::{Demand, traffic_of};
+use bt_demand::{Demand, traffic_of};
 use std::alloc::{AllocError, Global};
 
 /// The demand fits the frame, or the answer that names its heaviest line.

@@ -1,6 +1,6 @@
 // What holds of the program's answers, whatever it does.
 ghost use Rattle.std.specs.Prelude.{◌≡◌, ℕ, List, [], ◌∷◌, length, codes, Option, Ok};
-ghost use Rattle.bt_base.specs.declared.schedule.Schedule.{Schedule};
+ghost use Rattle.bt_frame.specs.declared.schedule.Schedule.{Schedule};
 ghost use Rattle.bt_matrix.specs.Good.{IsGood};
 ghost use Rattle.bt_plan.specs.MatrixText.{matrix_of};
 ghost use Rattle.bt_plan.specs.ScheduleSpelling.{schedule_spelling};
@@ -12,7 +12,8 @@ ghost use Rattle.bt_cli.specs.Request.{Request};
 ghost use Rattle.bt_cli.specs.Top.{Answers, AreTold, IsOneAnswer};
 
 use bt_matrix::one_line_is_heaviest;
-use bt_plan::{one_plan_verdict, one_verdict, schedules_have_one_spelling};
+use bt_verdict::{one_plan_verdict, one_verdict};
+use bt_plan::schedules_have_one_spelling;
 
 /// Where the files that are asked for are told and none of them failed, what is asked has one answer: no two
 /// cases of the promise hold together. Of the good schedules for a matrix any may be printed, of the good plans

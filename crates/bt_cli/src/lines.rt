@@ -4,9 +4,10 @@ ghost use Rattle.std.specs.String.{string_bytes};
 ghost use Rattle.bt_net.specs.Fault.{path_text};
 ghost use Rattle.bt_cli.specs.Lines.{code_name, line_of, network_fault, script_code_name, script_fault, text_fault, verdict_words};
 
-use bt_base::{Critical, OutOfMemory};
+use bt_frame::{Critical, OutOfMemory};
 use bt_net::NetFault;
-use bt_plan::{TextCode, Verdict};
+use bt_plan::TextCode;
+use bt_verdict::Verdict;
 use bt_script::ScriptCode;
 use std::alloc::{AllocError, Global};
 use std::fmt;

@@ -1,9 +1,9 @@
 // Files, read and tested one after the other.
 ghost use Rattle.std.specs.Prelude.{◌≡◌, ◌≤◌, All, IfOk, IfErr, length};
 ghost use Rattle.bt_base.specs.Told.{Rose};
-ghost use Rattle.bt_plan.specs.Critical.{IsOfBeams};
-ghost use Rattle.bt_plan.specs.PlanVerdict.{AreBetweenTerminals};
-ghost use Rattle.bt_plan.specs.Traffic.{matrix_of, AreOfNetwork, HasSumsTo};
+ghost use Rattle.bt_frame.specs.Critical.{IsOfBeams};
+ghost use Rattle.bt_verdict.specs.PlanVerdict.{AreBetweenTerminals};
+ghost use Rattle.bt_demand.specs.Traffic.{matrix_of, AreOfNetwork, HasSumsTo};
 ghost use Rattle.bt_script.specs.Named.{HasDesksInOrder, IsItemFor};
 ghost use Rattle.bt_cli.specs.Outcome.{IsContent, CannotRead, IsLoaded, StopsAtLoad};
 ghost use Rattle.bt_cli.specs.Kinds.{demand_file, matrix_file, network_file, plan_file, schedule_file, script_file};
@@ -11,10 +11,12 @@ ghost use Rattle.bt_cli.specs.Answer.{StopIs};
 
 use crate::answer::{Answer, Stop};
 use crate::stops::{network_stop, script_stop, text_stop};
-use bt_base::{FileFault, Files, Schedule};
+use bt_base::{FileFault, Files};
+use bt_frame::Schedule;
 use bt_matrix::{Dense, SUM_LAST};
 use bt_net::Network;
-use bt_plan::{Demand, Plan, read_demand, read_matrix, read_plan, read_schedule};
+use bt_demand::{Demand, Plan};
+use bt_plan::{read_demand, read_matrix, read_plan, read_schedule};
 use bt_script::Script;
 use std::alloc::Global;
 

@@ -2,7 +2,7 @@
 ghost use Rattle.std.specs.Prelude.{◌≡◌, map, codes, []};
 ghost use Rattle.std.specs.String.{string_bytes};
 ghost use Rattle.bt_base.specs.Told.{Rose};
-ghost use Rattle.bt_plan.specs.Traffic.{matrix_of, AreOfNetwork, HasSumsTo};
+ghost use Rattle.bt_demand.specs.Traffic.{matrix_of, AreOfNetwork, HasSumsTo};
 ghost use Rattle.bt_cli.specs.Fitting.{Fits, WhereItFits};
 ghost use Rattle.bt_cli.specs.Plans.{Plans, PlansDemand, PrintsPlan};
 ghost use Rattle.bt_cli.specs.Printing.{CameTo};
@@ -15,11 +15,13 @@ use crate::fit::test_fit;
 use crate::load::{load_demand, load_network};
 use crate::print::print;
 use crate::request::{Command, command_of};
-use bt_base::{EditionNo, Files, Sink};
+use bt_base::{Files, Sink};
+use bt_frame::EditionNo;
 use bt_cut::make_plan;
 use bt_matrix::SUM_LAST;
 use bt_net::Network;
-use bt_plan::{Demand, plan_text};
+use bt_demand::Demand;
+use bt_plan::plan_text;
 use std::alloc::Global;
 
 /// The edition of a plan that is made for a demand alone.

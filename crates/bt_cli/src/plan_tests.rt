@@ -2,7 +2,8 @@
 ghost use Rattle.std.specs.Prelude.{◌≤◌};
 
 use crate::centre_main;
-use bt_base::{SureFiles, SureKeeper, SureSink, number};
+use bt_base::{SureFiles, SureKeeper, SureSink};
+use bt_text::number;
 use bt_net::Network;
 use bt_plan::{plan_text, read_plan};
 use std::alloc::Global;

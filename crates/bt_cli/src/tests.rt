@@ -2,7 +2,8 @@
 ghost use Rattle.std.specs.Prelude.{◌≤◌};
 
 use super::*;
-use bt_base::{Fail as Failing, MemFiles, MemSink, SureFiles, SureKeeper, SureSink, number_text};
+use bt_base::{Fail as Failing, MemFiles, MemSink, SureFiles, SureKeeper, SureSink};
+use bt_text::number_text;
 use std::alloc::Global;
 use std::sync::Wait;
 use std::test::Fail;

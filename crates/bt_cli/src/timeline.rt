@@ -5,7 +5,7 @@ ghost use Rattle.bt_book.specs.Machine.{NamesBeams};
 ghost use Rattle.bt_cli.specs.Lines.{line_of};
 ghost use Rattle.bt_cli.specs.Timeline.{desk_line, name_of_beam, round_line, start_line, total_words};
 
-use bt_base::{BeamNo, OutOfMemory};
+use bt_frame::{BeamNo, OutOfMemory};
 use bt_journal::Reply;
 use bt_net::Network;
 use std::alloc::{AllocError, Global};

@@ -3,17 +3,18 @@ use Rattle.std.proofs.Common.{◌≡◌, ◌⊎◌, ℕ, ◌+◌, ◌<◌, ◌�
 use Rattle.std.specs.List.{HoldsAt}
 use Rattle.std.proofs.lemmas.Bool.{cases_eq, cases_lt}
 use Rattle.std.proofs.lemmas.List.{get_or_default}
-use Rattle.bt_base.specs.declared.numbers.BeamNo.{BeamNo}
-use Rattle.bt_base.specs.declared.numbers.TermNo.{TermNo}
-use Rattle.bt_base.specs.declared.mode.Mode.{Mode}
+use Rattle.bt_frame.specs.declared.numbers.BeamNo.{BeamNo}
+use Rattle.bt_frame.specs.declared.numbers.TermNo.{TermNo}
+use Rattle.bt_frame.specs.declared.mode.Mode.{Mode}
 use Rattle.bt_net.specs.Network.{Net, IsSound}
 use Rattle.bt_matrix.specs.Good.{IsPermutation}
-use Rattle.bt_plan.specs.declared.burst.Burst.{Burst}
-use Rattle.bt_plan.specs.declared.demand.Link.{Link}
-use Rattle.bt_plan.specs.Burst.{Covers}
-use Rattle.bt_plan.specs.Plan.{begin_of, beam_at}
-use Rattle.bt_plan.specs.PlanVerdict.{Collide}
-use Rattle.bt_plan.specs.Traffic.{IsInBeam, is_in_beam, AreOfNetwork, units_between}
+use Rattle.bt_demand.specs.declared.burst.Burst.{Burst}
+use Rattle.bt_demand.specs.declared.demand.Link.{Link}
+use Rattle.bt_demand.specs.Burst.{Covers}
+use Rattle.bt_demand.specs.Plan.{begin_of}
+use Rattle.bt_net.specs.Terminals.{beam_at, IsInBeam, is_in_beam}
+use Rattle.bt_verdict.specs.PlanVerdict.{Collide}
+use Rattle.bt_demand.specs.Traffic.{AreOfNetwork, units_between}
 use Rattle.bt_cut.specs.Parts.{IsPart}
 use Rattle.bt_cut.specs.Serving.{IsPiece}
 use Rattle.bt_cut.proofs.Numbers.{begin_next, one_mode}

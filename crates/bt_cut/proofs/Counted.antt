@@ -8,18 +8,19 @@ use Rattle.std.proofs.lemmas.List.{get_or_default, take_all}
 use Rattle.std.proofs.lemmas.Option.{slice_get-get_or}
 use Rattle.std.proofs.lemmas.List.Elements.{All-cons}
 use Rattle.std.proofs.lemmas.List.Sums.{sum_by-cons, sum_by-le, sum_by-take-le}
-use Rattle.bt_base.specs.declared.numbers.BeamNo.{BeamNo}
-use Rattle.bt_base.specs.declared.numbers.TermNo.{TermNo}
-use Rattle.bt_base.specs.declared.mode.Mode.{Mode}
+use Rattle.bt_frame.specs.declared.numbers.BeamNo.{BeamNo}
+use Rattle.bt_frame.specs.declared.numbers.TermNo.{TermNo}
+use Rattle.bt_frame.specs.declared.mode.Mode.{Mode}
 use Rattle.bt_net.specs.Network.{Net, IsSound}
 use Rattle.bt_matrix.specs.Good.{slots_of}
-use Rattle.bt_plan.specs.declared.burst.Burst.{Burst}
-use Rattle.bt_plan.specs.declared.demand.Link.{Link}
-use Rattle.bt_plan.specs.Demand.{Ends, ends_of, IsDemand, units_of}
-use Rattle.bt_plan.specs.Plan.{begin_of}
-use Rattle.bt_plan.specs.PlanVerdict.{slots_sent}
-use Rattle.bt_plan.specs.Traffic.{AreOfNetwork, IsInBeam, is_in_beam, units_between}
-use Rattle.bt_plan.proofs.Links.{units_of_at}
+use Rattle.bt_demand.specs.declared.burst.Burst.{Burst}
+use Rattle.bt_demand.specs.declared.demand.Link.{Link}
+use Rattle.bt_demand.specs.Demand.{Ends, ends_of, IsDemand, units_of}
+use Rattle.bt_demand.specs.Plan.{begin_of}
+use Rattle.bt_verdict.specs.PlanVerdict.{slots_sent}
+use Rattle.bt_demand.specs.Traffic.{AreOfNetwork, units_between}
+use Rattle.bt_net.specs.Terminals.{IsInBeam, is_in_beam}
+use Rattle.bt_demand.proofs.Links.{units_of_at}
 use Rattle.bt_cut.specs.Parts.{IsPart}
 use Rattle.bt_cut.specs.Serving.{number_at, IsPiece}
 use Rattle.bt_cut.proofs.Good.{through, beam_inside}

@@ -3,14 +3,15 @@ use Rattle.std.proofs.Common.{◌≡◌, ℕ, ◌+◌, ◌-◌, ◌<◌, ◌≤�
 use Rattle.std.specs.List.{HoldsAt}
 use Rattle.std.proofs.lemmas.Bool.{cases_lt}
 use Rattle.std.proofs.lemmas.List.{get_or_default, get_or_past}
-use Rattle.bt_base.specs.declared.numbers.BeamNo.{BeamNo}
-use Rattle.bt_base.specs.declared.numbers.TermNo.{TermNo}
-use Rattle.bt_base.specs.declared.mode.Mode.{Mode}
+use Rattle.bt_frame.specs.declared.numbers.BeamNo.{BeamNo}
+use Rattle.bt_frame.specs.declared.numbers.TermNo.{TermNo}
+use Rattle.bt_frame.specs.declared.mode.Mode.{Mode}
 use Rattle.bt_net.specs.Network.{Net}
-use Rattle.bt_plan.specs.declared.burst.Burst.{Burst}
-use Rattle.bt_plan.specs.declared.demand.Link.{Link}
-use Rattle.bt_plan.specs.Plan.{begin_of}
-use Rattle.bt_plan.specs.Traffic.{IsInBeam, units_between}
+use Rattle.bt_demand.specs.declared.burst.Burst.{Burst}
+use Rattle.bt_demand.specs.declared.demand.Link.{Link}
+use Rattle.bt_demand.specs.Plan.{begin_of}
+use Rattle.bt_demand.specs.Traffic.{units_between}
+use Rattle.bt_net.specs.Terminals.{IsInBeam}
 use Rattle.bt_cut.specs.Cutting.{Takes, IsUnitOf, IsSlotOf, IsCut}
 use Rattle.bt_cut.specs.Parts.{IsPart}
 use Rattle.bt_cut.specs.Serving.{number_at}

@@ -4,15 +4,16 @@ use Rattle.std.specs.List.{HoldsAt}
 use Rattle.std.proofs.lemmas.Bool.{cases_lt}
 use Rattle.std.proofs.lemmas.List.Elements.{All-nil, All-append, Contains-append_left, Contains-append_right}
 use Rattle.std.proofs.lemmas.List.Sums.{sum_by_more}
-use Rattle.bt_base.specs.declared.numbers.BeamNo.{BeamNo}
-use Rattle.bt_base.specs.declared.numbers.TermNo.{TermNo}
-use Rattle.bt_base.specs.declared.mode.Mode.{Mode}
+use Rattle.bt_frame.specs.declared.numbers.BeamNo.{BeamNo}
+use Rattle.bt_frame.specs.declared.numbers.TermNo.{TermNo}
+use Rattle.bt_frame.specs.declared.mode.Mode.{Mode}
 use Rattle.bt_net.specs.Network.{Net}
-use Rattle.bt_plan.specs.declared.burst.Burst.{Burst}
-use Rattle.bt_plan.specs.declared.demand.Link.{Link}
-use Rattle.bt_plan.specs.Demand.{IsDemand}
-use Rattle.bt_plan.specs.Traffic.{IsInBeam, is_in_beam, units_between}
-use Rattle.bt_plan.proofs.Pairs.{AllPairs-append}
+use Rattle.bt_demand.specs.declared.burst.Burst.{Burst}
+use Rattle.bt_demand.specs.declared.demand.Link.{Link}
+use Rattle.bt_demand.specs.Demand.{IsDemand}
+use Rattle.bt_demand.specs.Traffic.{units_between}
+use Rattle.bt_net.specs.Terminals.{IsInBeam, is_in_beam}
+use Rattle.bt_lists.proofs.Pairs.{AllPairs-append}
 use Rattle.bt_cut.specs.Serving.{IsPiece, ArePieces}
 use Rattle.bt_cut.specs.Parts.{IsPart, AreParts}
 

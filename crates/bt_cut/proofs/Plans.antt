@@ -7,22 +7,22 @@ use Rattle.std.proofs.lemmas.Bool.{cases_lt}
 use Rattle.std.proofs.lemmas.List.Elements.{at_from_Contains, Contains-from_at}
 use Rattle.std.proofs.lemmas.List.FromFn.{get_or-map-range_with_len}
 use Rattle.std.proofs.lemmas.List.Sorted.{All-permutation, Contains-permutation}
-use Rattle.bt_base.specs.declared.numbers.TermNo.{TermNo}
-use Rattle.bt_base.specs.declared.mode.Mode.{Mode}
-use Rattle.bt_base.specs.declared.schedule.Schedule.{Schedule}
+use Rattle.bt_frame.specs.declared.numbers.TermNo.{TermNo}
+use Rattle.bt_frame.specs.declared.mode.Mode.{Mode}
+use Rattle.bt_frame.specs.declared.schedule.Schedule.{Schedule}
 use Rattle.bt_net.specs.Network.{Net, IsSound}
 use Rattle.bt_matrix.specs.Good.{IsPermutation, IsGood, slots_of}
 use Rattle.bt_matrix.specs.Traffic.{entry}
-use Rattle.bt_plan.specs.declared.burst.Burst.{Burst}
-use Rattle.bt_plan.specs.declared.demand.Link.{Link}
-use Rattle.bt_plan.specs.declared.plan.Plan.{Plan}
-use Rattle.bt_plan.specs.Burst.{IsNotAfter}
-use Rattle.bt_plan.specs.Demand.{IsDemand, units_of}
-use Rattle.bt_plan.specs.Plan.{IsGoodPlan}
-use Rattle.bt_plan.specs.PlanVerdict.{AreBetweenTerminals, HasGoodModes, slots_sent}
-use Rattle.bt_plan.specs.Traffic.{AreOfNetwork, matrix_of, units_between}
-use Rattle.bt_plan.proofs.Matrices.{length-matrix_of}
-use Rattle.bt_plan.proofs.PlanParts.{good_by_parts}
+use Rattle.bt_demand.specs.declared.burst.Burst.{Burst}
+use Rattle.bt_demand.specs.declared.demand.Link.{Link}
+use Rattle.bt_demand.specs.declared.plan.Plan.{Plan}
+use Rattle.bt_demand.specs.Burst.{IsNotAfter}
+use Rattle.bt_demand.specs.Demand.{IsDemand, units_of}
+use Rattle.bt_demand.specs.Plan.{IsGoodPlan}
+use Rattle.bt_verdict.specs.PlanVerdict.{AreBetweenTerminals, HasGoodModes, slots_sent}
+use Rattle.bt_demand.specs.Traffic.{AreOfNetwork, matrix_of, units_between}
+use Rattle.bt_demand.proofs.Matrices.{length-matrix_of}
+use Rattle.bt_verdict.proofs.PlanParts.{good_by_parts}
 use Rattle.bt_cut.specs.Cutting.{IsCutting}
 use Rattle.bt_cut.specs.Parts.{IsPart, AreParts}
 use Rattle.bt_cut.proofs.Apart.{part_between, parts_that_meet}

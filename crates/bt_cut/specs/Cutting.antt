@@ -3,15 +3,16 @@
 -- takes the slot with that number.
 use Rattle.std.specs.Prelude.{◌≡◌, ◌↔◌, ℕ, ◌+◌, ◌<◌, ◌≤◌, List, take, All, AllPairs}
 use Rattle.std.specs.List.{HoldsAt}
-use Rattle.bt_base.specs.declared.numbers.BeamNo.{BeamNo}
-use Rattle.bt_base.specs.declared.mode.Mode.{Mode}
+use Rattle.bt_frame.specs.declared.numbers.BeamNo.{BeamNo}
+use Rattle.bt_frame.specs.declared.mode.Mode.{Mode}
 use Rattle.bt_net.specs.Network.{Net}
 use Rattle.bt_matrix.specs.Good.{slots_in, slots_of}
-use Rattle.bt_plan.specs.declared.burst.Burst.{Burst}
-use Rattle.bt_plan.specs.declared.demand.Link.{Link}
-use Rattle.bt_plan.specs.Burst.{Covers, IsNotAfter}
-use Rattle.bt_plan.specs.Plan.{begin_of}
-use Rattle.bt_plan.specs.Traffic.{IsInBeam, units_between}
+use Rattle.bt_demand.specs.declared.burst.Burst.{Burst}
+use Rattle.bt_demand.specs.declared.demand.Link.{Link}
+use Rattle.bt_demand.specs.Burst.{Covers, IsNotAfter}
+use Rattle.bt_demand.specs.Plan.{begin_of}
+use Rattle.bt_demand.specs.Traffic.{units_between}
+use Rattle.bt_net.specs.Terminals.{IsInBeam}
 
 -- the unit has the number `unit` among those of the connection, and is one of the link at that place
 pub record IsUnitOf (net : Net) (links : List Link) (up down : BeamNo) (place : ℕ) (unit : ℕ) : Type 0 where

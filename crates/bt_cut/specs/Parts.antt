@@ -1,12 +1,13 @@
 -- The bursts of the first links of a demand, before they are put in order.
 use Rattle.std.specs.Prelude.{◌≡◌, ℕ, ◌<◌, List, take, All, AllPairs, Contains}
 use Rattle.std.specs.List.{HoldsAt}
-use Rattle.bt_base.specs.declared.numbers.BeamNo.{BeamNo}
-use Rattle.bt_base.specs.declared.mode.Mode.{Mode}
+use Rattle.bt_frame.specs.declared.numbers.BeamNo.{BeamNo}
+use Rattle.bt_frame.specs.declared.mode.Mode.{Mode}
 use Rattle.bt_net.specs.Network.{Net}
-use Rattle.bt_plan.specs.declared.burst.Burst.{Burst}
-use Rattle.bt_plan.specs.declared.demand.Link.{Link}
-use Rattle.bt_plan.specs.Traffic.{IsInBeam, units_between}
+use Rattle.bt_demand.specs.declared.burst.Burst.{Burst}
+use Rattle.bt_demand.specs.declared.demand.Link.{Link}
+use Rattle.bt_demand.specs.Traffic.{units_between}
+use Rattle.bt_net.specs.Terminals.{IsInBeam}
 use Rattle.bt_cut.specs.Serving.{IsPiece}
 
 -- the burst is the piece of the link in that mode

@@ -1,11 +1,11 @@
 -- How the slots of a connection are told apart by their numbers. The slots of a connection that modes give are
 -- numbered in ascending order, and so are the units of its links.
 use Rattle.std.specs.Prelude.{◌≡◌, ◌⊎◌, ℕ, ◌+◌, ◌*◌, ◌<◌, ◌≤◌, min, max, List, ◌++◌, length, take, sum_by, slice_index_or, All, AllPairs, Contains}
-use Rattle.bt_base.specs.declared.numbers.TermNo.{TermNo}
-use Rattle.bt_base.specs.declared.mode.Mode.{Mode}
+use Rattle.bt_frame.specs.declared.numbers.TermNo.{TermNo}
+use Rattle.bt_frame.specs.declared.mode.Mode.{Mode}
 use Rattle.bt_matrix.specs.Good.{slots_of}
-use Rattle.bt_plan.specs.declared.burst.Burst.{Burst}
-use Rattle.bt_plan.specs.Plan.{begin_of}
+use Rattle.bt_demand.specs.declared.burst.Burst.{Burst}
+use Rattle.bt_demand.specs.Plan.{begin_of}
 use Rattle.bt_cut.specs.declared.connection.Connection.{Connection}
 use Rattle.bt_cut.specs.declared.connection.Span.{Span}
 

@@ -2,14 +2,14 @@
 ghost use Rattle.std.specs.Prelude.{◌≡◌, ℕ, ◌<◌, ◌≤◌, length, vec_len, All, IfOk};
 ghost use Rattle.bt_matrix.specs.Good.{IsPermutation, slots_of, total_duration};
 ghost use Rattle.bt_net.specs.Network.{IsSound};
-ghost use Rattle.bt_plan.specs.Demand.{IsDemand};
-ghost use Rattle.bt_plan.specs.Traffic.{units_between, AreOfNetwork};
+ghost use Rattle.bt_demand.specs.Demand.{IsDemand};
+ghost use Rattle.bt_demand.specs.Traffic.{units_between, AreOfNetwork};
 ghost use Rattle.bt_cut.specs.Parts.{AreParts};
 
 use crate::table::{connections_of, place_of};
-use bt_base::{Mode, OutOfMemory};
+use bt_frame::{Mode, OutOfMemory};
 use bt_net::Network;
-use bt_plan::{Burst, Demand, MOST_BURSTS};
+use bt_demand::{Burst, Demand, MOST_BURSTS};
 use std::alloc::Global;
 
 /// The bursts of each link, link by link. Each link takes the next slots of its connection.

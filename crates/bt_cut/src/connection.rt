@@ -1,10 +1,10 @@
 // A connection from an uplink beam to a downlink beam, and how far its slots are taken.
 ghost use Rattle.std.specs.Prelude.{ℕ, List, ◌≡◌, ◌⊎◌, ◌+◌, ◌<◌, ◌≤◌, length, slice_index_or, OnOk};
-ghost use Rattle.bt_base.specs.declared.mode.Mode.{Mode};
+ghost use Rattle.bt_frame.specs.declared.mode.Mode.{Mode};
 ghost use Rattle.bt_cut.specs.Serving.{slots_in_all, taken_of, HasGiven, IsNext, IsReady, IsServedBy, IsGivenBy, HasSlots};
 
-use bt_base::OutOfMemory;
-use bt_plan::{Burst, Link};
+use bt_frame::OutOfMemory;
+use bt_demand::{Burst, Link};
 use std::alloc::Global;
 
 /// Slots that follow each other within one mode.

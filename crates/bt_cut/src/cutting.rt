@@ -1,16 +1,16 @@
 // The cutting of a schedule's modes into the bursts of a demand.
 ghost use Rattle.std.specs.Prelude.{◌≡◌, IfOk};
 ghost use Rattle.bt_matrix.specs.Good.{IsGood};
-ghost use Rattle.bt_plan.specs.Plan.{IsGoodPlan};
-ghost use Rattle.bt_plan.specs.PlanVerdict.{AreBetweenTerminals};
-ghost use Rattle.bt_plan.specs.Traffic.{matrix_of, AreOfNetwork, HasSumsTo};
+ghost use Rattle.bt_demand.specs.Plan.{IsGoodPlan};
+ghost use Rattle.bt_verdict.specs.PlanVerdict.{AreBetweenTerminals};
+ghost use Rattle.bt_demand.specs.Traffic.{matrix_of, AreOfNetwork, HasSumsTo};
 ghost use Rattle.bt_cut.specs.Cutting.{IsCutting};
 
 use crate::bursts::bursts_of;
 use crate::order::in_order;
-use bt_base::{EditionNo, OutOfMemory, Schedule};
+use bt_frame::{EditionNo, OutOfMemory, Schedule};
 use bt_net::Network;
-use bt_plan::{Bursts, Demand, Plan};
+use bt_demand::{Bursts, Demand, Plan};
 use std::alloc::Global;
 
 /// The plan of a demand that goes through the modes of this schedule, which is good for the demand's matrix.

@@ -1,9 +1,9 @@
 // The order of bursts in a plan.
 ghost use Rattle.std.specs.Prelude.{AllPairs};
 ghost use Rattle.std.specs.List.Sorted.{IsPermutation};
-ghost use Rattle.bt_plan.specs.Burst.{IsNotAfter};
+ghost use Rattle.bt_demand.specs.Burst.{IsNotAfter};
 
-use bt_plan::Burst;
+use bt_demand::Burst;
 
 /// The same bursts in order of their start, and where that is the same, of the terminals that send and receive.
 pub(crate) fn in_order(mut bursts: Vec<Burst>) -> Vec<Burst>

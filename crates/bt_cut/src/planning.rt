@@ -1,15 +1,15 @@
 // The plan of a demand.
 ghost use Rattle.std.specs.Prelude.{◌≡◌, IfOk};
 ghost use Rattle.bt_matrix.specs.Traffic.{IsHeaviest};
-ghost use Rattle.bt_plan.specs.Plan.{IsGoodPlan};
-ghost use Rattle.bt_plan.specs.PlanVerdict.{AreBetweenTerminals};
-ghost use Rattle.bt_plan.specs.Traffic.{matrix_of, AreOfNetwork, HasSumsTo};
+ghost use Rattle.bt_demand.specs.Plan.{IsGoodPlan};
+ghost use Rattle.bt_verdict.specs.PlanVerdict.{AreBetweenTerminals};
+ghost use Rattle.bt_demand.specs.Traffic.{matrix_of, AreOfNetwork, HasSumsTo};
 
 use crate::cut;
-use bt_base::{EditionNo, OutOfMemory};
+use bt_frame::{EditionNo, OutOfMemory};
 use bt_modes::schedule;
 use bt_net::Network;
-use bt_plan::{Demand, Plan, traffic_of};
+use bt_demand::{Demand, Plan, traffic_of};
 use std::alloc::Global;
 
 /// A plan of the demand, than which none is shorter. No line of its matrix asks for more than 4096 slots.

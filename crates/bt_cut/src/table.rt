@@ -1,13 +1,13 @@
 // The table of connections, with the slots that the modes give to each.
 ghost use Rattle.std.specs.Prelude.{◌≡◌, ℕ, ◌+◌, ◌*◌, ◌<◌, ◌≤◌, List, length, vec_len, All, IfOk, OnOk};
 ghost use Rattle.std.specs.List.{HoldsAt};
-ghost use Rattle.bt_base.specs.declared.mode.Mode.{Mode};
+ghost use Rattle.bt_frame.specs.declared.mode.Mode.{Mode};
 ghost use Rattle.bt_matrix.specs.Good.{IsPermutation, total_duration};
-ghost use Rattle.bt_plan.specs.Plan.{begin_of};
+ghost use Rattle.bt_demand.specs.Plan.{begin_of};
 ghost use Rattle.bt_cut.specs.Serving.{IsTable};
 
 use crate::connection::{Connection, Span};
-use bt_base::{BeamNo, Mode, OutOfMemory};
+use bt_frame::{BeamNo, Mode, OutOfMemory};
 use std::alloc::Global;
 
 /// Places of a table: 16 uplink beams by 16 downlink beams.

@@ -1,14 +1,15 @@
 // Plans of four terminals in two beams, with their bursts worked out by hand.
 ghost use Rattle.std.specs.Prelude.{◌≡◌, ◌↔◌, IfOk, IsTrue};
-ghost use Rattle.bt_base.specs.declared.schedule.Critical.TheVariants.{Row};
+ghost use Rattle.bt_frame.specs.declared.schedule.Critical.TheVariants.{Row};
 ghost use Rattle.bt_matrix.specs.Good.{IsGood};
-ghost use Rattle.bt_plan.specs.Traffic.{matrix_of, AreOfNetwork, HasSumsTo};
+ghost use Rattle.bt_demand.specs.Traffic.{matrix_of, AreOfNetwork, HasSumsTo};
 
 use crate::{cut, make_plan};
-use bt_base::{BeamNo, Columns, Critical, EditionNo, Mode, Modes, OutOfMemory, Schedule, TermNo};
+use bt_frame::{BeamNo, Columns, Critical, EditionNo, Mode, Modes, OutOfMemory, Schedule, TermNo};
 use bt_matrix::{SUM_LAST, Traffic};
 use bt_net::Network;
-use bt_plan::{Demand, Plan, Verdict, check_modes, traffic_of};
+use bt_demand::{Demand, Plan, traffic_of};
+use bt_verdict::{Verdict, check_modes};
 use std::alloc::Global;
 use std::process::Abort;
 use std::test::Fail;

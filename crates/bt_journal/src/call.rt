@@ -1,5 +1,5 @@
 // What is asked of the book of changes.
-use bt_base::{TermNo, Units};
+use bt_frame::{TermNo, Units};
 
 /// An edit of the demand, in units of slots per frame.
 #[derive(Clone, Copy, Debug, PartialEq, Eq)]

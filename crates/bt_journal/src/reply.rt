@@ -1,5 +1,5 @@
 // What the book of changes answers.
-use bt_base::{BeamNo, EditionNo};
+use bt_frame::{BeamNo, EditionNo};
 
 /// The answer to a call. A refusal leaves the demand and its edition as they were.
 #[derive(Clone, Copy, Debug, PartialEq, Eq)]

@@ -2,7 +2,7 @@
 -- downlink beam; the place of a row in the list has its column, or none.
 use Rattle.std.specs.Prelude.{◌≡◌, ℕ, ◌<◌, ◌≤◌, List, length, Option, Some, None, IsSome, slice_index}
 use Rattle.std.specs.List.{slice_index_or}
-use Rattle.bt_base.specs.declared.schedule.Critical.{Critical}
+use Rattle.bt_frame.specs.declared.schedule.Critical.{Critical}
 use Rattle.bt_matrix.specs.Traffic.{entry, line_sum, IsLine}
 
 -- every line of the matrix has this sum

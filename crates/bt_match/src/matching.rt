@@ -8,7 +8,7 @@ ghost use Rattle.bt_match.specs.Search.{IsMatching, StaysMatched};
 use crate::partial::Partial;
 use crate::perm::{MOST_BEAMS, Perm};
 use crate::search::seek;
-use bt_base::OutOfMemory;
+use bt_frame::OutOfMemory;
 use bt_matrix::Traffic;
 use std::alloc::Global;
 
@@ -62,7 +62,7 @@ fn match_row<M: Traffic>(matrix: &M, columns: &mut [Option<u8>], row: usize)
 #[cfg(test)]
 mod tests {
     use super::*;
-    use bt_base::BeamNo;
+    use bt_frame::BeamNo;
     use bt_matrix::{Dense, SUM_LAST};
     use std::process::Abort;
     use std::test::Fail;

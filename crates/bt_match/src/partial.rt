@@ -5,7 +5,7 @@ ghost use Rattle.bt_match.specs.Matching.{column_of, IsEmpty, IsWhole, HasColumn
 
 use crate::matching::match_rows;
 use crate::perm::{MOST_BEAMS, Perm};
-use bt_base::{BeamNo, OutOfMemory};
+use bt_frame::{BeamNo, OutOfMemory};
 use bt_matrix::Traffic;
 use std::alloc::Global;
 use std::marker::Model;

@@ -15,7 +15,7 @@ ghost use Rattle.bt_match.specs.Search.{
   IsFreeColumn,
 };
 
-use bt_base::BeamNo;
+use bt_frame::BeamNo;
 use bt_matrix::Traffic;
 
 /// The row that has the column.

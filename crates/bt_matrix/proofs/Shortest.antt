@@ -4,10 +4,10 @@ use Rattle.std.proofs.lemmas.Bool.{cases_lt, eqb-true}
 use Rattle.std.proofs.lemmas.List.{get_or_past}
 use Rattle.std.proofs.lemmas.List.Elements.{All-head, All-tail}
 use Rattle.std.proofs.lemmas.List.Sums.{sum_by-cons}
-use Rattle.bt_base.specs.declared.mode.Mode.{Mode}
-use Rattle.bt_base.specs.declared.schedule.Critical.{Critical}
-use Rattle.bt_base.specs.declared.schedule.Critical.TheVariants.{Row, Column}
-use Rattle.bt_base.specs.declared.schedule.Schedule.{Schedule}
+use Rattle.bt_frame.specs.declared.mode.Mode.{Mode}
+use Rattle.bt_frame.specs.declared.schedule.Critical.{Critical}
+use Rattle.bt_frame.specs.declared.schedule.Critical.TheVariants.{Row, Column}
+use Rattle.bt_frame.specs.declared.schedule.Schedule.{Schedule}
 use Rattle.bt_matrix.specs.Traffic.{row_of, entry, row_sum, column_sum, line_sum, IsTraffic}
 use Rattle.bt_matrix.specs.Good.{IsPermutation, slots_in, slots_of, total_duration, HasPermutations, CarriesAll, IsGood}
 use Rattle.bt_matrix.proofs.Ranges.{sum_below, sum_by-places, sum_below-le, sum_below-add, sum_below-zero, sum_below-once}

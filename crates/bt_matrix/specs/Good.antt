@@ -1,8 +1,8 @@
 -- When a switching schedule is good for a traffic matrix: it carries all of it, in the least length.
 use Rattle.std.specs.Prelude.{◌≡◌, ◌≢◌, ◌==◌, ℕ, ◌<◌, ◌≤◌, if◌then◌else◌, List, length, All, AllPairs, sum_by, slice_index}
-use Rattle.bt_base.specs.declared.mode.Mode.{Mode}
-use Rattle.bt_base.specs.declared.schedule.Critical.{Critical}
-use Rattle.bt_base.specs.declared.schedule.Schedule.{Schedule}
+use Rattle.bt_frame.specs.declared.mode.Mode.{Mode}
+use Rattle.bt_frame.specs.declared.schedule.Critical.{Critical}
+use Rattle.bt_frame.specs.declared.schedule.Schedule.{Schedule}
 use Rattle.bt_matrix.specs.Traffic.{entry, line_sum, IsLine}
 
 -- each of so many beams once

@@ -2,8 +2,9 @@
 -- one asks for to the other, in slots per frame.
 use Rattle.std.specs.Prelude.{◌≡◌, ℕ, ◌<◌, ◌≤◌, List, [], length, All, sum, sum_by, slice_index, slice_set}
 use Rattle.std.specs.List.{slice_index_or}
-use Rattle.bt_base.specs.declared.schedule.Critical.{Critical}
-use Rattle.bt_base.specs.declared.schedule.Critical.TheVariants.{Row, Column}
+use Rattle.bt_frame.specs.declared.schedule.Critical.{Critical}
+use Rattle.bt_frame.specs.declared.schedule.Critical.TheVariants.{Row, Column}
+use Rattle.bt_frame.specs.Critical.{IsOfBeams}
 
 -- a row of the matrix
 abbrev pub row_of : List (List ℕ) → ℕ → List ℕ
@@ -28,8 +29,7 @@ line_sum rows (Column down) = column_sum rows down.0
 
 -- the line's beam is one of the matrix
 abbrev pub IsLine : List (List ℕ) → Critical → Type 0
-IsLine rows (Row up) = up.0 < length rows
-IsLine rows (Column down) = down.0 < length rows
+IsLine rows line = IsOfBeams (length rows) line
 
 -- rows come before columns, and among these the lower number first
 abbrev pub IsBefore : Critical → Critical → Type 0

@@ -3,7 +3,7 @@ ghost use Rattle.std.specs.Prelude.{◌≡◌, ℕ, ◌-◌, ◌<◌, ◌≤◌,
 ghost use Rattle.bt_matrix.specs.Traffic.{row_sum, column_sum, IsTraffic};
 
 use crate::{SUM_LAST, Traffic, heaviest_line};
-use bt_base::{BeamNo, Critical, OutOfMemory};
+use bt_frame::{BeamNo, Critical, OutOfMemory};
 use std::alloc::Global;
 use std::marker::Model;
 

@@ -3,7 +3,7 @@ ghost use Rattle.std.specs.Prelude.{◌≡◌, ℕ, ◌<◌, ◌≤◌, List, le
 ghost use Rattle.bt_matrix.specs.Traffic.{IsHeaviest};
 ghost use Rattle.bt_matrix.specs.Dense.{AreLineSums, IsFirstGreatest};
 
-use bt_base::{BeamNo, Critical};
+use bt_frame::{BeamNo, Critical};
 
 /// The first line that has the greatest sum, rows before columns, and that sum, of a matrix whose rows and columns
 /// have these sums. It has 1 to 16 beams.

@@ -1,7 +1,7 @@
 // Laws of matrices and schedules. Each holds of all of them, so that nothing runs.
 ghost use Rattle.std.specs.Prelude.{◌≡◌, ℕ, ◌≤◌, List, length, All};
-ghost use Rattle.bt_base.specs.declared.schedule.Critical.{Critical};
-ghost use Rattle.bt_base.specs.declared.schedule.Schedule.{Schedule};
+ghost use Rattle.bt_frame.specs.declared.schedule.Critical.{Critical};
+ghost use Rattle.bt_frame.specs.declared.schedule.Schedule.{Schedule};
 ghost use Rattle.bt_matrix.specs.Traffic.{IsTraffic, IsHeaviest};
 ghost use Rattle.bt_matrix.specs.Good.{total_duration, HasPermutations, CarriesAll, IsGood};
 

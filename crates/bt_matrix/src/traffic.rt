@@ -2,7 +2,7 @@
 ghost use Rattle.std.specs.Prelude.{◌≡◌, ℕ, ◌+◌, ◌-◌, ◌<◌, ◌≤◌, ◌⊎◌, List, length, OnOk, OnErr};
 ghost use Rattle.bt_matrix.specs.Traffic.{row_sum, column_sum, entry, with_entry, IsTraffic, IsHeaviest};
 
-use bt_base::{BeamNo, Critical, OutOfMemory};
+use bt_frame::{BeamNo, Critical, OutOfMemory};
 use std::alloc::Global;
 
 /// The greatest line sum that a matrix in memory may have, in slots.

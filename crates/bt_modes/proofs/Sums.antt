@@ -1,7 +1,7 @@
 -- The line sums of a matrix as sums over numbers: all rows together are all columns together.
 use Rattle.std.proofs.Common.{◌≡◌, ℕ, zero, suc, ◌<◌, ◌≤◌, List, [], length, get_or, slice_index, sum_by, sym, ap, ◌∙◌, refl, inl, inr, arith}
 use Rattle.std.proofs.lemmas.Bool.{cases_lt}
-use Rattle.bt_base.specs.declared.schedule.Critical.TheVariants.{Row, Column}
+use Rattle.bt_frame.specs.declared.schedule.Critical.TheVariants.{Row, Column}
 use Rattle.bt_matrix.specs.Traffic.{row_of, entry, row_sum, column_sum, IsTraffic}
 use Rattle.bt_matrix.proofs.Ranges.{sum_below, sum_by-places}
 use Rattle.bt_match.specs.Matching.{HasLineSums}

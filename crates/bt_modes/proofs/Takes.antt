@@ -1,9 +1,9 @@
 -- Entries that lost the slots of a mode.
 use Rattle.std.proofs.Common.{below_more, ◌≡◌, ◌≢◌, ◌==◌, ℕ, ◌+◌, ◌-◌, ◌<◌, ◌≤◌, min, List, [], length, slice_index, slice_set, sym, ap, ◌∙◌, refl, inl, inr, arith, length-set, get_or-set_same, eq-eqb}
 use Rattle.std.proofs.lemmas.Bool.{cases_eq, cases_lt, ne_eqb, eqb-true}
-use Rattle.bt_base.specs.declared.mode.Mode.{Mode}
-use Rattle.bt_base.specs.declared.schedule.Critical.{Critical}
-use Rattle.bt_base.specs.declared.schedule.Critical.TheVariants.{Row, Column}
+use Rattle.bt_frame.specs.declared.mode.Mode.{Mode}
+use Rattle.bt_frame.specs.declared.schedule.Critical.{Critical}
+use Rattle.bt_frame.specs.declared.schedule.Critical.TheVariants.{Row, Column}
 use Rattle.bt_matrix.specs.Good.{IsPermutation, slots_in}
 use Rattle.bt_matrix.specs.Traffic.{row_of, entry, row_sum, column_sum, line_sum, with_entry, IsLine, IsTraffic}
 use Rattle.bt_matrix.proofs.Ranges.{sum_below-once}

@@ -1,7 +1,7 @@
 -- Decomposition: a matrix of equal line sums as a sum of switching modes.
 use Rattle.std.specs.Prelude.{◌≡◌, ◌==◌, ℕ, ◌+◌, ◌<◌, ◌≤◌, Bool, not, List, length, All, sum_by, count_by, slice_index}
-use Rattle.bt_base.specs.declared.mode.Mode.{Mode}
-use Rattle.bt_base.specs.declared.schedule.Critical.{Critical}
+use Rattle.bt_frame.specs.declared.mode.Mode.{Mode}
+use Rattle.bt_frame.specs.declared.schedule.Critical.{Critical}
 use Rattle.bt_matrix.specs.Traffic.{entry, line_sum, IsLine}
 use Rattle.bt_matrix.specs.Good.{IsPermutation, slots_in, slots_of}
 

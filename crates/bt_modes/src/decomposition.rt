@@ -5,7 +5,7 @@ ghost use Rattle.bt_modes.specs.Decomposition.{DecomposesTo, positive_entries};
 
 use crate::padding::Padded;
 use crate::step::take_mode;
-use bt_base::{Mode, OutOfMemory};
+use bt_frame::{Mode, OutOfMemory};
 use bt_match::Partial;
 use bt_matrix::Traffic;
 use std::alloc::Global;

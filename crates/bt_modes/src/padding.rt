@@ -4,7 +4,7 @@ ghost use Rattle.bt_matrix.specs.Traffic.{row_sum, column_sum, IsTraffic};
 ghost use Rattle.bt_match.specs.Matching.{HasLineSums};
 ghost use Rattle.bt_modes.specs.Padding.{IsPaddingOf, IsRaised, HasLinesWithin, IsPartPadding};
 
-use bt_base::{BeamNo, OutOfMemory};
+use bt_frame::{BeamNo, OutOfMemory};
 use bt_matrix::{SUM_LAST, Traffic};
 use std::alloc::Global;
 

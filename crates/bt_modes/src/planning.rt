@@ -5,7 +5,7 @@ ghost use Rattle.bt_matrix.specs.Traffic.{row_of, IsHeaviest};
 
 use crate::decomposition::decompose;
 use crate::padding::pad;
-use bt_base::{BeamNo, Modes, OutOfMemory, Schedule};
+use bt_frame::{BeamNo, Modes, OutOfMemory, Schedule};
 use bt_matrix::{Dense, Traffic};
 use std::alloc::Global;
 

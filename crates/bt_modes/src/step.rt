@@ -4,7 +4,7 @@ ghost use Rattle.bt_matrix.specs.Good.{IsPermutation};
 ghost use Rattle.bt_match.specs.Matching.{HasEqualLineSums, IsInside, IsInsidePerm};
 ghost use Rattle.bt_modes.specs.Decomposition.{IsLeastEntry, LosesMode};
 
-use bt_base::{BeamNo, Columns, Mode, OutOfMemory};
+use bt_frame::{BeamNo, Columns, Mode, OutOfMemory};
 use bt_match::{Partial, perfect};
 use bt_matrix::Traffic;
 use std::alloc::Global;

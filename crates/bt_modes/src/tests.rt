@@ -1,6 +1,6 @@
 // Schedules of matrices whose heaviest line is worked out by hand, judged by what they are for.
 use crate::{decompose, pad, schedule};
-use bt_base::{BeamNo, Critical, Mode};
+use bt_frame::{BeamNo, Critical, Mode};
 use bt_matrix::{Dense, SUM_LAST, Traffic};
 use std::alloc::Global;
 use std::process::Abort;

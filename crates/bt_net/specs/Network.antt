@@ -1,6 +1,7 @@
 -- What contracts see of a network, and what always holds of it.
 use Rattle.std.specs.Prelude.{◌≢◌, ℕ, ◌<◌, ◌≤◌, List, length, map, Bool, All, AllPairs, IsTrue}
-use Rattle.bt_base.specs.declared.numbers.BeamNo.{BeamNo}
+use Rattle.bt_frame.specs.declared.numbers.BeamNo.{BeamNo}
+use Rattle.bt_frame.specs.Range.{IsWithin}
 use Rattle.bt_net.specs.Name.{is_name, is_terminal_name}
 
 -- A network: the names of its beams, and the name and the beam of each terminal, both in the order of the file.
@@ -16,10 +17,6 @@ pub record Net : Type 0 where
 -- the names of terminals
 abbrev pub names_of : List (List ℕ × BeamNo) → List (List ℕ)
 names_of terminals = map (λ terminal. terminal.0) terminals
-
--- the number is one of these, its ends among them
-abbrev pub IsWithin : ℕ → ℕ → ℕ → Type 0
-IsWithin least most number = (least ≤ number) × (number ≤ most)
 
 -- each name is a good one, and no two are the same
 pub record AreNames (is_good : List ℕ → Bool) (names : List (List ℕ)) : Type 0 where

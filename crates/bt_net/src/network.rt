@@ -3,11 +3,12 @@ ghost use Rattle.std.specs.Prelude.{◌≡◌, ◌<◌, Some, IfSome, IfNone, If
 ghost use Rattle.std.specs.Option.{option_map};
 ghost use Rattle.std.specs.Str.{bytes_eq};
 ghost use Rattle.bt_net.specs.Name.{is_name, is_terminal_name};
-ghost use Rattle.bt_net.specs.Network.{names_of, IsSound, IsWithin};
+ghost use Rattle.bt_net.specs.Network.{names_of, IsSound};
+ghost use Rattle.bt_frame.specs.Range.{IsWithin};
 
 use crate::beams::Beams;
 use crate::terminals::Terminals;
-use bt_base::{BeamNo, OutOfMemory, TermNo};
+use bt_frame::{BeamNo, OutOfMemory, TermNo};
 use std::alloc::Global;
 use std::marker::Model;
 

@@ -4,7 +4,8 @@ ghost use Rattle.std.specs.Option.{ok_or};
 ghost use Rattle.serde_json.specs.Errors.{IsMemory};
 ghost use Rattle.serde_json.specs.View.{view};
 ghost use Rattle.bt_net.specs.declared.fault.NetFault.TheVariants.{N1};
-ghost use Rattle.bt_net.specs.Network.{IsWithin, AreBeams, AreTerminals};
+ghost use Rattle.bt_net.specs.Network.{AreBeams, AreTerminals};
+ghost use Rattle.bt_frame.specs.Range.{IsWithin};
 ghost use Rattle.bt_net.specs.Reading.{Gives, array_at, text_at, entries_at, number_at, journal_of, checked, beam_at, with_beam, through, beams_of, with_terminal, terminals_of, json_of, network_of, network_in};
 
 use crate::Network;
@@ -12,7 +13,7 @@ use crate::beams::Beams;
 use crate::fault::{NetFault, Path};
 use crate::name::{is_name, is_terminal_name};
 use crate::terminals::Terminals;
-use bt_base::BeamNo;
+use bt_frame::BeamNo;
 use serde_json::{Error, Value};
 use std::alloc::Global;
 

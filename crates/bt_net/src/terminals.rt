@@ -4,7 +4,7 @@ ghost use Rattle.std.specs.List.{list_any};
 ghost use Rattle.std.specs.Str.{bytes_eq};
 ghost use Rattle.bt_net.specs.Network.{names_of};
 
-use bt_base::BeamNo;
+use bt_frame::BeamNo;
 use indexmap::IndexMap;
 use std::alloc::{AllocError, Global};
 use std::marker::Model;
@@ -16,7 +16,7 @@ pub(crate) struct Terminals {
 
 impl Model for Terminals {
     ghost use Rattle.std.specs.Prelude.{ℕ, List, map, string_bytes};
-    ghost use Rattle.bt_base.specs.declared.numbers.BeamNo.{BeamNo};
+    ghost use Rattle.bt_frame.specs.declared.numbers.BeamNo.{BeamNo};
 
     ghost Value = { List (List ℕ × BeamNo) };
 

@@ -1,6 +1,6 @@
 use crate::NetFault::*;
 use crate::Network;
-use bt_base::{BeamNo, TermNo};
+use bt_frame::{BeamNo, TermNo};
 use std::alloc::{AllocError, Global};
 use std::test::Fail;
 

@@ -2,7 +2,7 @@
 use Rattle.std.proofs.Common.{◌≡◌, ℕ, ◌-◌, ◌^◌, ◌<◌, ◌≤◌, Bool, true, false, cond, leb, ◌&&◌, List, [], ◌∷◌, map, refl, sym, ◌∙◌, arith, inl, inr}
 use Rattle.std.specs.List.{list_all}
 use Rattle.std.proofs.lemmas.Bool.{leb-true, le-leb, lt-leb, cases_lt}
-use Rattle.bt_base.specs.Text.{capped}
+use Rattle.bt_text.specs.Text.{capped}
 
 pub capped-small : (most n : ℕ) → most < 2 ^ 64 - 1 → n ≤ most → capped n ≡ n
 capped-small most n small le = omega arith

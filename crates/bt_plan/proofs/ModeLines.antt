@@ -5,17 +5,17 @@ use Rattle.std.specs.Option.{option_map}
 use Rattle.std.specs.List.{list_all}
 use Rattle.std.proofs.lemmas.Bool.{leb-true, eqb-true, le-leb, eq-eqb}
 use Rattle.std.proofs.lemmas.List.{length-map, append-nil}
-use Rattle.bt_base.specs.Text.{words, lines, capped}
-use Rattle.bt_base.specs.declared.mode.Mode.{Mode}
+use Rattle.bt_text.specs.Text.{words, lines, capped}
+use Rattle.bt_frame.specs.declared.mode.Mode.{Mode}
 use Rattle.bt_plan.specs.declared.text_fault.TextCode.{TextCode}
 use Rattle.bt_plan.specs.declared.text_fault.TextCode.TheVariants.{M1}
-use Rattle.bt_plan.specs.declared.text_fault.TextFault.{TextFault}
-use Rattle.bt_plan.specs.declared.text_fault.TextFault.TheVariants.{At, OutOfMemory}
-use Rattle.bt_base.specs.Reading.{◌>>=◌, or_fault}
-use Rattle.bt_plan.specs.Reading.{Fault, Reading, IsFaultOf}
+use Rattle.bt_text.specs.declared.fault.LineFault.{LineFault}
+use Rattle.bt_text.specs.declared.fault.LineFault.TheVariants.{At, OutOfMemory}
+use Rattle.bt_text.specs.Reading.{◌>>=◌, or_fault, IsFaultOf}
+use Rattle.bt_plan.specs.Reading.{Fault, Reading}
 use Rattle.bt_plan.specs.ScheduleText.{is_word, mode_with, mode_in, end_in, modes_in, critical_in, critical_and_modes, length_in, schedule_in, schedule_of}
-use Rattle.bt_base.proofs.Front.{with_front, regroup}
-use Rattle.bt_base.proofs.FirstLine.{lines-HasFirst, lines_after_end}
+use Rattle.bt_text.proofs.Front.{with_front, regroup}
+use Rattle.bt_text.proofs.FirstLine.{lines-HasFirst, lines_after_end}
 use Rattle.bt_plan.proofs.Capped.{leb-capped, list_all-capped, capped-small, map-capped, and_parts, cond-at_true}
 
 -- the mode is that of the numbers as they are capped
@@ -42,13 +42,13 @@ failed fault = Err fault
 fault_is : (x y : Fault) → failed x ≡ failed y → x ≡ y
 fault_is x y e = cc
 
-columns_fault : (e : TextFault) (code : TextCode) (at duration : ℕ) (perm : List ℕ) (small : Bool) → IsFaultOf (cond small (Ok perm) (Err (code, at))) e
+columns_fault : (e : LineFault TextCode) (code : TextCode) (at duration : ℕ) (perm : List ℕ) (small : Bool) → IsFaultOf (cond small (Ok perm) (Err (code, at))) e
     → IsFaultOf {A = Mode} (or_fault {Fault = Fault} (code, at) (cond small (Some (record { duration = duration; perm = perm })) None)) e
 columns_fault OutOfMemory code at duration perm small is = tt
 columns_fault (At found line) code at duration perm true is = absurd cc
 columns_fault (At found line) code at duration perm false is = let same : (code, at) ≡ (found, line) = fault_is (code, at) (found, line) is in ap (λ (f : Fault). Err f) same
 
-pub mode_fault : (e : TextFault) (code : TextCode) (size at : ℕ) (ns perm : List ℕ) → 1 ≤ length ns → perm ≡ drop 1 ns → get_or ns 0 0 ≤ 65536 → length perm ≡ size
+pub mode_fault : (e : LineFault TextCode) (code : TextCode) (size at : ℕ) (ns perm : List ℕ) → 1 ≤ length ns → perm ≡ drop 1 ns → get_or ns 0 0 ≤ 65536 → length perm ≡ size
     → IsFaultOf (cond (list_all (λ down. leb down 255) perm) (Ok perm) (Err (code, at))) e → IsFaultOf (or_fault {Fault = Fault} (code, at) (mode_with size ns)) e
 mode_fault e code size at [] perm some tail within long is = absurd (omega arith)
 mode_fault e code size at (duration ∷ rest) perm some tail within long is =
@@ -70,7 +70,7 @@ goes_on size at front ls line after mode total cut no_end read so_far =
     sym (regroup front mode (modes_in size (at + 1) (lines after))) ∙ sym (ap (with_front front) one) ∙ so_far
 
 -- a line that is no mode is the text's fault
-pub ends : (e : TextFault) (size at : ℕ) (front : List Mode) (ls : List (List ℕ)) (line after : List ℕ) (total : Reading (List Mode))
+pub ends : (e : LineFault TextCode) (size at : ℕ) (front : List Mode) (ls : List (List ℕ)) (line after : List ℕ) (total : Reading (List Mode))
     → ls ≡ line ∷ lines after → is_word (codes "end") line ≡ false → IsFaultOf (or_fault (M1, at) (mode_in size (words line))) e
     → with_front front (modes_in size at ls) ≡ total → IsFaultOf total e
 ends OutOfMemory size at front ls line after total cut no_end read so_far = tt

@@ -10,13 +10,13 @@ use Rattle.std.proofs.lemmas.List.{length-map}
 use Rattle.std.proofs.lemmas.List.Quantifiers.{position-Some}
 use Rattle.std.proofs.lemmas.Option.{slice_get-map, slice_get-get_or}
 use Rattle.std.proofs.lemmas.Slice.Eq.{bytes_eq-Decides}
-use Rattle.bt_base.specs.Text.{lacks}
-use Rattle.bt_base.specs.declared.numbers.BeamNo.{BeamNo}
-use Rattle.bt_base.specs.declared.numbers.TermNo.{TermNo}
+use Rattle.bt_text.specs.Text.{lacks}
+use Rattle.bt_frame.specs.declared.numbers.BeamNo.{BeamNo}
+use Rattle.bt_frame.specs.declared.numbers.TermNo.{TermNo}
 use Rattle.bt_net.specs.Name.{is_name, is_name_byte, is_reserved}
 use Rattle.bt_net.specs.Network.{Net, names_of, IsSound}
 use Rattle.bt_net.proofs.Names.{found_name, not_found}
-use Rattle.bt_plan.specs.TerminalNames.{name_at, terminal_of}
+use Rattle.bt_net.specs.Terminals.{name_at, terminal_of}
 
 -- the terminal has the name, and is one of the network's
 abbrev pub IsNamed : Net → List ℕ → TermNo → Type 0

@@ -4,21 +4,22 @@ use Rattle.std.proofs.lemmas.Bool.{leb-true}
 use Rattle.std.proofs.lemmas.List.Elements.{All-cons, All-nil}
 use Rattle.std.proofs.lemmas.List.Kept.{AllPairs-cons}
 use Rattle.std.proofs.lemmas.Option.{cond_some, option_and_then_some}
-use Rattle.bt_base.specs.Reading.{◌>>=◌, or_fault}
-use Rattle.bt_base.specs.Text.{words, spaced}
-use Rattle.bt_base.specs.declared.numbers.EditionNo.{EditionNo}
-use Rattle.bt_base.specs.declared.numbers.TermNo.{TermNo}
-use Rattle.bt_base.proofs.TextLines.{spaced-words}
+use Rattle.bt_text.specs.Reading.{◌>>=◌, or_fault}
+use Rattle.bt_text.specs.Text.{words, spaced}
+use Rattle.bt_frame.specs.declared.numbers.EditionNo.{EditionNo}
+use Rattle.bt_frame.specs.declared.numbers.TermNo.{TermNo}
+use Rattle.bt_text.proofs.TextLines.{spaced-words}
 use Rattle.bt_net.specs.Network.{Net}
-use Rattle.bt_plan.specs.declared.burst.Burst.{Burst}
+use Rattle.bt_demand.specs.declared.burst.Burst.{Burst}
 use Rattle.bt_plan.specs.declared.text_fault.TextCode.TheVariants.{P1, P2}
-use Rattle.bt_plan.specs.Burst.{IsNotAfter}
-use Rattle.bt_plan.specs.Demand.{Ends}
+use Rattle.bt_demand.specs.Burst.{IsNotAfter}
+use Rattle.bt_demand.specs.Demand.{Ends}
 use Rattle.bt_plan.specs.PlanSpelling.{edition_line, burst_line, IsBurstInRange}
 use Rattle.bt_plan.specs.PlanText.{edition_in, span_of, span_in, burst_with, burst_between, burst_behind, burst_in, burst_below, plan_end, bursts_in}
 use Rattle.bt_plan.specs.Reading.{Fault}
 use Rattle.bt_plan.specs.ScheduleText.{is_word, number_to}
-use Rattle.bt_plan.specs.TerminalNames.{name_at, are_names, terminal_of, ends_in}
+use Rattle.bt_plan.specs.TerminalNames.{ends_in}
+use Rattle.bt_net.specs.Terminals.{name_at, are_names, terminal_of}
 use Rattle.bt_plan.proofs.NamedTerminals.{IsNamed, terminal_named}
 use Rattle.bt_plan.proofs.OneText.{let_through, or_fault_ok, is_word-same, number_to-spelled}
 use Rattle.bt_plan.proofs.PlanLines.{Follows, IsNotAfter-then, burst_below-ok}

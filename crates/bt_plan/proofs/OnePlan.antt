@@ -1,16 +1,16 @@
 -- No text but a plan's own is read as that plan, and what is read is in range.
 use Rattle.std.proofs.Common.{◌≡◌, ℕ, ◌+◌, ◌≤◌, Bool, true, false, cond, codes, List, [], ◌∷◌, ◌++◌, length, map, All, AllPairs, Option, Some, None, Ok, refl, sym, ap, subst, ◌∙◌, append_assoc}
 use Rattle.std.proofs.lemmas.List.Elements.{All-cons, All-nil}
-use Rattle.bt_base.specs.Reading.{◌>>=◌, or_fault}
-use Rattle.bt_base.specs.Text.{words, lines, spaced}
-use Rattle.bt_base.proofs.TextLines.{spaced-words, ended_from_lines}
+use Rattle.bt_text.specs.Reading.{◌>>=◌, or_fault}
+use Rattle.bt_text.specs.Text.{words, lines, spaced}
+use Rattle.bt_text.proofs.TextLines.{spaced-words, ended_from_lines}
 use Rattle.bt_net.specs.Network.{Net}
-use Rattle.bt_plan.specs.declared.plan.Plan.{Plan}
+use Rattle.bt_demand.specs.declared.plan.Plan.{Plan}
 use Rattle.bt_plan.specs.declared.text_fault.TextCode.TheVariants.{P1}
-use Rattle.bt_plan.specs.Burst.{IsNotAfter}
+use Rattle.bt_demand.specs.Burst.{IsNotAfter}
 use Rattle.bt_plan.specs.PlanSpelling.{edition_line, burst_line, plan_lines, plan_spelling, IsBurstInRange, IsPlanInRange}
 use Rattle.bt_plan.specs.PlanText.{edition_in, bursts_in, is_mode, modes_and_bursts, first_says, parts_behind, critical_behind, length_behind, plan_in, plan_of}
-use Rattle.bt_plan.specs.PlanVerdict.{AreBetweenTerminals}
+use Rattle.bt_verdict.specs.PlanVerdict.{AreBetweenTerminals}
 use Rattle.bt_plan.specs.Reading.{Reading}
 use Rattle.bt_plan.specs.ScheduleSpelling.{length_line, critical_line, mode_line, IsModeInRange}
 use Rattle.bt_plan.specs.ScheduleText.{length_in, critical_in, mode_in}

@@ -5,19 +5,20 @@ use Rattle.std.proofs.lemmas.Bool.Decides.{nat_tests}
 use Rattle.std.proofs.lemmas.List.{append-nil}
 use Rattle.std.proofs.lemmas.List.Elements.{All-nil, All-cons, All-append}
 use Rattle.std.proofs.lemmas.List.Quantifiers.{all_pairs_push}
-use Rattle.bt_base.specs.Reading.{◌>>=◌, or_fault}
-use Rattle.bt_base.specs.Text.{words, lines}
-use Rattle.bt_base.specs.declared.mode.Mode.{Mode}
-use Rattle.bt_base.proofs.FirstLine.{lines-HasFirst, lines_after_end}
-use Rattle.bt_base.proofs.Front.{with_front, regroup}
+use Rattle.bt_text.specs.Reading.{◌>>=◌, or_fault, IsFaultOf}
+use Rattle.bt_text.specs.Text.{words, lines}
+use Rattle.bt_frame.specs.declared.mode.Mode.{Mode}
+use Rattle.bt_text.proofs.FirstLine.{lines-HasFirst, lines_after_end}
+use Rattle.bt_text.proofs.Front.{with_front, regroup}
 use Rattle.bt_net.specs.Network.{Net}
-use Rattle.bt_plan.specs.declared.burst.Burst.{Burst}
+use Rattle.bt_demand.specs.declared.burst.Burst.{Burst}
 use Rattle.bt_plan.specs.declared.text_fault.TextCode.TheVariants.{P1, P3}
-use Rattle.bt_plan.specs.declared.text_fault.TextFault.{TextFault}
-use Rattle.bt_plan.specs.declared.text_fault.TextFault.TheVariants.{At, OutOfMemory}
-use Rattle.bt_plan.specs.Burst.{IsNotAfter}
+use Rattle.bt_plan.specs.declared.text_fault.TextCode.{TextCode}
+use Rattle.bt_text.specs.declared.fault.LineFault.{LineFault}
+use Rattle.bt_text.specs.declared.fault.LineFault.TheVariants.{At, OutOfMemory}
+use Rattle.bt_demand.specs.Burst.{IsNotAfter}
 use Rattle.bt_plan.specs.PlanText.{is_not_after, in_order, burst_in, burst_behind, burst_below, plan_end, bursts_in, is_mode, modes_and_bursts, first_says}
-use Rattle.bt_plan.specs.Reading.{Fault, Reading, IsFaultOf}
+use Rattle.bt_plan.specs.Reading.{Fault, Reading}
 use Rattle.bt_plan.specs.ScheduleText.{is_word, mode_in}
 use Rattle.bt_plan.proofs.Spelled.{bind_ok, ok_is, guard_ok}
 
@@ -107,7 +108,7 @@ goes_on net at above front ls line after burst total cut no_end read so_far =
     sym (regroup front burst (bursts_in net (at + 1) (Some burst) (lines after))) ∙ sym (ap (with_front front) one) ∙ so_far
 
 -- a line that is no burst is the text's fault
-pub ends : (e : TextFault) (net : Net) (at : ℕ) (above : Option Burst) (front : List Burst) (ls : List (List ℕ)) (line after : List ℕ) (total : Reading (List Burst))
+pub ends : (e : LineFault TextCode) (net : Net) (at : ℕ) (above : Option Burst) (front : List Burst) (ls : List (List ℕ)) (line after : List ℕ) (total : Reading (List Burst))
     → ls ≡ line ∷ lines after → is_word (codes "end") line ≡ false → IsFaultOf (burst_below net at above (words line)) e
     → with_front front (bursts_in net at above ls) ≡ total → IsFaultOf total e
 ends OutOfMemory net at above front ls line after total cut no_end read so_far = tt
@@ -168,7 +169,7 @@ mode_goes_on net at front ls line after mode total cut named read so_far =
     sym (regroup_modes front mode (modes_and_bursts net (at + 1) (lines after))) ∙ sym (ap (with_modes front) one) ∙ so_far
 
 -- a line that is no mode after all is the text's fault
-pub mode_ends : (e : TextFault) (net : Net) (at : ℕ) (front : List Mode) (ls : List (List ℕ)) (line after : List ℕ) (total : Reading Parts)
+pub mode_ends : (e : LineFault TextCode) (net : Net) (at : ℕ) (front : List Mode) (ls : List (List ℕ)) (line after : List ℕ) (total : Reading Parts)
     → ls ≡ line ∷ lines after → is_mode (words line) ≡ true → IsFaultOf (or_fault {Fault = Fault} (P1, at) (mode_in (length net.beams) (words line))) e
     → with_modes front (modes_and_bursts net at ls) ≡ total → IsFaultOf total e
 mode_ends OutOfMemory net at front ls line after total cut named read so_far = tt

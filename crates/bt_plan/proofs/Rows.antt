@@ -3,15 +3,16 @@ use Rattle.std.proofs.Common.{◌≡◌, ℕ, zero, suc, ◌+◌, ◌-◌, ◌<�
 use Rattle.std.specs.Option.{option_map}
 use Rattle.std.specs.List.{list_all}
 use Rattle.std.proofs.lemmas.List.{length-map}
-use Rattle.bt_base.specs.Text.{words, lines, numbers_of, capped}
+use Rattle.bt_text.specs.Text.{words, lines, numbers_of, capped}
 use Rattle.bt_plan.specs.declared.text_fault.TextCode.TheVariants.{X1, X2}
-use Rattle.bt_plan.specs.declared.text_fault.TextFault.{TextFault}
-use Rattle.bt_plan.specs.declared.text_fault.TextFault.TheVariants.{At, OutOfMemory}
-use Rattle.bt_base.specs.Reading.{◌>>=◌, or_fault}
-use Rattle.bt_plan.specs.Reading.{Reading, IsFaultOf}
+use Rattle.bt_plan.specs.declared.text_fault.TextCode.{TextCode}
+use Rattle.bt_text.specs.declared.fault.LineFault.{LineFault}
+use Rattle.bt_text.specs.declared.fault.LineFault.TheVariants.{At, OutOfMemory}
+use Rattle.bt_text.specs.Reading.{◌>>=◌, or_fault, IsFaultOf}
+use Rattle.bt_plan.specs.Reading.{Reading}
 use Rattle.bt_plan.specs.MatrixText.{size_in, row_in, rows_in, matrix_in, matrix_of}
-use Rattle.bt_base.proofs.Front.{with_front, regroup}
-use Rattle.bt_base.proofs.FirstLine.{lines-HasFirst, lines_after_end}
+use Rattle.bt_text.proofs.Front.{with_front, regroup}
+use Rattle.bt_text.proofs.FirstLine.{lines-HasFirst, lines_after_end}
 use Rattle.bt_plan.proofs.Capped.{list_all-capped, map-capped, cond-at_true}
 
 -- the size, and the rows that follow it
@@ -55,7 +56,7 @@ goes_on size at front ls line after row total lt cut read so_far =
     sym (regroup front row (left size (at + 1) (lines after))) ∙ sym (ap (with_front front) one) ∙ so_far
 
 -- a line that is no row is the text's fault
-pub ends : (e : TextFault) (size at : ℕ) (front : List (List ℕ)) (ls : List (List ℕ)) (line after : List ℕ) (total : Reading (List (List ℕ))) → at < size + 2
+pub ends : (e : LineFault TextCode) (size at : ℕ) (front : List (List ℕ)) (ls : List (List ℕ)) (line after : List ℕ) (total : Reading (List (List ℕ))) → at < size + 2
     → ls ≡ line ∷ lines after → IsFaultOf (row_in size at (numbers_of (words line))) e
     → with_front front (left size at ls) ≡ total → IsFaultOf total e
 ends OutOfMemory size at front ls line after total lt cut read so_far = tt

@@ -4,11 +4,11 @@ use Rattle.std.specs.List.{list_all, AllByRecursion}
 use Rattle.std.proofs.lemmas.Bool.{leb-true, eqb-true}
 use Rattle.std.proofs.lemmas.List.Elements.{All-from_recursion}
 use Rattle.std.proofs.lemmas.List.Sums.{sum_by-cons}
-use Rattle.bt_base.specs.Text.{words, lines, numbers_of}
+use Rattle.bt_text.specs.Text.{words, lines, numbers_of}
 use Rattle.bt_matrix.specs.Traffic.{IsTraffic, column_sum}
 use Rattle.bt_plan.specs.declared.text_fault.TextCode.{TextCode}
 use Rattle.bt_plan.specs.declared.text_fault.TextCode.TheVariants.{X1, X2}
-use Rattle.bt_base.specs.Reading.{◌>>=◌}
+use Rattle.bt_text.specs.Reading.{◌>>=◌}
 use Rattle.bt_plan.specs.Reading.{Reading}
 use Rattle.bt_plan.specs.MatrixText.{size_in, row_in, rows_in, matrix_in, matrix_of}
 use Rattle.bt_plan.proofs.Capped.{and_parts}

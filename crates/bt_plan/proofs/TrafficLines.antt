@@ -5,30 +5,31 @@ use Rattle.std.proofs.lemmas.Bool.Decides.{nat_tests}
 use Rattle.std.proofs.lemmas.List.Elements.{All-nil, All-cons, All-head, All-tail}
 use Rattle.std.proofs.lemmas.List.Kept.{AllPairs-cons}
 use Rattle.std.proofs.lemmas.List.Sums.{sum_by-cons}
-use Rattle.bt_base.specs.Reading.{◌>>=◌, or_fault}
-use Rattle.bt_base.specs.Text.{words, lines, number_of, capped}
-use Rattle.bt_base.proofs.FirstLine.{lines-HasFirst}
-use Rattle.bt_base.specs.declared.numbers.BeamNo.{BeamNo}
-use Rattle.bt_base.specs.declared.numbers.TermNo.{TermNo}
-use Rattle.bt_base.specs.declared.schedule.Critical.TheVariants.{Row, Column}
+use Rattle.bt_text.specs.Reading.{◌>>=◌, or_fault, IsFaultOf}
+use Rattle.bt_text.specs.Text.{words, lines, number_of, capped}
+use Rattle.bt_text.proofs.FirstLine.{lines-HasFirst}
+use Rattle.bt_frame.specs.declared.numbers.BeamNo.{BeamNo}
+use Rattle.bt_frame.specs.declared.numbers.TermNo.{TermNo}
+use Rattle.bt_frame.specs.declared.schedule.Critical.TheVariants.{Row, Column}
 use Rattle.bt_matrix.specs.Traffic.{row_of, entry, row_sum, column_sum, with_entry, IsTraffic}
 use Rattle.bt_matrix.proofs.Lines.{IsTraffic-replicate}
 use Rattle.bt_matrix.proofs.Writes.{length-row, IsTraffic-with_entry}
 use Rattle.bt_net.specs.Network.{Net}
-use Rattle.bt_plan.specs.declared.demand.Link.{Link}
+use Rattle.bt_demand.specs.declared.demand.Link.{Link}
 use Rattle.bt_plan.specs.declared.text_fault.TextCode.TheVariants.{T1, T2, T3, T5}
-use Rattle.bt_plan.specs.declared.text_fault.TextFault.{TextFault}
-use Rattle.bt_plan.specs.declared.text_fault.TextFault.TheVariants.{At, OutOfMemory}
-use Rattle.bt_plan.specs.Demand.{ends_of, IsBefore, IsLink, IsDemand, units_of, Gains}
-use Rattle.bt_plan.specs.Plan.{beam_at}
-use Rattle.bt_plan.specs.Reading.{Fault, Reading, IsFaultOf}
-use Rattle.bt_plan.specs.Traffic.{matrix_of, HasSumsTo}
+use Rattle.bt_plan.specs.declared.text_fault.TextCode.{TextCode}
+use Rattle.bt_text.specs.declared.fault.LineFault.{LineFault}
+use Rattle.bt_text.specs.declared.fault.LineFault.TheVariants.{At, OutOfMemory}
+use Rattle.bt_demand.specs.Demand.{ends_of, IsBefore, IsLink, IsDemand, units_of, Gains}
+use Rattle.bt_net.specs.Terminals.{beam_at, are_names}
+use Rattle.bt_plan.specs.Reading.{Fault, Reading}
+use Rattle.bt_demand.specs.Traffic.{matrix_of, HasSumsTo}
 use Rattle.bt_plan.specs.TrafficText.{belongs_before, with_link, row_fits, column_fits, fitting, links_with, line_with, links_in, units_in, link_between, link_with, named_link, link_behind, AreRead}
-use Rattle.bt_plan.specs.TerminalNames.{are_names, ends_in}
+use Rattle.bt_plan.specs.TerminalNames.{ends_in}
 use Rattle.bt_plan.proofs.Capped.{leb-capped, leb-one-capped, capped-small, cond-at_true, and_parts}
-use Rattle.bt_plan.proofs.Links.{before_trans, units_at}
-use Rattle.bt_plan.proofs.Matrices.{length-matrix_of, matrix_of-none, matrix_of-Gains, row_sum-gained, column_sum-gained}
-use Rattle.bt_plan.proofs.SameDemand.{units_for, units_for-cons, tail_is, first_is_before, same_demands}
+use Rattle.bt_demand.proofs.Links.{before_trans, units_at}
+use Rattle.bt_demand.proofs.Matrices.{length-matrix_of, matrix_of-none, matrix_of-Gains, row_sum-gained, column_sum-gained}
+use Rattle.bt_demand.proofs.SameDemand.{units_for, units_for-cons, tail_is, first_is_before, same_demands}
 
 -- what holds of both choices holds of the choice
 chosen : {A : Type 0} (P : A → Type 0) (test : Bool) (x y : A) → (test ≡ true → P x) → (test ≡ false → P y) → P (cond test x y)
@@ -221,7 +222,7 @@ goes_on net at links more ls line after total cut read so_far =
     sym first ∙ so_far
 
 -- the fault of a line is the text's
-pub ends : (e : TextFault) (net : Net) (at : ℕ) (links : List Link) (ls : List (List ℕ)) (line after : List ℕ) (total : Reading (List Link))
+pub ends : (e : LineFault TextCode) (net : Net) (at : ℕ) (links : List Link) (ls : List (List ℕ)) (line after : List ℕ) (total : Reading (List Link))
     → ls ≡ line ∷ lines after → IsFaultOf (line_with net at links (words line)) e → links_in net at links ls ≡ total → IsFaultOf total e
 ends OutOfMemory net at links ls line after total cut read so_far = tt
 ends (At code line') net at links ls line after total cut read so_far =

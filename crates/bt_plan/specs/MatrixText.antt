@@ -1,9 +1,9 @@
 -- The text of a traffic matrix: its size in a line, then that many lines of that many entries.
 use Rattle.std.specs.Prelude.{ℕ, zero, suc, ◌+◌, ◌==◌, ◌&&◌, if◌then◌else◌, nat_le, length, List, [], ◌∷◌, Option, Some, None, Ok, Err}
 use Rattle.std.specs.List.{list_all}
-use Rattle.bt_base.specs.Text.{words, lines, numbers_of}
+use Rattle.bt_text.specs.Text.{words, lines, numbers_of}
 use Rattle.bt_plan.specs.declared.text_fault.TextCode.TheVariants.{X1, X2}
-use Rattle.bt_base.specs.Reading.{◌>>=◌}
+use Rattle.bt_text.specs.Reading.{◌>>=◌}
 use Rattle.bt_plan.specs.Reading.{Reading}
 
 -- the size, 1 to 16, that the numbers of the first line say

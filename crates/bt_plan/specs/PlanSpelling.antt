@@ -1,13 +1,13 @@
 -- How a burst time plan is spelled: its lines, each as its words, and a newline behind each of them.
 use Rattle.std.specs.Prelude.{ℕ, ◌<◌, ◌≤◌, codes, decimal, length, map, List, [], ◌∷◌, ◌++◌, All, AllPairs}
-use Rattle.bt_base.specs.Text.{spaced, ended}
-use Rattle.bt_base.specs.declared.numbers.EditionNo.{EditionNo}
+use Rattle.bt_text.specs.Text.{spaced, ended}
+use Rattle.bt_frame.specs.declared.numbers.EditionNo.{EditionNo}
 use Rattle.bt_net.specs.Network.{Net}
-use Rattle.bt_plan.specs.declared.burst.Burst.{Burst}
-use Rattle.bt_plan.specs.declared.plan.Plan.{Plan}
-use Rattle.bt_plan.specs.Burst.{IsNotAfter}
+use Rattle.bt_demand.specs.declared.burst.Burst.{Burst}
+use Rattle.bt_demand.specs.declared.plan.Plan.{Plan}
+use Rattle.bt_demand.specs.Burst.{IsNotAfter}
 use Rattle.bt_plan.specs.ScheduleSpelling.{length_line, critical_line, mode_line, IsInRange}
-use Rattle.bt_plan.specs.TerminalNames.{name_at}
+use Rattle.bt_net.specs.Terminals.{name_at}
 
 -- `plan E`
 abbrev pub edition_line : EditionNo → List ℕ

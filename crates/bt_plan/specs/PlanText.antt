@@ -1,17 +1,18 @@
 -- The text of a burst time plan for a network: its edition, its length, its critical line, its modes, its bursts, and `end`.
 use Rattle.std.specs.Prelude.{ℕ, ◌+◌, ◌==◌, ◌&&◌, ◌||◌, if◌then◌else◌, nat_le, nat_lt, codes, Bool, false, length, List, [], ◌∷◌, Option, Some, None, Ok, Err, option_map, option_and_then}
-use Rattle.bt_base.specs.Text.{words, lines}
-use Rattle.bt_base.specs.declared.mode.Mode.{Mode}
-use Rattle.bt_base.specs.declared.numbers.EditionNo.{EditionNo}
-use Rattle.bt_base.specs.declared.schedule.Critical.{Critical}
-use Rattle.bt_base.specs.Reading.{◌>>=◌, or_fault}
+use Rattle.bt_text.specs.Text.{words, lines}
+use Rattle.bt_frame.specs.declared.mode.Mode.{Mode}
+use Rattle.bt_frame.specs.declared.numbers.EditionNo.{EditionNo}
+use Rattle.bt_frame.specs.declared.schedule.Critical.{Critical}
+use Rattle.bt_text.specs.Reading.{◌>>=◌, or_fault}
 use Rattle.bt_net.specs.Network.{Net}
-use Rattle.bt_plan.specs.declared.burst.Burst.{Burst}
-use Rattle.bt_plan.specs.declared.plan.Plan.{Plan}
+use Rattle.bt_demand.specs.declared.burst.Burst.{Burst}
+use Rattle.bt_demand.specs.declared.plan.Plan.{Plan}
 use Rattle.bt_plan.specs.declared.text_fault.TextCode.TheVariants.{P1, P2, P3}
 use Rattle.bt_plan.specs.Reading.{Reading}
 use Rattle.bt_plan.specs.ScheduleText.{is_word, number_to, length_in, critical_in, mode_in}
-use Rattle.bt_plan.specs.TerminalNames.{are_names, ends_in}
+use Rattle.bt_plan.specs.TerminalNames.{ends_in}
+use Rattle.bt_net.specs.Terminals.{are_names}
 
 -- `plan E`
 abbrev pub edition_in : List (List ℕ) → Option EditionNo

@@ -1,11 +1,11 @@
 -- How a switching schedule is spelled: its lines, each as its words, and a newline behind each of them.
 use Rattle.std.specs.Prelude.{◌≡◌, ℕ, ◌≤◌, codes, decimal, length, map, List, [], ◌∷◌, ◌++◌, All}
-use Rattle.bt_base.specs.Text.{spaced, ended}
-use Rattle.bt_base.specs.declared.mode.Mode.{Mode}
-use Rattle.bt_base.specs.declared.schedule.Critical.{Critical}
-use Rattle.bt_base.specs.declared.schedule.Critical.TheVariants.{Row, Column}
-use Rattle.bt_base.specs.declared.schedule.Schedule.{Schedule}
-use Rattle.bt_plan.specs.Critical.{IsOfBeams}
+use Rattle.bt_text.specs.Text.{spaced, ended}
+use Rattle.bt_frame.specs.declared.mode.Mode.{Mode}
+use Rattle.bt_frame.specs.declared.schedule.Critical.{Critical}
+use Rattle.bt_frame.specs.declared.schedule.Critical.TheVariants.{Row, Column}
+use Rattle.bt_frame.specs.declared.schedule.Schedule.{Schedule}
+use Rattle.bt_frame.specs.Critical.{IsOfBeams}
 
 -- `length L`
 abbrev pub length_line : ℕ → List ℕ

@@ -2,13 +2,13 @@
 use Rattle.std.specs.Prelude.{ℕ, ◌+◌, ◌==◌, ◌&&◌, if◌then◌else◌, nat_le, nat_lt, codes, Bool, length, List, [], ◌∷◌, Option, Some, None, Ok, Err, option_and_then}
 use Rattle.std.specs.List.{list_all}
 use Rattle.std.specs.Str.{bytes_eq}
-use Rattle.bt_base.specs.Text.{words, lines, number_of, numbers_of}
-use Rattle.bt_base.specs.declared.mode.Mode.{Mode}
-use Rattle.bt_base.specs.declared.schedule.Critical.{Critical}
-use Rattle.bt_base.specs.declared.schedule.Critical.TheVariants.{Row, Column}
-use Rattle.bt_base.specs.declared.schedule.Schedule.{Schedule}
+use Rattle.bt_text.specs.Text.{words, lines, number_of, numbers_of}
+use Rattle.bt_frame.specs.declared.mode.Mode.{Mode}
+use Rattle.bt_frame.specs.declared.schedule.Critical.{Critical}
+use Rattle.bt_frame.specs.declared.schedule.Critical.TheVariants.{Row, Column}
+use Rattle.bt_frame.specs.declared.schedule.Schedule.{Schedule}
 use Rattle.bt_plan.specs.declared.text_fault.TextCode.TheVariants.{M1}
-use Rattle.bt_base.specs.Reading.{◌>>=◌, or_fault}
+use Rattle.bt_text.specs.Reading.{◌>>=◌, or_fault}
 use Rattle.bt_plan.specs.Reading.{Reading}
 
 -- the word is this one

@@ -1,24 +1,10 @@
 -- Terminals as texts name them.
-use Rattle.std.specs.Prelude.{ℕ, ◌<◌, ◌&&◌, Bool, length, List, [], Option, Ok, unwrap_or, option_map, position, slice_get}
-use Rattle.std.specs.Str.{bytes_eq}
-use Rattle.bt_base.specs.declared.numbers.TermNo.{TermNo}
-use Rattle.bt_base.specs.Reading.{◌>>=◌, or_fault}
-use Rattle.bt_net.specs.Name.{is_name}
-use Rattle.bt_net.specs.Network.{Net, names_of}
-use Rattle.bt_plan.specs.Demand.{Ends}
+use Rattle.std.specs.Prelude.{ℕ, ◌<◌, length, List, Ok}
+use Rattle.bt_text.specs.Reading.{◌>>=◌, or_fault}
+use Rattle.bt_net.specs.Network.{Net}
+use Rattle.bt_net.specs.Terminals.{terminal_of}
+use Rattle.bt_demand.specs.Demand.{Ends}
 use Rattle.bt_plan.specs.Reading.{Fault, Reading}
-
--- the name of a terminal, and nothing where the network has none of that number
-abbrev pub name_at : Net → TermNo → List ℕ
-name_at net terminal = unwrap_or (option_map (λ t. t.0) (slice_get net.terminals terminal.0)) []
-
--- the terminal of that name
-abbrev pub terminal_of : Net → List ℕ → Option TermNo
-terminal_of net name = option_map (λ place. record { 0 = place }) (position (bytes_eq name) (names_of net.terminals))
-
--- both words have the shape of a name
-abbrev pub are_names : List ℕ → List ℕ → Bool
-are_names from to = is_name from && is_name to
 
 -- the terminals of two names, or the fault where no terminal has one of them
 abbrev pub ends_in : Net → Fault → List ℕ → List ℕ → Reading Ends

@@ -1,20 +1,12 @@
-// What holds of verdicts and of texts whatever the program does.
+// What holds of texts whatever the program does.
 ghost use Rattle.std.specs.Prelude.{◌≡◌, ◌≤◌, ℕ, List, Ok};
-ghost use Rattle.bt_base.specs.declared.schedule.Schedule.{Schedule};
+ghost use Rattle.bt_frame.specs.declared.schedule.Schedule.{Schedule};
 ghost use Rattle.bt_net.specs.Network.{Net, IsSound};
-ghost use Rattle.bt_plan.specs.declared.plan.Plan.{Plan};
-ghost use Rattle.bt_plan.specs.declared.verdict.Verdict.{Verdict};
+ghost use Rattle.bt_demand.specs.declared.plan.Plan.{Plan};
 ghost use Rattle.bt_plan.specs.PlanSpelling.{IsPlanInRange, plan_spelling};
 ghost use Rattle.bt_plan.specs.PlanText.{plan_of};
 ghost use Rattle.bt_plan.specs.ScheduleSpelling.{IsInRange, schedule_spelling};
 ghost use Rattle.bt_plan.specs.ScheduleText.{schedule_of};
-ghost use Rattle.bt_plan.specs.Verdict.{IsVerdict};
-
-/// A schedule has at most one verdict for a matrix.
-pub fn one_verdict()
-    ensures { (rows : List (List ℕ)) (schedule : Schedule) (a b : Verdict)
-        → IsVerdict rows schedule a → IsVerdict rows schedule b → a ≡ b }
-{}
 
 /// A schedule in range is read back from its text, and no other text is read as that schedule.
 pub fn schedules_have_one_spelling()

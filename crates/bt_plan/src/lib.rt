@@ -1,58 +1,29 @@
-//! Plans: the demand and its traffic matrix, the verdict on a switching schedule, and the texts of matrices and
-//! schedules.
+//! The texts of matrices, schedules, demands and burst time plans. It also gives out demands and plans, and their
+//! verdicts, which stand in crates of their own.
 //!
-//! `specs/Demand.antt` says what a demand is, and `specs/Traffic.antt` what its matrix is. `specs/Verdict.antt` has
-//! the table of verdicts, `specs/MatrixText.antt` and `specs/ScheduleText.antt` the grammars, line by line, with the
-//! fault of each line, and `specs/ScheduleSpelling.antt` the one text of each schedule; `laws.rt`,
-//! `demand_laws.rt` and `plan_laws.rt` have what holds of them whatever the program does.
-//!
-//! `specs/TrafficText.antt` and `specs/PlanText.antt` are the grammars of demands and of plans, and
-//! `specs/PlanSpelling.antt` has the one text of each plan.
+//! `specs/MatrixText.antt`, `specs/ScheduleText.antt`, `specs/TrafficText.antt` and `specs/PlanText.antt` are the
+//! grammars, line by line, with the fault of each line; `specs/ScheduleSpelling.antt` and `specs/PlanSpelling.antt` have
+//! the one text of each schedule and of each plan, and `laws.rt` that there is no other.
 #![tactic(auto)]
 
-mod burst;
-mod demand;
-mod demand_laws;
-mod demand_lines;
 mod laws;
 mod lines;
-mod links_served;
 mod matrix_text;
-mod meetings;
 mod names;
-mod plan;
-mod plan_check;
-mod plan_laws;
 mod plan_reader;
 mod plan_writer;
-mod schedule_check;
 mod schedule_reader;
 mod schedule_writer;
-mod spans;
 mod text_fault;
-mod traffic;
 mod traffic_reader;
-mod verdict;
 
-pub use burst::{Burst, Bursts, MOST_BURSTS};
-pub use demand::{Demand, Link};
-pub use demand_laws::{
-    gain_adds_to_one_entry, gain_changes_one_link, links_tell_demands, small_demands_have_a_matrix,
-};
-pub use laws::{one_verdict, plans_have_one_spelling, schedules_have_one_spelling};
+pub use bt_demand::{Burst, Bursts, Demand, Link, MOST_BURSTS, Plan, traffic_of};
+pub use bt_verdict::{Verdict, check, check_modes};
+pub use laws::{plans_have_one_spelling, schedules_have_one_spelling};
 pub use matrix_text::read_matrix;
-pub use plan::Plan;
-pub use plan_check::check;
-pub use plan_laws::{
-    good_plans_have_their_parts, no_assignment_is_shorter, one_plan_verdict,
-    plans_are_good_by_their_parts,
-};
 pub use plan_reader::read_plan;
 pub use plan_writer::plan_text;
-pub use schedule_check::check_modes;
 pub use schedule_reader::read_schedule;
 pub use schedule_writer::schedule_text;
 pub use text_fault::{TextCode, TextFault};
-pub use traffic::traffic_of;
 pub use traffic_reader::read_demand;
-pub use verdict::Verdict;

@@ -1,12 +1,11 @@
 // The numbers in a line.
 ghost use Rattle.std.specs.Prelude.{◌≡◌, map};
 ghost use Rattle.std.specs.Option.{option_map};
-ghost use Rattle.bt_base.specs.Text.{words, numbers_of, capped};
-ghost use Rattle.bt_base.specs.Reading.{or_fault};
-ghost use Rattle.bt_plan.specs.Reading.{Gives};
+ghost use Rattle.bt_text.specs.Text.{words, numbers_of, capped};
+ghost use Rattle.bt_text.specs.Reading.{or_fault, Gives};
 
 use crate::{TextCode, TextFault};
-use bt_base::{all_numbers, words};
+use bt_text::{all_numbers, fault_at, words};
 use std::alloc::Global;
 
 /// The numbers that the words of a line are, the last `u64` for every number from there on. Where a word
@@ -37,11 +36,4 @@ pub fn numbers_of_words(
         (numbers_of (map (λ word. word.now) words.now)))) }
 {
     all_numbers(alloc, words)?.ok_or(fault_at(code, at))
-}
-
-/// What is wrong with a line, counted from 1.
-pub fn fault_at(code: TextCode, line: u32) -> TextFault
-    ensures { result ≡ TextFault.At code line }
-{
-    TextFault::At { code, line }
 }

@@ -1,12 +1,13 @@
 // The text of a traffic matrix: its size in a line, then a line for each row.
 ghost use Rattle.std.specs.Prelude.{◌≤◌, map, Some};
-ghost use Rattle.bt_base.specs.Text.{words, lines, numbers_of};
-ghost use Rattle.bt_plan.specs.Reading.{Gives};
+ghost use Rattle.bt_text.specs.Text.{words, lines, numbers_of};
+ghost use Rattle.bt_text.specs.Reading.{Gives};
 ghost use Rattle.bt_plan.specs.MatrixText.{size_in, row_in, rows_in, matrix_of};
 
-use crate::lines::{fault_at, line_numbers};
+use crate::lines::line_numbers;
+use bt_text::fault_at;
 use crate::{TextCode, TextFault};
-use bt_base::first_line;
+use bt_text::first_line;
 use bt_matrix::Dense;
 use std::alloc::Global;
 
@@ -99,7 +100,7 @@ fn row(alloc: Global, size: u32, at: u32, numbers: &[u64]) -> Result<Vec<u32>, T
 #[cfg(test)]
 mod tests {
     use super::*;
-    use bt_base::BeamNo;
+    use bt_frame::BeamNo;
     use bt_matrix::Traffic;
     use std::test::Fail;
 

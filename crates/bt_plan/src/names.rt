@@ -1,12 +1,13 @@
 // Terminals by their names.
 ghost use Rattle.std.specs.Prelude.{◌≡◌, ◌<◌, length, IfOk, IfSome, IsTrue};
 ghost use Rattle.bt_net.specs.Name.{is_name as is_name_of};
-ghost use Rattle.bt_plan.specs.Reading.{Gives};
-ghost use Rattle.bt_plan.specs.TerminalNames.{terminal_of, are_names, ends_in, AreTerminals};
+ghost use Rattle.bt_text.specs.Reading.{Gives};
+ghost use Rattle.bt_plan.specs.TerminalNames.{ends_in, AreTerminals};
+ghost use Rattle.bt_net.specs.Terminals.{terminal_of, are_names};
 
-use crate::lines::fault_at;
+use bt_text::fault_at;
 use crate::{TextCode, TextFault};
-use bt_base::TermNo;
+use bt_frame::TermNo;
 use bt_net::{Network, is_name};
 
 /// The terminal of that name, for a word that has the shape of a name.

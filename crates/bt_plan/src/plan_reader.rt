@@ -1,22 +1,23 @@
 // The text of a burst time plan: its edition, its length, its critical line, its modes and its bursts in a line
 // each, and `end`.
 ghost use Rattle.std.specs.Prelude.{◌≡◌, ◌<◌, ◌≤◌, ◌+◌, ◌==◌, ◌^◌, ◌-◌, None, Some, Ok, Err, length, map, IfOk, IsTrue, AllPairs, if◌then◌else◌};
-ghost use Rattle.bt_base.specs.Text.{words, lines};
-ghost use Rattle.bt_base.specs.Reading.{or_fault};
+ghost use Rattle.bt_text.specs.Text.{words, lines};
+ghost use Rattle.bt_text.specs.Reading.{or_fault, Gives};
 ghost use Rattle.bt_plan.specs.declared.text_fault.TextCode.TheVariants.{P1};
-ghost use Rattle.bt_plan.specs.Burst.{IsNotAfter};
-ghost use Rattle.bt_plan.specs.Critical.{IsOfBeams};
+ghost use Rattle.bt_demand.specs.Burst.{IsNotAfter};
+ghost use Rattle.bt_frame.specs.Critical.{IsOfBeams};
 ghost use Rattle.bt_plan.specs.PlanText.{edition_in, span_of, span_in, burst_with, burst_between, burst_behind, burst_in, is_not_after, in_order, burst_below, bursts_in, is_mode, modes_and_bursts, critical_behind, length_behind, plan_of};
-ghost use Rattle.bt_plan.specs.PlanVerdict.{AreBetweenTerminals};
-ghost use Rattle.bt_plan.specs.Reading.{Gives};
+ghost use Rattle.bt_verdict.specs.PlanVerdict.{AreBetweenTerminals};
 ghost use Rattle.bt_plan.specs.ScheduleText.{mode_in};
-ghost use Rattle.bt_plan.specs.TerminalNames.{are_names};
+ghost use Rattle.bt_net.specs.Terminals.{are_names};
 
-use crate::lines::fault_at;
+use bt_text::fault_at;
 use crate::names::{are_names, ends_of};
 use crate::schedule_reader::{critical_line, is_word, length_line, mode_of_words, number_to};
-use crate::{Burst, Bursts, Plan, TextCode, TextFault};
-use bt_base::{EditionNo, Mode, Modes, Schedule, first_line, words};
+use bt_demand::{Burst, Bursts, Plan};
+use crate::{TextCode, TextFault};
+use bt_frame::{EditionNo, Mode, Modes, Schedule};
+use bt_text::{first_line, words};
 use bt_net::Network;
 use std::alloc::Global;
 
@@ -45,7 +46,7 @@ pub fn read_plan(alloc: Global, net: &Network, bytes: &[u8]) -> Result<Plan, Tex
 
 // The fault of a line that leaves the grammar or a range, or is missing.
 fn fault(line: u32) -> TextFault
-    ensures { result ≡ TextFault.At P1 line }
+    ensures { result ≡ LineFault.At P1 line }
 {
     fault_at(TextCode::P1, line)
 }
@@ -294,7 +295,7 @@ fn burst_between(
 mod tests {
     use super::*;
     use crate::plan_text;
-    use bt_base::{BeamNo, Critical, TermNo};
+    use bt_frame::{BeamNo, Critical, TermNo};
     use std::test::Fail;
 
     const NETWORK: &str =

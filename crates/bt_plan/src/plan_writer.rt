@@ -1,13 +1,13 @@
 // Writing a burst time plan as its text.
 ghost use Rattle.std.specs.Prelude.{◌≡◌, ◌<◌, ◌++◌, ◌∷◌, [], IfOk, OnOk, length, map};
-ghost use Rattle.bt_base.specs.Text.{ended};
+ghost use Rattle.bt_text.specs.Text.{ended};
 ghost use Rattle.bt_plan.specs.PlanSpelling.{edition_line, burst_line, plan_spelling};
-ghost use Rattle.bt_plan.specs.PlanVerdict.{AreBetweenTerminals};
-ghost use Rattle.bt_plan.specs.TerminalNames.{name_at};
+ghost use Rattle.bt_verdict.specs.PlanVerdict.{AreBetweenTerminals};
+ghost use Rattle.bt_net.specs.Terminals.{name_at};
 
 use crate::schedule_writer::{write_next, write_schedule};
-use crate::{Burst, Plan};
-use bt_base::{EditionNo, OutOfMemory, TermNo};
+use bt_demand::{Burst, Plan};
+use bt_frame::{EditionNo, OutOfMemory, TermNo};
 use bt_net::Network;
 use std::alloc::Global;
 

@@ -1,16 +1,17 @@
 // The text of a switching schedule: its length, its critical line, its modes in a line each, and `end`.
 ghost use Rattle.std.specs.Prelude.{◌≡◌, ◌≤◌, ◌<◌, ◌-◌, ◌^◌, ◌==◌, length, map, nat_le, Some, Ok, Err, IfOk, option_and_then, if◌then◌else◌};
 ghost use Rattle.std.specs.List.{list_all};
-ghost use Rattle.bt_base.specs.Text.{words, lines, numbers_of};
+ghost use Rattle.bt_text.specs.Text.{words, lines, numbers_of};
 ghost use Rattle.bt_plan.specs.declared.text_fault.TextCode.TheVariants.{M1};
-ghost use Rattle.bt_plan.specs.Critical.{IsOfBeams};
-ghost use Rattle.bt_base.specs.Reading.{or_fault};
-ghost use Rattle.bt_plan.specs.Reading.{Gives};
+ghost use Rattle.bt_frame.specs.Critical.{IsOfBeams};
+ghost use Rattle.bt_text.specs.Reading.{or_fault, Gives};
 ghost use Rattle.bt_plan.specs.ScheduleText.{is_word, number_to, length_in, line_in, critical_in, mode_with, mode_in, modes_in, critical_and_modes, schedule_of};
 
-use crate::lines::{fault_at, numbers_of_words};
+use crate::lines::numbers_of_words;
+use bt_text::fault_at;
 use crate::{TextCode, TextFault};
-use bt_base::{BeamNo, Columns, Critical, Mode, Modes, Schedule, first_line, number, words};
+use bt_frame::{BeamNo, Columns, Critical, Mode, Modes, Schedule};
+use bt_text::{first_line, number, words};
 use std::alloc::Global;
 
 /// The greatest length of a schedule and of a mode in a text, in slots.
@@ -32,7 +33,7 @@ pub fn read_schedule(alloc: Global, size: u32, bytes: &[u8]) -> Result<Schedule,
 
 // What is wrong with a schedule's text is said by its line alone.
 fn fault(line: u32) -> TextFault
-    ensures { result ≡ TextFault.At M1 line }
+    ensures { result ≡ LineFault.At M1 line }
 {
     fault_at(TextCode::M1, line)
 }

@@ -1,9 +1,10 @@
 // Writing a switching schedule as its text.
 ghost use Rattle.std.specs.Prelude.{◌≡◌, ◌≤◌, ◌++◌, ◌∷◌, [], IfOk, OnOk, codes, decimal, flat_map, map, length};
-ghost use Rattle.bt_base.specs.Text.{ended};
+ghost use Rattle.bt_text.specs.Text.{ended};
 ghost use Rattle.bt_plan.specs.ScheduleSpelling.{critical_line, length_line, mode_line, schedule_spelling};
 
-use bt_base::{Critical, Mode, OutOfMemory, Schedule, number_text};
+use bt_frame::{Critical, Mode, OutOfMemory, Schedule};
+use bt_text::number_text;
 use std::alloc::Global;
 
 /// The text of a switching schedule, as `read_schedule` reads it.
@@ -81,7 +82,7 @@ pub(crate) fn write_next(alloc: Global, number: u64, text: &mut Vec<u8>) -> Resu
 #[cfg(test)]
 mod tests {
     use super::*;
-    use bt_base::{BeamNo, Columns, Modes};
+    use bt_frame::{BeamNo, Columns, Modes};
     use std::process::Abort;
     use std::test::Fail;
 

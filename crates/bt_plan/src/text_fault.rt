@@ -1,8 +1,6 @@
 // The first fault of a text.
-ghost use Rattle.std.specs.Prelude.{◌≡◌};
-ghost use Rattle.bt_plan.specs.declared.text_fault.TextFault.TheVariants.{OutOfMemory};
 
-use std::alloc::{AllocError, AllocFailed};
+use bt_text::LineFault;
 
 /// What is wrong with a line of a text.
 #[derive(Clone, Copy, Debug, PartialEq, Eq)]
@@ -32,34 +30,4 @@ pub enum TextCode {
 }
 
 /// Why a text was not read.
-#[derive(Clone, Copy, Debug, PartialEq, Eq)]
-pub enum TextFault {
-    /// The first line with a fault, counted from 1.
-    At { code: TextCode, line: u32 },
-    /// Memory ran out.
-    OutOfMemory,
-}
-
-impl From<AllocError> for TextFault {
-    ghost from_gives = { λ _ e. e ≡ OutOfMemory };
-
-    fn from(_: AllocError) -> Self {
-        TextFault::OutOfMemory
-    }
-}
-
-impl<T: Drop> From<AllocFailed<T>> for TextFault {
-    ghost from_gives = { λ _ e. e ≡ OutOfMemory };
-
-    fn from(_: AllocFailed<T>) -> Self {
-        TextFault::OutOfMemory
-    }
-}
-
-impl From<bt_base::OutOfMemory> for TextFault {
-    ghost from_gives = { λ _ e. e ≡ OutOfMemory };
-
-    fn from(_: bt_base::OutOfMemory) -> Self {
-        TextFault::OutOfMemory
-    }
-}
+pub type TextFault = LineFault<TextCode>;

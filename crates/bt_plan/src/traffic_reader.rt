@@ -1,16 +1,18 @@
 // The text of a demand: a line for each link, in any order.
 ghost use Rattle.std.specs.Prelude.{◌≡◌, ◌+◌, ◌<◌, ◌≤◌, ◌≢◌, length, map, IfOk, IfErr, OnOk, IsTrue};
-ghost use Rattle.bt_base.specs.Text.{words, lines};
-ghost use Rattle.bt_plan.specs.Reading.{Gives};
-ghost use Rattle.bt_plan.specs.TerminalNames.{are_names};
-ghost use Rattle.bt_plan.specs.Traffic.{matrix_of, AreOfNetwork, HasSumsTo};
+ghost use Rattle.bt_text.specs.Text.{words, lines};
+ghost use Rattle.bt_text.specs.Reading.{Gives};
+ghost use Rattle.bt_net.specs.Terminals.{are_names};
+ghost use Rattle.bt_demand.specs.Traffic.{matrix_of, AreOfNetwork, HasSumsTo};
 ghost use Rattle.bt_plan.specs.TrafficText.{units_in, link_between, link_with, named_link, link_behind, link_in, links_with, line_with, demand_of, AreRead, IsSpelled};
 
-use crate::lines::fault_at;
+use bt_text::fault_at;
 use crate::names::{are_names, ends_of};
 use crate::schedule_reader::is_word;
-use crate::{Demand, Link, TextCode, TextFault};
-use bt_base::{TermNo, first_line, number, words};
+use bt_demand::{Demand, Link};
+use crate::{TextCode, TextFault};
+use bt_frame::TermNo;
+use bt_text::{first_line, number, words};
 use bt_matrix::{Dense, SUM_LAST, Traffic};
 use bt_net::Network;
 use std::alloc::Global;

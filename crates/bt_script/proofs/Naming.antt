@@ -5,9 +5,9 @@ use Rattle.std.specs.Str.{bytes_eq}
 use Rattle.std.proofs.lemmas.List.{length-map}
 use Rattle.std.proofs.lemmas.List.Elements.{All-append, All-nil, All-cons, All-tail}
 use Rattle.std.proofs.lemmas.List.Quantifiers.{position-Some}
-use Rattle.bt_base.specs.Text.{words}
-use Rattle.bt_base.specs.declared.numbers.BeamNo.{BeamNo}
-use Rattle.bt_base.specs.declared.numbers.TermNo.{TermNo}
+use Rattle.bt_text.specs.Text.{words}
+use Rattle.bt_frame.specs.declared.numbers.BeamNo.{BeamNo}
+use Rattle.bt_frame.specs.declared.numbers.TermNo.{TermNo}
 use Rattle.bt_net.specs.Network.{Net, names_of}
 use Rattle.bt_journal.specs.declared.call.Edit.{Edit}
 use Rattle.bt_journal.specs.declared.call.Edit.TheVariants.{Add, Drop, Move}
@@ -18,9 +18,10 @@ use Rattle.bt_script.specs.declared.script.DeskLine.{DeskLine}
 use Rattle.bt_script.specs.declared.script.DeskLine.TheVariants as desk_line
 use Rattle.bt_script.specs.declared.script.Item.{Item}
 use Rattle.bt_script.specs.declared.script.Item.TheVariants as item
-use Rattle.bt_base.specs.Reading.{◌>>=◌, or_fault}
+use Rattle.bt_text.specs.Reading.{◌>>=◌, or_fault}
 use Rattle.bt_script.specs.Reading.{Reading}
-use Rattle.bt_script.specs.ScriptText.{is_word, terminal_of, numbers_in, are_names, link_in, ranges_in, one_link, two_links, one_link_in, two_links_in, add_or_drop, move_in, move_by, edit_by, edit_in, desk_in, is_passed_over, desk_line_in, line_in, is_round, limited_line, last_in, lines_in, own_lines, lines_of, entry_of, desks_of, rounds_at, items_of}
+use Rattle.bt_script.specs.ScriptText.{is_word, numbers_in, link_in, ranges_in, one_link, two_links, one_link_in, two_links_in, add_or_drop, move_in, move_by, edit_by, edit_in, desk_in, is_passed_over, desk_line_in, line_in, is_round, limited_line, last_in, lines_in, own_lines, lines_of, entry_of, desks_of, rounds_at, items_of}
+use Rattle.bt_net.specs.Terminals.{terminal_of, are_names}
 use Rattle.bt_journal.specs.Journal.{NamesTerminals}
 use Rattle.bt_script.specs.Named.{IsLineFor, IsItemFor}
 

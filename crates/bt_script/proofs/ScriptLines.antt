@@ -1,16 +1,16 @@
 -- Reading lines one after the other, as a loop does, up to the end.
 use Rattle.std.proofs.Common.{◌≡◌, ℕ, ◌+◌, Bool, ◌||◌, List, [], ◌∷◌, ◌++◌, Ok, Err, sym, ap, ◌∙◌, refl}
-use Rattle.bt_base.specs.Text.{lines}
+use Rattle.bt_text.specs.Text.{lines}
 use Rattle.bt_net.specs.Network.{Net}
 use Rattle.bt_script.specs.declared.fault.ScriptCode.{ScriptCode}
-use Rattle.bt_script.specs.declared.fault.ScriptFault.{ScriptFault}
-use Rattle.bt_script.specs.declared.fault.ScriptFault.TheVariants.{At, OutOfMemory}
+use Rattle.bt_text.specs.declared.fault.LineFault.{LineFault}
+use Rattle.bt_text.specs.declared.fault.LineFault.TheVariants.{At, OutOfMemory}
 use Rattle.bt_script.specs.declared.line.ScriptLine.{ScriptLine}
-use Rattle.bt_base.specs.Reading.{◌>>=◌}
-use Rattle.bt_script.specs.Reading.{Reading, IsFaultOf}
+use Rattle.bt_text.specs.Reading.{◌>>=◌, IsFaultOf}
+use Rattle.bt_script.specs.Reading.{Reading}
 use Rattle.bt_script.specs.ScriptText.{is_round, limited_line, last_in, lines_in, added}
-use Rattle.bt_base.proofs.Front.{with_front, regroup}
-use Rattle.bt_base.proofs.FirstLine.{lines-HasFirst}
+use Rattle.bt_text.proofs.Front.{with_front, regroup}
+use Rattle.bt_text.proofs.FirstLine.{lines-HasFirst}
 
 -- the first line, and those that follow it
 lines_in-line : (net : Net) (at : ℕ) (is_open : Bool) (line after : List ℕ) → lines_in net at is_open (line ∷ lines after) ≡ (limited_line net at is_open line >>= λ one. lines_in net (at + 1) (is_open || is_round one) (lines after) >>= λ more. Ok (one ∷ more))
@@ -57,7 +57,7 @@ added-err is_open front (Ok one) fault e = absurd cc
 added-err is_open front (Err own) fault e = cc
 
 -- the fault of a line is the text's
-pub ends : (e : ScriptFault) (net : Net) (at : ℕ) (is_open : Bool) (front : List ScriptLine) (ls : List (List ℕ)) (line after : List ℕ) (total : Reading (List ScriptLine))
+pub ends : (e : LineFault ScriptCode) (net : Net) (at : ℕ) (is_open : Bool) (front : List ScriptLine) (ls : List (List ℕ)) (line after : List ℕ) (total : Reading (List ScriptLine))
     → ls ≡ line ∷ lines after → IsFaultOf (added is_open front (limited_line net at is_open line)) e
     → with_front front (lines_in net at is_open ls) ≡ total → IsFaultOf total e
 ends OutOfMemory net at is_open front ls line after total cut read so_far = tt
@@ -72,6 +72,6 @@ pub ends_there : (net : Net) (at : ℕ) (is_open : Bool) (front : List ScriptLin
     → with_front front (lines_in net at is_open ls) ≡ total → total ≡ with_front front (last_in at last)
 ends_there net at is_open front ls last total cut so_far = sym so_far ∙ ap (with_front front) (ap (lines_in net at is_open) cut)
 
-pub last_fault : (e : ScriptFault) (front : List ScriptLine) (reading total : Reading (List ScriptLine)) → IsFaultOf reading e → total ≡ with_front front reading → IsFaultOf total e
+pub last_fault : (e : LineFault ScriptCode) (front : List ScriptLine) (reading total : Reading (List ScriptLine)) → IsFaultOf reading e → total ≡ with_front front reading → IsFaultOf total e
 last_fault OutOfMemory front reading total is same = tt
 last_fault (At code line) front reading total is same = same ∙ ap (with_front front) is

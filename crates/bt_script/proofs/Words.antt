@@ -10,8 +10,8 @@ use Rattle.std.proofs.lemmas.Str.{IsUtf8-from_ascii}
 use Rattle.std.proofs.lemmas.Str.Ascii.{IsAscii-from_all}
 use Rattle.std.proofs.lemmas.Str.Parse.{digits_value_short}
 use Rattle.std.proofs.lemmas.List.Elements.{All-from_recursion}
-use Rattle.bt_base.specs.Text.{is_number, number_of, capped}
-use Rattle.bt_base.proofs.TextNumbers.{digits_model, digits_from_is_number}
+use Rattle.bt_text.specs.Text.{is_number, number_of, capped}
+use Rattle.bt_text.proofs.TextNumbers.{digits_model, digits_from_is_number}
 use Rattle.bt_net.specs.Name.{is_name_byte, is_name}
 
 capped-small : (n : ℕ) → n < 2 ^ 64 - 1 → capped n ≡ n

@@ -1,10 +1,10 @@
 -- The text of a script: rounds, and in each round the lines of its desks.
-use Rattle.std.specs.Prelude.{ℕ, zero, suc, ◌+◌, ◌==◌, ◌&&◌, ◌||◌, if◌then◌else◌, nat_le, codes, Bool, true, false, length, List, [], ◌∷◌, ◌++◌, Option, None, Ok, Err, option_map, position}
+use Rattle.std.specs.Prelude.{ℕ, zero, suc, ◌+◌, ◌==◌, ◌||◌, if◌then◌else◌, nat_le, codes, Bool, true, false, length, List, [], ◌∷◌, ◌++◌, Option, None, Ok, Err}
 use Rattle.std.specs.Str.{bytes_eq}
-use Rattle.bt_base.specs.Text.{words, lines, number_of}
-use Rattle.bt_base.specs.declared.numbers.TermNo.{TermNo}
-use Rattle.bt_net.specs.Name.{is_name}
-use Rattle.bt_net.specs.Network.{Net, names_of}
+use Rattle.bt_text.specs.Text.{words, lines, number_of}
+use Rattle.bt_frame.specs.declared.numbers.TermNo.{TermNo}
+use Rattle.bt_net.specs.Network.{Net}
+use Rattle.bt_net.specs.Terminals.{are_names, terminal_of}
 use Rattle.bt_journal.specs.declared.call.Edit.{Edit}
 use Rattle.bt_journal.specs.declared.call.Edit.TheVariants.{Add, Drop, Move}
 use Rattle.bt_script.specs.declared.fault.ScriptCode.TheVariants.{S1, S2, S3, S4, S5}
@@ -15,7 +15,7 @@ use Rattle.bt_script.specs.declared.script.DeskLine.TheVariants as desk_line
 use Rattle.bt_script.specs.declared.script.Item.{Item}
 use Rattle.bt_script.specs.declared.script.Item.TheVariants as item
 use Rattle.bt_script.specs.declared.script.Script.{Script}
-use Rattle.bt_base.specs.Reading.{◌>>=◌, or_fault}
+use Rattle.bt_text.specs.Reading.{◌>>=◌, or_fault}
 use Rattle.bt_script.specs.Reading.{Reading}
 
 -- the word is this one
@@ -26,10 +26,6 @@ is_word name word = bytes_eq word name
 abbrev pub short_number : List ℕ → Option ℕ
 short_number word = if nat_le (length word) 10 then number_of word else None
 
--- the terminal of that name
-abbrev pub terminal_of : Net → List ℕ → Option TermNo
-terminal_of net name = option_map (λ place. record { 0 = place }) (position (bytes_eq name) (names_of net.terminals))
-
 -- a number from 1 to `most`
 abbrev pub within : ℕ → ℕ → ℕ → Reading ℕ
 within at most number = if nat_le 1 number && nat_le number most then Ok number else Err (S3, at)
@@ -37,10 +33,6 @@ within at most number = if nat_le 1 number && nat_le number most then Ok number 
 -- the numbers of the desk and of the units
 abbrev pub numbers_in : ℕ → List ℕ → List ℕ → Reading (ℕ × ℕ)
 numbers_in at desk units = or_fault (S1, at) (short_number desk) >>= λ d. or_fault (S1, at) (short_number units) >>= λ u. Ok (d, u)
-
--- both words have the shape of a name
-abbrev pub are_names : List ℕ → List ℕ → Bool
-are_names from to = is_name from && is_name to
 
 -- the terminals of two names
 abbrev pub link_in : Net → ℕ → List ℕ → List ℕ → Reading (TermNo × TermNo)

@@ -4,7 +4,7 @@ ghost use Rattle.bt_script.specs.ScriptText.{is_round, own_lines, lines_of, entr
 
 use crate::line::ScriptLine;
 use crate::{DeskLine, DeskLines, Desks, Item, Items, Round};
-use bt_base::OutOfMemory;
+use bt_frame::OutOfMemory;
 use std::alloc::Global;
 
 /// The line begins a round.

@@ -1,17 +1,17 @@
 // One line of a script: what it says, or its fault.
 ghost use Rattle.std.specs.Prelude.{◌≡◌, ◌&&◌, ◌<◌, map, IsTrue};
-ghost use Rattle.bt_base.specs.Text.{words};
+ghost use Rattle.bt_text.specs.Text.{words};
 ghost use Rattle.bt_net.specs.Name.{is_name as is_name_of};
 ghost use Rattle.bt_script.specs.declared.fault.ScriptCode.TheVariants.{S1, S2};
-ghost use Rattle.bt_base.specs.Reading.{or_fault};
-ghost use Rattle.bt_script.specs.Reading.{Gives};
-ghost use Rattle.bt_script.specs.ScriptText.{is_word, short_number, terminal_of, within, numbers_in, are_names, link_in, ranges_in, one_link, two_links, one_link_in, two_links_in, add_or_drop, move_in, move_by, edit_by, edit_in, desk_in, is_passed_over, desk_line_in, line_in};
+ghost use Rattle.bt_text.specs.Reading.{or_fault, Gives};
+ghost use Rattle.bt_script.specs.ScriptText.{is_word, short_number, within, numbers_in, link_in, ranges_in, one_link, two_links, one_link_in, two_links_in, add_or_drop, move_in, move_by, edit_by, edit_in, desk_in, is_passed_over, desk_line_in, line_in};
+ghost use Rattle.bt_net.specs.Terminals.{terminal_of, are_names};
 
-use crate::fault::fault_at;
 use crate::{ScriptCode, ScriptFault};
-use bt_base::{TermNo, Units, number, words};
+use bt_frame::{TermNo, Units};
 use bt_journal::Edit;
 use bt_net::{Network, is_name};
+use bt_text::{fault_at, number, words};
 use std::alloc::Global;
 
 /// The greatest number of a desk.

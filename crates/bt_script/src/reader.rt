@@ -1,16 +1,15 @@
 // A script from its text.
 ghost use Rattle.std.specs.Prelude.{◌≤◌, [], length, false, All, IfOk, OnOk};
-ghost use Rattle.bt_base.specs.Text.{lines};
+ghost use Rattle.bt_text.specs.Text.{lines};
 ghost use Rattle.bt_script.specs.Named.{HasDesksInOrder, IsItemFor};
-ghost use Rattle.bt_script.specs.Reading.{Gives};
+ghost use Rattle.bt_text.specs.Reading.{Gives};
 ghost use Rattle.bt_script.specs.ScriptText.{limited_line, added, last_in, lines_in, script_of};
 
-use crate::fault::fault_at;
 use crate::items::items_of;
 use crate::line::{ScriptLine, read_line};
 use crate::{Script, ScriptCode, ScriptFault};
-use bt_base::first_line;
 use bt_net::Network;
+use bt_text::{fault_at, first_line};
 use std::alloc::Global;
 
 /// The most lines of a script, those that are passed over included.
@@ -113,7 +112,7 @@ fn last_line(at: u32, rest: &[u8]) -> Result<(), ScriptFault>
 mod tests {
     use super::*;
     use crate::{DeskLine, Item};
-    use bt_base::{TermNo, Units};
+    use bt_frame::{TermNo, Units};
     use bt_journal::Edit;
     use std::test::Fail;
 

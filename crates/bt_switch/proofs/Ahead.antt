@@ -1,6 +1,6 @@
 -- A change that is to come, and the edition in front with its superframe.
 use Rattle.std.proofs.Common.{◌≡◌, ◌⊎◌, inl, inr, ◌+◌, ◌<◌, if◌then◌else◌, Bool, true, false, List, [], ◌∷◌, ◌++◌, reverse, Some, refl, sym, ◌∙◌, ap, arith, subst}
-use Rattle.bt_base.specs.declared.numbers.Mark.{Mark}
+use Rattle.bt_frame.specs.declared.numbers.Mark.{Mark}
 use Rattle.bt_air.specs.declared.message.Message.{Message}
 use Rattle.bt_air.specs.declared.order.Armed.{Armed}
 use Rattle.bt_air.specs.declared.order.Order.{Order}

@@ -4,7 +4,7 @@ use Rattle.std.proofs.lemmas.List.Elements.{All-cons, All-nil, All-weaker}
 use Rattle.std.proofs.lemmas.List.Kept.{AllPairs-cons}
 use Rattle.bt_air.specs.declared.order.Order.{Order}
 use Rattle.bt_air.specs.declared.order.Order.TheVariants.{Load, Arm}
-use Rattle.bt_base.specs.declared.numbers.Command.{Command}
+use Rattle.bt_frame.specs.declared.numbers.Command.{Command}
 use Rattle.bt_switch.specs.Satellite.{State, step_of, ticked, changed, begun, is_due}
 use Rattle.bt_switch.specs.Run.{Event, Begins, Hears, accepted, accepted_with, after_event, command_of}
 use Rattle.bt_switch.proofs.Rows.{Nothing, Loads, Arms, does}

@@ -1,7 +1,7 @@
 -- What the orders say of a satellite that stands as they do.
 use Rattle.std.proofs.Common.{◌≡◌, inl, inr, ℕ, ◌<◌, ◌≤◌, nat_le, true, false, List, [], ◌∷◌, reverse, None, refl, sym, ◌∙◌, arith, subst}
 use Rattle.std.proofs.lemmas.Bool.Decides.{nat_tests}
-use Rattle.bt_base.specs.declared.numbers.Mark.{Mark}
+use Rattle.bt_frame.specs.declared.numbers.Mark.{Mark}
 use Rattle.bt_air.specs.declared.order.Order.{Order}
 use Rattle.bt_air.specs.declared.order.Order.TheVariants.{Load, Arm}
 use Rattle.bt_switch.specs.Satellite.{State, new_at}

@@ -1,7 +1,7 @@
 -- What a list of accepted orders says of a satellite. The lists have the latest order first.
 use Rattle.std.specs.Prelude.{◌≡◌, ℕ, nat_le, if◌then◌else◌, List, [], ◌∷◌, Option, Some, None}
-use Rattle.bt_base.specs.declared.numbers.Command.{Command}
-use Rattle.bt_base.specs.declared.numbers.EditionNo.{EditionNo}
+use Rattle.bt_frame.specs.declared.numbers.Command.{Command}
+use Rattle.bt_frame.specs.declared.numbers.EditionNo.{EditionNo}
 use Rattle.bt_air.specs.declared.order.Armed.{Armed}
 use Rattle.bt_air.specs.declared.order.Order.{Order}
 use Rattle.bt_air.specs.declared.order.Order.TheVariants.{Load, Arm}

@@ -1,9 +1,9 @@
 -- The satellite: its state, its table, and which mode its switch takes in a slot.
 use Rattle.std.specs.Prelude.{ℕ, ◌+◌, ◌==◌, nat_le, not, if◌then◌else◌, Bool, true, false, List, [], Option, Some, None}
-use Rattle.bt_base.specs.declared.mode.Mode.{Mode}
-use Rattle.bt_base.specs.declared.numbers.Command.{Command}
-use Rattle.bt_base.specs.declared.numbers.EditionNo.{EditionNo}
-use Rattle.bt_base.specs.declared.numbers.Mark.{Mark}
+use Rattle.bt_frame.specs.declared.mode.Mode.{Mode}
+use Rattle.bt_frame.specs.declared.numbers.Command.{Command}
+use Rattle.bt_frame.specs.declared.numbers.EditionNo.{EditionNo}
+use Rattle.bt_frame.specs.declared.numbers.Mark.{Mark}
 use Rattle.bt_air.specs.declared.message.Message.{Message}
 use Rattle.bt_air.specs.declared.message.Message.TheVariants.{Load, Arm}
 use Rattle.bt_air.specs.declared.order.Armed.{Armed}

@@ -2,7 +2,7 @@
 ghost use Rattle.std.specs.Prelude.{◌≡◌};
 ghost use Rattle.bt_switch.specs.Satellite.{empty_bank};
 
-use bt_base::{EditionNo, Modes};
+use bt_frame::{EditionNo, Modes};
 use std::alloc::Global;
 
 /// The modes of an edition.

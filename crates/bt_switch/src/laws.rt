@@ -1,7 +1,7 @@
 // What holds of the table and of every run of a satellite.
 ghost use Rattle.std.specs.Prelude.{◌≡◌, ◌≢◌, ◌<◌, List, [], ◌∷◌, ◌++◌, reverse, AllPairs, Some};
-ghost use Rattle.bt_base.specs.declared.mode.Mode.{Mode};
-ghost use Rattle.bt_base.specs.declared.numbers.Mark.{Mark};
+ghost use Rattle.bt_frame.specs.declared.mode.Mode.{Mode};
+ghost use Rattle.bt_frame.specs.declared.numbers.Mark.{Mark};
 ghost use Rattle.bt_air.specs.declared.message.Message.{Message};
 ghost use Rattle.bt_air.specs.declared.order.Armed.{Armed};
 ghost use Rattle.bt_switch.specs.Satellite.{State, new_at, step_of};

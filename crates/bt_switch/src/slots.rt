@@ -3,7 +3,7 @@ ghost use Rattle.std.specs.Prelude.{◌≡◌, ◌≤◌, ◌↔◌, IfSome, IsN
 ghost use Rattle.bt_matrix.specs.Good.{total_duration};
 ghost use Rattle.bt_switch.specs.Slots.{HasSlot};
 
-use bt_base::Mode;
+use bt_frame::Mode;
 
 /// The mode whose span has the slot, or None past the last mode's end.
 pub(crate) fn mode_in(modes: &[Mode], slot: u32) -> Option<&Mode>

@@ -1,7 +1,7 @@
 // The answers of a satellite, its status and its modes, worked out by hand.
 use crate::Satellite;
 use bt_air::{Message, Status, Taken};
-use bt_base::{Columns, Command, EditionNo, Mark, Mode, Modes, OutOfMemory, TermNo};
+use bt_frame::{Columns, Command, EditionNo, Mark, Mode, Modes, OutOfMemory, TermNo};
 use std::alloc::Global;
 use std::test::Fail;
 

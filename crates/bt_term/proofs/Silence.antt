@@ -3,9 +3,9 @@ use Rattle.std.proofs.Common.{◌≡◌, ◌==◌, Bool, true, false, List, [], 
 use Rattle.std.proofs.lemmas.Bool.Decides.{nat_tests}
 use Rattle.std.proofs.lemmas.List.Elements.{recursion_from_All}
 use Rattle.std.specs.List.{AllByRecursion}
-use Rattle.bt_base.specs.declared.numbers.EditionNo.{EditionNo}
-use Rattle.bt_base.specs.declared.numbers.Mark.{Mark}
-use Rattle.bt_base.specs.declared.numbers.TermNo.{TermNo}
+use Rattle.bt_frame.specs.declared.numbers.EditionNo.{EditionNo}
+use Rattle.bt_frame.specs.declared.numbers.Mark.{Mark}
+use Rattle.bt_frame.specs.declared.numbers.TermNo.{TermNo}
 use Rattle.bt_air.specs.declared.message.Message.TheVariants as message
 use Rattle.bt_term.specs.Banks.{hold, have_room, next_bank}
 use Rattle.bt_term.specs.Terminal.{State, new_of, in_force, is_for_another, is_before, is_named, is_wrong, storing, step_of, sent}

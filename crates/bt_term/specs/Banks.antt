@@ -1,7 +1,7 @@
 -- The two banks of a terminal: which edition they hold, and where bursts are stored.
 use Rattle.std.specs.Prelude.{◌==◌, ◌||◌, nat_lt, if◌then◌else◌, Bool, true, false, List, [], Option, Some, None}
-use Rattle.bt_base.specs.declared.numbers.EditionNo.{EditionNo}
-use Rattle.bt_plan.specs.declared.burst.Burst.{Burst}
+use Rattle.bt_frame.specs.declared.numbers.EditionNo.{EditionNo}
+use Rattle.bt_demand.specs.declared.burst.Burst.{Burst}
 use Rattle.bt_term.specs.declared.bank.Bank.{Bank}
 use Rattle.bt_term.specs.declared.banks.Banks.{Banks}
 

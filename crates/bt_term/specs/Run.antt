@@ -1,7 +1,7 @@
 -- Runs of a terminal: messages that it hears, each in a superframe, and restarts, in any order.
 use Rattle.std.specs.Prelude.{◌≡◌, ◌≢◌, List, [], ◌∷◌, Option, Some, None}
-use Rattle.bt_base.specs.declared.numbers.Mark.{Mark}
-use Rattle.bt_plan.specs.declared.burst.Burst.{Burst}
+use Rattle.bt_frame.specs.declared.numbers.Mark.{Mark}
+use Rattle.bt_demand.specs.declared.burst.Burst.{Burst}
 use Rattle.bt_air.specs.declared.message.Message.{Message}
 use Rattle.bt_air.specs.declared.message.Message.TheVariants as message
 use Rattle.bt_term.specs.declared.bank.Bank.{Bank}

@@ -1,9 +1,9 @@
 -- The terminal: its state, its table, and what it transmits.
 use Rattle.std.specs.Prelude.{◌==◌, nat_lt, not, if◌then◌else◌, Bool, false, List, [], Option, Some, None}
-use Rattle.bt_base.specs.declared.numbers.EditionNo.{EditionNo}
-use Rattle.bt_base.specs.declared.numbers.Mark.{Mark}
-use Rattle.bt_base.specs.declared.numbers.TermNo.{TermNo}
-use Rattle.bt_plan.specs.declared.burst.Burst.{Burst}
+use Rattle.bt_frame.specs.declared.numbers.EditionNo.{EditionNo}
+use Rattle.bt_frame.specs.declared.numbers.Mark.{Mark}
+use Rattle.bt_frame.specs.declared.numbers.TermNo.{TermNo}
+use Rattle.bt_demand.specs.declared.burst.Burst.{Burst}
 use Rattle.bt_air.specs.declared.message.Message.{Message}
 use Rattle.bt_air.specs.declared.message.Message.TheVariants as message
 use Rattle.bt_air.specs.declared.sent.Heard.{Heard}

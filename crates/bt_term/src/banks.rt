@@ -4,7 +4,7 @@ ghost use Rattle.std.specs.Option.{option_copied};
 ghost use Rattle.bt_term.specs.Banks.{have_room, hold, is_of, is_lower, goes_second, next_bank, with_stored, bank_of, no_banks};
 
 use crate::bank::Bank;
-use bt_base::EditionNo;
+use bt_frame::EditionNo;
 
 /// Two banks, each empty or with the bursts of an edition.
 #[derive(Drop)]

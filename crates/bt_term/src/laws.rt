@@ -1,9 +1,9 @@
 // What holds of the table and of every run of a terminal.
 ghost use Rattle.std.specs.Prelude.{◌≡◌, ◌≢◌, ℕ, true, List, [], All, Some};
-ghost use Rattle.bt_base.specs.declared.numbers.EditionNo.{EditionNo};
-ghost use Rattle.bt_base.specs.declared.numbers.Mark.{Mark};
-ghost use Rattle.bt_base.specs.declared.numbers.TermNo.{TermNo};
-ghost use Rattle.bt_plan.specs.declared.burst.Burst.{Burst};
+ghost use Rattle.bt_frame.specs.declared.numbers.EditionNo.{EditionNo};
+ghost use Rattle.bt_frame.specs.declared.numbers.Mark.{Mark};
+ghost use Rattle.bt_frame.specs.declared.numbers.TermNo.{TermNo};
+ghost use Rattle.bt_demand.specs.declared.burst.Burst.{Burst};
 ghost use Rattle.bt_air.specs.declared.message.Message.{Message};
 ghost use Rattle.bt_term.specs.Banks.{hold};
 ghost use Rattle.bt_term.specs.Terminal.{State, new_of, in_force, step_of, sent};

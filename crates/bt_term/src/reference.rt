@@ -1,5 +1,5 @@
 // The reference burst as a terminal keeps it.
-use bt_base::{EditionNo, Mark};
+use bt_frame::{EditionNo, Mark};
 
 /// A reference burst: the superframe that it begins, and the edition in force, where it names one.
 #[derive(Clone, Copy)]

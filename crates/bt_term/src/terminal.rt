@@ -1,6 +1,6 @@
 // The terminal, a machine that takes reference bursts and its bursts of two editions.
 ghost use Rattle.std.specs.Prelude.{◌≡◌};
-ghost use Rattle.bt_plan.specs.Burst.{AreBursts};
+ghost use Rattle.bt_demand.specs.Burst.{AreBursts};
 ghost use Rattle.bt_term.specs.Banks.{next_bank};
 ghost use Rattle.bt_term.specs.Terminal.{new_of, in_force, is_before, is_named, step_of, sent};
 
@@ -8,8 +8,8 @@ use crate::bank::Bank;
 use crate::banks::Banks;
 use crate::reference::Reference;
 use bt_air::{Heard, Message};
-use bt_base::{EditionNo, Mark, TermNo};
-use bt_plan::Burst;
+use bt_frame::{EditionNo, Mark, TermNo};
+use bt_demand::Burst;
 use std::alloc::Global;
 use std::marker::Model;
 

@@ -1,10 +1,10 @@
 use Rattle.std.proofs.Common.{◌≡◌, ℕ, ◌+◌, ◌*◌, ◌≤◌, List, length, take, get_or, sym, ap, ◌∙◌, subst, arith}
 use Rattle.std.proofs.lemmas.List.{get_or_default, take_all, length-append}
-use Rattle.bt_base.specs.declared.mode.Mode.{Mode}
+use Rattle.bt_frame.specs.declared.mode.Mode.{Mode}
 use Rattle.bt_matrix.specs.Good.{slots_of}
-use Rattle.bt_plan.specs.declared.demand.Link.{Link}
-use Rattle.bt_plan.specs.Demand.{IsDemand}
-use Rattle.bt_plan.specs.Traffic.{AreOfNetwork, units_between}
+use Rattle.bt_demand.specs.declared.demand.Link.{Link}
+use Rattle.bt_demand.specs.Demand.{IsDemand}
+use Rattle.bt_demand.specs.Traffic.{AreOfNetwork, units_between}
 use Rattle.bt_cut.specs.declared.connection.Connection.{Connection}
 use Rattle.bt_cut.specs.Serving.{ArePieces, HasSlots}
 use Rattle.bt_cut.proofs.Links.{enough_left, few_links, slots_few, IsTable-given}

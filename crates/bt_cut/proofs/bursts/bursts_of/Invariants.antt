@@ -1,5 +1,5 @@
 use Rattle.std.proofs.Common.{◌*◌, ◌≤◌, length, take}
-use Rattle.bt_plan.specs.Traffic.{units_between}
+use Rattle.bt_demand.specs.Traffic.{units_between}
 use Rattle.bt_cut.specs.Parts.{AreParts}
 use Rattle.bt_cut.specs.Serving.{IsTable}
 use Rattle.bt_cut.proofs.bursts.bursts_of.Given as goal

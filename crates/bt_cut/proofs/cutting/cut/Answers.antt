@@ -1,7 +1,7 @@
 use Rattle.std.proofs.Common.{List, length, AllPairs, sym, subst, arith}
 use Rattle.std.proofs.lemmas.List.Sorted.{length_permutation}
-use Rattle.bt_plan.specs.declared.burst.Burst.{Burst}
-use Rattle.bt_plan.specs.Burst.{IsNotAfter}
+use Rattle.bt_demand.specs.declared.burst.Burst.{Burst}
+use Rattle.bt_demand.specs.Burst.{IsNotAfter}
 use Rattle.bt_cut.specs.Parts.{AreParts}
 use Rattle.bt_cut.proofs.Plans.{IsCutting-parts, is_for, cutting_good, plan_between, parts_in_order}
 use Rattle.bt_cut.proofs.cutting.cut.Goals as goal

@@ -1,7 +1,7 @@
 use Rattle.std.proofs.Common.{ℕ, ◌+◌, get_or, rules, arith}
 use Rattle.std.proofs.lemmas.List.Sorted.{answers_always}
-use Rattle.bt_base.specs.declared.numbers.TermNo.{TermNo}
-use Rattle.bt_plan.specs.declared.burst.Burst.{Burst}
+use Rattle.bt_frame.specs.declared.numbers.TermNo.{TermNo}
+use Rattle.bt_demand.specs.declared.burst.Burst.{Burst}
 use Rattle.bt_cut.proofs.Neighbours.{not_after, all_in_order}
 use Rattle.bt_cut.proofs.order.in_order.Goals as goal
 

@@ -1,7 +1,7 @@
 use Rattle.std.proofs.Common.{◌≡◌, ℕ, ◌<◌, List, length, vec_len}
 use Rattle.std.specs.List.{HoldsAt}
-use Rattle.bt_base.specs.declared.mode.Mode.{Mode}
-use Rattle.bt_plan.specs.Plan.{begin_of}
+use Rattle.bt_frame.specs.declared.mode.Mode.{Mode}
+use Rattle.bt_demand.specs.Plan.{begin_of}
 use Rattle.bt_cut.specs.Serving.{IsTable}
 use Rattle.bt_cut.proofs.Tables.{IsPartTable}
 use Rattle.bt_cut.proofs.table.add_mode.Given as goal

@@ -1,5 +1,5 @@
 use Rattle.std.proofs.Common.{◌≡◌}
-use Rattle.bt_plan.specs.Plan.{begin_of}
+use Rattle.bt_demand.specs.Plan.{begin_of}
 use Rattle.bt_cut.specs.Serving.{IsTable}
 use Rattle.bt_cut.proofs.table.connections_of.Given as goal
 

@@ -1,6 +1,6 @@
 use Rattle.std.proofs.Common.{ℕ, ◌+◌, ◌*◌, List, arith}
 use Rattle.std.proofs.lemmas.List.Elements.{All-push}
-use Rattle.bt_base.specs.declared.mode.Mode.{Mode}
+use Rattle.bt_frame.specs.declared.mode.Mode.{Mode}
 use Rattle.bt_cut.specs.declared.connection.Connection.{Connection}
 use Rattle.bt_cut.specs.Serving.{HasSlots}
 use Rattle.bt_cut.proofs.table.empty_table.Goals as goal

@@ -1,5 +1,5 @@
 use Rattle.std.proofs.Common.{◌≡◌, ℕ, List, vec_len, All}
-use Rattle.bt_base.specs.declared.mode.Mode.{Mode}
+use Rattle.bt_frame.specs.declared.mode.Mode.{Mode}
 use Rattle.bt_cut.specs.Serving.{HasSlots}
 use Rattle.bt_cut.proofs.table.empty_table.Given as goal
 

@@ -1,7 +1,7 @@
 use Rattle.std.proofs.Common.{true, ap, ◌∙◌, arith}
 use Rattle.std.proofs.lemmas.List.{take_all}
-use Rattle.bt_plan.specs.Demand.{units_where}
-use Rattle.bt_plan.proofs.Matrices.{HasSumsTo-small}
+use Rattle.bt_demand.specs.Demand.{units_where}
+use Rattle.bt_demand.proofs.Matrices.{HasSumsTo-small}
 use Rattle.bt_cut.proofs.tests.are_few.Goals as goal
 
 -- each link was looked at, and the slots in all are at most what was there at first

@@ -1,5 +1,5 @@
 use Rattle.std.proofs.Common.{◌≡◌, ◌+◌, true, take}
-use Rattle.bt_plan.specs.Demand.{units_where}
+use Rattle.bt_demand.specs.Demand.{units_where}
 use Rattle.bt_cut.proofs.tests.are_few.Given as goal
 
 -- what is left and the slots so far

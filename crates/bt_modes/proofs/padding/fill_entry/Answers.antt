@@ -1,6 +1,6 @@
 use Rattle.std.proofs.Common.{arith, inl, inr}
 use Rattle.std.proofs.lemmas.Bool.{cases_lt}
-use Rattle.bt_base.specs.declared.schedule.Critical.TheVariants.{Row, Column}
+use Rattle.bt_frame.specs.declared.schedule.Critical.TheVariants.{Row, Column}
 use Rattle.bt_modes.proofs.Fillings.{IsPartPadding-same, IsPartPadding-with_entry, IsGain-with_entry}
 use Rattle.bt_modes.proofs.padding.fill_entry.Goals as goal
 

@@ -1,7 +1,7 @@
 use Rattle.std.proofs.Common.{[], length, map, arith}
 use Rattle.std.proofs.lemmas.Result.{err_from_is_err_and}
 use Rattle.serde_json.specs.View.{view}
-use Rattle.bt_net.specs.Network.{IsWithin}
+use Rattle.bt_frame.specs.Range.{IsWithin}
 use Rattle.bt_net.specs.Reading.{through, with_terminal}
 use Rattle.bt_net.proofs.Walk.{goes_on, stops, ends, through-terminals}
 use Rattle.bt_net.proofs.reading.add_terminals.Goals as goal

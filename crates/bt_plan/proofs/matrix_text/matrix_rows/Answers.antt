@@ -1,8 +1,8 @@
 -- the size, and the rows that follow it
 use Rattle.std.proofs.lemmas.Result.{err_from_is_err_and}
-use Rattle.bt_base.specs.Text.{words, lines, numbers_of}
+use Rattle.bt_text.specs.Text.{words, lines, numbers_of}
 use Rattle.bt_plan.specs.MatrixText.{size_in, rows_in}
-use Rattle.bt_plan.proofs.Faults.{IsFaultOf-then}
+use Rattle.bt_text.proofs.Faults.{IsFaultOf-then}
 use Rattle.bt_plan.proofs.Rows.{matrix_from_line}
 use Rattle.bt_plan.proofs.matrix_text.matrix_rows.Goals as goal
 

@@ -2,7 +2,7 @@
 use Rattle.std.proofs.Common.{map, sym, arith}
 use Rattle.std.proofs.lemmas.Result.{err_from_is_err_and}
 use Rattle.std.proofs.lemmas.List.{map_push}
-use Rattle.bt_base.specs.Text.{lines}
+use Rattle.bt_text.specs.Text.{lines}
 use Rattle.bt_plan.specs.MatrixText.{rows_in}
 use Rattle.bt_plan.proofs.Rows.{goes_on, ends, ends_late}
 use Rattle.bt_plan.proofs.matrix_text.rows.Goals as goal

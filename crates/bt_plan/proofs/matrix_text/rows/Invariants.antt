@@ -1,8 +1,8 @@
 -- the rows so far, in front of those that are left, are all the rows
 use Rattle.std.proofs.Common.{◌≡◌, map}
-use Rattle.bt_base.specs.Text.{lines}
+use Rattle.bt_text.specs.Text.{lines}
 use Rattle.bt_plan.specs.MatrixText.{rows_in}
-use Rattle.bt_base.proofs.Front.{with_front}
+use Rattle.bt_text.proofs.Front.{with_front}
 use Rattle.bt_plan.proofs.Rows.{left}
 use Rattle.bt_plan.proofs.matrix_text.rows.Given as goal
 

@@ -2,7 +2,7 @@
 use Rattle.std.proofs.Common.{None, sym, arith}
 use Rattle.std.proofs.lemmas.List.{length-append}
 use Rattle.std.proofs.lemmas.Result.{err_from_is_err_and}
-use Rattle.bt_base.specs.Text.{words, lines}
+use Rattle.bt_text.specs.Text.{words, lines}
 use Rattle.bt_plan.specs.PlanText.{bursts_in}
 use Rattle.bt_plan.proofs.PlanLines.{goes_on, ends, ends_there, in_order_more}
 use Rattle.bt_plan.proofs.plan_reader.bursts.Goals as goal

@@ -1,7 +1,7 @@
 -- the bursts so far, in front of those that are left, are all the bursts; each line takes a newline at least
 use Rattle.std.proofs.Common.{◌≡◌, ◌+◌, ◌≤◌, None, length}
-use Rattle.bt_base.specs.Text.{lines}
-use Rattle.bt_base.proofs.Front.{with_front}
+use Rattle.bt_text.specs.Text.{lines}
+use Rattle.bt_text.proofs.Front.{with_front}
 use Rattle.bt_plan.specs.PlanText.{bursts_in}
 use Rattle.bt_plan.proofs.PlanLines.{AreInOrder}
 use Rattle.bt_plan.proofs.plan_reader.bursts.Given as goal

@@ -1,10 +1,10 @@
 -- the critical line, and what follows it
 use Rattle.std.proofs.Common.{length, Ok}
 use Rattle.std.proofs.lemmas.Result.{err_from_is_err_and}
-use Rattle.bt_base.specs.Text.{lines}
+use Rattle.bt_text.specs.Text.{lines}
 use Rattle.bt_plan.specs.PlanText.{modes_and_bursts, parts_behind}
 use Rattle.bt_plan.specs.ScheduleText.{critical_in}
-use Rattle.bt_plan.proofs.Faults.{IsFaultOf-then}
+use Rattle.bt_text.proofs.Faults.{IsFaultOf-then}
 use Rattle.bt_plan.proofs.OnePlan.{between_terminals}
 use Rattle.bt_plan.proofs.PlanLines.{first_line_says}
 use Rattle.bt_plan.proofs.plan_reader.critical_behind.Goals as goal

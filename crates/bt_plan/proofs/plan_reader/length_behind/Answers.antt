@@ -1,11 +1,11 @@
 -- the length, and what follows it
 use Rattle.std.proofs.lemmas.Result.{err_from_is_err_and}
-use Rattle.bt_base.specs.Reading.{or_fault}
-use Rattle.bt_base.specs.Text.{words, lines}
+use Rattle.bt_text.specs.Reading.{or_fault}
+use Rattle.bt_text.specs.Text.{words, lines}
 use Rattle.bt_plan.specs.declared.text_fault.TextCode.TheVariants.{P1}
 use Rattle.bt_plan.specs.PlanText.{critical_behind}
 use Rattle.bt_plan.specs.ScheduleText.{length_in}
-use Rattle.bt_plan.proofs.Faults.{IsFaultOf-then}
+use Rattle.bt_text.proofs.Faults.{IsFaultOf-then}
 use Rattle.bt_plan.proofs.PlanLines.{first_line_says}
 use Rattle.bt_plan.proofs.plan_reader.length_behind.Goals as goal
 

@@ -1,7 +1,7 @@
 -- one mode more
 use Rattle.std.proofs.Common.{sym, ◌∙◌, arith}
 use Rattle.std.proofs.lemmas.List.{length-append}
-use Rattle.bt_base.specs.Text.{lines}
+use Rattle.bt_text.specs.Text.{lines}
 use Rattle.bt_plan.specs.PlanText.{modes_and_bursts}
 use Rattle.bt_plan.proofs.PlanLines.{mode_goes_on}
 use Rattle.bt_plan.proofs.plan_reader.modes_and_bursts.Goals as goal

@@ -1,6 +1,6 @@
 -- the modes so far, in front of what is left, are all that is read; each line takes a newline at least
 use Rattle.std.proofs.Common.{◌≡◌, ◌+◌, ◌≤◌, length}
-use Rattle.bt_base.specs.Text.{lines}
+use Rattle.bt_text.specs.Text.{lines}
 use Rattle.bt_plan.specs.PlanText.{modes_and_bursts}
 use Rattle.bt_plan.proofs.PlanLines.{with_modes}
 use Rattle.bt_plan.proofs.plan_reader.modes_and_bursts.Given as goal

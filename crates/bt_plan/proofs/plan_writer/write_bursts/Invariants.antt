@@ -1,6 +1,6 @@
 -- the lines of the bursts so far
 use Rattle.std.proofs.Common.{◌≡◌, ◌++◌, map, take}
-use Rattle.bt_base.specs.Text.{ended}
+use Rattle.bt_text.specs.Text.{ended}
 use Rattle.bt_plan.specs.PlanSpelling.{burst_line}
 use Rattle.bt_plan.proofs.plan_writer.write_bursts.Given as goal
 

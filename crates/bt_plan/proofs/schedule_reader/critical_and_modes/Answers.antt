@@ -1,9 +1,9 @@
 -- the critical line, and what follows it
 use Rattle.std.proofs.Common.{Ok}
 use Rattle.std.proofs.lemmas.Result.{err_from_is_err_and}
-use Rattle.bt_base.specs.Text.{lines}
+use Rattle.bt_text.specs.Text.{lines}
 use Rattle.bt_plan.specs.ScheduleText.{modes_in}
-use Rattle.bt_plan.proofs.Faults.{IsFaultOf-then}
+use Rattle.bt_text.proofs.Faults.{IsFaultOf-then}
 use Rattle.bt_plan.proofs.ModeLines.{critical_from_line}
 use Rattle.bt_plan.proofs.schedule_reader.critical_and_modes.Goals as goal
 

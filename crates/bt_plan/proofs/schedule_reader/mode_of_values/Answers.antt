@@ -1,6 +1,6 @@
 -- the mode is that of the numbers as they are capped
 use Rattle.std.proofs.Common.{map}
-use Rattle.bt_base.specs.Text.{numbers_of}
+use Rattle.bt_text.specs.Text.{numbers_of}
 use Rattle.bt_plan.proofs.ModeLines.{mode_from_numbers}
 use Rattle.bt_plan.proofs.schedule_reader.mode_of_values.Goals as goal
 

@@ -1,7 +1,7 @@
 -- one mode more, and the end
 use Rattle.std.proofs.Common.{sym, arith}
 use Rattle.std.proofs.lemmas.List.{length-append}
-use Rattle.bt_base.specs.Text.{lines}
+use Rattle.bt_text.specs.Text.{lines}
 use Rattle.bt_plan.specs.ScheduleText.{modes_in}
 use Rattle.bt_plan.proofs.ModeLines.{goes_on, ends_there}
 use Rattle.bt_plan.proofs.schedule_reader.modes.Goals as goal

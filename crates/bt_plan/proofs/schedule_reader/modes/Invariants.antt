@@ -1,8 +1,8 @@
 -- the modes so far, in front of those that are left, are all the modes; each line takes a newline at least
 use Rattle.std.proofs.Common.{◌≡◌, ◌+◌, ◌≤◌, length}
-use Rattle.bt_base.specs.Text.{lines}
+use Rattle.bt_text.specs.Text.{lines}
 use Rattle.bt_plan.specs.ScheduleText.{modes_in}
-use Rattle.bt_base.proofs.Front.{with_front}
+use Rattle.bt_text.proofs.Front.{with_front}
 use Rattle.bt_plan.proofs.schedule_reader.modes.Given as goal
 
 abbrev pub invariant-loop-line : goal.invariant-loop-line

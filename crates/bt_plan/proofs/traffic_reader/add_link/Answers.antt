@@ -1,9 +1,9 @@
 -- the link joins the demand and its matrix, or a sum would pass the limit
 use Rattle.std.proofs.Common.{◌≡◌, ℕ, ◌<◌, List, length, Ok, sym, ap, ◌∙◌, subst, arith}
 use Rattle.bt_matrix.specs.Traffic.{row_sum, column_sum, IsTraffic}
-use Rattle.bt_plan.specs.declared.demand.Link.{Link}
-use Rattle.bt_plan.specs.Traffic.{matrix_of, AreOfNetwork}
-use Rattle.bt_plan.proofs.Matrices.{length-matrix_of, added}
+use Rattle.bt_demand.specs.declared.demand.Link.{Link}
+use Rattle.bt_demand.specs.Traffic.{matrix_of, AreOfNetwork}
+use Rattle.bt_demand.proofs.Matrices.{length-matrix_of, added}
 use Rattle.bt_plan.proofs.TrafficLines.{next, length-with_link, row_passes, column_passes, both_fit, still_traffic, with_link-All, is_with_link}
 use Rattle.bt_plan.proofs.traffic_reader.add_link.Goals as goal
 

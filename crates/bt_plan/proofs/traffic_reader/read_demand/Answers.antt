@@ -1,9 +1,9 @@
 -- one line more, and a line with a fault
 use Rattle.std.proofs.Common.{ℕ, [], replicate, ap, ◌∙◌, refl, arith}
 use Rattle.std.proofs.lemmas.Result.{err_from_is_err_and}
-use Rattle.bt_base.specs.Text.{lines}
+use Rattle.bt_text.specs.Text.{lines}
 use Rattle.bt_plan.specs.TrafficText.{links_in}
-use Rattle.bt_plan.proofs.FewLinks.{few_links}
+use Rattle.bt_demand.proofs.FewLinks.{few_links}
 use Rattle.bt_plan.proofs.TrafficLines.{goes_on, ends, none_read}
 use Rattle.bt_plan.proofs.traffic_reader.read_demand.Goals as goal
 

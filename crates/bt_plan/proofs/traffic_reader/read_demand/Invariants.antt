@@ -1,6 +1,6 @@
 -- the links so far, and those of the lines that are left, are those of the text
 use Rattle.std.proofs.Common.{◌≡◌, ◌+◌, [], length}
-use Rattle.bt_base.specs.Text.{lines}
+use Rattle.bt_text.specs.Text.{lines}
 use Rattle.bt_plan.specs.TrafficText.{links_in, AreRead}
 use Rattle.bt_plan.proofs.traffic_reader.read_demand.Given as goal
 

@@ -1,7 +1,7 @@
 -- one line more, and a line with a fault
 use Rattle.std.proofs.Common.{false, arith}
 use Rattle.std.proofs.lemmas.Result.{err_from_is_err_and}
-use Rattle.bt_base.specs.Text.{lines}
+use Rattle.bt_text.specs.Text.{lines}
 use Rattle.bt_script.specs.ScriptText.{lines_in}
 use Rattle.bt_script.proofs.ScriptLines.{line_added, ends}
 use Rattle.bt_script.proofs.reader.read_lines.Goals as goal

@@ -1,8 +1,8 @@
 -- what was said so far, in front of what is left, is all that is said
 use Rattle.std.proofs.Common.{◌≡◌, ◌≤◌, false, length}
-use Rattle.bt_base.specs.Text.{lines}
+use Rattle.bt_text.specs.Text.{lines}
 use Rattle.bt_script.specs.ScriptText.{lines_in}
-use Rattle.bt_base.proofs.Front.{with_front}
+use Rattle.bt_text.proofs.Front.{with_front}
 use Rattle.bt_script.proofs.reader.read_lines.Given as goal
 
 abbrev pub invariant-loop-line : goal.invariant-loop-line

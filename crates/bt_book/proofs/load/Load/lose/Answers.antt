@@ -1,4 +1,4 @@
-use Rattle.bt_plan.specs.Traffic.{matrix_of}
+use Rattle.bt_demand.specs.Traffic.{matrix_of}
 use Rattle.bt_book.proofs.Loads.{in_matrix, matrix-Loses, matrix-less}
 use Rattle.bt_book.proofs.load.Load.lose.Goals as goal
 

@@ -1,7 +1,7 @@
 use Rattle.std.proofs.Common.{◌∙◌, ◌∷◌, ◌++◌, [], List, ℕ, ap, map}
 use Rattle.std.specs.List.{list_any}
 use Rattle.std.specs.Str.{bytes_eq}
-use Rattle.bt_base.specs.declared.numbers.BeamNo.{BeamNo}
+use Rattle.bt_frame.specs.declared.numbers.BeamNo.{BeamNo}
 use Rattle.bt_net.specs.Network.{names_of}
 use Rattle.bt_net.proofs.Names.{seen, map-insert_entry}
 use Rattle.bt_net.proofs.terminals.Terminals.add.Goals as goal

@@ -1,9 +1,0 @@
--- the laws of the lines of a text
-use Rattle.bt_base.proofs.TextLines.{ended_from_lines, lines-ended}
-use Rattle.bt_base.proofs.spelling.lines_have_one_text.Goals as goal
-
-pub returns-clause-read : goal.returns-clause-read
-returns-clause-read c = lines-ended
-
-pub returns-clause-spelled : goal.returns-clause-spelled
-returns-clause-spelled c = ended_from_lines

@@ -1,0 +1,4 @@
+pub mod FewLinks
+pub mod Links
+pub mod Matrices
+pub mod SameDemand

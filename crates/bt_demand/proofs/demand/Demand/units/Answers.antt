@@ -1,0 +1,11 @@
+use Rattle.std.proofs.Common.{sym}
+use Rattle.bt_demand.proofs.Links.{units_read, units_of_gap}
+use Rattle.bt_demand.proofs.demand.Demand.units.Goals as goal
+
+-- the link was read at its place
+pub returns-in-Ok : goal.returns-in-Ok
+returns-in-Ok c =
+    rw (← c.self.view_is) (sym (units_read c.self.inside.links.items c.args.from c.args.to c.in-Ok.place c.index.result.now c.self.invariant (rw c.self.view_is c.in-Ok.ensures.found) c.index.ensures))
+
+pub returns-in-Err : goal.returns-in-Err
+returns-in-Err c = sym (units_of_gap _ _ _ _ c.in-Err.ensures.absent)

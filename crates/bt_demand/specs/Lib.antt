@@ -1,0 +1,4 @@
+pub mod Demand
+pub mod Traffic
+pub mod Burst
+pub mod Plan

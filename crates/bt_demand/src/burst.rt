@@ -1,0 +1,82 @@
+// Bursts: what a terminal sends to another in slots of the frame that follow each other.
+ghost use Rattle.std.specs.Prelude.{◌≡◌, ◌+◌, ◌≤◌, length, vec_len, AllPairs, IfOk};
+ghost use Rattle.bt_demand.specs.Burst.{AreBursts, IsNotAfter};
+
+use bt_frame::{OutOfMemory, TermNo};
+use std::alloc::Global;
+use std::marker::Model;
+
+/// The most bursts that a list may have.
+pub const MOST_BURSTS: usize = 2_147_483_648;
+
+/// One burst: terminal `from` sends to terminal `to` in `length` slots, the first of them `start`.
+///
+/// Slots are counted from the start of the traffic part of the frame, which is slot 0.
+#[derive(Clone, Copy, Debug, PartialEq, Eq)]
+pub struct Burst {
+    /// The terminal that sends.
+    pub from: TermNo,
+    /// The terminal that receives.
+    pub to: TermNo,
+    /// The first slot.
+    pub start: u32,
+    /// Slots.
+    pub length: u32,
+}
+
+impl Burst {
+    /// The slot behind the last one.
+    pub(crate) fn end(self) -> u64
+        ensures { result ≡ self.start + self.length }
+    {
+        u64::from(self.start) + u64::from(self.length)
+    }
+}
+
+/// Bursts in order of their start, and where that is the same, of the terminal that sends and then of the one
+/// that receives. Equal ones are allowed.
+#[derive(Debug, Drop)]
+pub struct Bursts {
+    bursts: Vec<Burst>,
+}
+
+impl Model for Bursts {
+    ghost use Rattle.std.specs.Prelude.{List};
+    ghost use Rattle.bt_demand.specs.declared.burst.Burst.{Burst};
+
+    ghost Value = { List Burst };
+
+    ghost use Rattle.bt_demand.specs.Burst.{AreBursts};
+
+    ghost view = { λ a. a.bursts.items };
+
+    ghost invariant = { λ a. AreBursts a.bursts.items };
+}
+
+impl Bursts {
+    /// These bursts, which stand in order, at most 2,147,483,648 of them.
+    pub fn of(bursts: Vec<Burst>) -> Bursts
+        requires ordered { AllPairs IsNotAfter bursts.items }
+        requires few { vec_len bursts ≤ MOST_BURSTS }
+        ensures { result ≡ bursts.items }
+    {
+        Bursts { bursts }
+    }
+
+    /// The bursts in order.
+    pub fn as_slice(&self) -> &[Burst]
+        ensures same { result.now ≡ self.now }
+        ensures bursts { AreBursts self.now }
+    {
+        self.bursts.as_slice()
+    }
+
+    /// The same bursts.
+    pub fn copy(&self, alloc: Global) -> Result<Bursts, OutOfMemory>
+        ensures { IfOk result (λ copy. copy ≡ self.now) }
+    {
+        Ok(Bursts {
+            bursts: Vec::from_slice(alloc, self.bursts.as_slice())?,
+        })
+    }
+}

@@ -1,0 +1,20 @@
+//! The demand of the terminals and the burst time plan that serves it, as values.
+//!
+//! `specs/Demand.antt` says what a demand is, `specs/Traffic.antt` what its traffic matrix is, `specs/Burst.antt` and
+//! `specs/Plan.antt` what bursts and a plan are and when no plan is shorter. `demand_laws.rt` has what holds of every
+//! demand.
+#![tactic(auto)]
+
+mod burst;
+mod demand;
+mod demand_laws;
+mod plan;
+mod traffic;
+
+pub use burst::{Burst, Bursts, MOST_BURSTS};
+pub use demand::{Demand, Link};
+pub use demand_laws::{
+    gain_adds_to_one_entry, gain_changes_one_link, links_tell_demands, small_demands_have_a_matrix,
+};
+pub use plan::Plan;
+pub use traffic::traffic_of;

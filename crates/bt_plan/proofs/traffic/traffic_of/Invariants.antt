@@ -1,7 +1,0 @@
-use Rattle.std.proofs.Common.{◌≡◌, take}
-use Rattle.bt_plan.specs.Traffic.{matrix_of}
-use Rattle.bt_plan.proofs.traffic.traffic_of.Given as goal
-
--- the matrix is that of the links so far
-abbrev pub invariant-loop-link : goal.invariant-loop-link
-invariant-loop-link l = l.matrix ≡ matrix_of l.net (take l.link-index l.link-items)

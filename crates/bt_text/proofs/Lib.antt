@@ -1,0 +1,6 @@
+pub mod TextLines
+pub mod TextNumbers
+pub mod FirstLine
+pub mod Front
+pub mod Fronts
+pub mod Faults

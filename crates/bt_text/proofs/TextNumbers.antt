@@ -1,0 +1,196 @@
+-- Numbers: what words are, and how a number is spelled.
+use Rattle.std.proofs.Common.{zero, suc, ◌≡◌, ℕ, ◌+◌, ◌-◌, ◌^◌, ◌<◌, ◌≤◌, ◌==◌, Bool, true, false, Option, Some, None, IsSomeAnd, option_and_then, if◌then◌else◌, List, [], ◌∷◌, ◌++◌, map, length, get_or, drop, decimal, not, refl, sym, ap, ◌∙◌, add-one, append_assoc, arith, rules}
+use Rattle.std.specs.Char.{is_ascii_digit}
+use Rattle.std.specs.List.{All, list_all}
+use Rattle.std.specs.Option.{option_map}
+use Rattle.std.specs.Str.Parse.{digits_value}
+use Rattle.std.proofs.Math.Seq.{drop-cons}
+use Rattle.std.proofs.lemmas.Bool.Decides.{nat_tests}
+use Rattle.std.proofs.lemmas.Fmt.{decimal_is_IsNumeral, decimal-digits_value, decimal_digit, first_decimal}
+use Rattle.std.proofs.lemmas.List.{append-nil, drop_all, drop-map, length-map}
+use Rattle.std.proofs.lemmas.List.Elements.{All-head, All-map, All-same, All-tail, All-weaker}
+use Rattle.std.proofs.lemmas.Str.Parse.{IsNumeralModel, numerals_by_value}
+use Rattle.bt_text.specs.Text.{words, is_number, number_of, numbers_of, capped, spaced, lacks}
+use Rattle.bt_text.proofs.TextLines.{lacks-spaced, words-spaced, spaced-words}
+
+-- a list of digits by the test that computes it
+pub digits_model : IsNumeralModel (λ ds. list_all is_ascii_digit ds ≡ true) (digits_value 10)
+digits_model = numerals_by_value _ (search rules)
+
+-- a word of digits is a number if it has one byte, or does not begin with 0
+pub is_number_from_digits : (word : List ℕ) → list_all is_ascii_digit word ≡ true → 0 < length word → (get_or word 0 0 ≡ 48 → length word ≡ 1) → is_number word ≡ true
+is_number_from_digits [] digits filled alone = absurd (omega arith)
+is_number_from_digits (digit ∷ []) digits filled alone = grind (arith, nat_tests)
+is_number_from_digits (first ∷ second ∷ rest) digits filled alone = grind (arith, nat_tests)
+
+-- and only then
+pub digits_from_is_number : (word : List ℕ) → is_number word ≡ true → (list_all is_ascii_digit word ≡ true) × (0 < length word) × (get_or word 0 0 ≡ 48 → length word ≡ 1)
+digits_from_is_number [] is = cc
+digits_from_is_number (digit ∷ []) is = (grind (arith, nat_tests), omega arith, λ _. refl)
+digits_from_is_number (first ∷ second ∷ rest) is = (grind (arith, nat_tests), omega arith, grind (arith, nat_tests))
+
+-- a number by its spelling: a zero stands in front only where it stands alone
+zero_alone : (n : ℕ) → n < 2 ^ 64 → get_or (decimal n) 0 0 ≡ 48 → length (decimal n) ≡ 1
+zero_alone zero small zero_first = ap length (decimal_digit 0 (omega arith))
+zero_alone (suc n) small zero_first = absurd (omega (arith, first_decimal (suc n) (omega arith) small))
+
+-- what is printed of a number is digits, and a number
+pub digits-decimal : (n : ℕ) → n < 2 ^ 64 → list_all is_ascii_digit (decimal n) ≡ true
+digits-decimal n small = digits_model.from (decimal n) (decimal_is_IsNumeral n small).0.1
+
+pub is_number-decimal : (n : ℕ) → n < 2 ^ 64 → is_number (decimal n) ≡ true
+is_number-decimal n small = is_number_from_digits (decimal n) (digits-decimal n small) (decimal_is_IsNumeral n small).0.0 (zero_alone n small)
+
+-- what is printed of a number is read as that number
+pub number_of-decimal : (n : ℕ) → n < 2 ^ 64 → number_of (decimal n) ≡ Some n
+number_of-decimal n small =
+    ap (λ b. if b then Some (digits_value 10 (decimal n)) else None) (is_number-decimal n small) ∙ ap Some (decimal_is_IsNumeral n small).1
+
+chosen : (b : Bool) (value n : ℕ) → (if b then Some value else None) ≡ Some n → (b ≡ true) × (value ≡ n)
+chosen true value n is = (refl, cc)
+chosen false value n is = cc
+
+-- a number has one spelling, the printed one
+pub decimal_from_number_of : (word : List ℕ) (n : ℕ) → n < 2 ^ 64 → number_of word ≡ Some n → word ≡ decimal n
+decimal_from_number_of word n small is =
+    let read = chosen (is_number word) (digits_value 10 word) n is in
+    let shape = digits_from_is_number word read.0 in
+    sym (decimal-digits_value digits_model word shape.0 shape.1 shape.2 (omega (arith, read.1))) ∙ ap decimal read.1
+
+-- the same of many
+pub numbers_of-decimals : (ns : List ℕ) → All (λ n. n < 2 ^ 64) ns → numbers_of (map decimal ns) ≡ Some ns
+numbers_of-decimals [] small = refl
+numbers_of-decimals (n ∷ ns) small =
+    rw (number_of-decimal n (All-head (λ n. n < 2 ^ 64) n ns small), numbers_of-decimals ns (All-tail (λ n. n < 2 ^ 64) n ns small))
+
+front : (first : Option ℕ) (rest : Option (List ℕ)) (ns : List ℕ) → option_and_then (λ n. option_and_then (λ ns. Some (n ∷ ns)) rest) first ≡ Some ns → (n : ℕ) × (more : List ℕ) × (first ≡ Some n) × (rest ≡ Some more) × (ns ≡ n ∷ more)
+front None rest ns is = cc
+front (Some n) None ns is = cc
+front (Some n) (Some more) ns is = (n, more, refl, refl, cc)
+
+pub decimals_from_numbers_of : (words : List (List ℕ)) (ns : List ℕ) → All (λ n. n < 2 ^ 64) ns → numbers_of words ≡ Some ns → words ≡ map decimal ns
+decimals_from_numbers_of [] ns small is = let empty : ns ≡ [] = cc in rw empty
+decimals_from_numbers_of (word ∷ words) ns small is =
+    let (n, more, first, rest, whole) = front (number_of word) (numbers_of words) ns is in
+    let these = All-same (λ n. n < 2 ^ 64) (n ∷ more) ns (sym whole) small in
+    let here = decimal_from_number_of word n (All-head (λ n. n < 2 ^ 64) n more these) first in
+    let behind = decimals_from_numbers_of words more (All-tail (λ n. n < 2 ^ 64) n more these) rest in
+    ap (λ w. w ∷ words) here ∙ ap (λ ws. decimal n ∷ ws) behind ∙ ap (map decimal) (sym whole)
+
+pub length-numbers_of : (words : List (List ℕ)) (ns : List ℕ) → numbers_of words ≡ Some ns → length ns ≡ length words
+length-numbers_of [] ns is = let empty : ns ≡ [] = cc in rw empty
+length-numbers_of (word ∷ words) ns is =
+    let (n, more, first, rest, whole) = front (number_of word) (numbers_of words) ns is in
+    ap length whole ∙ ap suc (length-numbers_of words more rest)
+
+-- what a capped number tells of the number
+pub number_of_from_capped : (number : Option ℕ) (n : ℕ) → n < 2 ^ 64 - 1 → Some n ≡ option_map capped number → number ≡ Some n
+number_of_from_capped None n small is = cc
+number_of_from_capped (Some m) n small is = let held : n ≡ capped m = cc in ap Some (omega arith)
+
+pub above_from_capped : (number : Option ℕ) (n k : ℕ) → k < n → Some n ≡ option_map capped number → IsSomeAnd number (λ m. k < m)
+above_from_capped None n k above is = cc
+above_from_capped (Some m) n k above is = let held : n ≡ capped m = cc in omega arith
+
+uncapped : (ms : List ℕ) → All (λ n. n < 2 ^ 64 - 1) (map capped ms) → map capped ms ≡ ms
+uncapped [] small = refl
+uncapped (m ∷ ms) small =
+    let first : capped m < 2 ^ 64 - 1 = All-head (λ n. n < 2 ^ 64 - 1) (capped m) (map capped ms) small in
+    let here : capped m ≡ m = omega arith in
+    rw (uncapped ms (All-tail (λ n. n < 2 ^ 64 - 1) (capped m) (map capped ms) small)) (ap (λ n. n ∷ ms) here)
+
+pub numbers_of_from_capped : (numbers : Option (List ℕ)) (ns : List ℕ) → All (λ n. n < 2 ^ 64 - 1) ns → Some ns ≡ option_map (map capped) numbers → numbers ≡ Some ns
+numbers_of_from_capped None ns small is = cc
+numbers_of_from_capped (Some ms) ns small is =
+    let held : ns ≡ map capped ms = cc in
+    ap Some (sym (uncapped ms (All-same (λ n. n < 2 ^ 64 - 1) (map capped ms) ns (sym held) small)) ∙ sym held)
+
+pub capped_from_numbers : (numbers : Option (List ℕ)) (ns : List ℕ) → Some ns ≡ option_map (map capped) numbers → IsSomeAnd numbers (λ ms. ns ≡ map capped ms)
+capped_from_numbers None ns is = cc
+capped_from_numbers (Some ms) ns is = cc
+
+-- a number beyond a limit is still beyond it
+pub beyond_from_capped : (numbers : Option (List ℕ)) (ns : List ℕ) (most : ℕ) → Some ns ≡ option_map (map capped) numbers → (All (λ n. n ≤ most) ns → ⊥) → IsSomeAnd numbers (λ ms. All (λ n. n ≤ most) ms → ⊥)
+beyond_from_capped None ns most is beyond = cc
+beyond_from_capped (Some ms) ns most is beyond = λ within.
+    let held : ns ≡ map capped ms = cc in
+    let lowered = All-weaker (λ m. m ≤ most) (λ m. capped m ≤ most) (λ m low. omega arith) ms within in
+    beyond (All-same (λ n. n ≤ most) ns (map capped ms) held (All-map (λ n. n ≤ most) capped ms lowered))
+
+-- no digit is a byte of another kind
+pub lacks_from_digits : (byte : ℕ) (word : List ℕ) → is_ascii_digit byte ≡ false → list_all is_ascii_digit word ≡ true → lacks byte word ≡ true
+lacks_from_digits byte [] other digits = refl
+lacks_from_digits byte (digit ∷ word) other digits =
+    let here : not (digit == byte) ≡ true = grind (arith, nat_tests) in
+    let behind : list_all is_ascii_digit word ≡ true = grind (arith, nat_tests) in
+    rw (here, lacks_from_digits byte word other behind)
+
+pub lacks-decimal : (byte n : ℕ) → is_ascii_digit byte ≡ false → n < 2 ^ 64 → lacks byte (decimal n) ≡ true
+lacks-decimal byte n other small = lacks_from_digits byte (decimal n) other (digits-decimal n small)
+
+pub lacks-decimals : (byte : ℕ) (ns : List ℕ) → is_ascii_digit byte ≡ false → All (λ n. n < 2 ^ 64) ns → list_all (lacks byte) (map decimal ns) ≡ true
+lacks-decimals byte [] other small = refl
+lacks-decimals byte (n ∷ ns) other small =
+    rw (lacks-decimal byte n other (All-head (λ n. n < 2 ^ 64) n ns small), lacks-decimals byte ns other (All-tail (λ n. n < 2 ^ 64) n ns small))
+
+pub lacks-number : (byte : ℕ) (word : List ℕ) → is_ascii_digit byte ≡ false → is_number word ≡ true → lacks byte word ≡ true
+lacks-number byte word other is = lacks_from_digits byte word other (digits_from_is_number word is).0
+
+-- a line of numbers is read as these numbers, and has one spelling
+pub numbers_of-line : (ns : List ℕ) → 0 < length ns → All (λ n. n < 2 ^ 64) ns → numbers_of (words (spaced (map decimal ns))) ≡ Some ns
+numbers_of-line ns filled small =
+    ap numbers_of (words-spaced (map decimal ns) (omega (arith, length-map ns decimal)) (lacks-decimals 32 ns refl small)) ∙ numbers_of-decimals ns small
+
+pub line_from_numbers_of : (line : List ℕ) (ns : List ℕ) → All (λ n. n < 2 ^ 64) ns → numbers_of (words line) ≡ Some ns → line ≡ spaced (map decimal ns)
+line_from_numbers_of line ns small is = sym (spaced-words line) ∙ ap spaced (decimals_from_numbers_of (words line) ns small is)
+
+pub lacks-number_line : (byte : ℕ) (ns : List ℕ) → (32 == byte) ≡ false → is_ascii_digit byte ≡ false → All (λ n. n < 2 ^ 64) ns → lacks byte (spaced (map decimal ns)) ≡ true
+lacks-number_line byte ns space digit small = lacks-spaced byte (map decimal ns) space ∙ lacks-decimals byte ns digit small
+
+-- the numbers that the words are, as u64s hold them
+abbrev pub capped_numbers : List (List ℕ) → Option (List ℕ)
+capped_numbers words = option_map (map capped) (numbers_of words)
+
+-- what the first word and the rest give together
+abbrev in_front : Option ℕ → Option (List ℕ) → Option (List ℕ)
+in_front first rest = option_and_then (λ n. option_map (λ ns. n ∷ ns) rest) first
+
+capped_both : (first : Option ℕ) (rest : Option (List ℕ)) → option_map (map capped) (option_and_then (λ n. option_and_then (λ ns. Some (n ∷ ns)) rest) first) ≡ in_front (option_map capped first) (option_map (map capped) rest)
+capped_both None rest = refl
+capped_both (Some n) None = refl
+capped_both (Some n) (Some ns) = refl
+
+none_from_capped : (ns : Option (List ℕ)) → option_map (map capped) ns ≡ None → ns ≡ None
+none_from_capped None is = refl
+none_from_capped (Some ns) is = cc
+
+pushed : (so_far : List ℕ) (n : ℕ) (rest : Option (List ℕ)) → option_map (λ ns. so_far ++ ns) (option_map (λ ns. n ∷ ns) rest) ≡ option_map (λ ns. so_far ++ n ∷ [] ++ ns) rest
+pushed so_far n None = refl
+pushed so_far n (Some ns) = ap Some (sym (append_assoc so_far (n ∷ []) ns))
+
+-- as at a step of a loop over words x that are seen by v
+module _ {X : Type 0} (v : X → List ℕ) (xs : List X) (i : ℕ) (d : X) where
+  drop_at : i < length xs → drop i (map v xs) ≡ v (get_or xs i d) ∷ drop (i + 1) (map v xs)
+  drop_at within = rw (drop-map v i xs, drop-map v (i + 1) xs, add-one, drop-cons xs i d within)
+
+  capped_numbers-drop : i < length xs → capped_numbers (drop i (map v xs)) ≡ in_front (option_map capped (number_of (v (get_or xs i d)))) (capped_numbers (drop (i + 1) (map v xs)))
+  capped_numbers-drop within = ap capped_numbers (drop_at within) ∙ capped_both (number_of (v (get_or xs i d))) (numbers_of (drop (i + 1) (map v xs)))
+
+  -- one more number behind those so far
+  pub capped_numbers_more : (so_far : List ℕ) (n : ℕ) → i < length xs → Some n ≡ option_map capped (number_of (v (get_or xs i d))) → capped_numbers (map v xs) ≡ option_map (λ rest. so_far ++ rest) (capped_numbers (drop i (map v xs))) → capped_numbers (map v xs) ≡ option_map (λ rest. so_far ++ n ∷ [] ++ rest) (capped_numbers (drop (i + 1) (map v xs)))
+  capped_numbers_more so_far n within is whole =
+      let rest = capped_numbers (drop (i + 1) (map v xs)) in
+      let here : capped_numbers (drop i (map v xs)) ≡ in_front (Some n) rest = capped_numbers-drop within ∙ ap (λ o. in_front o rest) (sym is) in
+      whole ∙ ap (option_map (λ ns. so_far ++ ns)) here ∙ pushed so_far n rest
+
+  -- a word that is no number
+  pub numbers_of_stop : (so_far : List ℕ) → i < length xs → number_of (v (get_or xs i d)) ≡ None → capped_numbers (map v xs) ≡ option_map (λ rest. so_far ++ rest) (capped_numbers (drop i (map v xs))) → numbers_of (map v xs) ≡ None
+  numbers_of_stop so_far within is whole =
+      let here : capped_numbers (drop i (map v xs)) ≡ None = capped_numbers-drop within ∙ ap (λ o. in_front (option_map capped o) (capped_numbers (drop (i + 1) (map v xs)))) is in
+      none_from_capped (numbers_of (map v xs)) (whole ∙ ap (option_map (λ rest. so_far ++ rest)) here)
+
+-- no word is left
+pub capped_numbers_end : {X : Type 0} (v : X → List ℕ) (xs : List X) (i : ℕ) (so_far : List ℕ) → length xs ≤ i → capped_numbers (map v xs) ≡ option_map (λ rest. so_far ++ rest) (capped_numbers (drop i (map v xs))) → Some so_far ≡ capped_numbers (map v xs)
+capped_numbers_end v xs i so_far past whole =
+    let none_left : drop i (map v xs) ≡ [] = drop_all i (map v xs) (omega (arith, length-map xs v)) in
+    sym (whole ∙ ap (λ rest. option_map (λ ns. so_far ++ ns) (capped_numbers rest)) none_left ∙ ap Some (append-nil so_far))

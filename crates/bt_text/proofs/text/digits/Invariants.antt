@@ -1,0 +1,13 @@
+-- the digits so far, and what they write
+use Rattle.std.proofs.Common.{◌≡◌, true, take}
+use Rattle.std.specs.List.{list_all}
+use Rattle.std.specs.Char.{is_ascii_digit}
+use Rattle.std.specs.Str.Parse.{digits_value}
+use Rattle.bt_text.specs.Text.{capped}
+use Rattle.bt_text.proofs.text.digits.Given as goal
+
+abbrev pub invariant-loop-byte : goal.invariant-loop-byte
+invariant-loop-byte l = record {
+  digits : list_all is_ascii_digit (take l.byte-index l.word) ≡ true;
+  value : l.number ≡ capped (digits_value 10 (take l.byte-index l.word));
+}

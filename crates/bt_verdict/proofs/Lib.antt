@@ -1,0 +1,12 @@
+pub mod Begins
+pub mod BurstTriples
+pub mod FirstPlaces
+pub mod LatestEnds
+pub mod LineSums
+pub mod OnePlanVerdict
+pub mod OneVerdict
+pub mod PlanParts
+pub mod Seen
+pub mod SentTable
+pub mod SumsSoFar
+pub mod Triples

@@ -1,0 +1,153 @@
+-- A table of the slots of bursts, a row for each terminal that sends.
+use Rattle.std.proofs.Common.{◌≡◌, ◌≢◌, ℕ, ◌+◌, ◌<◌, ◌≤◌, ◌==◌, ◌&&◌, if◌then◌else◌, List, [], length, replicate, take, get_or, slice_index, slice_set, refl, inl, inr, sym, ap, ◌∙◌, subst, arith}
+use Rattle.std.proofs.lemmas.Bool.{cases_eq, cases_lt}
+use Rattle.std.proofs.lemmas.Bool.Decides.{nat_tests}
+use Rattle.std.proofs.lemmas.List.{length-set, get_or-set_same, get_or-set_other, length-replicate, get_or-replicate}
+use Rattle.std.proofs.lemmas.List.Elements.{All-set, All-replicate}
+use Rattle.std.proofs.lemmas.List.Sums.{sum_by_more, sum_by-le}
+use Rattle.bt_frame.specs.declared.numbers.TermNo.{TermNo}
+use Rattle.bt_matrix.specs.Traffic.{row_of, entry, with_entry}
+use Rattle.bt_net.specs.Network.{Net}
+use Rattle.bt_demand.specs.declared.burst.Burst.{Burst}
+use Rattle.bt_demand.specs.declared.demand.Link.{Link}
+use Rattle.bt_verdict.specs.declared.links_served.Unserved.{Unserved}
+use Rattle.bt_verdict.specs.PlanVerdict.{IsServed, IsFirstUnserved, AreBetweenTerminals}
+use Rattle.bt_demand.specs.Traffic.{AreOfNetwork}
+use Rattle.bt_verdict.specs.Unserved.{IsForTerminals, AreSlotsSent, IsFirstOther}
+use Rattle.bt_verdict.proofs.LatestEnds.{no_burst}
+
+-- a row of the table
+length-row : (table : List (List ℕ)) (from : ℕ) → IsForTerminals table → from < 64 → length (row_of table from) ≡ 64
+length-row table from shape small = shape.columns from [] (omega (arith, shape.rows))
+
+-- the written entry, and the others
+entry-written : (table : List (List ℕ)) (from to n : ℕ) → IsForTerminals table → from < 64 → to < 64 → entry (with_entry table from to n) from to ≡ n
+entry-written table from to n shape from_small to_small =
+    ap (λ (row : List ℕ). slice_index row to) (get_or-set_same table from (slice_set (row_of table from) to n) [] (omega (arith, shape.rows)))
+    ∙ get_or-set_same (row_of table from) to n 0 (omega (arith, length-row table from shape from_small))
+
+entry-other_row : (table : List (List ℕ)) (from to n i j : ℕ) → i ≢ from → entry (with_entry table from to n) i j ≡ entry table i j
+entry-other_row table from to n i j other = ap (λ (row : List ℕ). slice_index row j) (get_or-set_other table from i (slice_set (row_of table from) to n) [] other)
+
+entry-other_column : (table : List (List ℕ)) (from to n j : ℕ) → IsForTerminals table → from < 64 → j ≢ to → entry (with_entry table from to n) from j ≡ entry table from j
+entry-other_column table from to n j shape from_small other =
+    ap (λ (row : List ℕ). slice_index row j) (get_or-set_same table from (slice_set (row_of table from) to n) [] (omega (arith, shape.rows)))
+    ∙ get_or-set_other (row_of table from) to j n 0 other
+
+-- the table stays as large
+IsForTerminals-written : (table : List (List ℕ)) (from to n : ℕ) → IsForTerminals table → from < 64 → IsForTerminals (with_entry table from to n)
+IsForTerminals-written table from to n shape from_small =
+    let row = slice_set (row_of table from) to n in
+    record {
+      rows = length-set table from row ∙ shape.rows;
+      columns = All-set (λ (r : List ℕ). length r ≡ 64) table from row (length-set (row_of table from) to n ∙ length-row table from shape from_small) shape.columns;
+    }
+
+-- what a burst adds to a link
+added-here : (a x b y n : ℕ) → x ≡ a → y ≡ b → (if a == x && b == y then n else 0) ≡ n
+added-here a x b y n from to = grind (arith, nat_tests)
+
+added-other_from : (a x b y n : ℕ) → x ≢ a → (if a == x && b == y then n else 0) ≡ 0
+added-other_from a x b y n from = grind (arith, nat_tests)
+
+added-other_to : (a x b y n : ℕ) → y ≢ b → (if a == x && b == y then n else 0) ≡ 0
+added-other_to a x b y n to = grind (arith, nat_tests)
+
+-- one more burst
+pub one_more_burst : (xs : List Burst) (i : ℕ) (table : List (List ℕ)) (n : ℕ) → i < length xs → AreSlotsSent (take i xs) table
+    → (get_or xs i no_burst).from.0 < 64 → (get_or xs i no_burst).to.0 < 64
+    → n ≡ entry table (get_or xs i no_burst).from.0 (get_or xs i no_burst).to.0 + (get_or xs i no_burst).length
+    → AreSlotsSent (take (i + 1) xs) (with_entry table (get_or xs i no_burst).from.0 (get_or xs i no_burst).to.0 n)
+one_more_burst xs i table n within so_far from_small to_small is =
+    let b = get_or xs i no_burst in
+    record {
+      shape = IsForTerminals-written table b.from.0 b.to.0 n so_far.shape from_small;
+      each = λ from to small_from small_to.
+          let more = sum_by_more (λ (burst : Burst). if burst.from.0 == from.0 && burst.to.0 == to.0 then burst.length else 0) xs i no_burst within in
+          let was = so_far.each from to small_from small_to in
+          elim (cases_eq from.0 b.from.0) [
+            | inl same_from ↦ elim (cases_eq to.0 b.to.0) [
+              | inl same_to ↦
+                  let old : entry table b.from.0 b.to.0 ≡ entry table from.0 to.0 = rw (same_from, same_to) refl in
+                  let new : entry (with_entry table b.from.0 b.to.0 n) from.0 to.0 ≡ n = rw (same_from, same_to) (entry-written table b.from.0 b.to.0 n so_far.shape from_small to_small) in
+                  omega (arith, more, was, old, new, is, added-here b.from.0 from.0 b.to.0 to.0 b.length same_from same_to)
+              | inr other_to ↦
+                  let old : entry table b.from.0 to.0 ≡ entry table from.0 to.0 = rw same_from refl in
+                  let new : entry (with_entry table b.from.0 b.to.0 n) from.0 to.0 ≡ entry table b.from.0 to.0 = rw same_from (entry-other_column table b.from.0 b.to.0 n to.0 so_far.shape from_small other_to) in
+                  omega (arith, more, was, old, new, added-other_to b.from.0 from.0 b.to.0 to.0 b.length other_to)
+            ]
+            | inr other_from ↦ omega (arith, more, was, entry-other_row table b.from.0 b.to.0 n from.0 to.0 other_from, added-other_from b.from.0 from.0 b.to.0 to.0 b.length other_from)
+          ];
+    }
+
+-- the entries stay small
+pub one_more_small : (table : List (List ℕ)) (from to n most more : ℕ) → IsForTerminals table → from < 64 → to < 64
+    → ((i j : ℕ) → i < 64 → j < 64 → entry table i j ≤ most) → n ≡ entry table from to + more
+    → (i j : ℕ) → i < 64 → j < 64 → entry (with_entry table from to n) i j ≤ most + more
+one_more_small table from to n most more shape from_small to_small small is i j i_small j_small =
+    let old = small i j i_small j_small in
+    elim (cases_eq i from) [
+      | inl same_from ↦ elim (cases_eq j to) [
+        | inl same_to ↦
+            let new : entry (with_entry table from to n) i j ≡ n = rw (same_from, same_to) (entry-written table from to n shape from_small to_small) in
+            omega (arith, small from to from_small to_small)
+        | inr other_to ↦
+            let new : entry (with_entry table from to n) i j ≡ entry table i j = rw same_from (entry-other_column table from to n j shape from_small other_to) in
+            omega arith
+      ]
+      | inr other_from ↦ omega (arith, entry-other_row table from to n i j other_from)
+    ]
+
+-- a table of zeros, for no burst
+pub no_entry : (i j : ℕ) → i < 64 → j < 64 → entry (replicate 64 (replicate 64 0)) i j ≡ 0
+no_entry i j i_small j_small =
+    ap (λ (row : List ℕ). slice_index row j) (get_or-replicate {A = List ℕ} 64 i (replicate 64 0) [] i_small) ∙ get_or-replicate {A = ℕ} 64 j 0 0 j_small
+
+pub no_slots : AreSlotsSent [] (replicate 64 (replicate 64 0))
+no_slots = record {
+  shape = record {
+    rows = length-replicate {A = List ℕ} 64 (replicate 64 0);
+    columns = All-replicate (λ (row : List ℕ). length row ≡ 64) 64 (replicate 64 0) (length-replicate {A = ℕ} 64 0);
+  };
+  each = λ from to small_from small_to. no_entry from.0 to.0 small_from small_to;
+}
+
+-- nothing is asked of terminals that the network has not, nor sent
+pub outside : (net : Net) (links : List Link) (bursts : List Burst) (from to : TermNo) → AreOfNetwork net links → AreBetweenTerminals net bursts
+    → length net.terminals ≤ to.0 → IsServed links bursts from to
+outside net links bursts from to of_network between past =
+    let sent = sum_by-le (λ (b : Burst). if b.from.0 == from.0 && b.to.0 == to.0 then b.length else 0) 0 bursts
+    (λ k d within. let there = (between k d within).1 in omega (arith, added-other_to (get_or bursts k d).from.0 from.0 (get_or bursts k d).to.0 to.0 (get_or bursts k d).length (λ same. omega arith))) in
+    let asked = sum_by-le (λ (l : Link). if l.from.0 == from.0 && l.to.0 == to.0 then l.units else 0) 0 links
+    (λ k d within. let there = (of_network k d within).1 in omega (arith, added-other_to (get_or links k d).from.0 from.0 (get_or links k d).to.0 to.0 (get_or links k d).units (λ same. omega arith))) in
+    omega (arith, sent, asked)
+
+-- a link before one that is the first in its row to have other slots is served
+pub is_first_unserved : (net : Net) (links : List Link) (bursts : List Burst) (table : List (List ℕ)) (from : TermNo) (count : ℕ) (u : Unserved)
+    → AreOfNetwork net links → AreBetweenTerminals net bursts → AreSlotsSent bursts table → count ≡ length net.terminals → count ≤ 64 → from.0 < count
+    → ((a b : TermNo) → a.0 < from.0 → b.0 < count → IsServed links bursts a b) → u.from ≡ from → IsFirstOther links (row_of table from.0) count u
+    → IsFirstUnserved net links bursts u.from u.to u.want u.have
+is_first_unserved net links bursts table from count u of_network between sent all few within earlier same other =
+    let number : u.from.0 ≡ from.0 = ap (λ (t : TermNo). t.0) same in
+    let place = sent.each u.from u.to (omega arith) (omega (arith, other.below)) in
+    let row : entry table u.from.0 u.to.0 ≡ slice_index (row_of table from.0) u.to.0 = rw number refl in
+    record {
+      sends = omega arith;
+      receives = omega (arith, other.below);
+      wanted = other.wanted;
+      sent = other.sent ∙ sym row ∙ place;
+      differ = other.differ;
+      earlier = λ a b before. elim (cases_lt b.0 count) [
+        | inr past ↦ outside net links bursts a b of_network between (omega arith)
+        | inl inside ↦ elim (cases_lt a.0 from.0) [
+          | inl lower ↦ earlier a b lower inside
+          | inr level ↦
+              let here : a.0 ≡ u.from.0 = omega (arith, before.from) in
+              let one : a ≡ u.from = ap (λ (n : ℕ). record { 0 = n }) here in
+              let has = other.earlier b (before.to here) in
+              let known = sent.each u.from b (omega arith) (omega arith) in
+              let at : entry table u.from.0 b.0 ≡ slice_index (row_of table from.0) b.0 = rw number refl in
+              subst (λ (t : TermNo). IsServed links bursts t b) (sym one) (sym known ∙ at ∙ has)
+        ]
+      ];
+    }

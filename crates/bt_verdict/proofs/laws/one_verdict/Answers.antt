@@ -1,0 +1,5 @@
+use Rattle.bt_verdict.proofs.OneVerdict.{the_same}
+use Rattle.bt_verdict.proofs.laws.one_verdict.Goals as goal
+
+pub returns : goal.returns
+returns c = the_same

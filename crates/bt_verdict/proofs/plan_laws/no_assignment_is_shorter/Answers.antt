@@ -1,0 +1,5 @@
+use Rattle.bt_verdict.proofs.Triples.{line_sum-le-slots}
+use Rattle.bt_verdict.proofs.plan_laws.no_assignment_is_shorter.Goals as goal
+
+pub returns : goal.returns
+returns c = line_sum-le-slots

@@ -1,0 +1,87 @@
+// Is a burst time plan good for a demand, and what is wrong with it first?
+ghost use Rattle.std.specs.Prelude.{◌≡◌, length, MatchOption};
+ghost use Rattle.bt_frame.specs.Critical.{IsOfBeams};
+ghost use Rattle.bt_demand.specs.Demand.{IsDemand};
+ghost use Rattle.bt_verdict.specs.PlanVerdict.{AreBetweenTerminals, HasGoodModes, IsPlanVerdict};
+ghost use Rattle.bt_demand.specs.Traffic.{matrix_of, AreOfNetwork, HasSumsTo};
+
+use crate::Verdict;
+use crate::demand_lines::heaviest_unless_least;
+use crate::links_served::first_unserved;
+use crate::meetings::first_meeting;
+use crate::plan_laws::plans_are_good_by_their_parts;
+use crate::schedule_check::{duration_sum, first_bad, first_empty};
+use crate::spans::first_unheld;
+use bt_demand::{Demand, Link, Plan};
+use bt_matrix::SUM_LAST;
+use bt_net::Network;
+
+/// What is wrong first with a burst time plan for that demand, or that it is good.
+///
+/// It looks at the modes first: that each is a permutation and lasts, that they fill the length, and that the length is
+/// what the heaviest line of the demand asks for. Then it looks at the bursts: that no two meet, that a mode holds each,
+/// and that each link has the slots that it asks for. It walks three times along the bursts, once along the links, and a
+/// few times along the modes; where two bursts meet, a fifth time along those before. It takes no memory.
+pub fn check(net: &Network, demand: &Demand, plan: &Plan) -> Verdict
+    requires demand { AreOfNetwork net.now demand.now }
+    requires bursts { AreBetweenTerminals net.now plan.now.bursts }
+    requires critical { IsOfBeams (length net.now.beams) plan.now.schedule.critical }
+    requires sums { HasSumsTo SUM_LAST (matrix_of net.now demand.now) }
+    ensures { IsPlanVerdict net.now demand.now plan.now result }
+{
+    let links = demand.as_slice();
+    match modes_fault(net, links, plan) {
+        Some(fault) => fault,
+        None => bursts_verdict(net, demand, plan),
+    }
+}
+
+/// What is wrong first with the modes of a plan.
+fn modes_fault(net: &Network, links: &[Link], plan: &Plan) -> Option<Verdict>
+    requires links { AreOfNetwork net.now links.now }
+    requires critical { IsOfBeams (length net.now.beams) plan.now.schedule.critical }
+    requires sums { HasSumsTo SUM_LAST (matrix_of net.now links.now) }
+    ensures { MatchOption result
+        (HasGoodModes net.now links.now plan.now.schedule)
+        (IsPlanVerdict net.now links.now plan.now) }
+{
+    let schedule = &plan.schedule;
+    if let Some(mode) = first_bad(&schedule.modes, net.beam_count()) {
+        return Some(Verdict::V1 { mode });
+    }
+    if let Some(mode) = first_empty(&schedule.modes) {
+        return Some(Verdict::V2 { mode });
+    }
+    let sum = duration_sum(&schedule.modes);
+    let length = schedule.length;
+    if sum != u64::from(length) {
+        return Some(Verdict::V3 { sum, length });
+    }
+    let (critical, sum) = heaviest_unless_least(net, links, schedule)?;
+    let sum = u64::from(sum);
+    Some(Verdict::V4 { critical, sum })
+}
+
+/// The verdict on a plan whose modes are good.
+fn bursts_verdict(net: &Network, demand: &Demand, plan: &Plan) -> Verdict
+    requires demand { AreOfNetwork net.now demand.now }
+    requires links { IsDemand demand.now }
+    requires bursts { AreBetweenTerminals net.now plan.now.bursts }
+    requires modes { HasGoodModes net.now demand.now plan.now.schedule }
+    ensures { IsPlanVerdict net.now demand.now plan.now result }
+{
+    let bursts = plan.bursts.as_slice();
+    if let Some((first, second)) = first_meeting(net, bursts) {
+        return Verdict::V5 { first, second };
+    }
+    if let Some(burst) = first_unheld(net, plan.schedule.modes.as_slice(), bursts) {
+        return Verdict::V6 { burst };
+    }
+    match first_unserved(net, demand, bursts) {
+        Some(unserved) => unserved.verdict(),
+        None => {
+            plans_are_good_by_their_parts();
+            Verdict::Good
+        }
+    }
+}
