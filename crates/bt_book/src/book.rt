@@ -4,10 +4,10 @@ ghost use Rattle.bt_book.specs.Machine.{edition, IsDemandAfter, IsOfNetwork, Ste
 
 use crate::desk::Desk;
 use bt_base::Keeper;
+use bt_demand::Demand;
 use bt_frame::{EditionNo, OutOfMemory};
 use bt_journal::{Call, Entry, Reply};
 use bt_net::Network;
-use bt_demand::Demand;
 use std::alloc::Global;
 
 /// The book of changes of a network, and the store in which it keeps its records.

@@ -3,10 +3,10 @@ ghost use Rattle.std.specs.Prelude.{◌≡◌, ℕ, [], length, IfOk};
 ghost use Rattle.bt_book.specs.Machine.{edition, IsDemandAfter};
 
 use crate::load::Load;
+use bt_demand::Demand;
 use bt_frame::{EditionNo, OutOfMemory};
 use bt_journal::Entry;
 use bt_net::Network;
-use bt_demand::Demand;
 use std::alloc::Global;
 use std::marker::Model;
 

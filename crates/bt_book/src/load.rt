@@ -10,11 +10,11 @@ ghost use Rattle.bt_journal.specs.Journal.{NamesTerminals};
 ghost use Rattle.bt_book.specs.Machine.{HasEnds};
 ghost use Rattle.bt_book.specs.Desk.{EditsLinks, HoldsTaken};
 
+use bt_demand::Demand;
 use bt_frame::{BeamNo, OutOfMemory, TermNo, Units};
 use bt_journal::Edit;
 use bt_matrix::{Dense, SUM_LAST, Traffic};
 use bt_net::Network;
-use bt_demand::Demand;
 use std::alloc::Global;
 use std::marker::Model;
 

@@ -7,9 +7,9 @@ ghost use Rattle.bt_demand.specs.Traffic.{units_between, AreOfNetwork};
 ghost use Rattle.bt_cut.specs.Parts.{AreParts};
 
 use crate::table::{connections_of, place_of};
+use bt_demand::{Burst, Demand, MOST_BURSTS};
 use bt_frame::{Mode, OutOfMemory};
 use bt_net::Network;
-use bt_demand::{Burst, Demand, MOST_BURSTS};
 use std::alloc::Global;
 
 /// The bursts of each link, link by link. Each link takes the next slots of its connection.

@@ -3,8 +3,8 @@ ghost use Rattle.std.specs.Prelude.{ℕ, List, ◌≡◌, ◌⊎◌, ◌+◌, �
 ghost use Rattle.bt_frame.specs.declared.mode.Mode.{Mode};
 ghost use Rattle.bt_cut.specs.Serving.{slots_in_all, taken_of, HasGiven, IsNext, IsReady, IsServedBy, IsGivenBy, HasSlots};
 
-use bt_frame::OutOfMemory;
 use bt_demand::{Burst, Link};
+use bt_frame::OutOfMemory;
 use std::alloc::Global;
 
 /// Slots that follow each other within one mode.

@@ -8,9 +8,9 @@ ghost use Rattle.bt_cut.specs.Cutting.{IsCutting};
 
 use crate::bursts::bursts_of;
 use crate::order::in_order;
+use bt_demand::{Bursts, Demand, Plan};
 use bt_frame::{EditionNo, OutOfMemory, Schedule};
 use bt_net::Network;
-use bt_demand::{Bursts, Demand, Plan};
 use std::alloc::Global;
 
 /// The plan of a demand that goes through the modes of this schedule, which is good for the demand's matrix.

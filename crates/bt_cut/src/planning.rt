@@ -6,10 +6,10 @@ ghost use Rattle.bt_verdict.specs.PlanVerdict.{AreBetweenTerminals};
 ghost use Rattle.bt_demand.specs.Traffic.{matrix_of, AreOfNetwork, HasSumsTo};
 
 use crate::cut;
+use bt_demand::{Demand, Plan, traffic_of};
 use bt_frame::{EditionNo, OutOfMemory};
 use bt_modes::schedule;
 use bt_net::Network;
-use bt_demand::{Demand, Plan, traffic_of};
 use std::alloc::Global;
 
 /// A plan of the demand, than which none is shorter. No line of its matrix asks for more than 4096 slots.

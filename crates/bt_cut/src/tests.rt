@@ -5,10 +5,10 @@ ghost use Rattle.bt_matrix.specs.Good.{IsGood};
 ghost use Rattle.bt_demand.specs.Traffic.{matrix_of, AreOfNetwork, HasSumsTo};
 
 use crate::{cut, make_plan};
+use bt_demand::{Demand, Plan, traffic_of};
 use bt_frame::{BeamNo, Columns, Critical, EditionNo, Mode, Modes, OutOfMemory, Schedule, TermNo};
 use bt_matrix::{SUM_LAST, Traffic};
 use bt_net::Network;
-use bt_demand::{Demand, Plan, traffic_of};
 use bt_verdict::{Verdict, check_modes};
 use std::alloc::Global;
 use std::process::Abort;

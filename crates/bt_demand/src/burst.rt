@@ -26,7 +26,7 @@ pub struct Burst {
 
 impl Burst {
     /// The slot behind the last one.
-    pub(crate) fn end(self) -> u64
+    pub fn end(self) -> u64
         ensures { result ≡ self.start + self.length }
     {
         u64::from(self.start) + u64::from(self.length)

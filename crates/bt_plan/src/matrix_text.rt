@@ -5,10 +5,9 @@ ghost use Rattle.bt_text.specs.Reading.{Gives};
 ghost use Rattle.bt_plan.specs.MatrixText.{size_in, row_in, rows_in, matrix_of};
 
 use crate::lines::line_numbers;
-use bt_text::fault_at;
 use crate::{TextCode, TextFault};
-use bt_text::first_line;
 use bt_matrix::Dense;
+use bt_text::{fault_at, first_line};
 use std::alloc::Global;
 
 /// The greatest entry of a matrix in a text, in slots.

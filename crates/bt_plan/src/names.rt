@@ -5,10 +5,10 @@ ghost use Rattle.bt_text.specs.Reading.{Gives};
 ghost use Rattle.bt_plan.specs.TerminalNames.{ends_in, AreTerminals};
 ghost use Rattle.bt_net.specs.Terminals.{terminal_of, are_names};
 
-use bt_text::fault_at;
 use crate::{TextCode, TextFault};
 use bt_frame::TermNo;
 use bt_net::{Network, is_name};
+use bt_text::fault_at;
 
 /// The terminal of that name, for a word that has the shape of a name.
 fn terminal(net: &Network, name: &[u8]) -> Option<TermNo>

@@ -11,14 +11,13 @@ ghost use Rattle.bt_verdict.specs.PlanVerdict.{AreBetweenTerminals};
 ghost use Rattle.bt_plan.specs.ScheduleText.{mode_in};
 ghost use Rattle.bt_net.specs.Terminals.{are_names};
 
-use bt_text::fault_at;
 use crate::names::{are_names, ends_of};
 use crate::schedule_reader::{critical_line, is_word, length_line, mode_of_words, number_to};
-use bt_demand::{Burst, Bursts, Plan};
 use crate::{TextCode, TextFault};
+use bt_demand::{Burst, Bursts, Plan};
 use bt_frame::{EditionNo, Mode, Modes, Schedule};
-use bt_text::{first_line, words};
 use bt_net::Network;
+use bt_text::{fault_at, first_line, words};
 use std::alloc::Global;
 
 /// The greatest number of an edition.

@@ -8,10 +8,9 @@ ghost use Rattle.bt_text.specs.Reading.{or_fault, Gives};
 ghost use Rattle.bt_plan.specs.ScheduleText.{is_word, number_to, length_in, line_in, critical_in, mode_with, mode_in, modes_in, critical_and_modes, schedule_of};
 
 use crate::lines::numbers_of_words;
-use bt_text::fault_at;
 use crate::{TextCode, TextFault};
 use bt_frame::{BeamNo, Columns, Critical, Mode, Modes, Schedule};
-use bt_text::{first_line, number, words};
+use bt_text::{fault_at, first_line, number, words};
 use std::alloc::Global;
 
 /// The greatest length of a schedule and of a mode in a text, in slots.

@@ -6,15 +6,14 @@ ghost use Rattle.bt_net.specs.Terminals.{are_names};
 ghost use Rattle.bt_demand.specs.Traffic.{matrix_of, AreOfNetwork, HasSumsTo};
 ghost use Rattle.bt_plan.specs.TrafficText.{units_in, link_between, link_with, named_link, link_behind, link_in, links_with, line_with, demand_of, AreRead, IsSpelled};
 
-use bt_text::fault_at;
 use crate::names::{are_names, ends_of};
 use crate::schedule_reader::is_word;
-use bt_demand::{Demand, Link};
 use crate::{TextCode, TextFault};
+use bt_demand::{Demand, Link};
 use bt_frame::TermNo;
-use bt_text::{first_line, number, words};
 use bt_matrix::{Dense, SUM_LAST, Traffic};
 use bt_net::Network;
+use bt_text::{fault_at, first_line, number, words};
 use std::alloc::Global;
 
 /// The most units of a link in a text, in slots per frame.

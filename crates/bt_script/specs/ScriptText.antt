@@ -1,5 +1,5 @@
 -- The text of a script: rounds, and in each round the lines of its desks.
-use Rattle.std.specs.Prelude.{ℕ, zero, suc, ◌+◌, ◌==◌, ◌||◌, if◌then◌else◌, nat_le, codes, Bool, true, false, length, List, [], ◌∷◌, ◌++◌, Option, None, Ok, Err}
+use Rattle.std.specs.Prelude.{ℕ, zero, suc, ◌+◌, ◌==◌, ◌&&◌, ◌||◌, if◌then◌else◌, nat_le, codes, Bool, true, false, length, List, [], ◌∷◌, ◌++◌, Option, None, Ok, Err}
 use Rattle.std.specs.Str.{bytes_eq}
 use Rattle.bt_text.specs.Text.{words, lines, number_of}
 use Rattle.bt_frame.specs.declared.numbers.TermNo.{TermNo}

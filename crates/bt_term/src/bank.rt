@@ -1,6 +1,6 @@
 // A bank of a terminal.
-use bt_frame::EditionNo;
 use bt_demand::Bursts;
+use bt_frame::EditionNo;
 
 /// The bursts that a terminal transmits under an edition.
 #[derive(Drop)]

@@ -8,8 +8,8 @@ use crate::bank::Bank;
 use crate::banks::Banks;
 use crate::reference::Reference;
 use bt_air::{Heard, Message};
-use bt_frame::{EditionNo, Mark, TermNo};
 use bt_demand::Burst;
+use bt_frame::{EditionNo, Mark, TermNo};
 use std::alloc::Global;
 use std::marker::Model;
 

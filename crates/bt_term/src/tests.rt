@@ -1,8 +1,8 @@
 // The answers of a terminal and what it transmits, worked out by hand.
 use crate::Terminal;
 use bt_air::{Heard, Message};
-use bt_frame::{EditionNo, Mark, OutOfMemory, TermNo};
 use bt_demand::{Burst, Bursts};
+use bt_frame::{EditionNo, Mark, OutOfMemory, TermNo};
 use std::alloc::Global;
 use std::test::Fail;
 
