@@ -17,9 +17,9 @@ use crate::fit::test_fit;
 use crate::lines::verdict_line;
 use crate::load::{load_demand, load_network, load_plan};
 use bt_base::Files;
+use bt_demand::{Demand, Plan};
 use bt_matrix::SUM_LAST;
 use bt_net::Network;
-use bt_demand::{Demand, Plan};
 use bt_verdict::{Verdict, check};
 use std::alloc::{AllocError, Global};
 

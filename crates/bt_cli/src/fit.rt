@@ -7,10 +7,10 @@ ghost use Rattle.bt_cli.specs.Fitting.{overload_words, Fits, NamesOverload};
 ghost use Rattle.bt_cli.specs.Lines.{line_of};
 
 use crate::answer::{Answer, Stop};
+use bt_demand::{Demand, traffic_of};
 use bt_frame::Critical;
 use bt_matrix::{SUM_LAST, Traffic};
 use bt_net::Network;
-use bt_demand::{Demand, traffic_of};
 use std::alloc::{AllocError, Global};
 
 /// The demand fits the frame, or the answer that names its heaviest line.

@@ -12,8 +12,8 @@ ghost use Rattle.bt_cli.specs.Request.{Request};
 ghost use Rattle.bt_cli.specs.Top.{Answers, AreTold, IsOneAnswer};
 
 use bt_matrix::one_line_is_heaviest;
-use bt_verdict::{one_plan_verdict, one_verdict};
 use bt_plan::schedules_have_one_spelling;
+use bt_verdict::{one_plan_verdict, one_verdict};
 
 /// Where the files that are asked for are told and none of them failed, what is asked has one answer: no two
 /// cases of the promise hold together. Of the good schedules for a matrix any may be printed, of the good plans

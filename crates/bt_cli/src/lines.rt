@@ -7,8 +7,8 @@ ghost use Rattle.bt_cli.specs.Lines.{code_name, line_of, network_fault, script_c
 use bt_frame::{Critical, OutOfMemory};
 use bt_net::NetFault;
 use bt_plan::TextCode;
-use bt_verdict::Verdict;
 use bt_script::ScriptCode;
+use bt_verdict::Verdict;
 use std::alloc::{AllocError, Global};
 use std::fmt;
 

@@ -16,11 +16,11 @@ use crate::load::{load_demand, load_network};
 use crate::print::print;
 use crate::request::{Command, command_of};
 use bt_base::{Files, Sink};
-use bt_frame::EditionNo;
 use bt_cut::make_plan;
+use bt_demand::Demand;
+use bt_frame::EditionNo;
 use bt_matrix::SUM_LAST;
 use bt_net::Network;
-use bt_demand::Demand;
 use bt_plan::plan_text;
 use std::alloc::Global;
 

@@ -3,9 +3,9 @@ ghost use Rattle.std.specs.Prelude.{◌≤◌};
 
 use crate::centre_main;
 use bt_base::{SureFiles, SureKeeper, SureSink};
-use bt_text::number;
 use bt_net::Network;
 use bt_plan::{plan_text, read_plan};
+use bt_text::number;
 use std::alloc::Global;
 use std::sync::Wait;
 use std::test::Fail;
