@@ -9,7 +9,7 @@ use Rattle.std.proofs.lemmas.Bool.Decides.{nat_tests}
 use Rattle.std.proofs.lemmas.Fmt.{decimal_is_IsNumeral, decimal-digits_value, decimal_digit, first_decimal}
 use Rattle.std.proofs.lemmas.List.{append-nil, drop_all, drop-map, length-map}
 use Rattle.std.proofs.lemmas.List.Elements.{All-head, All-map, All-same, All-tail, All-weaker}
-use Rattle.std.proofs.lemmas.Str.Parse.{IsNumeralModel, numerals_by_value}
+use Rattle.std.proofs.lemmas.Str.Parse.{digits_value_short, IsNumeralModel, numerals_by_value}
 use Rattle.bt_text.specs.Text.{words, is_number, number_of, numbers_of, capped, spaced, lacks}
 use Rattle.bt_text.proofs.TextLines.{lacks-spaced, words-spaced, spaced-words}
 
@@ -56,6 +56,17 @@ decimal_from_number_of word n small is =
     let read = chosen (is_number word) (digits_value 10 word) n is in
     let shape = digits_from_is_number word read.0 in
     sym (decimal-digits_value digits_model word shape.0 shape.1 shape.2 (omega (arith, read.1))) ∙ ap decimal read.1
+
+capped-small : (n : ℕ) → n < 2 ^ 64 - 1 → capped n ≡ n
+capped-small n small = omega arith
+
+short-capped : (is : Bool) (n : ℕ) → (is ≡ true → n < 2 ^ 64 - 1) → option_map capped (if is then Some n else None) ≡ (if is then Some n else None)
+short-capped true n small = ap (λ (m : ℕ). Some m) (capped-small n (small refl))
+short-capped false n small = refl
+
+-- nineteen digits write a number that is never capped
+pub number_of-short : (word : List ℕ) (most : ℕ) → length word ≤ most → most ≤ 19 → option_map capped (number_of word) ≡ number_of word
+number_of-short word most few small = short-capped (is_number word) (digits_value 10 word) (λ is. omega (arith, digits_value_short digits_model word 19 (digits_from_is_number word is).0 (omega arith)))
 
 -- the same of many
 pub numbers_of-decimals : (ns : List ℕ) → All (λ n. n < 2 ^ 64) ns → numbers_of (map decimal ns) ≡ Some ns

@@ -15,5 +15,8 @@ pub use spelling::{
     lines_have_one_text, number_lines_have_one_spelling, numbers_have_one_spelling,
     words_have_one_line,
 };
-pub use text::{all_numbers, first_line, lines, next_line, number, number_text, words};
+pub use text::{
+    all_numbers, first_line, is_word, lines, next_line, number, number_of_digits, number_text,
+    words,
+};
 pub use word_reader::WordReader;

@@ -4,12 +4,19 @@ ghost use Rattle.std.specs.List.{list_all, slice_split};
 ghost use Rattle.std.specs.Char.{is_ascii_digit};
 ghost use Rattle.std.specs.Option.{option_map};
 ghost use Rattle.std.specs.Str.Parse.{digits_value};
-ghost use Rattle.bt_text.specs.Text.{words, lines, number_of, numbers_of, capped};
+ghost use Rattle.bt_text.specs.Text.{words, lines, is_word, number_of, number_of_digits, numbers_of, capped};
 
 use bt_frame::OutOfMemory;
 use itoa::Buffer;
 use memchr::memchr;
 use std::alloc::Global;
+
+/// Whether a word is this one.
+pub fn is_word(word: &[u8], name: &[u8]) -> bool
+    ensures is { result ≡ is_word name.now word.now }
+{
+    word == name
+}
 
 /// The number that a word is, the last `u64` for every number from there on; None where it is no number.
 pub fn number(word: &[u8]) -> Option<u64>
@@ -21,6 +28,18 @@ pub fn number(word: &[u8]) -> Option<u64>
         [] => None,
         [b'0', _, ..] => None,
         _ => digits(word),
+    }
+}
+
+/// The number that a word of at most so many digits is; None where it is longer, or no number.
+pub fn number_of_digits(word: &[u8], most_digits: usize) -> Option<u64>
+    requires most_digits { most_digits ≤ 19 }
+    ensures number { result ≡ number_of_digits most_digits word.now }
+{
+    if word.len() <= most_digits {
+        number(word)
+    } else {
+        None
     }
 }
 
@@ -118,108 +137,4 @@ fn cut_at(alloc: Global, bytes: &[u8], separator: u8) -> Result<Vec<&[u8]>, OutO
         map (λ part. part.now) v.items ≡ slice_split (λ b. b == separator) bytes.now) }
 {
     Ok(bytes.split(|byte| *byte == separator).collect(alloc)?)
-}
-
-#[cfg(test)]
-mod tests {
-    use super::*;
-    use std::test::Fail;
-
-    #[test]
-    fn words_are_numbers_or_none(rt: HostRuntime) {
-        let cases: [(&[u8], Option<u64>); 16] = [
-            // word, number
-            (b"", None),
-            (b"0", Some(0)),
-            (b"00", None),
-            (b"7", Some(7)),
-            (b"07", None),
-            (b"4096", Some(4096)),
-            (b"+1", None),
-            (b"-1", None),
-            (b"1a", None),
-            (b"a", None),
-            (b"1 2", None),
-            (b"12\n", None),
-            (b"18446744073709551614", Some(18_446_744_073_709_551_614)),
-            (b"18446744073709551615", Some(u64::MAX)),
-            (b"18446744073709551616", Some(u64::MAX)),
-            (b"999999999999999999999999999999", Some(u64::MAX)),
-        ];
-        for (word, want) in cases {
-            assert_eq!(rt; number(word), want);
-        }
-    }
-
-    #[test]
-    fn lists_of_words_are_numbers_or_none(rt: HostRuntime) -> Result<(), Fail> {
-        let alloc = rt.alloc();
-        let all: [&[u8]; 3] = [b"5", b"0", b"99999999999999999999"];
-        let found = all_numbers(alloc, &all)?.ok_or("a word is no number")?;
-        assert_eq!(rt; found.as_slice(), [5, 0, u64::MAX].as_slice());
-        let one_is_none: [&[u8]; 3] = [b"5", b"", b"7"];
-        assert!(rt; all_numbers(alloc, &one_is_none)?.is_none());
-        let empty = all_numbers(alloc, &[])?.ok_or("no word is no number")?;
-        assert_eq!(rt; empty.len(), 0);
-        Ok(())
-    }
-
-    #[test]
-    fn spaces_and_newlines_cut(rt: HostRuntime) -> Result<(), Fail> {
-        let alloc = rt.alloc();
-        let cases: [(&[u8], &[&[u8]]); 6] = [
-            // line, words
-            (b"", &[b""]),
-            (b"end", &[b"end"]),
-            (b"mode 3 0 1", &[b"mode", b"3", b"0", b"1"]),
-            (b"1  2", &[b"1", b"", b"2"]),
-            (b" 1", &[b"", b"1"]),
-            (b"1 ", &[b"1", b""]),
-        ];
-        for (line, want) in cases {
-            assert_eq!(rt; words(alloc, line)?.as_slice(), want);
-        }
-        let cases: [(&[u8], &[&[u8]]); 4] = [
-            // text, lines
-            (b"", &[b""]),
-            (b"2\n0 1\n", &[b"2", b"0 1", b""]),
-            (b"2\n\n3", &[b"2", b"", b"3"]),
-            (b"\n", &[b"", b""]),
-        ];
-        for (text, want) in cases {
-            assert_eq!(rt; lines(alloc, text)?.as_slice(), want);
-        }
-        Ok(())
-    }
-
-    #[test]
-    fn the_next_line_is_found(rt: HostRuntime) {
-        let text = b"ab\n\ncd";
-        let cases = [
-            // place, start and end
-            (0, Some((0, 2))),
-            (1, Some((1, 2))),
-            (2, Some((2, 2))),
-            (3, Some((3, 3))),
-            (4, None),
-            (6, None),
-        ];
-        for (place, want) in cases {
-            assert!(rt; place <= text.len());
-            assert_eq!(rt; next_line(text, place), want);
-        }
-    }
-
-    #[test]
-    fn numbers_are_written(rt: HostRuntime) -> Result<(), Fail> {
-        let alloc = rt.alloc();
-        let mut out = Vec::from_slice(alloc, b"length ")?;
-        number_text(alloc, 4096, &mut out)?;
-        number_text(alloc, u64::MAX, &mut out)?;
-        assert_eq!(rt;
-            out.as_slice(),
-            b"length 409618446744073709551615".as_slice()
-        );
-        Ok(())
-    }
 }

@@ -1,9 +1,10 @@
 // A cursor over the words of a line: it takes no memory, and looks at each byte once.
-ghost use Rattle.std.specs.Prelude.{◌≡◌, ◌==◌, ◌∷◌, drop, length, IfSome, option_and_then};
+ghost use Rattle.std.specs.Prelude.{◌≡◌, ◌≤◌, ◌==◌, ◌∷◌, drop, length, IfSome, option_and_then};
 ghost use Rattle.std.specs.Option.{option_map};
-ghost use Rattle.bt_text.specs.Text.{words};
+ghost use Rattle.bt_text.specs.Text.{words, number_of_digits};
 ghost use Rattle.bt_text.specs.WordReader.{words_left, first_word, is_first, number_to, digits_after};
 
+use crate::text::{is_word, number_of_digits};
 use memchr::memchr;
 use std::marker::Model;
 
@@ -51,7 +52,7 @@ impl<'a> WordReader<'a> {
         ensures rest { self.new ≡ drop 1 self.old }
     {
         match self.next() {
-            Some(word) => word == name,
+            Some(word) => is_word(word, name),
             None => false,
         }
     }
@@ -66,6 +67,17 @@ impl<'a> WordReader<'a> {
         let (number, behind) = number_in_front(rest, most)?;
         self.rest = behind;
         Some(number)
+    }
+
+    /// The number of at most so many digits that the next word is, which it passes in any case; None where that
+    /// is no such number.
+    #[inline(always)]
+    pub fn number_of_digits(&mut self, most_digits: usize) -> Option<u64>
+        requires most_digits { most_digits ≤ 19 }
+        ensures number { result ≡ option_and_then (number_of_digits most_digits) (first_word self.old) }
+        ensures rest { self.new ≡ drop 1 self.old }
+    {
+        number_of_digits(self.next()?, most_digits)
     }
 
     /// No word is left.
