@@ -4,7 +4,7 @@ use Rattle.std.specs.List.{list_any, prefix_len, position_or_len}
 use Rattle.std.specs.Str.{bytes_eq}
 use Rattle.std.specs.Map.{keys_of, lookup}
 use Rattle.std.proofs.lemmas.List.{length-map, length-take, get_or-take, map_push, take-map, take_more}
-use Rattle.std.proofs.lemmas.Bool.{ltb-false}
+use Rattle.std.proofs.lemmas.Bool.{and_parts, ltb-false}
 use Rattle.std.proofs.lemmas.Cmp.{nat_list_eq_equiv}
 use Rattle.std.proofs.lemmas.List.Sums.{fails_before_first}
 use Rattle.std.proofs.lemmas.List.Quantifiers.{position-Some}
@@ -16,7 +16,9 @@ use Rattle.indexmap.specs.IndexMap.{IndexMap, get, insert_entry}
 use Rattle.indexmap.specs.IndexSet.{insert_key}
 use Rattle.indexmap.proofs.CallerLemmas.{insert_entry-new}
 use Rattle.bt_frame.specs.declared.numbers.BeamNo.{BeamNo}
-use Rattle.bt_net.specs.Network.{names_of, AreNames}
+use Rattle.bt_frame.specs.declared.numbers.TermNo.{TermNo}
+use Rattle.bt_net.specs.Name.{is_name, is_reserved, is_terminal_name}
+use Rattle.bt_net.specs.Network.{names_of, AreNames, AreTerminals}
 
 module _ {A B : Type 0} (test : B → Bool) (view : A → B) where
   -- a test of the views is the test of what is seen
@@ -93,6 +95,29 @@ found_name terminals name number is =
     let names = names_of terminals in
     let found = position-Some (bytes_eq name) names number name is in
     sym (slice_get-map (λ terminal. terminal.0) terminals number) ∙ slice_get-get_or names number name found.0 ∙ ap Some (sym ((bytes_eq-Decides name (get_or names number name)).0 found.1))
+
+-- a word that is no good name is the name of no terminal
+pub no_place : (is_good : List ℕ → Bool) (names : List (List ℕ)) (word : List ℕ) → AreNames is_good names → (IsTrue (is_good word) → ⊥) → position (bytes_eq word) names ≡ None
+no_place is_good names word are bad = by (position (bytes_eq word) names) refl
+  where
+    by : (o : Option ℕ) → position (bytes_eq word) names ≡ o → o ≡ None
+    by None at = refl
+    by (Some i) at =
+        let found = position-Some (bytes_eq word) names i word at in
+        let same : get_or names i word ≡ word = sym ((bytes_eq-Decides word (get_or names i word)).0 found.1) in
+        absurd (bad (subst (λ (n : List ℕ). IsTrue (is_good n)) same (are.good i word found.0)))
+
+no_name : (word : List ℕ) → is_name word ≡ false → IsTrue (is_terminal_name word) → ⊥
+no_name word bad good = true≢false (sym (and_parts (is_name word) (not (is_reserved word)) good).0 ∙ bad)
+
+-- a terminal by its number
+abbrev numbered : ℕ → TermNo
+numbered place = record { 0 = place }
+
+-- a word that has not the shape of a name names no terminal
+pub names_none : (beams : List (List ℕ)) (terminals : List (List ℕ × BeamNo)) (word : List ℕ) → AreTerminals beams terminals → is_name word ≡ false
+    → None ≡ option_map numbered (position (bytes_eq word) (names_of terminals))
+names_none beams terminals word are bad = ap (option_map numbered) (sym (no_place is_terminal_name (names_of terminals) word are.names (no_name word bad)))
 
 named_at : (terminals : List (List ℕ × BeamNo)) (number : ℕ) (name : List ℕ) (beam : BeamNo) → slice_get terminals number ≡ Some (name, beam) → slice_get (names_of terminals) number ≡ Some name
 named_at terminals number name beam at = slice_get-map (λ terminal. terminal.0) terminals number ∙ ap (option_map (λ terminal. terminal.0)) at

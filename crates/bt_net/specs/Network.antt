@@ -1,6 +1,7 @@
 -- What contracts see of a network, and what always holds of it.
-use Rattle.std.specs.Prelude.{◌≢◌, ℕ, ◌<◌, ◌≤◌, List, length, map, Bool, All, AllPairs, IsTrue}
+use Rattle.std.specs.Prelude.{◌≢◌, ℕ, ◌<◌, List, length, map, Bool, All, AllPairs, IsTrue}
 use Rattle.bt_frame.specs.declared.numbers.BeamNo.{BeamNo}
+use Rattle.bt_frame.specs.declared.limits.TheConstants.{MOST_BEAMS, MOST_TERMINALS, MOST_SLOTS}
 use Rattle.bt_frame.specs.Range.{IsWithin}
 use Rattle.bt_net.specs.Name.{is_name, is_terminal_name}
 
@@ -25,12 +26,12 @@ pub record AreNames (is_good : List ℕ → Bool) (names : List (List ℕ)) : Ty
 
 -- the names of a network's beams
 pub record AreBeams (beams : List (List ℕ)) : Type 0 where
-  pub count : IsWithin 1 16 (length beams)
+  pub count : IsWithin 1 MOST_BEAMS (length beams)
   pub names : AreNames is_name beams
 
 -- the terminals of a network with these beams
 pub record AreTerminals (beams : List (List ℕ)) (terminals : List (List ℕ × BeamNo)) : Type 0 where
-  pub count : IsWithin 1 64 (length terminals)
+  pub count : IsWithin 1 MOST_TERMINALS (length terminals)
   pub names : AreNames is_terminal_name (names_of terminals)
   pub in_beam : All (λ terminal. terminal.1.0 < length beams) terminals
 
@@ -38,7 +39,7 @@ pub record AreTerminals (beams : List (List ℕ)) (terminals : List (List ℕ ×
 pub record IsSound (net : Net) : Type 0 where
   pub beams : AreBeams net.beams
   pub terminals : AreTerminals net.beams net.terminals
-  pub slots : IsWithin 1 4096 net.slots
+  pub slots : IsWithin 1 MOST_SLOTS net.slots
   pub frames : IsWithin 1 64 net.frames
   pub lead : IsWithin 2 32 net.lead
   pub patience : IsWithin 1 32 net.patience

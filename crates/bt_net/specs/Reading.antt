@@ -7,6 +7,7 @@ use Rattle.serde_json.specs.Data.{Data, Items, no_items, item}
 use Rattle.serde_json.specs.Find.{get, as_u64, as_number, as_str, as_array, as_object}
 use Rattle.serde_json.specs.Read as json
 use Rattle.bt_text.specs.Reading.{◌>>=◌}
+use Rattle.bt_frame.specs.declared.limits.TheConstants.{MOST_BEAMS, MOST_TERMINALS, MOST_SLOTS}
 use Rattle.bt_frame.specs.declared.numbers.BeamNo.{BeamNo}
 use Rattle.bt_net.specs.declared.fault.NetFault.{NetFault}
 use Rattle.bt_net.specs.declared.fault.NetFault.TheVariants.{N1, N2, N3, N4, N5, N6, OutOfMemory}
@@ -72,7 +73,7 @@ with_beam earlier entry = do
 
 -- the names of the beams
 unfoldable pub beams_of : Data → Result (List (List ℕ)) NetFault
-beams_of value = entries_at path.Beams 16 (codes "beams") value >>= through with_beam []
+beams_of value = entries_at path.Beams MOST_BEAMS (codes "beams") value >>= through with_beam []
 
 -- the beam that a terminal names
 unfoldable pub beam_at : Path → Data → List (List ℕ) → Result BeamNo NetFault
@@ -89,7 +90,7 @@ with_terminal beams earlier entry = do
 
 -- the terminals, each with its beam
 unfoldable pub terminals_of : List (List ℕ) → Data → Result (List (List ℕ × BeamNo)) NetFault
-terminals_of beams value = entries_at path.Terminals 64 (codes "terminals") value >>= through (with_terminal beams) []
+terminals_of beams value = entries_at path.Terminals MOST_TERMINALS (codes "terminals") value >>= through (with_terminal beams) []
 
 -- the limit of the journal; where the field is missing, the greatest that there is
 abbrev pub journal_found : Option Data → Data → Result ℕ NetFault
@@ -105,7 +106,7 @@ network_of value = do
   fields ← ok_or (as_object value) (N2 path.Top)
   beams ← beams_of value
   terminals ← terminals_of beams value
-  slots ← number_at path.Slots 1 4096 (codes "slots") value
+  slots ← number_at path.Slots 1 MOST_SLOTS (codes "slots") value
   frames ← number_at path.Frames 1 64 (codes "frames") value
   lead ← number_at path.Lead 2 32 (codes "lead") value
   patience ← number_at path.Patience 1 32 (codes "patience") value

@@ -10,13 +10,17 @@ use Rattle.bt_net.specs.Network.{Net, names_of}
 abbrev pub IsTerminal : Net → TermNo → Type 0
 IsTerminal net terminal = terminal.0 < length net.terminals
 
+-- the one and the other are terminals of the network
+abbrev pub IsBetweenTerminals : Net → TermNo → TermNo → Type 0
+IsBetweenTerminals net from to = IsTerminal net from × IsTerminal net to
+
 -- the beam of a terminal, where it is one of the network's
 abbrev pub beam_at : Net → TermNo → Option BeamNo
 beam_at net terminal = option_map (λ t. t.1) (slice_get net.terminals terminal.0)
 
 -- the terminal is one of the network's, and in this beam
 abbrev pub IsInBeam : Net → TermNo → BeamNo → Type 0
-IsInBeam net terminal beam = option_map (λ t. t.1) (slice_get net.terminals terminal.0) ≡ Some beam
+IsInBeam net terminal beam = beam_at net terminal ≡ Some beam
 
 -- the terminal is in the beam of that number
 abbrev pub is_in_beam : Net → ℕ → TermNo → Bool

@@ -1,7 +1,10 @@
 //! The network file: its beams, its terminals, and the limits of its frames and of its journal.
 //!
-//! `docs/formats.md` has the file. `specs/Network.antt` says what a network is, `specs/Reading.antt` which bytes
-//! are one, and which fault comes first where they are none.
+//! It stands on the numbers of beams and terminals in `bt_frame` and on the readings of `bt_text`; `docs/formats.md` has
+//! the file. Promises are in `specs/Network.antt`, what a network is; `specs/Name.antt`, the shape of names;
+//! `specs/Terminals.antt`, a terminal by its number and by its name; `specs/Fault.antt`, how a place is printed; and
+//! `specs/Reading.antt`, which bytes are a network, and which fault comes first where they are none. Nothing in specs/ is
+//! for bodies alone.
 #![tactic(auto)]
 
 mod beams;
@@ -10,8 +13,6 @@ mod name;
 mod network;
 mod reading;
 mod terminals;
-#[cfg(test)]
-mod tests;
 
 pub use fault::{NetFault, Path};
 pub use name::{is_name, is_terminal_name};

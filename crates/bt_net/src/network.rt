@@ -2,11 +2,13 @@
 ghost use Rattle.std.specs.Prelude.{◌≡◌, ◌<◌, Some, IfSome, IfNone, IfOk, IsTrue, length, map, position, slice_get, Contains};
 ghost use Rattle.std.specs.Option.{option_map};
 ghost use Rattle.std.specs.Str.{bytes_eq};
-ghost use Rattle.bt_net.specs.Name.{is_name, is_terminal_name};
+ghost use Rattle.bt_net.specs.Name.{is_name as is_name_of, is_terminal_name};
 ghost use Rattle.bt_net.specs.Network.{names_of, IsSound};
+ghost use Rattle.bt_net.specs.Terminals.{terminal_of, IsTerminal};
 ghost use Rattle.bt_frame.specs.Range.{IsWithin};
 
 use crate::beams::Beams;
+use crate::name::is_name;
 use crate::terminals::Terminals;
 use bt_frame::{BeamNo, OutOfMemory, TermNo};
 use std::alloc::Global;
@@ -118,7 +120,7 @@ impl Network {
     pub fn beam_name(&self, beam: BeamNo) -> &str
         requires { beam.0 < length self.now.beams }
         ensures name { slice_get self.now.beams beam.0 ≡ Some result.now }
-        ensures good { IsTrue (is_name result.now) }
+        ensures good { IsTrue (is_name_of result.now) }
     {
         self.beams.name_of(beam.0 as usize)
     }
@@ -131,6 +133,21 @@ impl Network {
         ensures in_range { IfSome result (λ t. t.0 < length self.now.terminals) }
     {
         let number = self.terminals.find(name)?;
+        Some(TermNo(number as u8))
+    }
+
+    /// The terminal that a word names.
+    pub fn terminal_named(&self, word: &[u8]) -> Option<TermNo>
+        ensures terminal { result ≡ terminal_of self.now word.now }
+        ensures in_range { IfSome result (IsTerminal self.now) }
+    {
+        let terminals = &self.terminals;
+        if !is_name(word) {
+            return None;
+        }
+        // A name is ASCII.
+        let name = unsafe { str::from_utf8_unchecked(word) };
+        let number = terminals.find(name)?;
         Some(TermNo(number as u8))
     }
 

@@ -13,7 +13,7 @@ use crate::beams::Beams;
 use crate::fault::{NetFault, Path};
 use crate::name::{is_name, is_terminal_name};
 use crate::terminals::Terminals;
-use bt_frame::BeamNo;
+use bt_frame::{BeamNo, MOST_BEAMS, MOST_SLOTS, MOST_TERMINALS};
 use serde_json::{Error, Value};
 use std::alloc::Global;
 
@@ -124,7 +124,7 @@ fn beams_of(alloc: Global, value: &Value) -> Result<Beams, NetFault>
     ensures walk { Gives (λ beams. beams) result (beams_of (view value.now)) }
     ensures sound { IfOk result AreBeams }
 {
-    add_beams(alloc, entries_at(value, "beams", Path::Beams, 16)?)
+    add_beams(alloc, entries_at(value, "beams", Path::Beams, MOST_BEAMS)?)
 }
 
 #[tactic(auto, unfolding(crate::specs::Reading::with_terminal))]
@@ -183,7 +183,7 @@ fn terminals_of(alloc: Global, beams: &Beams, value: &Value) -> Result<Terminals
     add_terminals(
         alloc,
         beams,
-        entries_at(value, "terminals", Path::Terminals, 64)?,
+        entries_at(value, "terminals", Path::Terminals, MOST_TERMINALS)?,
     )
 }
 
@@ -196,7 +196,7 @@ fn network_of(alloc: Global, value: &Value) -> Result<Network, NetFault>
     Ok(Network {
         terminals: terminals_of(alloc, &beams, value)?,
         beams,
-        slots: number_at(value, "slots", Path::Slots, 1, 4096)?,
+        slots: number_at(value, "slots", Path::Slots, 1, MOST_SLOTS)?,
         frames: number_at(value, "frames", Path::Frames, 1, 64)?,
         lead: number_at(value, "lead", Path::Lead, 2, 32)?,
         patience: number_at(value, "patience", Path::Patience, 1, 32)?,
