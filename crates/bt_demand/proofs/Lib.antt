@@ -2,3 +2,4 @@ pub mod FewLinks
 pub mod Links
 pub mod Matrices
 pub mod SameDemand
+pub mod Tables

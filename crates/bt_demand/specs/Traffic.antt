@@ -1,10 +1,9 @@
 -- The traffic matrix of a demand: what the links from each beam to each beam ask for together.
-use Rattle.std.specs.Prelude.{ℕ, ◌<◌, ◌≤◌, ◌&&◌, List, length, map, All}
+use Rattle.std.specs.Prelude.{ℕ, ◌≤◌, ◌&&◌, List, length, map, All}
 use Rattle.std.specs.List.{range_with_len}
-use Rattle.bt_frame.specs.declared.numbers.TermNo.{TermNo}
 use Rattle.bt_frame.specs.declared.schedule.Critical.{Critical}
 use Rattle.bt_net.specs.Network.{Net}
-use Rattle.bt_net.specs.Terminals.{is_in_beam}
+use Rattle.bt_net.specs.Terminals.{IsTerminal, is_in_beam}
 use Rattle.bt_matrix.specs.Traffic.{IsLine, line_sum}
 use Rattle.bt_demand.specs.declared.demand.Link.{Link}
 use Rattle.bt_demand.specs.Demand.{units_where}
@@ -23,7 +22,7 @@ matrix_of net links = table_of (length net.beams) (units_between net links)
 
 -- each link is between terminals of the network
 abbrev pub AreOfNetwork : Net → List Link → Type 0
-AreOfNetwork net links = All (λ link. (link.from.0 < length net.terminals) × (link.to.0 < length net.terminals)) links
+AreOfNetwork net links = All (λ link. IsTerminal net link.from × IsTerminal net link.to) links
 
 -- no line of the matrix asks for more than so many slots
 abbrev pub HasSumsTo : ℕ → List (List ℕ) → Type 0

@@ -2,8 +2,7 @@
 ghost use Rattle.std.specs.Prelude.{◌≡◌, ◌≢◌, ◌+◌, ◌<◌, ◌≤◌, [], IfOk, IfErr, OnOk, OnErr};
 ghost use Rattle.bt_demand.specs.Demand.{units_of, Gains, IsAt, IsDemand, IsGapFor};
 
-use bt_frame::{OutOfMemory, TermNo};
-use bt_matrix::SUM_LAST;
+use bt_frame::{OutOfMemory, SUM_LAST, TermNo};
 use std::alloc::Global;
 use std::marker::Model;
 
@@ -125,75 +124,5 @@ impl Demand {
     {
         self.links
             .binary_search_by_key(&(from, to), |link| (link.from, link.to))
-    }
-}
-
-#[cfg(test)]
-mod tests {
-    use super::*;
-    use std::process::Abort;
-    use std::test::Fail;
-
-    /// A link and the slots that it gains or loses.
-    #[derive(Clone, Copy, Debug)]
-    enum Edit {
-        Add(u8, u8, u32),
-        Take(u8, u8, u32),
-    }
-
-    fn apply(
-        rt: &impl Abort,
-        alloc: Global,
-        demand: &mut Demand,
-        edit: Edit,
-    ) -> Result<(), OutOfMemory> {
-        match edit {
-            Edit::Add(from, to, units) => {
-                let held = demand.units(TermNo(from), TermNo(to));
-                assert!(rt; from != to && 0 < units);
-                assert!(rt; held <= SUM_LAST && units <= SUM_LAST - held);
-                demand.add(alloc, TermNo(from), TermNo(to), units)
-            }
-            Edit::Take(from, to, units) => {
-                let held = demand.units(TermNo(from), TermNo(to));
-                assert!(rt; 0 < units && units <= held);
-                demand.take(TermNo(from), TermNo(to), units);
-                Ok(())
-            }
-        }
-    }
-
-    fn has_links(demand: &Demand, want: &[(u8, u8, u32)]) -> bool {
-        let links = demand.as_slice();
-        links.len() == want.len()
-            && links.iter().zip(want).all(|(link, want)| (link.from.0, link.to.0, link.units)
-                == *want)
-    }
-
-    #[test]
-    fn links_stay_in_order_as_they_gain_and_lose(rt: HostRuntime) -> Result<(), Fail> {
-        use Edit::*;
-        let after: [(Edit, &[(u8, u8, u32)]); 9] = [
-            (Add(1, 2, 5), &[(1, 2, 5)]),
-            (Add(2, 0, 1), &[(1, 2, 5), (2, 0, 1)]),
-            (Add(0, 63, 7), &[(0, 63, 7), (1, 2, 5), (2, 0, 1)]),
-            (Add(1, 0, 2), &[(0, 63, 7), (1, 0, 2), (1, 2, 5), (2, 0, 1)]),
-            (Add(1, 2, 3), &[(0, 63, 7), (1, 0, 2), (1, 2, 8), (2, 0, 1)]),
-            (Take(0, 63, 7), &[(1, 0, 2), (1, 2, 8), (2, 0, 1)]),
-            (Take(1, 2, 1), &[(1, 0, 2), (1, 2, 7), (2, 0, 1)]),
-            (Take(2, 0, 1), &[(1, 0, 2), (1, 2, 7)]),
-            (Take(1, 0, 1), &[(1, 0, 1), (1, 2, 7)]),
-        ];
-        let mut demand = Demand::empty(rt.alloc());
-        for (edit, links) in after {
-            apply(&rt, rt.alloc(), &mut demand, edit)?;
-            assert!(rt; has_links(&demand, links), "after {edit:?}");
-        }
-        let copy = demand.copy(rt.alloc())?;
-        assert!(rt; has_links(&copy, &[(1, 0, 1), (1, 2, 7)]));
-        for (from, to, units) in [(1, 0, 1), (1, 2, 7), (0, 1, 0), (2, 0, 0), (1, 1, 0)] {
-            assert_eq!(rt; copy.units(TermNo(from), TermNo(to)), units);
-        }
-        Ok(())
     }
 }

@@ -3,8 +3,8 @@ ghost use Rattle.std.specs.Prelude.{◌≡◌, ◌<◌, length, IfOk};
 ghost use Rattle.bt_demand.specs.Traffic.{matrix_of, AreOfNetwork, HasSumsTo};
 
 use crate::Demand;
-use bt_frame::OutOfMemory;
-use bt_matrix::{Dense, SUM_LAST, Traffic};
+use bt_frame::{OutOfMemory, SUM_LAST};
+use bt_matrix::{Dense, Traffic};
 use bt_net::Network;
 use std::alloc::Global;
 
@@ -22,6 +22,3 @@ pub fn traffic_of(alloc: Global, net: &Network, demand: &Demand) -> Result<Dense
     }
     Ok(matrix)
 }
-
-#[cfg(test)]
-mod tests;

@@ -1,3 +1,4 @@
 pub mod Counts
+pub mod Images
 pub mod Pairs
 pub mod Walk

@@ -2,6 +2,7 @@
 -- downlink beam; the place of a row in the list has its column, or none.
 use Rattle.std.specs.Prelude.{◌≡◌, ℕ, ◌<◌, ◌≤◌, List, length, Option, Some, None, IsSome, slice_index}
 use Rattle.std.specs.List.{slice_index_or}
+use Rattle.bt_frame.specs.declared.limits.TheConstants.{MOST_BEAMS}
 use Rattle.bt_frame.specs.declared.schedule.Critical.{Critical}
 use Rattle.bt_matrix.specs.Traffic.{entry, line_sum, IsLine}
 
@@ -42,7 +43,7 @@ HasOwnColumns columns = (row other down : ℕ) → column_of columns row ≡ Som
 -- a partial injective map of 1 to 16 rows to columns below that number
 pub record IsPartial (columns : List (Option ℕ)) : Type 0 where
   pub some_rows : 1 ≤ length columns
-  pub few_rows : length columns ≤ 16
+  pub few_rows : length columns ≤ MOST_BEAMS
   pub below_size : IsBelowSize columns
   pub own_columns : HasOwnColumns columns
 

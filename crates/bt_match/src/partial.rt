@@ -4,8 +4,8 @@ ghost use Rattle.bt_matrix.specs.Good.{IsPermutation};
 ghost use Rattle.bt_match.specs.Matching.{column_of, IsEmpty, IsWhole, HasColumnsOf, HasEqualLineSums, IsInside, IsInsidePerm};
 
 use crate::matching::match_rows;
-use crate::perm::{MOST_BEAMS, Perm};
-use bt_frame::{BeamNo, OutOfMemory};
+use crate::perm::Perm;
+use bt_frame::{BeamNo, MOST_BEAMS, OutOfMemory};
 use bt_matrix::Traffic;
 use std::alloc::Global;
 use std::marker::Model;
@@ -32,7 +32,7 @@ impl Partial {
     /// No row of so many, 1 to 16, has a column.
     pub fn empty(_alloc: Global, size: u32) -> Result<Partial, OutOfMemory>
         requires some { 1 ≤ size }
-        requires few { size ≤ 16 }
+        requires few { size ≤ MOST_BEAMS }
         ensures size { IfOk result (λ partial. length partial ≡ size) }
         ensures empty { IfOk result IsEmpty }
         ensures ok { IsOk result }

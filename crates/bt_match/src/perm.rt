@@ -3,10 +3,8 @@ ghost use Rattle.std.specs.Prelude.{◌≡◌, ◌≤◌, length, map, Some};
 ghost use Rattle.bt_matrix.specs.Good.{IsPermutation};
 ghost use Rattle.bt_match.specs.Matching.{IsPartial, IsWhole};
 
+use bt_frame::MOST_BEAMS;
 use std::marker::Model;
-
-/// The most beams that there are.
-pub(crate) const MOST_BEAMS: usize = 16;
 
 /// A permutation of 1 to 16 beams: place `i` has the downlink beam of uplink beam `i`.
 #[derive(Debug, Drop)]
@@ -31,7 +29,7 @@ impl Perm {
     pub fn as_slice(&self) -> &[u8]
         ensures same { result.now ≡ self.now }
         ensures some { 1 ≤ length self.now }
-        ensures few { length self.now ≤ 16 }
+        ensures few { length self.now ≤ MOST_BEAMS }
         ensures permutation { IsPermutation (length self.now) self.now }
     {
         &self.columns[..self.size]

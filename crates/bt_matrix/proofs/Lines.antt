@@ -1,16 +1,11 @@
 -- The lines of a matrix: as the vectors of its rows give them, of a matrix of zeros, and after one entry was changed.
-use Rattle.std.proofs.Common.{All, below_more, ◌≡◌, ◌≢◌, ℕ, ◌+◌, ◌<◌, ◌≤◌, List, [], ◌∷◌, Vec, Global, length, map, replicate, sum, sum_by, get_or, slice_index, slice_set, refl, sym, ap, ◌∙◌, arith, length-set, get_or-set_same, get_or-set_other}
+use Rattle.std.proofs.Common.{below_more, ◌≡◌, ◌≢◌, ℕ, ◌+◌, ◌<◌, ◌≤◌, List, [], Vec, Global, length, map, replicate, sum, sum_by, get_or, slice_index, slice_set, sym, ap, ◌∙◌, arith, length-set, get_or-set_same, get_or-set_other}
 use Rattle.std.proofs.lemmas.List.{get_or-map, length-map, get_or-replicate, length-replicate}
 use Rattle.std.proofs.lemmas.List.Elements.{All-replicate}
 use Rattle.std.proofs.lemmas.List.Folds.{sum_by-replicate}
-use Rattle.std.proofs.lemmas.List.Sums.{sum_by-cons, sum_by-set, sum_by-le, get_or-le-sum_by}
-use Rattle.std.proofs.Math.Nat.{mul-le-mul}
+use Rattle.std.proofs.lemmas.List.Sums.{sum_by-set, get_or-le-sum_by}
+use Rattle.bt_lists.proofs.Counts.{sum_by-map}
 use Rattle.bt_matrix.specs.Traffic.{row_of, entry, row_sum, column_sum, with_entry, IsTraffic}
-
--- a sum over the images
-pub sum_by-map : {X Y : Type 0} (g : Y → ℕ) (f : X → Y) (xs : List X) → sum_by g (map f xs) ≡ sum_by (λ x. g (f x)) xs
-sum_by-map g f [] = refl
-sum_by-map g f (x ∷ xs) = rw (sum_by-cons g (f x) (map f xs), sum_by-cons (λ y. g (f y)) x xs, sum_by-map g f xs)
 
 -- the row at a place is the list of the vector there
 pub row_of-map : (rows : List (Vec ℕ Global)) (up : ℕ) (d : Vec ℕ Global) → up < length rows
@@ -104,23 +99,3 @@ entry-le-row_sum rows up down within = get_or-le-sum_by (λ (x : ℕ). x) (row_o
 
 pub entry-le-column_sum : (rows : List (List ℕ)) (up down : ℕ) → up < length rows → entry rows up down ≤ column_sum rows down
 entry-le-column_sum rows up down within = get_or-le-sum_by (λ (row : List ℕ). slice_index row down) rows up [] within
-
--- a square matrix of few rows with small entries is one of traffic
-pub IsTraffic-small : (rows : List (List ℕ)) (most : ℕ) → 1 ≤ length rows → length rows ≤ 16 → All (λ row. length row ≡ length rows) rows
-    → most ≤ 65536 → All (All (λ slots. slots ≤ most)) rows → IsTraffic rows
-IsTraffic-small rows most some few square small entries = record {
-  some_beams = some;
-  few_beams = few;
-  square = square;
-  row_sums = λ up within.
-      let bound = sum_by-le (λ (x : ℕ). x) most (row_of rows up) (entries up [] within) in
-      let size = square up [] within in
-      let times = mul-le-mul {n₁ = length (row_of rows up)} {n₂ = 16} (omega arith) small in
-      omega (arith, bound, times);
-  column_sums = λ down within.
-      let each = λ (k : ℕ) (d : List ℕ) (below : k < length rows).
-      entries k d below down 0 (omega (arith, square k d below)) in
-      let bound = sum_by-le (λ (row : List ℕ). slice_index row down) most rows each in
-      let times = mul-le-mul few small in
-      omega (arith, bound, times);
-}

@@ -2,13 +2,10 @@
 ghost use Rattle.std.specs.Prelude.{◌≡◌, ℕ, ◌-◌, ◌<◌, ◌≤◌, ◌^◌, length, map, replicate, sum, sum_by, slice_index, All, IfOk};
 ghost use Rattle.bt_matrix.specs.Traffic.{row_sum, column_sum, IsTraffic};
 
-use crate::{SUM_LAST, Traffic, heaviest_line};
-use bt_frame::{BeamNo, Critical, OutOfMemory};
+use crate::{Traffic, heaviest_line};
+use bt_frame::{BeamNo, Critical, MOST_BEAMS, OutOfMemory, SUM_LAST};
 use std::alloc::Global;
 use std::marker::Model;
-
-/// The most beams that a matrix may have.
-const MOST_BEAMS: usize = 16;
 
 /// A square matrix of slots per frame in which each entry has its place, also where it is 0.
 ///
@@ -36,7 +33,7 @@ impl Dense {
     /// A matrix of so many beams, 1 to 16, that asks for nothing.
     pub fn new(alloc: Global, size: u32) -> Result<Dense, OutOfMemory>
         requires some { 1 ≤ size }
-        requires few { size ≤ 16 }
+        requires few { size ≤ MOST_BEAMS }
         ensures { IfOk result (λ matrix. matrix ≡ replicate size (replicate size 0)) }
     {
         let mut rows = Vec::new(alloc);
@@ -154,6 +151,3 @@ fn column_sum_of(rows: &[Vec<u32>], down: usize) -> u32
     }
     sum
 }
-
-#[cfg(test)]
-mod tests;

@@ -3,14 +3,14 @@ ghost use Rattle.std.specs.Prelude.{◌≡◌, ℕ, ◌<◌, ◌≤◌, List, le
 ghost use Rattle.bt_matrix.specs.Traffic.{IsHeaviest};
 ghost use Rattle.bt_matrix.specs.Dense.{AreLineSums, IsFirstGreatest};
 
-use bt_frame::{BeamNo, Critical};
+use bt_frame::{BeamNo, Critical, MOST_BEAMS};
 
 /// The first line that has the greatest sum, rows before columns, and that sum, of a matrix whose rows and columns
 /// have these sums. It has 1 to 16 beams.
 pub fn heaviest_line(row_sums: &[u32], column_sums: &[u32]) -> (Critical, u32)
     requires square { length column_sums.now ≡ length row_sums.now }
     requires some { 0 < length row_sums.now }
-    requires few { length row_sums.now ≤ 16 }
+    requires few { length row_sums.now ≤ MOST_BEAMS }
     ensures { (rows : List (List ℕ)) → AreLineSums rows row_sums.now column_sums.now
         → IsHeaviest rows result.0 result.1 }
 {
@@ -26,7 +26,7 @@ pub fn heaviest_line(row_sums: &[u32], column_sums: &[u32]) -> (Critical, u32)
 /// The greatest number, and the first place that has it.
 fn first_greatest(numbers: &[u32]) -> (u8, u32)
     requires some { 0 < length numbers.now }
-    requires few { length numbers.now ≤ 16 }
+    requires few { length numbers.now ≤ MOST_BEAMS }
     ensures { IsFirstGreatest numbers.now result.0 result.1 }
 {
     let mut place = 0;

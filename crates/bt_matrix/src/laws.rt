@@ -1,15 +1,9 @@
 // Laws of matrices and schedules. Each holds of all of them, so that nothing runs.
-ghost use Rattle.std.specs.Prelude.{◌≡◌, ℕ, ◌≤◌, List, length, All};
+ghost use Rattle.std.specs.Prelude.{◌≡◌, ℕ, ◌≤◌, List};
 ghost use Rattle.bt_frame.specs.declared.schedule.Critical.{Critical};
 ghost use Rattle.bt_frame.specs.declared.schedule.Schedule.{Schedule};
 ghost use Rattle.bt_matrix.specs.Traffic.{IsTraffic, IsHeaviest};
 ghost use Rattle.bt_matrix.specs.Good.{total_duration, HasPermutations, CarriesAll, IsGood};
-
-/// As many rows as columns, 1 to 16 of them, with entries of at most 65,536 slots make a traffic matrix.
-pub fn small_entries_make_traffic()
-    ensures { (rows : List (List ℕ)) (most : ℕ) → 1 ≤ length rows → length rows ≤ 16
-        → All (λ row. length row ≡ length rows) rows → most ≤ 65536 → All (All (λ slots. slots ≤ most)) rows → IsTraffic rows }
-{}
 
 /// A matrix has one heaviest line, and that has one sum.
 pub fn one_line_is_heaviest()

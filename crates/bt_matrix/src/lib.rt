@@ -9,7 +9,8 @@ mod heaviest;
 mod laws;
 mod traffic;
 
+pub use bt_frame::SUM_LAST;
 pub use dense::Dense;
 pub use heaviest::heaviest_line;
-pub use laws::{no_schedule_is_shorter, one_line_is_heaviest, small_entries_make_traffic};
-pub use traffic::{SUM_LAST, Traffic};
+pub use laws::{no_schedule_is_shorter, one_line_is_heaviest};
+pub use traffic::Traffic;

@@ -2,11 +2,8 @@
 ghost use Rattle.std.specs.Prelude.{◌≡◌, ℕ, ◌+◌, ◌-◌, ◌<◌, ◌≤◌, ◌⊎◌, List, length, OnOk, OnErr};
 ghost use Rattle.bt_matrix.specs.Traffic.{row_sum, column_sum, entry, with_entry, IsTraffic, IsHeaviest};
 
-use bt_frame::{BeamNo, Critical, OutOfMemory};
+use bt_frame::{BeamNo, Critical, OutOfMemory, SUM_LAST};
 use std::alloc::Global;
-
-/// The greatest line sum that a matrix in memory may have, in slots.
-pub const SUM_LAST: u32 = 1_048_576;
 
 /// A square matrix of slots per frame, indexed by uplink beam and then by downlink beam.
 ///
