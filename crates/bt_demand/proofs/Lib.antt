@@ -1,4 +1,6 @@
+pub mod BurstTriples
 pub mod FewLinks
+pub mod Flyable
 pub mod Links
 pub mod Matrices
 pub mod SameDemand

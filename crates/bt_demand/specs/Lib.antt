@@ -2,3 +2,5 @@ pub mod Demand
 pub mod Traffic
 pub mod Burst
 pub mod Plan
+pub mod Apart
+pub mod Flyable

@@ -1,14 +1,16 @@
 //! The demand of the terminals and the burst time plan that serves it, as values.
 //!
 //! `specs/Demand.antt` says what a demand is, `specs/Traffic.antt` what its traffic matrix is, `specs/Burst.antt` and
-//! `specs/Plan.antt` what bursts and a plan are and when no plan is shorter. `demand_laws.rt` has what holds of every
-//! demand.
+//! `specs/Plan.antt` what bursts and a plan are and when no plan is shorter, `specs/Apart.antt` which bursts meet,
+//! `specs/Flyable.antt` which plans can be flown. `demand_laws.rt` and `plan_laws.rt` have what holds of every demand and
+//! plan.
 #![tactic(auto)]
 
 mod burst;
 mod demand;
 mod demand_laws;
 mod plan;
+mod plan_laws;
 mod traffic;
 
 pub use burst::{Burst, Bursts, MOST_BURSTS};
@@ -17,4 +19,7 @@ pub use demand_laws::{
     gain_adds_to_one_entry, gain_changes_one_link, links_tell_demands, small_demands_have_a_matrix,
 };
 pub use plan::Plan;
+pub use plan_laws::{
+    apart_bursts_spell_apart_triples, flyable_plans_are_small, good_plans_are_flyable,
+};
 pub use traffic::traffic_of;

@@ -1,5 +1,4 @@
 pub mod Begins
-pub mod BurstTriples
 pub mod FirstPlaces
 pub mod LatestEnds
 pub mod LineSums

@@ -11,23 +11,17 @@ use Rattle.bt_demand.specs.Demand.{IsDemand}
 use Rattle.bt_demand.specs.Plan.{all_triples, Carries, IsHeld, IsGoodPlan}
 use Rattle.bt_verdict.specs.PlanVerdict.{AreApart, IsServed, HasGoodModes, AreBetweenTerminals}
 use Rattle.bt_demand.specs.Traffic.{AreOfNetwork}
+use Rattle.bt_demand.proofs.Flyable.{share_outside, units_outside}
 use Rattle.bt_demand.proofs.Links.{sum_by_none}
 use Rattle.bt_verdict.proofs.Triples.{line_sum-le-slots}
-use Rattle.bt_verdict.proofs.BurstTriples.{triples_apart, bursts_apart, All-all_triples, occurrences-all_triples, held_within}
-
--- ends beyond the network's terminals are not those of a link or burst between them
-share_outside : (a b from to most units : ℕ) → a < most → b < most → (most ≤ from) ⊎ (most ≤ to) → (if a == from && b == to then units else 0) ≡ 0
-share_outside a b from to most units sends receives (inl past) = grind (arith, nat_tests)
-share_outside a b from to most units sends receives (inr past) = grind (arith, nat_tests)
+use Rattle.bt_demand.proofs.BurstTriples.{triples_apart, bursts_apart, All-all_triples, occurrences-all_triples, held_within}
 
 -- no link asks for slots beyond the network's terminals, and no burst sends any
 served_outside : (net : Net) (links : List Link) (bursts : List Burst) → AreOfNetwork net links → AreBetweenTerminals net bursts → (from to : TermNo)
     → (length net.terminals ≤ from.0) ⊎ (length net.terminals ≤ to.0) → IsServed links bursts from to
 served_outside net links bursts of_network between from to outside =
     let n = length net.terminals in
-    let units = sum_by_none (λ (link : Link). if link.from.0 == from.0 && link.to.0 == to.0 then link.units else 0) links
-    (λ k d within. let link = get_or links k d in let ends = of_network k d within in
-    share_outside link.from.0 link.to.0 from.0 to.0 n link.units ends.0 ends.1 outside) in
+    let units = units_outside net links of_network from to outside in
     let slots = sum_by_none (λ (burst : Burst). if burst.from.0 == from.0 && burst.to.0 == to.0 then burst.length else 0) bursts
     (λ k d within. let burst = get_or bursts k d in let ends = between k d within in
     share_outside burst.from.0 burst.to.0 from.0 to.0 n burst.length ends.0 ends.1 outside) in

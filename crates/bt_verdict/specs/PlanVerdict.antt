@@ -1,5 +1,5 @@
 -- Which verdict a burst time plan gets: of all that is wrong, the fault of the lowest number, at its first place.
-use Rattle.std.specs.Prelude.{◌≡◌, ◌≢◌, ℕ, ◌<◌, ◌==◌, ◌&&◌, if◌then◌else◌, List, length, take, sum_by, All, AllPairs}
+use Rattle.std.specs.Prelude.{◌≡◌, ◌≢◌, ℕ, ◌<◌, List, length, take, All}
 use Rattle.std.specs.List.{HoldsAt}
 use Rattle.bt_frame.specs.declared.numbers.TermNo.{TermNo}
 use Rattle.bt_frame.specs.declared.schedule.Schedule.{Schedule}
@@ -11,22 +11,11 @@ use Rattle.bt_demand.specs.declared.demand.Link.{Link}
 use Rattle.bt_demand.specs.declared.plan.Plan.{Plan}
 use Rattle.bt_verdict.specs.declared.verdict.Verdict.{Verdict}
 use Rattle.bt_verdict.specs.declared.verdict.Verdict.TheVariants.{Good, V1, V2, V3, V4, V5, V6, V7, V8}
-use Rattle.bt_demand.specs.Burst.{Covers}
+pub use Rattle.bt_demand.specs.Apart.{AreApart, AreBetweenTerminals, Collide, slots_sent}
 use Rattle.bt_demand.specs.Demand.{IsBefore, units_of}
-use Rattle.bt_demand.specs.Plan.{ShareABeam, HasSwitchings, IsHeld, IsGoodPlan}
+use Rattle.bt_demand.specs.Plan.{HasSwitchings, IsHeld, IsGoodPlan}
 use Rattle.bt_demand.specs.Traffic.{matrix_of}
 use Rattle.bt_verdict.specs.Verdict.{IsFirstWithout}
-
--- two bursts meet: they share a slot, and have their uplinks in one beam or their downlinks
-pub record Collide (net : Net) (a b : Burst) : Type 0 where
-  pub slot : ℕ
-  pub first : Covers a slot
-  pub second : Covers b slot
-  pub beam : ShareABeam net a.from a.to b.from b.to
-
--- no two of the bursts meet
-abbrev pub AreApart : Net → List Burst → Type 0
-AreApart net bursts = AllPairs (λ a b. ¬ (Collide net a b)) bursts
 
 -- the burst at place `second` is the first that meets an earlier one, and `first` is the earliest that it meets
 pub record IsFirstMeeting (net : Net) (bursts : List Burst) (first second : ℕ) : Type 0 where
@@ -34,10 +23,6 @@ pub record IsFirstMeeting (net : Net) (bursts : List Burst) (first second : ℕ)
   pub meet : HoldsAt (λ b. HoldsAt (λ a. Collide net a b) bursts first) bursts second
   pub earliest : HoldsAt (λ b. All (λ a. ¬ (Collide net a b)) (take first bursts)) bursts second
   pub apart : AreApart net (take second bursts)
-
--- the slots of all bursts of a link
-abbrev pub slots_sent : List Burst → TermNo → TermNo → ℕ
-slots_sent bursts from to = sum_by (λ burst. if burst.from.0 == from.0 && burst.to.0 == to.0 then burst.length else 0) bursts
 
 -- the link has as many slots of bursts as it asks for
 abbrev pub IsServed : List Link → List Burst → TermNo → TermNo → Type 0
@@ -58,10 +43,6 @@ pub record HasGoodModes (net : Net) (links : List Link) (schedule : Schedule) : 
   pub durations : HasDurations schedule
   pub filled : IsFilled schedule
   pub least : IsLeast (matrix_of net links) schedule
-
--- each burst is between terminals of the network
-abbrev pub AreBetweenTerminals : Net → List Burst → Type 0
-AreBetweenTerminals net bursts = All (λ burst. (burst.from.0 < length net.terminals) × (burst.to.0 < length net.terminals)) bursts
 
 -- The verdict on a plan. V8 speaks of connections that modes alone leave short; a plan's links are named by V7.
 abbrev pub IsPlanVerdict : Net → List Link → Plan → Verdict → Type 0

@@ -12,12 +12,11 @@ use Rattle.bt_frame.specs.declared.mode.Mode.{Mode}
 use Rattle.bt_frame.specs.declared.numbers.TermNo.{TermNo}
 use Rattle.bt_net.specs.Network.{Net}
 use Rattle.bt_matrix.specs.Good.{total_duration}
-use Rattle.bt_matrix.proofs.Lines.{sum_by-map}
 use Rattle.bt_demand.specs.declared.burst.Burst.{Burst}
 use Rattle.bt_demand.specs.Burst.{Covers}
 use Rattle.bt_demand.specs.Plan.{Triple, triples_of, all_triples, occurrences, Meet, IsHeld}
-use Rattle.bt_verdict.specs.PlanVerdict.{Collide, AreApart, slots_sent}
-use Rattle.bt_lists.proofs.Counts.{sum_by-zeros}
+use Rattle.bt_demand.specs.Apart.{Collide, AreApart, slots_sent}
+use Rattle.bt_lists.proofs.Counts.{sum_by-map, sum_by-zeros}
 use Rattle.bt_lists.proofs.Pairs.{AllPairs-append, All-across, AllPairs-second, All-first, All-second}
 
 -- the triple of a burst in a slot
