@@ -1,4 +1,4 @@
--- What files and a sink in memory are seen as.
+-- What files, a sink and a store in memory are seen as.
 use Rattle.std.specs.Prelude.{ℕ, if◌then◌else◌, List, [], ◌∷◌, map, Option, Some, None, bytes_eq, Vec, String, string_bytes}
 use Rattle.std.specs.declared.alloc.Global.{Global}
 use Rattle.bt_base.specs.Calls.{Calls}
@@ -8,7 +8,7 @@ pub record HeldFiles : Type 0 where
   pub files : List (List ℕ × List ℕ)
   pub calls : Calls
 
--- the bytes that a sink in memory has taken, and the calls on it
+-- the bytes that a sink or a store in memory holds, and the calls on it
 pub record HeldBytes : Type 0 where
   pub bytes : List ℕ
   pub calls : Calls

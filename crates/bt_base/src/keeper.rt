@@ -56,6 +56,7 @@ pub trait Keeper {
         ensures ok { OnOk result (told self.new ≡ gained (told self.old) piece.now) }
         ensures failed { IsErrOf result KeepFault.Failed → GainsPrefix (told self.old) piece.now (told self.new) }
         ensures out_of_memory { IsErrOf result KeepFault.OutOfMemory → told self.new ≡ told self.old }
+        ensures same_count { IsErrOf result KeepFault.OutOfMemory → fault_count self.new ≡ fault_count self.old }
         ensures not_too_long { IsErrOf result KeepFault.TooLong → ⊥ }
         ensures cause { HasCause KeepFault.Failed (fault_count self.old) (fault_count self.new) result };
 
@@ -74,6 +75,7 @@ pub trait Keeper {
         ensures failed { IsErrOf result KeepFault.Failed
             → (told self.new ≡ told self.old) ⊎ (told self.new ≡ shortened (told self.old) length) }
         ensures out_of_memory { IsErrOf result KeepFault.OutOfMemory → told self.new ≡ told self.old }
+        ensures same_count { IsErrOf result KeepFault.OutOfMemory → fault_count self.new ≡ fault_count self.old }
         ensures not_too_long { IsErrOf result KeepFault.TooLong → ⊥ }
         ensures cause { HasCause KeepFault.Failed (fault_count self.old) (fault_count self.new) result };
 }

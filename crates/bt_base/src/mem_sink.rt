@@ -82,46 +82,11 @@ impl Sink for MemSink {
 }
 
 /// Takes of the piece what a failing call still takes.
-fn keep_first(bytes: &mut Vec<u8>, piece: &[u8], kept: u32) -> Result<(), AllocError>
+pub(crate) fn keep_first(bytes: &mut Vec<u8>, piece: &[u8], kept: u32) -> Result<(), AllocError>
     ensures ok { OnOk result (bytes.new.items ≡ bytes.old.items ++ take kept piece.now) }
     ensures prefix { OnOk result (GainsPrefix (Some bytes.old.items) piece.now (Some bytes.new.items)) }
     ensures err { OnErr result (bytes.new.items ≡ bytes.old.items) }
 {
     let first = piece.get(..kept as usize).unwrap_or(piece);
     bytes.extend_from_slice(first)
-}
-
-#[cfg(test)]
-mod tests {
-    use super::*;
-    use std::test;
-
-    fn write<S: Sink>(sink: &mut S, alloc: Global, piece: &[u8]) -> Result<(), SinkFault> {
-        sink.write(alloc, piece)
-    }
-
-    #[test]
-    fn a_failed_write_keeps_its_first_bytes(rt: HostRuntime) -> Result<(), test::Fail> {
-        let alloc = rt.alloc();
-        let fails = vec![in alloc;
-            Fail { call: 1, kept: 2 },
-            Fail { call: 3, kept: 9 },
-            Fail { call: 3, kept: 0 },
-        ]?;
-        let mut sink = MemSink::new(alloc, fails);
-        let cases = [
-            // piece, answer, faults, written so far
-            ("abc", Ok(()), 0, "abc"),
-            ("def", Err(SinkFault::Failed), 1, "abcde"),
-            ("gh", Ok(()), 1, "abcdegh"),
-            ("ijk", Err(SinkFault::Failed), 2, "abcdeghijk"),
-            ("l", Ok(()), 2, "abcdeghijkl"),
-        ];
-        for (piece, want, faults, written) in cases {
-            assert_eq!(rt; write(&mut sink, alloc, piece.as_bytes()), want, "{piece}");
-            assert_eq!(rt; sink.faults(), faults, "{piece}");
-            assert_eq!(rt; sink.written(), written.as_bytes(), "{piece}");
-        }
-        Ok(())
-    }
 }

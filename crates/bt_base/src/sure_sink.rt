@@ -58,26 +58,3 @@ impl Sink for SureSink {
         Ok(())
     }
 }
-
-#[cfg(test)]
-mod tests {
-    use super::*;
-
-    fn write<S: Sink>(sink: &mut S, alloc: Global, piece: &[u8]) -> Result<(), SinkFault> {
-        sink.write(alloc, piece)
-    }
-
-    #[test]
-    fn each_piece_is_taken(rt: HostRuntime) {
-        let mut sink = SureSink::new(rt.alloc());
-        for (piece, written) in [("abc", "abc"), ("", "abc"), ("de", "abcde")] {
-            assert_eq!(rt;
-                write(&mut sink, rt.alloc(), piece.as_bytes()),
-                Ok(()),
-                "{piece}"
-            );
-            assert_eq!(rt; sink.faults(), 0, "{piece}");
-            assert_eq!(rt; sink.written(), written.as_bytes(), "{piece}");
-        }
-    }
-}
