@@ -27,14 +27,14 @@ pub enum Edit {
 }
 
 /// A call on the book of changes.
-#[derive(Clone, Copy, Debug, PartialEq, Eq)]
+#[derive(Debug, PartialEq, Eq, Drop)]
 pub enum Call {
     /// Edit the demand.
     Edit(Edit),
 }
 
-/// A change that the book has taken.
-#[derive(Clone, Copy, Debug, PartialEq, Eq)]
+/// A change that the book has made.
+#[derive(Debug, PartialEq, Eq, Drop)]
 pub enum Change {
     /// The demand was edited.
     Edit(Edit),

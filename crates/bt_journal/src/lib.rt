@@ -1,6 +1,8 @@
 //! What desks ask of the book of changes, what it answers, and the entries of its history.
 //!
-//! `specs/Journal.antt` has the words for histories. Installs, orders and snapshots join the enums as variants.
+//! It stands on `bt_frame` alone. `specs/Journal.antt` has the words for calls, replies and histories; all of it is
+//! promise, and nothing there is for bodies alone. Installs, orders and snapshots join the enums as variants, and the
+//! lists there as rows.
 #![tactic(auto)]
 
 mod call;
