@@ -1,0 +1,4 @@
+pub mod Legal
+pub mod Passes
+pub mod Turns
+pub mod Sums

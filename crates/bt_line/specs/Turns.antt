@@ -1,0 +1,133 @@
+-- The rule of the turn lock's table, and what each step on it tells. In all of it the log is the history of the line:
+-- what the object's stored history has gained since the start.
+use Rattle.std.specs.Prelude.{◌≡◌, ◌≢◌, ◌⊎◌, ℕ, ◌+◌, ◌-◌, ◌%◌, ◌^◌, ◌<◌, ◌≤◌, List, [], ◌∷◌, ◌++◌, length, sum_by, Option, Some, None}
+use mathlib.Core.Option.{some, none}
+use lib.ListN.{get_elem?}
+use Rattle.atomic_table.specs.Table.{State, Me, Step}
+use Rattle.atomic_table.specs.Seated.{TableId}
+use Rattle.bt_line.specs.declared.object.Entry.{Entry}
+use Rattle.bt_line.specs.declared.view.View.{View}
+use Rattle.bt_line.specs.Legal.{Legal, calls_by}
+use Rattle.bt_line.specs.Passes.{HasSeen}
+
+-- a table of two words, the next ticket and the ticket that is served, and of one slot, for the object
+abbrev pub IsSized : TableId → Type 0
+IsSized table = (table.words ≡ 2) × (table.slots ≡ 1)
+
+-- 1 where there is a ticket
+abbrev pub one_of : Option ℕ → ℕ
+one_of None = 0
+one_of (Some ticket) = 1
+
+module _ {O C R : Type 0} where
+  -- 1 where the seat has a ticket
+  abbrev pub waits : View O C R → ℕ
+  waits view = one_of view.ticket
+
+  -- the view of a seat that was taken in
+  abbrev pub gone : View O C R
+  gone = record { number = 0; start = None; seen = []; ticket = None; base = None; count = 0; kept = [] }
+
+  -- the view of a pass as the line starts: it has seen nothing, and waits for no turn
+  abbrev pub fresh : ℕ → Option O → ℕ → View O C R
+  fresh number start count = record { number = number; start = start; seen = []; ticket = None; base = None; count = count; kept = [] }
+
+  -- the view of the first seat, which has given out its own number
+  abbrev pub opening_view : O → View O C R
+  opening_view start = fresh 0 (Some start) 1
+
+  -- the first seat after it gave out a number
+  abbrev pub admits : View O C R → View O C R
+  admits view = record view { count = view.count + 1 }
+
+  -- the new seat, which has that number
+  abbrev pub admitted : View O C R → View O C R
+  admitted view = fresh view.count view.start 0
+
+  -- the first seat after it took in another, whose history it keeps
+  abbrev pub joined : View O C R → View O C R → View O C R
+  joined view other = record view { kept = other.seen ∷ view.kept }
+
+  -- the view after its turn
+  abbrev pub rested : View O C R → List (Entry C R) → View O C R
+  rested view seen = record view { seen = seen; ticket = None; base = None }
+
+  -- What a seat that was not taken in knows, while `turn` is served and so many tickets are out: its ticket is one of
+  -- those out; it has a base only in its turn, and the base is the log.
+  pub record Knows (start : O) (turn out : ℕ) (log : List (Entry C R)) (seat : ℕ) (view : View O C R) : Type 0 where
+    pub start_is : view.start ≡ Some start
+    pub number_is : view.number ≡ seat
+    pub seen : HasSeen log seat view.seen
+    pub ticket : (k : ℕ) → view.ticket ≡ Some k → (turn ≤ k) × (k < turn + out)
+    pub base : (b : List (Entry C R)) → view.base ≡ Some b → (view.ticket ≡ Some turn) × (b ≡ log)
+
+  -- no seat has the object: it is at home
+  abbrev pub IsHome : O → State (Option O) (View O C R) → Type 0
+  IsHome object s = (s.homes ≡ some (Some object) ∷ []) × ((j : ℕ) (view : View O C R) → get_elem? s.views j ≡ some view → view.base ≡ None)
+
+  -- the object is out with a seat, whose base is the log
+  abbrev pub IsOut : List (Entry C R) → State (Option O) (View O C R) → Type 0
+  IsOut log s = (s.homes ≡ none ∷ []) × ((j : ℕ) × (view : View O C R) × (get_elem? s.views j ≡ some view) × (view.base ≡ Some log))
+
+  -- The first seat has the count of numbers given out, and what the last seats had seen, which it took in: each list is
+  -- the beginning of the log for that seat's number.
+  pub record Leads (log : List (Entry C R)) (views : List (View O C R)) (view : View O C R) : Type 0 where
+    pub at : get_elem? views 0 ≡ some view
+    pub count_is : view.count ≡ length views
+    pub fewer : length view.kept < view.count
+    pub kept : (i : ℕ) (list : List (Entry C R)) → get_elem? view.kept i ≡ some list
+        → (get_elem? views (view.count - length view.kept + i) ≡ some gone) × HasSeen log (view.count - length view.kept + i) list
+
+  -- The rule of the table.
+  -- Words: the next ticket is the one that is served and as many more as seats wait. Tickets have no bound, and the
+  -- words hold them modulo 2 ^ 64; at most 64 are out, so no two of them agree there.
+  -- Slot: the object is at home and no seat has a base, or it is out and a seat has the log as its base.
+  -- Log: it is legal from the object at the start to the object as it is, or as it was when it went out, and the
+  -- object's stored history is that of the start, and then the log.
+  -- Seats: each has seen a beginning of the log with all entries of its own number, and no entry has a number that was
+  -- not given out.
+  pub record Kept (steps : O → ℕ → C → R → O → Type 0) (history : O → List (Entry C R)) (start : O) (s : State (Option O) (View O C R)) : Type 0 where
+    pub turn : ℕ
+    pub out : ℕ
+    pub log : List (Entry C R)
+    pub object : O
+    pub lead : View O C R
+    pub words_are : s.words ≡ (turn + out) % 2 ^ 64 ∷ turn % 2 ^ 64 ∷ []
+    pub out_is : sum_by waits s.views ≡ out
+    pub few : length s.views ≤ 64
+    pub each : (j : ℕ) (view : View O C R) → get_elem? s.views j ≡ some view → (view ≡ gone) ⊎ Knows start turn out log j view
+    pub apart : (i j : ℕ) (v w : View O C R) (k : ℕ) → get_elem? s.views i ≡ some v → get_elem? s.views j ≡ some w → v.ticket ≡ Some k → w.ticket ≡ Some k → i ≡ j
+    pub legal : Legal steps start log object
+    pub stored : history object ≡ history start ++ log
+    pub place : IsHome object s ⊎ IsOut log s
+    pub leads : Leads log s.views lead
+    pub strangers : (n : ℕ) → length s.views ≤ n → calls_by n log ≡ []
+
+  -- the seat waits for no turn and has no object
+  abbrev pub IsIdle : {S : Type 0} → Me S (View O C R) → Type 0
+  IsIdle m = (m.0.ticket ≡ None) × (m.0.base ≡ None) × (m.1 ≡ [])
+
+  -- the step `draw`
+  abbrev pub drawn : {S : Type 0} → Step S → Me S (View O C R) → ℕ → Me S (View O C R) → Type 0
+  drawn st m found m' = (k : ℕ) × (found ≡ k % 2 ^ 64) × (m' ≡ (record m.0 { ticket = Some k }, m.1))
+
+  -- the seat has the turn: the object is out with it, and its base is the object's history
+  abbrev pub HasTurn : (O → ℕ → C → R → O → Type 0) → (O → List (Entry C R)) → ℕ → Me (Option O) (View O C R) → Me (Option O) (View O C R) → Type 0
+  HasTurn steps history k m m' = (b : List (Entry C R)) × (o : O) × (m' ≡ (record m.0 { ticket = Some k; base = Some b }, (0, Some o) ∷ []))
+      × ((x : O) → m.0.start ≡ Some x → Legal steps x b o × (history o ≡ history x ++ b)) × HasSeen b m.0.number m.0.seen
+
+  -- the step `look`: at its own ticket the seat takes the slot
+  abbrev pub looked : (O → ℕ → C → R → O → Type 0) → (O → List (Entry C R)) → Step (Option O) → Me (Option O) (View O C R) → ℕ → Me (Option O) (View O C R) → Type 0
+  looked steps history st m found m' = (k : ℕ) → m.0.ticket ≡ Some k
+      → (found ≡ k % 2 ^ 64 → HasTurn steps history k m m') × (found ≢ k % 2 ^ 64 → m' ≡ m)
+
+  -- the step `pass on`: seen is the history of the object given back, or stays where no entry was made
+  abbrev pub passed : (O → List (Entry C R)) → Step (Option O) → Me (Option O) (View O C R) → ℕ → Me (Option O) (View O C R) → Type 0
+  passed history st m found m' = (m' ≡ (rested m.0 m'.0.seen, []))
+      × ((x p : O) (b : List (Entry C R)) → m.0.start ≡ Some x → m.0.base ≡ Some b → m.1 ≡ (0, Some p) ∷ []
+      → (history p ≡ history x ++ b → m'.0.seen ≡ m.0.seen) × ((e : Entry C R) → history p ≡ history x ++ b ++ e ∷ [] → m'.0.seen ≡ b ++ e ∷ []))
+
+  -- the object may be given back: its history is the base, or the base and one entry of the caller
+  abbrev pub MayGive : (O → ℕ → C → R → O → Type 0) → (O → List (Entry C R)) → O → List (Entry C R) → ℕ → O → Type 0
+  MayGive steps history x b number p = (Legal steps x b p × (history p ≡ history x ++ b))
+      ⊎ ((e : Entry C R) × (e.caller ≡ number) × Legal steps x (b ++ e ∷ []) p × (history p ≡ history x ++ b ++ e ∷ []))

@@ -1,0 +1,87 @@
+//! One turn of a seat.
+ghost use Rattle.std.specs.Prelude.{◌≡◌, ℕ, ◌%◌, ◌^◌, [], ◌∷◌, List, Some, None, MatchResult};
+ghost use Rattle.bt_line.specs.declared.object.Entry.{Entry};
+ghost use Rattle.bt_line.specs.Legal.{entry_of};
+ghost use Rattle.bt_line.specs.Passes.{Gains};
+ghost use Rattle.bt_line.specs.Turns.{IsSized, IsIdle, HasTurn, MayGive, passed, rested};
+ghost use Rattle.atomic_table.specs.Table.{step};
+ghost use mathlib.Core.Option.{none};
+
+use crate::plays::{Draw, Look, PassOn};
+use crate::{Object, Turns, View};
+use atomic_table::{Seat, Shared};
+use bt_frame::OutOfMemory;
+use std::alloc::Global;
+use std::snapshot::Snapshot;
+use std::sync::Wait;
+use std::thread::yield_now;
+
+pub(crate) type Top<O> = Shared<
+    Option<O>,
+    View<O, <O as Object>::Call, <O as Object>::Reply>,
+    Snapshot<O>,
+    Turns,
+>;
+
+pub(crate) type Place<O> = Seat<Option<O>, View<O, <O as Object>::Call, <O as Object>::Reply>>;
+
+// Draws a ticket, and waits until it is served. The object is then out with the seat.
+fn take_turn<O: Object, R: Wait>(rt: &R, top: &Top<O>, place: &mut Place<O>)
+    requires table { (place.old.table_id ≡ top.now.table_id) × IsSized top.now.table_id }
+    requires idle { IsIdle place.old.me }
+    requires start { place.old.me.0.start ≡ Some top.now.key.value }
+    ensures same { (place.new.table_id ≡ place.old.table_id) × (place.new.id ≡ place.old.id) }
+    ensures turn { (k : ℕ) × HasTurn O.steps O.history k place.old.me place.new.me }
+{
+    let ticket = top.fetch_add::<Draw>(place, 0, 1);
+    for _ in rt.forever() {
+        if top.load::<Look<O>>(place, 1) == ticket {
+            return;
+        }
+        yield_now();
+    }
+    unreachable!()
+}
+
+// Gives the object back, and passes the turn on.
+fn give_back<O: Object>(top: &Top<O>, place: &mut Place<O>, object: O)
+    requires table { (place.old.table_id ≡ top.now.table_id) × IsSized top.now.table_id }
+    requires out { place.old.me.1 ≡ (0, None) ∷ [] }
+    requires may { (k : ℕ) × (b : List (Entry O.Call O.Reply)) × (place.old.me.0.ticket ≡ Some k) × (place.old.me.0.base ≡ Some b)
+        × MayGive O.steps O.history top.now.key.value b place.old.me.0.number object }
+    ensures same { (place.new.table_id ≡ place.old.table_id) × (place.new.id ≡ place.old.id) }
+    ensures passed { passed O.history (step 1 1 1 0 none) (place.old.me.0, (0, Some object) ∷ []) 0 place.new.me }
+{
+    match top.exchange(place, 0, Some(object)) {
+        None => {}
+        Some(_other) => unreachable!(),
+    }
+    top.fetch_add::<PassOn<O>>(place, 1, 1);
+}
+
+/// One call of the caller whose seat it is.
+pub(crate) fn call_at<O: Object, R: Wait>(
+    rt: &R,
+    alloc: Global,
+    top: &Top<O>,
+    place: &mut Place<O>,
+    caller: u32,
+    call: O::Call,
+) -> Result<O::Reply, OutOfMemory>
+    requires table { (place.old.table_id ≡ top.now.table_id) × IsSized top.now.table_id }
+    requires idle { IsIdle place.old.me }
+    requires number { place.old.me.0.number ≡ caller }
+    requires start { place.old.me.0.start ≡ Some top.now.key.value }
+    requires test { O.takes top.now.key.value call }
+    ensures same { (place.new.table_id ≡ place.old.table_id) × (place.new.id ≡ place.old.id) }
+    ensures rested { place.new.me ≡ (rested place.old.me.0 place.new.me.0.seen, []) }
+    ensures call { MatchResult result
+        (λ reply. Gains O.steps top.now.key.value place.old.me.0.seen (entry_of caller call reply) place.new.me.0.seen)
+        (λ _. place.new.me.0.seen ≡ place.old.me.0.seen) }
+{
+    take_turn(rt, top, place);
+    let mut object = top.exchange(place, 0, None).unwrap();
+    let answer = object.apply(alloc, caller, call);
+    give_back(top, place, object);
+    answer
+}
