@@ -3,3 +3,4 @@ pub mod Field
 pub mod MessageText
 pub mod Spelling
 pub mod Range
+pub mod Orders

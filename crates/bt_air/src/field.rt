@@ -2,16 +2,11 @@
 ghost use Rattle.std.specs.Prelude.{◌≡◌, ◌≤◌};
 ghost use Rattle.bt_air.specs.Field.{Takes, command_in, last_command_in, edition_in, mark_in, due_in, terminal_in, flag_in, beams_in, mode_count_in, duration_in, downlink_in, burst_count_in, start_in, burst_length_in};
 
+use crate::AirFault;
 use crate::unread::Unread;
-use crate::{AirFault, LAST_MARK};
-use bt_frame::{Command, EditionNo, Mark, TermNo};
-
-/// The most beams of a network.
-pub const MOST_BEAMS: u8 = 16;
-/// The last terminal of a network, by its number.
-pub const LAST_TERMINAL: u8 = 63;
-/// Slots in the traffic part of a frame, and so the most modes or bursts that it may have.
-pub const MOST_SLOTS: u16 = 4096;
+use bt_frame::{
+    Command, EditionNo, LAST_MARK, MOST_BEAMS, MOST_SLOTS, MOST_TERMINALS, Mark, TermNo,
+};
 
 impl Unread<'_> {
     /// The number of a command, from 1.
@@ -53,7 +48,7 @@ impl Unread<'_> {
     pub fn terminal(&mut self) -> Result<TermNo, AirFault>
         ensures { Takes (λ terminal. terminal) result self.new (terminal_in self.old) }
     {
-        Ok(TermNo(self.byte_within(0, LAST_TERMINAL)?))
+        Ok(TermNo(self.byte_within(0, MOST_TERMINALS as u8 - 1)?))
     }
 
     /// 1 where something follows, else 0.
@@ -67,7 +62,7 @@ impl Unread<'_> {
     pub fn beams(&mut self) -> Result<u8, AirFault>
         ensures { Takes (λ beams. beams) result self.new (beams_in self.old) }
     {
-        self.byte_within(0, MOST_BEAMS)
+        self.byte_within(0, MOST_BEAMS as u8)
     }
 
     /// How many modes a Load has, 0 where they have no beams.
@@ -77,7 +72,7 @@ impl Unread<'_> {
         if beams == 0 {
             self.short_within(0, 0)
         } else {
-            self.short_within(1, MOST_SLOTS)
+            self.short_within(1, MOST_SLOTS as u16)
         }
     }
 
@@ -85,7 +80,7 @@ impl Unread<'_> {
     pub fn duration(&mut self) -> Result<u32, AirFault>
         ensures { Takes (λ duration. duration) result self.new (duration_in self.old) }
     {
-        self.word_within(1, u32::from(MOST_SLOTS))
+        self.word_within(1, MOST_SLOTS)
     }
 
     /// The downlink of an uplink, one of so many beams.
@@ -100,20 +95,20 @@ impl Unread<'_> {
     pub fn burst_count(&mut self) -> Result<u16, AirFault>
         ensures { Takes (λ count. count) result self.new (burst_count_in self.old) }
     {
-        self.short_within(0, MOST_SLOTS)
+        self.short_within(0, MOST_SLOTS as u16)
     }
 
     /// The first slot of a burst.
     pub fn start(&mut self) -> Result<u16, AirFault>
         ensures { Takes (λ start. start) result self.new (start_in self.old) }
     {
-        self.short_within(0, MOST_SLOTS - 1)
+        self.short_within(0, MOST_SLOTS as u16 - 1)
     }
 
     /// The slots of a burst.
     pub fn burst_length(&mut self) -> Result<u16, AirFault>
         ensures { Takes (λ slots. slots) result self.new (burst_length_in self.old) }
     {
-        self.short_within(1, MOST_SLOTS)
+        self.short_within(1, MOST_SLOTS as u16)
     }
 }

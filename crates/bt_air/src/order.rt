@@ -1,9 +1,6 @@
 // What the centre orders of the satellite, and what the satellite says of itself.
 use bt_frame::{Command, EditionNo, Mark};
 
-/// The last superframe mark.
-pub const LAST_MARK: u32 = 4_000_000_000;
-
 /// An order to the satellite. The centre places it before any message carries it.
 #[derive(Clone, Copy, Debug, PartialEq, Eq)]
 pub enum Order {

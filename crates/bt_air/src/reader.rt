@@ -77,7 +77,7 @@ fn several_modes(
 ) -> Result<Modes, AirFault>
     ensures { Takes (λ modes. modes) result bytes.new (several_in (mode_in beams) count bytes.old) }
 {
-    let mut modes = Vec::new(alloc);
+    let mut modes = Vec::with_capacity(alloc, usize::from(count))?;
     for _ in 0..count {
         modes.push(mode(alloc, beams, bytes)?)?;
     }
@@ -97,7 +97,7 @@ fn mode(alloc: Global, beams: u8, bytes: &mut Unread<'_>) -> Result<Mode, AirFau
 fn columns(alloc: Global, beams: u8, bytes: &mut Unread<'_>) -> Result<Columns, AirFault>
     ensures { Takes (λ columns. columns) result bytes.new (several_in (downlink_in beams) beams bytes.old) }
 {
-    let mut columns = Vec::new(alloc);
+    let mut columns = Vec::with_capacity(alloc, usize::from(beams))?;
     for _ in 0..beams {
         columns.push(bytes.downlink(beams)?)?;
     }
@@ -179,7 +179,7 @@ fn bursts(
 ) -> Result<Bursts, AirFault>
     ensures { Takes (λ bursts. bursts) result bytes.new (bursts_in from None count bytes.old) }
 {
-    let mut bursts = Vec::new(alloc);
+    let mut bursts = Vec::with_capacity(alloc, usize::from(count))?;
     let mut before = None;
     for _ in 0..count {
         let burst = burst(from, before, bytes)?;

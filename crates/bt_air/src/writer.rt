@@ -9,10 +9,12 @@ use bt_demand::{Burst, Bursts};
 use bt_frame::{Command, EditionNo, Mark, Mode, Modes, OutOfMemory, TermNo};
 use std::alloc::Global;
 
-/// The bytes of a message, as `decode` reads them.
+/// The bytes of a message, as `decode` reads them: at most 81,932, which are those of a Load of 4,096 modes of 16
+/// beams.
 pub fn encode(alloc: Global, message: &Message) -> Result<Vec<u8>, OutOfMemory>
     requires { IsInRange message.now }
-    ensures { IfOk result (λ bytes. bytes.items ≡ message_bytes message.now) }
+    ensures bytes { IfOk result (λ bytes. bytes.items ≡ message_bytes message.now) }
+    ensures short { IfOk result (λ bytes. length bytes.items ≤ 81932) }
 {
     let mut bytes = Vec::new(alloc);
     write_message(message, &mut bytes)?;
@@ -168,8 +170,11 @@ fn write_modes(modes: &Modes, bytes: &mut Vec<u8>) -> Result<(), OutOfMemory>
     requires { AreModes modes.now }
     ensures { OnOk result (bytes.new.items ≡ bytes.old.items ++ modes_bytes modes.now) }
 {
-    bytes.push(beams(modes.as_slice()))?;
-    write_short(modes.as_slice().len() as u16, bytes)?;
+    let beams = beams(modes.as_slice());
+    let count = modes.as_slice().len();
+    bytes.reserve(3 + count * (4 + usize::from(beams)))?;
+    bytes.push(beams)?;
+    write_short(count as u16, bytes)?;
     for mode in modes.as_slice() {
         write_mode(mode, bytes)?;
     }
@@ -226,7 +231,9 @@ fn write_bursts(from: TermNo, bursts: &Bursts, bytes: &mut Vec<u8>) -> Result<()
     requires { AreBurstsOf from bursts.now }
     ensures { OnOk result (bytes.new.items ≡ bytes.old.items ++ bursts_bytes bursts.now) }
 {
-    write_short(bursts.as_slice().len() as u16, bytes)?;
+    let count = bursts.as_slice().len();
+    bytes.reserve(2 + count * 5)?;
+    write_short(count as u16, bytes)?;
     for burst in bursts.as_slice() {
         write_burst(*burst, bytes)?;
     }

@@ -5,7 +5,7 @@ use Rattle.bt_air.specs.declared.message.Message.{Message}
 use Rattle.bt_air.specs.declared.order.Armed.{Armed}
 use Rattle.bt_air.specs.declared.order.Order.{Order}
 use Rattle.bt_switch.specs.Satellite.{State, step_of, new_at, ticked, changed, begun, is_due}
-use Rattle.bt_switch.specs.Run.{Event, Begins, Hears, accepted, after_event, state_after}
+use Rattle.bt_switch.specs.Run.{SatelliteEvent, Begins, Hears, accepted, after_event, state_after}
 use Rattle.bt_switch.proofs.Rows.{Nothing, Loads, Arms, does, ticked-early, ticked-due}
 use Rattle.bt_switch.proofs.Standing.{Stands, after_stands, due_or_later, some_is_armed}
 
@@ -30,7 +30,7 @@ mark_either s true = refl
 mark_either s false = refl
 
 -- the superframe after
-mark_ticked : (s : State) → (ticked s).mark.0 ≡ s.mark.0 + 1
+pub mark_ticked : (s : State) → (ticked s).mark.0 ≡ s.mark.0 + 1
 mark_ticked s = mark_either s (is_due s.armed (s.mark.0 + 1))
 
 -- the next superframe, while the change is to come
@@ -68,14 +68,14 @@ hear_after change s message (inl made) = let keeps = hear_keeps s message in
 hear_after change s message (inr past) = let e = ap (λ (mark : Mark). mark.0) (hear_keeps s message).0 in inr (inr (rw e past))
 
 -- an event
-event_nears : (change : Armed) (s : State) (event : Event) → Nears change s → Nears change (after_event s event)
+event_nears : (change : Armed) (s : State) (event : SatelliteEvent) → Nears change s → Nears change (after_event s event)
 event_nears change s Begins (inl waits) = tick_waiting change s waits
 event_nears change s Begins (inr after) = tick_after change s after
 event_nears change s (Hears message) (inl waits) = hear_waiting change s message waits
 event_nears change s (Hears message) (inr after) = hear_after change s message after
 
 -- a run
-run_nears : (change : Armed) (s : State) (events : List Event) → Nears change s → Nears change (state_after s events)
+run_nears : (change : Armed) (s : State) (events : List SatelliteEvent) → Nears change s → Nears change (state_after s events)
 run_nears change s [] nears = nears
 run_nears change s (event ∷ events) nears = run_nears change (after_event s event) events (event_nears change s event nears)
 
@@ -92,12 +92,12 @@ armed_waits orders s change (inr waits) armed = let e : waits.change ≡ change 
     subst (λ (one : Armed). WaitsFor one s) e (record { armed = waits.armed; back = waits.back; ahead = waits.ahead })
 
 -- a run in two parts
-state_after-append : (s : State) (before events : List Event) → state_after s (before ++ events) ≡ state_after (state_after s before) events
+state_after-append : (s : State) (before events : List SatelliteEvent) → state_after s (before ++ events) ≡ state_after (state_after s before) events
 state_after-append s [] events = refl
 state_after-append s (event ∷ before) events = state_after-append (after_event s event) before events
 
 -- the edition of a change is in front with its superframe
-pub comes_to_the_front : (mark : Mark) (before events : List Event) (change : Armed) → (state_after (new_at mark) before).armed ≡ Some change
+pub comes_to_the_front : (mark : Mark) (before events : List SatelliteEvent) (change : Armed) → (state_after (new_at mark) before).armed ≡ Some change
     → (state_after (new_at mark) (before ++ events)).mark ≡ change.due → (state_after (new_at mark) (before ++ events)).fore.edition ≡ change.edition
 comes_to_the_front mark before events change armed now =
     let waits = armed_waits (reverse (accepted (new_at mark) before)) (state_after (new_at mark) before) change (after_stands mark before) armed in

@@ -6,7 +6,8 @@ use Rattle.bt_air.specs.declared.order.Order.{Order}
 use Rattle.bt_air.specs.declared.order.Order.TheVariants.{Load, Arm}
 use Rattle.bt_frame.specs.declared.numbers.Command.{Command}
 use Rattle.bt_switch.specs.Satellite.{State, step_of, ticked, changed, begun, is_due}
-use Rattle.bt_switch.specs.Run.{Event, Begins, Hears, accepted, accepted_with, after_event, command_of}
+use Rattle.bt_air.specs.Orders.{command_of}
+use Rattle.bt_switch.specs.Run.{SatelliteEvent, Begins, Hears, accepted, accepted_with, after_event}
 use Rattle.bt_switch.proofs.Rows.{Nothing, Loads, Arms, does}
 
 -- one order comes before another by its number
@@ -39,7 +40,7 @@ same_from : (s next : State) (orders : List Order) → next.last ≡ s.last → 
 same_from s next orders e rest = subst (λ (last : Command). AscendFrom last.0 orders) e rest
 
 -- an event, and the orders that are accepted after it
-ascend_after : (s : State) (event : Event) (orders : List Order) → AscendFrom (after_event s event).last.0 orders → AscendFrom s.last.0 (accepted_with s event ++ orders)
+ascend_after : (s : State) (event : SatelliteEvent) (orders : List Order) → AscendFrom (after_event s event).last.0 orders → AscendFrom s.last.0 (accepted_with s event ++ orders)
 ascend_after s Begins orders rest = same_from s (ticked s) orders (last_ticked s) rest
 ascend_after s (Hears message) orders rest = elim (does s message) [
   | Nothing none same ↦ rw none (same_from s (step_of s message).1 orders (ap (λ (t : State). t.last) same) rest)
@@ -50,10 +51,10 @@ ascend_after s (Hears message) orders rest = elim (does s message) [
 ]
 
 -- the orders accepted in a run ascend from behind the last command
-ascend_from : (s : State) (events : List Event) → AscendFrom s.last.0 (accepted s events)
+ascend_from : (s : State) (events : List SatelliteEvent) → AscendFrom s.last.0 (accepted s events)
 ascend_from s [] = record { later = All-nil (λ o. s.last.0 < (command_of o).0); ascend = λ i j d a b. absurd (omega arith) }
 ascend_from s (event ∷ events) = ascend_after s event (accepted (after_event s event) events) (ascend_from (after_event s event) events)
 
 -- the orders accepted in a run ascend
-pub accepted_ascend : (s : State) (events : List Event) → AllPairs (λ a b. (command_of a).0 < (command_of b).0) (accepted s events)
+pub accepted_ascend : (s : State) (events : List SatelliteEvent) → AllPairs (λ a b. (command_of a).0 < (command_of b).0) (accepted s events)
 accepted_ascend s events = (ascend_from s events).ascend

@@ -3,3 +3,5 @@ mod Ascending
 mod Standing
 mod Said
 mod Ahead
+mod ByEvents
+mod Joins

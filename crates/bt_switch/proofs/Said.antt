@@ -5,8 +5,9 @@ use Rattle.bt_frame.specs.declared.numbers.Mark.{Mark}
 use Rattle.bt_air.specs.declared.order.Order.{Order}
 use Rattle.bt_air.specs.declared.order.Order.TheVariants.{Load, Arm}
 use Rattle.bt_switch.specs.Satellite.{State, new_at}
-use Rattle.bt_switch.specs.Run.{Event, accepted, state_after}
-use Rattle.bt_switch.specs.Orders.{last_arm, to_come, fore_at, edition_of, StandsFor}
+use Rattle.bt_switch.specs.Run.{SatelliteEvent, accepted, state_after}
+use Rattle.bt_air.specs.Orders.{last_arm, to_come, fore_at}
+use Rattle.bt_switch.specs.Orders.{edition_of, StandsFor}
 use Rattle.bt_switch.proofs.Standing.{ArePast, IsIdle, Waits, Stands, after_stands}
 
 -- where all Arms are past, none is to come
@@ -50,5 +51,5 @@ says orders s (inl idle) = idle_says orders s idle
 says orders s (inr waits) = waits_says orders s waits
 
 -- after every run a satellite is what the orders say that it accepted
-pub stands_for : (mark : Mark) (events : List Event) → StandsFor (reverse (accepted (new_at mark) events)) (state_after (new_at mark) events)
+pub stands_for : (mark : Mark) (events : List SatelliteEvent) → StandsFor (reverse (accepted (new_at mark) events)) (state_after (new_at mark) events)
 stands_for mark events = says (reverse (accepted (new_at mark) events)) (state_after (new_at mark) events) (after_stands mark events)

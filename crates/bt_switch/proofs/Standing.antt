@@ -9,8 +9,9 @@ use Rattle.bt_air.specs.declared.order.Armed.{Armed}
 use Rattle.bt_air.specs.declared.order.Order.{Order}
 use Rattle.bt_air.specs.declared.order.Order.TheVariants.{Load, Arm}
 use Rattle.bt_switch.specs.Satellite.{State, new_at, ticked, changed, begun, loaded, with_armed}
-use Rattle.bt_switch.specs.Run.{Event, Begins, Hears, accepted, accepted_with, after_event, state_after}
-use Rattle.bt_switch.specs.Orders.{last_command, last_arm, edition_of, ready_after}
+use Rattle.bt_switch.specs.Run.{SatelliteEvent, Begins, Hears, accepted, accepted_with, after_event, state_after}
+use Rattle.bt_air.specs.Orders.{last_command, last_arm}
+use Rattle.bt_switch.specs.Orders.{edition_of, ready_after}
 use Rattle.bt_switch.proofs.Rows.{Nothing, Loads, Arms, does, ticked-idle, ticked-early, ticked-due}
 
 -- each Arm of the orders is due by this superframe
@@ -134,7 +135,7 @@ arm_stands orders s command edition due free ready ahead (inl idle) = inr (recor
 arm_stands orders s command edition due free ready ahead (inr waits) = absurd (some_is_armed s.armed waits.change waits.armed free)
 
 -- what was accepted with an event comes last
-event_stands : (orders : List Order) (s : State) (event : Event) → Stands orders s → Stands (reverse (accepted_with s event) ++ orders) (after_event s event)
+event_stands : (orders : List Order) (s : State) (event : SatelliteEvent) → Stands orders s → Stands (reverse (accepted_with s event) ++ orders) (after_event s event)
 event_stands orders s Begins stands = tick_stands orders s stands
 event_stands orders s (Hears message) stands = elim (does s message) [
   | Nothing none same ↦ rw (none, same) stands
@@ -147,7 +148,7 @@ orders_joined : (first rest orders : List Order) → reverse (first ++ rest) ++ 
 orders_joined first rest orders = rw reverse-append (append_assoc (reverse rest) (reverse first) orders)
 
 -- a run
-run_stands : (orders : List Order) (s : State) (events : List Event) → Stands orders s → Stands (reverse (accepted s events) ++ orders) (state_after s events)
+run_stands : (orders : List Order) (s : State) (events : List SatelliteEvent) → Stands orders s → Stands (reverse (accepted s events) ++ orders) (state_after s events)
 run_stands orders s [] stands = stands
 run_stands orders s (event ∷ events) stands =
     let P : List Order → Type 0 = λ list. Stands list (state_after (after_event s event) events) in
@@ -159,5 +160,5 @@ new_stands : (mark : Mark) → Stands [] (new_at mark)
 new_stands mark = inl (record { armed = refl; past = tt; fore = refl; back = refl; last = refl })
 
 -- every run of a new satellite
-pub after_stands : (mark : Mark) (events : List Event) → Stands (reverse (accepted (new_at mark) events)) (state_after (new_at mark) events)
+pub after_stands : (mark : Mark) (events : List SatelliteEvent) → Stands (reverse (accepted (new_at mark) events)) (state_after (new_at mark) events)
 after_stands mark events = rw append-nil at (run_stands [] (new_at mark) events (new_stands mark))

@@ -1,4 +1,4 @@
 pub mod Slots
 pub mod Satellite
-pub mod Run
 pub mod Orders
+pub mod Run

@@ -6,8 +6,8 @@ ghost use Rattle.bt_switch.specs.Satellite.{new_at, step_of, ticked, status_of, 
 
 use crate::bank::Bank;
 use crate::slots::mode_in;
-use bt_air::{Armed, LAST_MARK, Message, Status, Taken};
-use bt_frame::{Command, Mark, Mode};
+use bt_air::{Armed, Message, Status, Taken};
+use bt_frame::{Command, LAST_MARK, Mark, Mode};
 use std::alloc::Global;
 use std::marker::Model;
 use std::mem::swap;

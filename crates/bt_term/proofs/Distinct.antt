@@ -12,7 +12,7 @@ use Rattle.bt_air.specs.declared.sent.Heard.TheVariants.{Took, WrongMark}
 use Rattle.bt_term.specs.declared.bank.Bank.{Bank}
 use Rattle.bt_term.specs.Banks.{is_of, is_lower, hold, have_room, next_bank, with_stored}
 use Rattle.bt_term.specs.Terminal.{State, new_of, in_force, is_for_another, is_before, is_named, is_wrong, having_heard, storing}
-use Rattle.bt_term.specs.Run.{Event, Hears, Restarts, after_event, state_after, AreDistinct}
+use Rattle.bt_term.specs.Run.{TerminalEvent, Hears, Restarts, after_event, state_after, AreDistinct}
 use Rattle.bt_term.proofs.Rows.{plan_rows}
 
 -- no two banks of the terminal hold one edition
@@ -60,7 +60,7 @@ row_distinct s superframe named true distinct = distinct
 row_distinct s superframe named false distinct = distinct
 
 -- an event
-event_distinct : (s : State) (event : Event) → HasDistinct s → HasDistinct (after_event s event)
+event_distinct : (s : State) (event : TerminalEvent) → HasDistinct s → HasDistinct (after_event s event)
 event_distinct s (Hears mark (message.Reference superframe named)) distinct = row_distinct s superframe named (is_wrong superframe mark) distinct
 event_distinct s (Hears mark (message.PlanFor to edition bursts)) distinct =
     plan_distinct s edition bursts (is_for_another s to) (hold s.banks edition) (have_room s.banks)
@@ -73,10 +73,10 @@ event_distinct s (Hears mark (message.Lost from)) distinct = distinct
 event_distinct s Restarts distinct = tt
 
 -- a run
-run_distinct : (s : State) (events : List Event) → HasDistinct s → HasDistinct (state_after s events)
+run_distinct : (s : State) (events : List TerminalEvent) → HasDistinct s → HasDistinct (state_after s events)
 run_distinct s [] distinct = distinct
 run_distinct s (event ∷ events) distinct = run_distinct (after_event s event) events (event_distinct s event distinct)
 
 -- no run of a terminal brings one edition into both banks
-pub are_distinct : (number : TermNo) (events : List Event) → AreDistinct (state_after (new_of number) events).banks.first (state_after (new_of number) events).banks.second
+pub are_distinct : (number : TermNo) (events : List TerminalEvent) → AreDistinct (state_after (new_of number) events).banks.first (state_after (new_of number) events).banks.second
 are_distinct number events = run_distinct (new_of number) events tt

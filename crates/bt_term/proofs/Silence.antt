@@ -9,7 +9,7 @@ use Rattle.bt_frame.specs.declared.numbers.TermNo.{TermNo}
 use Rattle.bt_air.specs.declared.message.Message.TheVariants as message
 use Rattle.bt_term.specs.Banks.{hold, have_room, next_bank}
 use Rattle.bt_term.specs.Terminal.{State, new_of, in_force, is_for_another, is_before, is_named, is_wrong, storing, step_of, sent}
-use Rattle.bt_term.specs.Run.{Event, Hears, Restarts, after_event, state_after, Takes}
+use Rattle.bt_term.specs.Run.{TerminalEvent, Hears, Restarts, after_event, state_after, TakesReference}
 use Rattle.bt_term.proofs.Rows.{plan_rows}
 
 -- no row of bursts that come takes a reference burst
@@ -42,7 +42,7 @@ reference_keeps s at superframe mark named false e other none =
     rw e (other_frame superframe mark named _ refl (λ (is : superframe ≡ mark). other (sym same ∙ is, is)))
 
 -- an event in which the reference burst of the superframe is not taken
-event_keeps : (s : State) (event : Event) (mark : Mark) → ¬ (Takes mark event) → in_force s.heard mark ≡ None → in_force (after_event s event).heard mark ≡ None
+event_keeps : (s : State) (event : TerminalEvent) (mark : Mark) → ¬ (TakesReference mark event) → in_force s.heard mark ≡ None → in_force (after_event s event).heard mark ≡ None
 event_keeps s (Hears at (message.Reference superframe named)) mark other none = reference_keeps s at superframe mark named _ refl other none
 event_keeps s (Hears at (message.PlanFor to edition bursts)) mark other none =
     rw (plan_keeps s (storing s edition bursts) (is_for_another s to) (hold s.banks edition) (have_room s.banks)
@@ -55,11 +55,11 @@ event_keeps s (Hears at (message.Lost from)) mark other none = none
 event_keeps s Restarts mark other none = refl
 
 -- a run without it
-run_keeps : (s : State) (events : List Event) (mark : Mark) → AllByRecursion (λ event. ¬ (Takes mark event)) events → in_force s.heard mark ≡ None
+run_keeps : (s : State) (events : List TerminalEvent) (mark : Mark) → AllByRecursion (λ event. ¬ (TakesReference mark event)) events → in_force s.heard mark ≡ None
     → in_force (state_after s events).heard mark ≡ None
 run_keeps s [] mark others none = none
 run_keeps s (event ∷ events) mark others none = run_keeps (after_event s event) events mark others.1 (event_keeps s event mark others.0 none)
 
 -- a terminal is silent where it did not take the reference burst
-pub is_silent : (number : TermNo) (events : List Event) (mark : Mark) → All (λ event. ¬ (Takes mark event)) events → sent (state_after (new_of number) events) mark ≡ []
-is_silent number events mark others = rw (run_keeps (new_of number) events mark (recursion_from_All (λ event. ¬ (Takes mark event)) events others) refl) refl
+pub is_silent : (number : TermNo) (events : List TerminalEvent) (mark : Mark) → All (λ event. ¬ (TakesReference mark event)) events → sent (state_after (new_of number) events) mark ≡ []
+is_silent number events mark others = rw (run_keeps (new_of number) events mark (recursion_from_All (λ event. ¬ (TakesReference mark event)) events others) refl) refl

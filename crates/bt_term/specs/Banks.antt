@@ -50,6 +50,6 @@ abbrev pub bank_of : Banks → EditionNo → Option Bank
 bank_of banks edition = if is_of banks.first edition then banks.first else (if is_of banks.second edition then banks.second else None)
 
 -- the bursts of a bank
-abbrev pub bursts_in : Option Bank → List Burst
-bursts_in None = []
-bursts_in (Some bank) = bank.bursts
+abbrev pub bursts_of_bank : Option Bank → List Burst
+bursts_of_bank None = []
+bursts_of_bank (Some bank) = bank.bursts

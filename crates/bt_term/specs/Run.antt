@@ -8,17 +8,17 @@ use Rattle.bt_term.specs.declared.bank.Bank.{Bank}
 use Rattle.bt_term.specs.Terminal.{State, new_of, step_of}
 
 -- what happens to a terminal: it hears a message in a superframe, or it restarts
-pub data Event : Type 0 where
-  Hears : Mark → Message → Event
-  Restarts : Event
+pub data TerminalEvent : Type 0 where
+  Hears : Mark → Message → TerminalEvent
+  Restarts : TerminalEvent
 
 -- the state after one event
-abbrev pub after_event : State → Event → State
+abbrev pub after_event : State → TerminalEvent → State
 after_event s (Hears mark message) = (step_of s mark message).1
 after_event s Restarts = new_of s.number
 
 -- the state after a run
-abbrev pub state_after : State → List Event → State
+abbrev pub state_after : State → List TerminalEvent → State
 state_after s [] = s
 state_after s (event ∷ events) = state_after (after_event s event) events
 
@@ -28,9 +28,9 @@ IsReferenceOf mark (message.Reference superframe in_force) = superframe ≡ mark
 IsReferenceOf mark _ = ⊥
 
 -- the terminal takes the reference burst of a superframe, which it does only in that superframe
-abbrev pub Takes : Mark → Event → Type 0
-Takes mark (Hears at message) = (at ≡ mark) × IsReferenceOf mark message
-Takes mark Restarts = ⊥
+abbrev pub TakesReference : Mark → TerminalEvent → Type 0
+TakesReference mark (Hears at message) = (at ≡ mark) × IsReferenceOf mark message
+TakesReference mark Restarts = ⊥
 
 -- no two banks hold one edition
 abbrev pub AreDistinct : Option Bank → Option Bank → Type 0
@@ -39,7 +39,7 @@ AreDistinct (Some first) None = Unit {0}
 AreDistinct (Some first) (Some second) = first.edition ≢ second.edition
 
 -- the bursts of edition 2 come for terminal 0, and then the reference burst of superframe 7 that names it
-abbrev pub a_frame : List Burst → List Event
+abbrev pub a_frame : List Burst → List TerminalEvent
 a_frame bursts =
     Hears (record { 0 = 7 }) (message.PlanFor (record { 0 = 0 }) (record { 0 = 2 }) bursts)
     ∷ Hears (record { 0 = 7 }) (message.Reference (record { 0 = 7 }) (Some (record { 0 = 2 }))) ∷ []

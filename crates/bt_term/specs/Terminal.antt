@@ -11,7 +11,7 @@ use Rattle.bt_air.specs.declared.sent.Heard.TheVariants.{Took, WrongMark, Held, 
 use Rattle.bt_term.specs.declared.bank.Bank.{Bank}
 use Rattle.bt_term.specs.declared.banks.Banks.{Banks}
 use Rattle.bt_term.specs.declared.reference.Reference.{Reference}
-use Rattle.bt_term.specs.Banks.{no_banks, is_of, have_room, hold, next_bank, with_stored, bank_of, bursts_in}
+use Rattle.bt_term.specs.Banks.{no_banks, is_of, have_room, hold, next_bank, with_stored, bank_of, bursts_of_bank}
 
 -- the number of the terminal, its two banks of bursts, and the reference burst that it took last
 pub record State : Type 0 where
@@ -71,7 +71,7 @@ step_of s mark _ = (NotForMe, s)
 -- the bursts that the banks hold of the edition that is named
 abbrev pub bursts_named : Banks → Option EditionNo → List Burst
 bursts_named banks None = []
-bursts_named banks (Some edition) = bursts_in (bank_of banks edition)
+bursts_named banks (Some edition) = bursts_of_bank (bank_of banks edition)
 
 -- the bursts that the terminal transmits in a superframe: those that it holds of the edition in force
 abbrev pub sent : State → Mark → List Burst

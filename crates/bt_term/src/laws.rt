@@ -7,7 +7,7 @@ ghost use Rattle.bt_demand.specs.declared.burst.Burst.{Burst};
 ghost use Rattle.bt_air.specs.declared.message.Message.{Message};
 ghost use Rattle.bt_term.specs.Banks.{hold};
 ghost use Rattle.bt_term.specs.Terminal.{State, new_of, in_force, step_of, sent};
-ghost use Rattle.bt_term.specs.Run.{Event, Takes, AreDistinct, a_frame, state_after};
+ghost use Rattle.bt_term.specs.Run.{TerminalEvent, TakesReference, AreDistinct, a_frame, state_after};
 
 use bt_air::{Heard, Message};
 
@@ -20,8 +20,8 @@ pub fn refusals_change_nothing()
 /// A terminal is silent in each superframe whose reference burst it did not take, whatever else it hears: it does not
 /// go on with the edition of an earlier superframe.
 pub fn unheard_superframes_are_silent()
-    ensures { (number : TermNo) (events : List Event) (mark : Mark)
-        → All (λ event. ¬ (Takes mark event)) events → sent (state_after (new_of number) events) mark ≡ [] }
+    ensures { (number : TermNo) (events : List TerminalEvent) (mark : Mark)
+        → All (λ event. ¬ (TakesReference mark event)) events → sent (state_after (new_of number) events) mark ≡ [] }
 {}
 
 /// While the terminal holds bursts of the edition in force, no bursts that come for it change what it transmits in
@@ -34,7 +34,7 @@ pub fn bursts_in_force_stay()
 
 /// No run brings one edition into both banks.
 pub fn banks_stay_distinct()
-    ensures { (number : TermNo) (events : List Event)
+    ensures { (number : TermNo) (events : List TerminalEvent)
         → AreDistinct (state_after (new_of number) events).banks.first (state_after (new_of number) events).banks.second }
 {}
 

@@ -1,7 +1,8 @@
 //! A terminal: its two banks of bursts, the reference burst that it heard last, and what it transmits.
 //!
-//! `docs/machines.md` has the table. `specs/Terminal.antt` and `terminal.rt` have its rows in the same order, and `laws.rt`
-//! has what holds of every run.
+//! It stands on messages (`bt_air`). `docs/machines.md` has the table; `specs/Terminal.antt` and `terminal.rt` have its
+//! rows in the same order. What is promised beside it stands in `specs/Run.antt`, runs of a terminal, and in `laws.rt`,
+//! what holds of every run; `specs/Banks.antt` says where bursts are stored.
 #![tactic(auto)]
 
 mod bank;
@@ -15,6 +16,3 @@ pub use laws::{
     unheard_superframes_are_silent,
 };
 pub use terminal::Terminal;
-
-#[cfg(test)]
-mod tests;
