@@ -1,5 +1,5 @@
 // What only a run shows: the calls of several threads are all made, and memory that is there suffices for them.
-ghost use Rattle.std.specs.Prelude.{◌≡◌, ◌×◌, ◌≤◌, ◌<◌, ℕ, length, slice_index_or};
+ghost use Rattle.std.specs.Prelude.{◌≡◌, ◌≤◌, ◌<◌, ℕ, length, slice_index_or};
 ghost use Rattle.bt_line.specs.Passes.{IsPass, IsOfLine, IsSamePass};
 
 use crate::adder::Adder;

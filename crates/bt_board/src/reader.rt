@@ -1,0 +1,132 @@
+//! The readers.
+ghost use Rattle.std.specs.Prelude.{◌≡◌, ◌⊎◌, ◌+◌, ◌<◌, ◌≤◌, Some, IfOk, IfErr, IfSome, MatchResult, MatchBool};
+ghost use Rattle.left_right.specs.Sides.{view};
+ghost use mathlib.Core.List.{IsPrefix};
+ghost use Rattle.bt_board.specs.Plans.{last_of, next_edition, Ascends};
+ghost use Rattle.bt_board.specs.Rule.{Names, Knows};
+ghost use Rattle.bt_board.specs.Posted.{posted};
+
+use crate::rule::{Reads, SameLog};
+use crate::shown::Shown;
+use crate::view::View;
+use bt_demand::Plan;
+use bt_frame::OutOfMemory;
+use std::marker::Model;
+
+pub type Seat = left_right::reader::Reader<Shown, View, SameLog>;
+
+/// Enters the board and takes what is shown, where its edition is past `mine` and is the one that is wanted, if one is.
+fn visit(seat: Seat, mine: u32, wanted: Option<u32>) -> (Seat, Result<Option<Shown>, OutOfMemory>)
+    ensures view { view result.0.place ≡ view seat.place }
+    ensures found { IfOk result.1 (λ o. IfSome o (λ s. Names (view seat.place) s.seen.book × (mine + 1 < next_edition s.seen.log) × IfSome wanted (λ e. next_edition s.seen.log ≡ e + 1))) }
+{
+    match seat.enter_as::<Reads>() {
+        Ok(reading) => {
+            let shown = reading.get();
+            let edition = shown.plan.edition.0;
+            let takes = mine < edition && wanted.is_none_or(|e| e == edition);
+            if !takes {
+                return (reading.leave(), Ok(None));
+            }
+            match shown.again() {
+                Ok(shown) => (reading.leave(), Ok(Some(shown))),
+                Err(_) => (reading.leave(), Err(OutOfMemory)),
+            }
+        }
+        Err(seat) => (seat, Ok(None)),
+    }
+}
+
+/// A reader of a board. Contracts see it as the board and the list of plans that it has seen.
+#[derive(Drop)]
+pub struct Reader {
+    seat: Option<Seat>,
+    pub(crate) kept: Shown,
+}
+
+impl Model for Reader {
+    ghost use Rattle.std.specs.Prelude.{MatchOption};
+    ghost use Rattle.bt_board.specs.Rule.{Knows};
+    ghost use Rattle.bt_board.specs.Posted.{Posted, posted};
+
+    ghost Value = { Posted };
+
+    ghost view = { λ r. posted r.kept.seen.book r.kept.seen.log };
+
+    ghost invariant = { λ r. MatchOption r.seat ⊥ (λ s. Knows s.place.me.0.client r.kept.seen.book) };
+}
+
+impl Reader {
+    /// A reader that has seen the plans of `kept`.
+    pub(crate) fn at(seat: Seat, kept: Shown) -> Reader
+        requires { Knows (view seat.place) kept.seen.book }
+        ensures { result ≡ posted kept.seen.book kept.seen.log }
+    {
+        Reader {
+            seat: Some(seat),
+            kept,
+        }
+    }
+
+    pub(crate) fn edition(&self) -> u32
+        ensures { next_edition self.now.plans ≡ result + 1 }
+    {
+        self.kept.plan.edition.0
+    }
+
+    /// Takes what is shown, where it is newer and is the edition that is wanted, if one is. Says whether it did.
+    pub(crate) fn enter(&mut self, wanted: Option<u32>) -> Result<bool, OutOfMemory>
+        ensures board { self.new.board ≡ self.old.board }
+        ensures begins { IsPrefix self.old.plans self.new.plans }
+        ensures rises { next_edition self.old.plans ≤ next_edition self.new.plans }
+        ensures taken { MatchResult result (λ b. MatchBool b (IfSome wanted (λ e. next_edition self.new.plans ≡ e + 1)) (self.new ≡ self.old)) (λ _. self.new ≡ self.old) }
+    {
+        let Some(seat) = self.seat.take() else {
+            unreachable!()
+        };
+        let (seat, found) = visit(seat, self.kept.plan.edition.0, wanted);
+        match self.seat.replace(seat) {
+            None => {}
+            Some(_other) => unreachable!(),
+        }
+        match found? {
+            Some(shown) => {
+                let mut both = self.kept.seen.again();
+                both.learn(&shown.seen);
+                self.kept = shown;
+                Ok(true)
+            }
+            None => Ok(false),
+        }
+    }
+
+    /// The last plan that this reader has seen.
+    pub fn newest(&self) -> &Plan
+        ensures last { last_of self.now.plans ≡ Some result.now }
+        ensures ascends { Ascends self.now.plans }
+    {
+        let mut seen = self.kept.seen.again();
+        seen.learn(&self.kept.seen);
+        &self.kept.plan
+    }
+
+    /// Of the lists of two readers of one board, one begins the other. It does nothing when it runs.
+    pub fn compare(&self, other: &Reader)
+        requires same { other.now.board ≡ self.now.board }
+        ensures { IsPrefix self.now.plans other.now.plans ⊎ IsPrefix other.now.plans self.now.plans }
+    {
+        let mut both = self.kept.seen.again();
+        both.learn(&other.kept.seen);
+    }
+
+    /// Sees what is shown, where it is newer. It waits for nobody.
+    pub fn look(&mut self) -> Result<(), OutOfMemory>
+        ensures board { self.new.board ≡ self.old.board }
+        ensures begins { IsPrefix self.old.plans self.new.plans }
+        ensures rises { next_edition self.old.plans ≤ next_edition self.new.plans }
+        ensures memory { IfErr result (λ _. self.new ≡ self.old) }
+    {
+        self.enter(None)?;
+        Ok(())
+    }
+}
