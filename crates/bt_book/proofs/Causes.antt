@@ -1,5 +1,5 @@
 -- The first cause of a refusal, by the lines of the link that gains.
-use Rattle.std.proofs.Common.{◌≡◌, ℕ, ◌+◌, ◌-◌, ◌<◌, ◌≤◌, ◌==◌, ◌&&◌, if◌then◌else◌, List, length, Option, Some, None, sym, ap, ◌∙◌, subst, arith, refl}
+use Rattle.std.proofs.Common.{◌≡◌, ℕ, ◌+◌, ◌-◌, ◌<◌, ◌≤◌, ◌==◌, ◌&&◌, if◌then◌else◌, false, List, length, Option, Some, None, sym, ap, ◌∙◌, subst, arith, refl}
 use Rattle.bt_frame.specs.declared.numbers.BeamNo.{BeamNo}
 use Rattle.bt_frame.specs.declared.numbers.TermNo.{TermNo}
 use Rattle.bt_net.specs.Network.{Net}
@@ -11,11 +11,12 @@ use Rattle.bt_net.specs.Terminals.{IsInBeam}
 use Rattle.bt_journal.specs.declared.call.Edit.{Edit}
 use Rattle.bt_journal.specs.declared.call.Edit.TheVariants.{Add, Drop, Move}
 use Rattle.bt_journal.specs.declared.call.Change.{Change}
+use Rattle.bt_journal.specs.declared.call.Change.TheVariants as change
 use Rattle.bt_journal.specs.declared.reply.Reply.{Reply}
 use Rattle.bt_journal.specs.declared.reply.Reply.TheVariants.{Done, SameTerminal, NotThere, RowFull, ColumnFull, BookFull}
 use Rattle.bt_book.specs.declared.lines.Lines.{Lines}
-use Rattle.bt_book.specs.Machine.{GainsFrom, GainsTo, matrix_after, with_edit, held_after, HasEnds, IsThere, FitsRow, FitsColumn, IsGoodEdit, IsCause}
-use Rattle.bt_book.specs.Desk.{Records, KeepsUp, AreLinesAfter, IsFullLine, IsFirstCause, IsRefusal, IsBookFull, AddsUp}
+use Rattle.bt_book.specs.Machine.{State, GainsFrom, GainsTo, matrix_after, with_edit, held_after, HasEnds, IsThere, FitsRow, FitsColumn, IsGoodEdit, IsCause}
+use Rattle.bt_book.specs.Records.{Records, KeepsUp, AreLinesAfter, IsFullLine, IsFirstCause, Refuses, IsBookFull, AddsUp}
 use Rattle.bt_book.proofs.After.{lines-Add, lines-Move, slots_after-AddsUp}
 
 -- a terminal is in one beam
@@ -89,16 +90,16 @@ are_lines-Add net changes links from to units up down in_row in_column adds up_i
       column = omega (arith, more.column, column_is);
     }
 
-pub now_lines-Add : (inside now : Records) (links : List Link) (count : ℕ) (from to : TermNo) (units slots : ℕ) (up down : BeamNo) (in_row in_column : ℕ)
-    → inside ≡ now → KeepsUp inside.net inside.changes links count → slots ≡ units → IsInBeam inside.net from up → IsInBeam inside.net to down
+pub now_lines-Add : (inside now : Records) (links : List Link) (from to : TermNo) (units slots : ℕ) (up down : BeamNo) (in_row in_column : ℕ)
+    → inside ≡ now → KeepsUp inside.net inside.state.changes links → slots ≡ units → IsInBeam inside.net from up → IsInBeam inside.net to down
     → up.0 < length inside.net.beams → down.0 < length inside.net.beams
     → in_row ≡ row_sum (matrix_of inside.net links) up.0 → in_column ≡ column_sum (matrix_of inside.net links) down.0
-    → AreLinesAfter now.net now.changes (Add from to units) (record { row = up; row_slots = in_row + slots; column = down; column_slots = in_column + slots })
-now_lines-Add inside now links count from to units slots up down in_row in_column view keeps same up_is down_is in_rows in_columns row_is column_is =
+    → AreLinesAfter now.net now.state.changes (Add from to units) (record { row = up; row_slots = in_row + slots; column = down; column_slots = in_column + slots })
+now_lines-Add inside now links from to units slots up down in_row in_column view keeps same up_is down_is in_rows in_columns row_is column_is =
     let lines : Lines = record { row = up; row_slots = in_row + slots; column = down; column_slots = in_column + slots } in
-    let are : AreLinesAfter inside.net inside.changes (Add from to units) lines =
-    rw same (are_lines-Add inside.net inside.changes links from to units up down in_row in_column keeps.adds_up up_is down_is in_rows in_columns row_is column_is) in
-    subst (λ (r : Records). AreLinesAfter r.net r.changes (Add from to units) lines) view are
+    let are : AreLinesAfter inside.net inside.state.changes (Add from to units) lines =
+    rw same (are_lines-Add inside.net inside.state.changes links from to units up down in_row in_column keeps.adds_up up_is down_is in_rows in_columns row_is column_is) in
+    subst (λ (r : Records). AreLinesAfter r.net r.state.changes (Add from to units) lines) view are
 
 -- the lines after a link gained what another lost
 are_lines-Move : (net : Net) (changes : List Change) (links : List Link) (from to new_from new_to : TermNo) (units : ℕ) (up down new_up new_down : BeamNo)
@@ -118,35 +119,36 @@ are_lines-Move net changes links from to new_from new_to units up down new_up ne
       column = omega (arith, moved.column, column_is, of_column_is);
     }
 
-pub now_lines-Move : (inside now : Records) (links : List Link) (count : ℕ) (from to new_from new_to : TermNo) (units slots : ℕ) (up down new_up new_down : BeamNo)
-    (in_row in_column of_row of_column : ℕ) → inside ≡ now → KeepsUp inside.net inside.changes links count → slots ≡ units → units ≤ held_after now.changes from to
+pub now_lines-Move : (inside now : Records) (links : List Link) (from to new_from new_to : TermNo) (units slots : ℕ) (up down new_up new_down : BeamNo)
+    (in_row in_column of_row of_column : ℕ) → inside ≡ now → KeepsUp inside.net inside.state.changes links → slots ≡ units → units ≤ held_after now.state.changes from to
     → IsInBeam inside.net from up → IsInBeam inside.net to down → IsInBeam inside.net new_from new_up → IsInBeam inside.net new_to new_down
     → up.0 < length inside.net.beams → down.0 < length inside.net.beams → new_up.0 < length inside.net.beams → new_down.0 < length inside.net.beams
     → in_row ≡ row_sum (matrix_of inside.net links) new_up.0 → in_column ≡ column_sum (matrix_of inside.net links) new_down.0
     → of_row ≡ (if up.0 == new_up.0 then slots else 0) → of_column ≡ (if down.0 == new_down.0 then slots else 0)
-    → AreLinesAfter now.net now.changes (Move from to new_from new_to units)
+    → AreLinesAfter now.net now.state.changes (Move from to new_from new_to units)
     (record { row = new_up; row_slots = in_row + slots - of_row; column = new_down; column_slots = in_column + slots - of_column })
-now_lines-Move inside now links count from to new_from new_to units slots up down new_up new_down in_row in_column of_row of_column view keeps same held up_is down_is new_up_is new_down_is a b c d row_is column_is of_row_is of_column_is =
+now_lines-Move inside now links from to new_from new_to units slots up down new_up new_down in_row in_column of_row of_column view keeps same held up_is down_is new_up_is new_down_is a b c d row_is column_is of_row_is of_column_is =
     let lines : Lines = record { row = new_up; row_slots = in_row + slots - of_row; column = new_down; column_slots = in_column + slots - of_column } in
-    let held_now = ap (λ (r : Records). held_after r.changes from to) view in
-    let held_here : units ≤ units_of links from to = omega (arith, held, held_now, held_after-units_of inside.changes links from to keeps.adds_up) in
-    let are : AreLinesAfter inside.net inside.changes (Move from to new_from new_to units) lines =
-    rw same (are_lines-Move inside.net inside.changes links from to new_from new_to units up down new_up new_down in_row in_column of_row of_column keeps.adds_up held_here
+    let held_now = ap (λ (r : Records). held_after r.state.changes from to) view in
+    let held_here : units ≤ units_of links from to = omega (arith, held, held_now, held_after-units_of inside.state.changes links from to keeps.adds_up) in
+    let are : AreLinesAfter inside.net inside.state.changes (Move from to new_from new_to units) lines =
+    rw same (are_lines-Move inside.net inside.state.changes links from to new_from new_to units up down new_up new_down in_row in_column of_row of_column keeps.adds_up held_here
     up_is down_is new_up_is new_down_is a b c d row_is column_is
     (of_row_is ∙ ap (λ (n : ℕ). if up.0 == new_up.0 then n else 0) same) (of_column_is ∙ ap (λ (n : ℕ). if down.0 == new_down.0 then n else 0) same)) in
-    subst (λ (r : Records). AreLinesAfter r.net r.changes (Move from to new_from new_to units) lines) view are
+    subst (λ (r : Records). AreLinesAfter r.net r.state.changes (Move from to new_from new_to units) lines) view are
 
--- a cause is the answer, and takes no change
-pub refused_by_cause : (net : Net) (changes : List Change) (edit : Edit) (reply : Reply) → IsCause net changes edit reply → IsRefusal net changes edit (Some reply)
-refused_by_cause net changes edit SameTerminal is = ((is, refl), refl)
-refused_by_cause net changes edit (NotThere held) is = ((is, refl), refl)
-refused_by_cause net changes edit (RowFull beam sum) is = ((is, refl), refl)
-refused_by_cause net changes edit (ColumnFull beam sum) is = ((is, refl), refl)
-refused_by_cause net changes edit (BookFull count) is = absurd is
-refused_by_cause net changes edit (Done edition most) is = absurd is
+-- a cause is the answer, and no change is made
+pub refused_by_cause : (net : Net) (old : State) (edit : Edit) (reply : Reply) → old.stopped ≡ false → IsCause net old.changes (change.Edit edit) reply
+    → Refuses net old edit (Some reply)
+refused_by_cause net old edit SameTerminal runs is = ((runs, is), refl)
+refused_by_cause net old edit (NotThere held) runs is = ((runs, is), refl)
+refused_by_cause net old edit (RowFull beam sum) runs is = ((runs, is), refl)
+refused_by_cause net old edit (ColumnFull beam sum) runs is = ((runs, is), refl)
+refused_by_cause net old edit (BookFull count) runs is = absurd is
+refused_by_cause net old edit (Done edition most) runs is = absurd is
 
 -- a good edit is refused where the book is full
-pub refused_by_book : (net : Net) (changes : List Change) (edit : Edit) (result : Option Reply) → IsGoodEdit net changes edit → IsBookFull changes result
-    → IsRefusal net changes edit result
-refused_by_book net changes edit None good full = (good, full)
-refused_by_book net changes edit (Some reply) good full = rw full.1 ((good, full.0, refl, refl), refl)
+pub refused_by_book : (net : Net) (old : State) (edit : Edit) (result : Option Reply) → old.stopped ≡ false → IsGoodEdit net old.changes edit
+    → IsBookFull old.changes result → Refuses net old edit result
+refused_by_book net old edit None runs good full = record { runs = runs; good = good; room = full }
+refused_by_book net old edit (Some reply) runs good full = rw full.1 ((runs, good, full.0, refl), refl)

@@ -1,8 +1,8 @@
 pub mod Start
 pub mod Tables
 pub mod After
-pub mod Loads
+pub mod Occupied
 pub mod Causes
 pub mod Done
-pub mod Entries
 pub mod Histories
+pub mod Entries

@@ -1,15 +1,16 @@
 -- What is kept before the first call.
-use Rattle.std.proofs.Common.{◌≡◌, ℕ, ◌<◌, List, [], length, replicate, slice_index, refl, sym, subst, arith}
+use Rattle.std.proofs.Common.{◌≡◌, ℕ, ◌<◌, List, [], ◌++◌, length, replicate, slice_index, refl, sym, subst, arith}
 use Rattle.std.proofs.lemmas.List.{get_or-replicate, length-replicate}
 use Rattle.std.proofs.lemmas.List.Folds.{sum_by-replicate}
 use Rattle.bt_frame.specs.declared.schedule.Critical.TheVariants.{Row, Column}
 use Rattle.bt_net.specs.Network.{Net}
 use Rattle.bt_demand.specs.Traffic.{matrix_of, HasSumsTo}
 use Rattle.bt_demand.proofs.Matrices.{matrix_of-none}
+use Rattle.bt_journal.specs.declared.call.Change.{Change}
 use Rattle.bt_journal.specs.declared.entry.Entry.{Entry}
 use Rattle.bt_journal.specs.Journal.{changes_of}
 use Rattle.bt_demand.specs.declared.demand.Link.{Link}
-use Rattle.bt_book.specs.Desk.{KeepsUp}
+use Rattle.bt_book.specs.Records.{KeepsUp, Counts}
 
 -- the lines of a matrix of zeros ask for nothing
 HasSumsTo-zeros : (size most : ℕ) → HasSumsTo most (replicate size (replicate size 0))
@@ -30,14 +31,22 @@ matrix_of-start net original links matrix size copied no_link size_is matrix_is 
     rw (no_link, matrix_of-none net, copied, ← size_is) matrix_is
 
 -- no change and no link
-KeepsUp-start : (net : Net) → KeepsUp net [] [] 0
+KeepsUp-start : (net : Net) → KeepsUp net [] []
 KeepsUp-start net = record {
   adds_up = λ test. refl;
   fits = subst (HasSumsTo net.slots) (sym (matrix_of-none net)) (HasSumsTo-zeros (length net.beams) net.slots);
+  follows = tt;
+}
+
+Counts-start : Counts [] 0 0
+Counts-start = record {
   counted = refl;
   bounded = omega arith;
+  edited = refl;
+  fewer = omega arith;
 }
 
 -- the same, as empty collections have it
-pub KeepsUp-open : (net : Net) (history : List Entry) (links : List Link) → history ≡ [] → links ≡ [] → KeepsUp net (changes_of history) links 0
-KeepsUp-open net history links no_entry no_link = rw (no_entry, no_link) (KeepsUp-start net)
+pub KeepsUp-open : (net : Net) (opening : List Change) (history : List Entry) (links : List Link) → opening ≡ [] → history ≡ [] → links ≡ []
+    → KeepsUp net (opening ++ changes_of history) links × Counts (opening ++ changes_of history) 0 0
+KeepsUp-open net opening history links no_change no_entry no_link = rw (no_change, no_entry, no_link) (KeepsUp-start net, Counts-start)

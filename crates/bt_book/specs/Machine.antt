@@ -1,5 +1,5 @@
--- The desk machine: its state is the list of changes taken so far, and each sum is taken afresh from that list.
-use Rattle.std.specs.Prelude.{◌≡◌, ℕ, ◌-◌, ◌<◌, ◌≤◌, ◌==◌, ◌&&◌, ◌⊎◌, if◌then◌else◌, Bool, List, [], ◌∷◌, ◌++◌, length, sum_by}
+-- The desk machine: its state is the list of changes made so far, and each sum is taken afresh from that list.
+use Rattle.std.specs.Prelude.{◌≡◌, ℕ, ◌-◌, ◌<◌, ◌≤◌, ◌==◌, ◌&&◌, ◌⊎◌, if◌then◌else◌, Bool, false, List, [], ◌∷◌, ◌++◌, length, sum_by}
 use Rattle.bt_frame.specs.declared.numbers.BeamNo.{BeamNo}
 use Rattle.bt_frame.specs.declared.numbers.TermNo.{TermNo}
 use Rattle.bt_frame.specs.declared.schedule.Critical.{Critical}
@@ -15,18 +15,35 @@ use Rattle.bt_journal.specs.declared.call.Call.{Call}
 use Rattle.bt_journal.specs.declared.call.Call.TheVariants as call
 use Rattle.bt_journal.specs.declared.call.Change.{Change}
 use Rattle.bt_journal.specs.declared.call.Change.TheVariants as change
-use Rattle.bt_journal.specs.Journal.{NamesTerminals}
+use Rattle.bt_journal.specs.Journal.{NamesTerminals, changes_of}
 use Rattle.bt_journal.specs.declared.entry.Entry.{Entry}
 use Rattle.bt_journal.specs.declared.reply.Reply.{Reply}
 use Rattle.bt_journal.specs.declared.reply.Reply.TheVariants.{Done, SameTerminal, NotThere, RowFull, ColumnFull, BookFull}
 
--- the most changes that a book takes
+-- the changes made so far, and whether a fault of the store has stopped the machine
+pub record State : Type 0 where
+  pub changes : List Change
+  pub stopped : Bool
+
+-- these changes, and the machine is not stopped
+abbrev pub running : List Change → State
+running changes = record { changes = changes; stopped = false }
+
+-- the state after a history: its opening changes and those that its calls made; no reply tells of a store fault yet
+abbrev pub state_after : List Change → List Entry → State
+state_after opening history = running (opening ++ changes_of history)
+
+-- the most changes that a book makes
 abbrev pub most_changes : ℕ
 most_changes = 8000000
 
--- the edition after these changes: each of them is an edit
+-- how many edits a change is
+abbrev pub edits_in : Change → ℕ
+edits_in (change.Edit _) = 1
+
+-- the edition after these changes: how many edits are among them
 abbrev pub edition : List Change → ℕ
-edition changes = length changes
+edition changes = sum_by edits_in changes
 
 -- the slots that a change gives to the links whose ends pass a test
 abbrev pub given : (TermNo → TermNo → Bool) → Change → ℕ
@@ -61,11 +78,19 @@ pub record IsDemandAfter (changes : List Change) (links : List Link) : Type 0 wh
   pub demand : IsDemand links
   pub slots : (test : TermNo → TermNo → Bool) → units_where test links ≡ slots_after test changes
 
+-- the links are the demand of an edition: the demand after first changes that have so many edits among them
+pub record IsDemandAt (changes : List Change) (number : ℕ) (links : List Link) : Type 0 where
+  pub before : List Change
+  pub after : List Change
+  pub parts : changes ≡ before ++ after
+  pub counted : edition before ≡ number
+  pub demand : IsDemandAfter before links
+
 -- the list with this edit behind it
 abbrev pub with_edit : List Change → Edit → List Change
 with_edit changes edit = changes ++ change.Edit edit ∷ []
 
--- a link of the edit has equal ends
+-- the edit names a link from a terminal to itself
 abbrev pub HasEqualEnds : Edit → Type 0
 HasEqualEnds (Add from to _) = from.0 ≡ to.0
 HasEqualEnds (Drop from to _) = from.0 ≡ to.0
@@ -89,19 +114,19 @@ GainsTo net (Add _ to _) beam = IsInBeam net to beam
 GainsTo net (Drop _ _ _) beam = ⊥
 GainsTo net (Move _ _ _ new_to _) beam = IsInBeam net new_to beam
 
--- after the edit the row of the link that gains has so many slots, more than the frame
+-- with the edit made, the uplink beam of the link that gains would send in so many slots, and the frame has fewer
 pub record OverfillsRow (net : Net) (changes : List Change) (edit : Edit) (beam : BeamNo) (sum : ℕ) : Type 0 where
   pub gains : GainsFrom net edit beam
   pub number : sum ≡ row_sum (matrix_after net (with_edit changes edit)) beam.0
   pub over : net.slots < sum
 
--- after the edit the column of the link that gains has so many slots, more than the frame
+-- with the edit made, the downlink beam of the link that gains would receive in so many slots, and the frame has fewer
 pub record OverfillsColumn (net : Net) (changes : List Change) (edit : Edit) (beam : BeamNo) (sum : ℕ) : Type 0 where
   pub gains : GainsTo net edit beam
   pub number : sum ≡ column_sum (matrix_after net (with_edit changes edit)) beam.0
   pub over : net.slots < sum
 
--- no link of the edit has equal ends
+-- the edit names no link from a terminal to itself
 abbrev pub HasEnds : Edit → Type 0
 HasEnds edit = ¬ (HasEqualEnds edit)
 
@@ -123,44 +148,80 @@ FitsColumn net changes edit = (beam : BeamNo) → GainsTo net edit beam → colu
 abbrev pub IsGoodEdit : Net → List Change → Edit → Type 0
 IsGoodEdit net changes edit = HasEnds edit × IsThere changes edit × FitsRow net changes edit × FitsColumn net changes edit
 
--- this is the first cause of a refusal in the edit itself
-abbrev pub IsCause : Net → List Change → Edit → Reply → Type 0
-IsCause net changes edit SameTerminal = HasEqualEnds edit
-IsCause net changes edit (NotThere held) = HasEnds edit × TakesTooMuch changes edit held
-IsCause net changes edit (RowFull beam sum) = HasEnds edit × IsThere changes edit × OverfillsRow net changes edit beam sum
-IsCause net changes edit (ColumnFull beam sum) = HasEnds edit × IsThere changes edit × FitsRow net changes edit × OverfillsColumn net changes edit beam sum
-IsCause net changes edit (BookFull _) = ⊥
-IsCause net changes edit (Done _ _) = ⊥
+-- the change has no cause of a refusal of its own
+abbrev pub IsGood : Net → List Change → Change → Type 0
+IsGood net changes (change.Edit edit) = IsGoodEdit net changes edit
+
+-- this is the first cause of a refusal in the change itself
+abbrev pub IsCause : Net → List Change → Change → Reply → Type 0
+IsCause net changes (change.Edit edit) SameTerminal = HasEqualEnds edit
+IsCause net changes (change.Edit edit) (NotThere held) = HasEnds edit × TakesTooMuch changes edit held
+IsCause net changes (change.Edit edit) (RowFull beam sum) = HasEnds edit × IsThere changes edit × OverfillsRow net changes edit beam sum
+IsCause net changes (change.Edit edit) (ColumnFull beam sum) = HasEnds edit × IsThere changes edit × FitsRow net changes edit × OverfillsColumn net changes edit beam sum
+IsCause net changes asked _ = ⊥
+
+-- each terminal that the change names is one of the network's
+abbrev pub IsChangeOn : Net → Change → Type 0
+IsChangeOn net (change.Edit edit) = NamesTerminals (length net.terminals) edit
+
+-- each of these changes is one on the network, and has no cause of a refusal after those before it
+abbrev pub FollowFrom : Net → List Change → List Change → Type 0
+FollowFrom net before [] = Unit {0}
+FollowFrom net before (first ∷ more) = IsChangeOn net first × IsGood net before first × FollowFrom net (before ++ first ∷ []) more
+
+-- the changes could be made one after the other, from no changes on
+abbrev pub Follows : Net → List Change → Type 0
+Follows net changes = FollowFrom net [] changes
 
 -- the greatest line sum of the traffic matrix after these changes
 abbrev pub IsGreatestSum : Net → List Change → ℕ → Type 0
 IsGreatestSum net changes most = (line : Critical) × IsHeaviest (matrix_after net changes) line most
 
--- The answer to an edit, and the changes after it: by its first cause, then by the bound of the book, else it is done.
-abbrev pub EditStep : Net → List Change → Edit → Reply → List Change → Type 0
-EditStep net changes edit (BookFull count) after = IsGoodEdit net changes edit × (most_changes ≤ count) × (count ≡ length changes) × (after ≡ changes)
-EditStep net changes edit (Done number most) after = IsGoodEdit net changes edit × (length changes < most_changes) × (after ≡ with_edit changes edit)
-    × (number.0 ≡ edition after) × IsGreatestSum net after most
-EditStep net changes edit refusal after = IsCause net changes edit refusal × (after ≡ changes)
+-- the change can be made: the machine runs, the change has no cause of a refusal, and the book has room for it
+pub record CanMake (net : Net) (old : State) (asked : Change) : Type 0 where
+  pub runs : old.stopped ≡ false
+  pub good : IsGood net old.changes asked
+  pub room : length old.changes < most_changes
 
--- a step of the machine: a call, its reply, and the changes before and after
-abbrev pub Step : Net → List Change → Call → Reply → List Change → Type 0
-Step net changes (call.Edit edit) reply after = EditStep net changes edit reply after
+-- the change was made: it could be, and it stands behind the changes before it
+pub record Makes (net : Net) (old : State) (asked : Change) (new : State) : Type 0 where
+  pub can : CanMake net old asked
+  pub after : new ≡ running (old.changes ++ asked ∷ [])
 
--- the entries of a history are steps one after the other, from these changes on
-abbrev pub Legal : Net → List Change → List Entry → Type 0
-Legal net changes [] = Unit {0}
-Legal net changes (entry ∷ entries) = (after : List Change) × Step net changes entry.call entry.reply after × Legal net after entries
+-- The refusal of a change: its first cause, and where it has none, that the book has no room.
+abbrev pub IsRefusal : Net → State → Change → Reply → Type 0
+IsRefusal net old asked (BookFull count) = (old.stopped ≡ false) × IsGood net old.changes asked × (most_changes ≤ count) × (count ≡ length old.changes)
+IsRefusal net old asked reply = (old.stopped ≡ false) × IsCause net old.changes asked reply
+
+-- the answer to an edit, and the state after it: it was made, or refused, and then nothing changed
+abbrev pub EditStep : Net → State → Edit → Reply → State → Type 0
+EditStep net old edit (Done number most) new = Makes net old (change.Edit edit) new × (number.0 ≡ edition new.changes) × IsGreatestSum net new.changes most
+EditStep net old edit reply new = IsRefusal net old (change.Edit edit) reply × (new ≡ old)
 
 -- each terminal that the call names is one of the network's
 abbrev pub IsOfNetwork : Net → Call → Type 0
 IsOfNetwork net (call.Edit edit) = NamesTerminals (length net.terminals) edit
 
+-- the answer to a call, and the state after it
+abbrev pub CallStep : Net → State → Call → Reply → State → Type 0
+CallStep net old (call.Edit edit) reply new = EditStep net old edit reply new
+
+-- a step of the machine: a call that names terminals of the network, its reply, and the states before and after
+pub record Step (net : Net) (old : State) (asked : Call) (reply : Reply) (new : State) : Type 0 where
+  pub named : IsOfNetwork net asked
+  pub answered : CallStep net old asked reply new
+
+-- the entries of a history are steps one after the other, from this state on
+abbrev pub AreSteps : Net → State → List Entry → Type 0
+AreSteps net old [] = Unit {0}
+AreSteps net old (entry ∷ entries) = (new : State) × Step net old entry.call entry.reply new × AreSteps net new entries
+
+-- a legal history: its entries are steps one after the other, from these changes on
+abbrev pub Legal : Net → List Change → List Entry → Type 0
+Legal net opening history = AreSteps net (running opening) history
+
 -- each beam that the reply names is one of the network's
 abbrev pub NamesBeams : Net → Reply → Type 0
 NamesBeams net (RowFull beam _) = beam.0 < length net.beams
 NamesBeams net (ColumnFull beam _) = beam.0 < length net.beams
-NamesBeams net SameTerminal = Unit {0}
-NamesBeams net (NotThere _) = Unit {0}
-NamesBeams net (BookFull _) = Unit {0}
-NamesBeams net (Done _ _) = Unit {0}
+NamesBeams net _ = Unit {0}

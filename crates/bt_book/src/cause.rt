@@ -2,31 +2,33 @@
 ghost use Rattle.std.specs.Prelude.{◌≡◌, ◌==◌, ◌<◌, ◌≤◌, if◌then◌else◌, length};
 ghost use Rattle.bt_journal.specs.Journal.{NamesTerminals};
 ghost use Rattle.bt_book.specs.Machine.{held_after};
-ghost use Rattle.bt_book.specs.Desk.{AreLinesAfter, IsBookFull, IsFirstCause, IsRefusal, IsShortOf};
+ghost use Rattle.bt_book.specs.Records.{AreLinesAfter, IsBookFull, IsFirstCause, IsShortOf, Refuses};
 
-use crate::desk::Desk;
 use crate::lines::{Lines, full_line};
+use crate::machine::Machine;
 use bt_frame::{BeamNo, TermNo, Units};
 use bt_journal::{Edit, Reply};
 
-/// The most changes that a book takes.
+/// The most changes that a book makes.
 const MOST_CHANGES: u32 = 8_000_000;
 
-impl Desk {
+impl Machine {
     /// The refusal of an edit: its own first cause, or that the book is full.
     pub(crate) fn refusal_of(&self, edit: &Edit) -> Option<Reply>
         requires { NamesTerminals (length self.now.net.terminals) edit.now }
-        ensures { IsRefusal self.now.net self.now.changes edit.now result }
+        ensures { Refuses self.now.net self.now.state edit.now result }
     {
+        // This is there for what holds of each machine: no fault of the store has stopped it.
+        let _ = &self.count;
         match self.cause_of(edit) {
             Some(cause) => Some(cause),
             None => self.book_full(),
         }
     }
 
-    /// The refusal of a good edit where the book has as many changes as it takes.
+    /// The refusal of a good edit where the book has as many changes as it can make.
     fn book_full(&self) -> Option<Reply>
-        ensures { IsBookFull self.now.changes result }
+        ensures { IsBookFull self.now.state.changes result }
     {
         if self.count < MOST_CHANGES {
             None
@@ -38,7 +40,7 @@ impl Desk {
     /// The first cause of a refusal in the edit itself.
     pub(crate) fn cause_of(&self, edit: &Edit) -> Option<Reply>
         requires { NamesTerminals (length self.now.net.terminals) edit.now }
-        ensures { IsFirstCause self.now.net self.now.changes edit.now result }
+        ensures { IsFirstCause self.now.net self.now.state.changes edit.now result }
     {
         match *edit {
             Edit::Add { from, to, units } => self.cause_of_add(from, to, units),
@@ -55,18 +57,21 @@ impl Desk {
 
     fn cause_of_add(&self, from: TermNo, to: TermNo, units: Units) -> Option<Reply>
         requires { NamesTerminals (length self.now.net.terminals) (Edit.Add from to units) }
-        ensures { IsFirstCause self.now.net self.now.changes (Edit.Add from to units) result }
+        ensures { IsFirstCause self.now.net self.now.state.changes (Edit.Add from to units) result }
     {
         if from == to {
             Some(Reply::SameTerminal)
         } else {
-            full_line(self.lines_after_add(from, to, units), self.load.slots())
+            full_line(
+                self.lines_after_add(from, to, units),
+                self.occupancy.slots(),
+            )
         }
     }
 
     fn cause_of_drop(&self, from: TermNo, to: TermNo, units: Units) -> Option<Reply>
         requires { NamesTerminals (length self.now.net.terminals) (Edit.Drop from to units) }
-        ensures { IsFirstCause self.now.net self.now.changes (Edit.Drop from to units) result }
+        ensures { IsFirstCause self.now.net self.now.state.changes (Edit.Drop from to units) result }
     {
         if from == to {
             Some(Reply::SameTerminal)
@@ -84,7 +89,7 @@ impl Desk {
         units: Units,
     ) -> Option<Reply>
         requires { NamesTerminals (length self.now.net.terminals) (Edit.Move from to new_from new_to units) }
-        ensures { IsFirstCause self.now.net self.now.changes (Edit.Move from to new_from new_to units) result }
+        ensures { IsFirstCause self.now.net self.now.state.changes (Edit.Move from to new_from new_to units) result }
     {
         if from == to || new_from == new_to {
             return Some(Reply::SameTerminal);
@@ -93,16 +98,16 @@ impl Desk {
             Some(refusal) => Some(refusal),
             None => full_line(
                 self.lines_after_move(from, to, new_from, new_to, units),
-                self.load.slots(),
+                self.occupancy.slots(),
             ),
         }
     }
 
     /// The refusal where a link holds fewer slots than are taken from it.
     fn not_there(&self, from: TermNo, to: TermNo, units: Units) -> Option<Reply>
-        ensures { IsShortOf self.now.changes from to units result }
+        ensures { IsShortOf self.now.state.changes from to units result }
     {
-        let held = self.load.units(from, to);
+        let held = self.occupancy.units(from, to);
         if held < units.get() {
             Some(Reply::NotThere { held })
         } else {
@@ -113,10 +118,10 @@ impl Desk {
     /// The lines of a link after it gained.
     fn lines_after_add(&self, from: TermNo, to: TermNo, units: Units) -> Lines
         requires { NamesTerminals (length self.now.net.terminals) (Edit.Add from to units) }
-        ensures { AreLinesAfter self.now.net self.now.changes (Edit.Add from to units) result }
+        ensures { AreLinesAfter self.now.net self.now.state.changes (Edit.Add from to units) result }
     {
-        let (row, row_slots) = self.load.row_of(from);
-        let (column, column_slots) = self.load.column_of(to);
+        let (row, row_slots) = self.occupancy.row_of(from);
+        let (column, column_slots) = self.occupancy.column_of(to);
         let slots = units.get();
         Lines {
             row,
@@ -136,13 +141,13 @@ impl Desk {
         units: Units,
     ) -> Lines
         requires terminals { NamesTerminals (length self.now.net.terminals) (Edit.Move from to new_from new_to units) }
-        requires held { units ≤ held_after self.now.changes from to }
-        ensures { AreLinesAfter self.now.net self.now.changes (Edit.Move from to new_from new_to units) result }
+        requires held { units ≤ held_after self.now.state.changes from to }
+        ensures { AreLinesAfter self.now.net self.now.state.changes (Edit.Move from to new_from new_to units) result }
     {
-        let (old_row, _) = self.load.row_of(from);
-        let (old_column, _) = self.load.column_of(to);
-        let (row, row_slots) = self.load.row_of(new_from);
-        let (column, column_slots) = self.load.column_of(new_to);
+        let (old_row, _) = self.occupancy.row_of(from);
+        let (old_column, _) = self.occupancy.column_of(to);
+        let (row, row_slots) = self.occupancy.row_of(new_from);
+        let (column, column_slots) = self.occupancy.column_of(new_to);
         let slots = units.get();
         Lines {
             row,

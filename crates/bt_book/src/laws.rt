@@ -6,21 +6,27 @@ ghost use Rattle.bt_journal.specs.declared.call.Change.{Change};
 ghost use Rattle.bt_journal.specs.declared.entry.Entry.{Entry};
 ghost use Rattle.bt_journal.specs.declared.reply.Reply.{Reply};
 ghost use Rattle.bt_journal.specs.Journal.{changes_of};
-ghost use Rattle.bt_book.specs.Machine.{Legal, NamesBeams, Step};
+ghost use Rattle.bt_book.specs.Machine.{State, state_after, Follows, Legal, NamesBeams, Step};
 
-/// A legal history stays legal with one step more, from the changes that it took on; and what it then took are the
-/// changes of that step.
+/// A legal history stays legal with one step more, from the state that it came to; and the state after it is then
+/// the one after that step.
 pub fn histories_grow_by_steps()
-    ensures legal { (net : Net) (changes : List Change) (history : List Entry) (entry : Entry) (after : List Change)
-        → Legal net changes history → Step net (changes ++ changes_of history) entry.call entry.reply after
-        → Legal net changes (history ++ entry ∷ []) }
-    ensures changes { (net : Net) (changes : List Change) (history : List Entry) (entry : Entry) (after : List Change)
-        → Step net (changes ++ changes_of history) entry.call entry.reply after
-        → after ≡ changes ++ changes_of (history ++ entry ∷ []) }
+    ensures legal { (net : Net) (opening : List Change) (history : List Entry) (entry : Entry) (after : State)
+        → Legal net opening history → Step net (state_after opening history) entry.call entry.reply after
+        → Legal net opening (history ++ entry ∷ []) }
+    ensures state { (net : Net) (opening : List Change) (history : List Entry) (entry : Entry) (after : State)
+        → Step net (state_after opening history) entry.call entry.reply after
+        → after ≡ state_after opening (history ++ entry ∷ []) }
+{}
+
+/// A legal history that begins with changes that follow leaves changes that follow.
+pub fn legal_changes_follow()
+    ensures { (net : Net) (opening : List Change) (history : List Entry) → Follows net opening
+        → Legal net opening history → Follows net (opening ++ changes_of history) }
 {}
 
 /// The beams that a reply names are the network's.
 pub fn replies_name_beams_of_the_network()
-    ensures { (net : Net) (changes : List Change) (call : Call) (reply : Reply) (after : List Change)
-        → IsSound net → Step net changes call reply after → NamesBeams net reply }
+    ensures { (net : Net) (old : State) (call : Call) (reply : Reply) (new : State)
+        → IsSound net → Step net old call reply new → NamesBeams net reply }
 {}

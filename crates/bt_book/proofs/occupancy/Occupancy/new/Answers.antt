@@ -1,0 +1,7 @@
+use Rattle.bt_book.proofs.Start.{matrix_of-start}
+use Rattle.bt_book.proofs.occupancy.Occupancy.new.Goals as goal
+
+-- no link, and a matrix of zeros
+pub invariant_of-result : goal.invariant_of-result
+invariant_of-result c =
+    matrix_of-start _ _ _ _ _ c.in_ok-copy.ensures c.empty.ensures c.beam_count.ensures.count c.in_ok-new.ensures

@@ -1,0 +1,112 @@
+-- For bodies alone: what contracts see of the machine and of the occupancy of its frame, and what is kept beside the
+-- changes.
+use Rattle.std.specs.Prelude.{◌≡◌, ℕ, ◌+◌, ◌≤◌, ◌<◌, Bool, false, List, length, sum_by, Option, Some, None}
+use Rattle.bt_frame.specs.declared.numbers.TermNo.{TermNo}
+use Rattle.bt_net.specs.Network.{Net}
+use Rattle.bt_matrix.specs.Traffic.{row_sum, column_sum}
+use Rattle.bt_demand.specs.declared.demand.Link.{Link}
+use Rattle.bt_demand.specs.Demand.{units_where, units_of, Gains}
+use Rattle.bt_demand.specs.Traffic.{matrix_of, HasSumsTo}
+use Rattle.bt_journal.specs.declared.call.Change.{Change}
+use Rattle.bt_journal.specs.declared.call.Change.TheVariants as change
+use Rattle.bt_journal.specs.declared.entry.Entry.{Entry}
+use Rattle.bt_journal.specs.declared.call.Edit.{Edit}
+use Rattle.bt_journal.specs.declared.call.Edit.TheVariants.{Add, Drop, Move}
+use Rattle.bt_journal.specs.Journal.{is_made}
+use Rattle.bt_journal.specs.declared.reply.Reply.{Reply}
+use Rattle.bt_journal.specs.declared.reply.Reply.TheVariants.{NotThere, RowFull, ColumnFull, BookFull}
+use Rattle.bt_book.specs.declared.lines.Lines.{Lines}
+use Rattle.bt_book.specs.Machine.{State, given, taken_from, most_changes, edition, Follows, GainsFrom, GainsTo, matrix_after, with_edit, held_after, IsGoodEdit, IsCause, IsRefusal, CanMake}
+
+-- a network, and the links of the demand on it
+pub record Occupied : Type 0 where
+  pub net : Net
+  pub links : List Link
+
+-- the network, the state of the machine, and the entries of all calls
+pub record Records : Type 0 where
+  pub net : Net
+  pub state : State
+  pub history : List Entry
+
+-- the links have what the changes gave and did not take again
+abbrev pub AddsUp : List Change → List Link → Type 0
+AddsUp changes links = (test : TermNo → TermNo → Bool) → units_where test links + sum_by (taken_from test) changes ≡ sum_by (given test) changes
+
+-- what holds of a demand beside the changes that made it
+pub record KeepsUp (net : Net) (changes : List Change) (links : List Link) : Type 0 where
+  pub adds_up : AddsUp changes links
+  pub fits : HasSumsTo net.slots (matrix_of net links)
+  pub follows : Follows net changes
+
+-- what holds of the numbers kept beside the changes
+pub record Counts (changes : List Change) (count edits : ℕ) : Type 0 where
+  pub counted : count ≡ length changes
+  pub bounded : count ≤ most_changes
+  pub edited : edits ≡ edition changes
+  pub fewer : edits ≤ count
+
+-- the lines of the link that gains, with their slots after the edit
+pub record AreLinesAfter (net : Net) (changes : List Change) (edit : Edit) (lines : Lines) : Type 0 where
+  pub from : GainsFrom net edit lines.row
+  pub to : GainsTo net edit lines.column
+  pub row : lines.row_slots ≡ row_sum (matrix_after net (with_edit changes edit)) lines.row.0
+  pub column : lines.column_slots ≡ column_sum (matrix_after net (with_edit changes edit)) lines.column.0
+
+-- the first of the two lines that has more slots than the frame, as a refusal
+abbrev pub IsFullLine : Lines → ℕ → Option Reply → Type 0
+IsFullLine lines slots None = (lines.row_slots ≤ slots) × (lines.column_slots ≤ slots)
+IsFullLine lines slots (Some (RowFull beam sum)) = (beam ≡ lines.row) × (sum ≡ lines.row_slots) × (slots < sum)
+IsFullLine lines slots (Some (ColumnFull beam sum)) = (lines.row_slots ≤ slots) × (beam ≡ lines.column) × (sum ≡ lines.column_slots) × (slots < sum)
+IsFullLine lines slots (Some _) = ⊥
+
+-- the answer where a link holds fewer slots than are taken from it
+abbrev pub IsShortOf : List Change → TermNo → TermNo → ℕ → Option Reply → Type 0
+IsShortOf changes from to units None = units ≤ held_after changes from to
+IsShortOf changes from to units (Some (NotThere held)) = (held ≡ held_after changes from to) × (held < units)
+IsShortOf changes from to units (Some _) = ⊥
+
+-- the first cause of a refusal in an edit, or none where there is none
+abbrev pub IsFirstCause : Net → List Change → Edit → Option Reply → Type 0
+IsFirstCause net changes edit None = IsGoodEdit net changes edit
+IsFirstCause net changes edit (Some reply) = IsCause net changes (change.Edit edit) reply
+
+-- the refusal where the book has made as many changes as it can, and none before
+abbrev pub IsBookFull : List Change → Option Reply → Type 0
+IsBookFull changes None = length changes < most_changes
+IsBookFull changes (Some reply) = (most_changes ≤ length changes) × (reply ≡ BookFull (length changes))
+
+-- the refusal of an edit, or none where it can be made
+abbrev pub Refuses : Net → State → Edit → Option Reply → Type 0
+Refuses net old edit None = CanMake net old (change.Edit edit)
+Refuses net old edit (Some reply) = IsRefusal net old (change.Edit edit) reply × (is_made reply ≡ false)
+
+-- the first half of an edit: the link that gains has its slots, and the one that loses has them still
+abbrev pub GainsFirst : List Link → Edit → List Link → Type 0
+GainsFirst old (Add from to units) new = Gains old new from to units
+GainsFirst old (Drop _ _ _) new = new ≡ old
+GainsFirst old (Move _ _ new_from new_to units) new = Gains old new new_from new_to units
+
+-- the second half of an edit: the link that loses has lost its slots
+abbrev pub LosesThen : List Link → Edit → List Link → Type 0
+LosesThen old (Add _ _ _) new = new ≡ old
+LosesThen old (Drop from to units) new = Gains new old from to units
+LosesThen old (Move from to _ _ units) new = Gains new old from to units
+
+-- the links before and after an edit: by its two halves
+pub record EditsLinks (old : List Link) (edit : Edit) (new : List Link) : Type 0 where
+  pub half : List Link
+  pub gains : GainsFirst old edit half
+  pub loses : LosesThen half edit new
+
+-- the link that loses has what the edit takes from it
+abbrev pub HoldsTaken : List Link → Edit → Type 0
+HoldsTaken links (Add _ _ _) = Unit {0}
+HoldsTaken links (Drop from to units) = units ≤ units_of links from to
+HoldsTaken links (Move from to _ _ units) = units ≤ units_of links from to
+
+-- the link that gained has what the edit gave it
+abbrev pub HoldsGiven : List Link → Edit → Type 0
+HoldsGiven links (Add from to units) = units ≤ units_of links from to
+HoldsGiven links (Drop _ _ _) = Unit {0}
+HoldsGiven links (Move _ _ new_from new_to units) = units ≤ units_of links new_from new_to

@@ -1,0 +1,209 @@
+// How the frame is occupied: the demand on a network, with its traffic matrix beside it.
+ghost use Rattle.std.specs.Prelude.{◌≡◌, ◌≢◌, ◌<◌, ◌≤◌, [], length, IfOk, OnOk, OnErr};
+ghost use Rattle.bt_frame.specs.declared.schedule.Critical.{Critical};
+ghost use Rattle.bt_matrix.specs.Traffic.{row_sum, column_sum, IsHeaviest};
+ghost use Rattle.bt_demand.specs.Demand.{units_of, Gains, IsDemand};
+ghost use Rattle.bt_demand.specs.Traffic.{matrix_of, HasSumsTo};
+ghost use Rattle.bt_net.specs.Terminals.{IsInBeam};
+ghost use Rattle.bt_net.specs.Network.{IsSound};
+ghost use Rattle.bt_journal.specs.Journal.{NamesTerminals};
+ghost use Rattle.bt_book.specs.Machine.{HasEnds};
+ghost use Rattle.bt_book.specs.Records.{GainsFirst, LosesThen, HoldsTaken, HoldsGiven};
+
+use bt_demand::Demand;
+use bt_frame::{BeamNo, OutOfMemory, TermNo, Units};
+use bt_journal::Edit;
+use bt_matrix::{Dense, SUM_LAST, Traffic};
+use bt_net::Network;
+use std::alloc::Global;
+use std::marker::Model;
+
+/// The demand on a network, and its traffic matrix, which follows each change.
+#[derive(Drop)]
+pub(crate) struct Occupancy {
+    net: Network,
+    demand: Demand,
+    matrix: Dense,
+}
+
+impl Model for Occupancy {
+    ghost use Rattle.bt_book.specs.Records.{Occupied};
+
+    ghost Value = { Occupied };
+
+    ghost use Rattle.std.specs.Prelude.{◌≡◌};
+    ghost use Rattle.bt_demand.specs.Traffic.{matrix_of};
+
+    ghost view = { λ a. record { net = a.net; links = a.demand } };
+
+    ghost invariant = { λ a. a.matrix ≡ matrix_of a.net a.demand };
+}
+
+impl Occupancy {
+    /// A network on which there is no demand.
+    pub(crate) fn new(alloc: Global, net: &Network) -> Result<Occupancy, OutOfMemory>
+        ensures net { IfOk result (λ made. made.net ≡ net.now) }
+        ensures links { IfOk result (λ made. made.links ≡ []) }
+    {
+        Ok(Occupancy {
+            net: net.copy(alloc)?,
+            demand: Demand::empty(alloc),
+            matrix: Dense::new(alloc, net.beam_count())?,
+        })
+    }
+
+    /// The demand.
+    pub(crate) fn demand(&self) -> &Demand
+        ensures same { result.now ≡ self.now.links }
+        ensures demand { IsDemand self.now.links }
+    {
+        let _links = self.demand.as_slice();
+        &self.demand
+    }
+
+    /// Traffic slots of a frame.
+    pub(crate) fn slots(&self) -> u32
+        ensures same { result ≡ self.now.net.slots }
+        ensures in_range { result ≤ 4096 }
+        ensures sound { IsSound self.now.net }
+    {
+        let _beams = self.net.beam_count();
+        self.net.slots()
+    }
+
+    /// The slots of a link.
+    pub(crate) fn units(&self, from: TermNo, to: TermNo) -> u32
+        ensures { result ≡ units_of self.now.links from to }
+    {
+        self.demand.units(from, to)
+    }
+
+    /// The beam of a terminal that sends, and the slots of its row.
+    pub(crate) fn row_of(&self, from: TermNo) -> (BeamNo, u32)
+        requires { from.0 < length self.now.net.terminals }
+        ensures beam { IsInBeam self.now.net from result.0 }
+        ensures in_range { result.0.0 < length self.now.net.beams }
+        ensures sum { result.1 ≡ row_sum (matrix_of self.now.net self.now.links) result.0.0 }
+        ensures small { result.1 ≤ SUM_LAST }
+    {
+        let beam = self.net.beam_of(from);
+        let _size = self.matrix.size();
+        (beam, self.matrix.row_sum(beam))
+    }
+
+    /// The beam of a terminal that receives, and the slots of its column.
+    pub(crate) fn column_of(&self, to: TermNo) -> (BeamNo, u32)
+        requires { to.0 < length self.now.net.terminals }
+        ensures beam { IsInBeam self.now.net to result.0 }
+        ensures in_range { result.0.0 < length self.now.net.beams }
+        ensures sum { result.1 ≡ column_sum (matrix_of self.now.net self.now.links) result.0.0 }
+        ensures small { result.1 ≤ SUM_LAST }
+    {
+        let beam = self.net.beam_of(to);
+        let _size = self.matrix.size();
+        (beam, self.matrix.column_sum(beam))
+    }
+
+    /// The greatest line sum.
+    pub(crate) fn length(&self) -> u32
+        ensures { (line : Critical) × IsHeaviest (matrix_of self.now.net self.now.links) line result }
+    {
+        self.matrix.heaviest().1
+    }
+
+    /// The first half of an edit: what it gives. Where memory runs out all is as it was.
+    pub(crate) fn gain_first(&mut self, alloc: Global, edit: &Edit) -> Result<(), OutOfMemory>
+        requires terminals { NamesTerminals (length self.old.net.terminals) edit.now }
+        requires ends { HasEnds edit.now }
+        requires small { HasSumsTo 4096 (matrix_of self.old.net self.old.links) }
+        ensures ok { OnOk result (GainsFirst self.old.links edit.now self.new.links) }
+        ensures net { self.new.net ≡ self.old.net }
+        ensures err { OnErr result (self.new.links ≡ self.old.links) }
+    {
+        match *edit {
+            Edit::Add { from, to, units } => self.gain(alloc, from, to, units),
+            Edit::Drop { .. } => Ok(()),
+            Edit::Move {
+                new_from,
+                new_to,
+                units,
+                ..
+            } => self.gain(alloc, new_from, new_to, units),
+        }
+    }
+
+    /// The second half of an edit: what it takes.
+    pub(crate) fn lose_then(&mut self, edit: &Edit)
+        requires terminals { NamesTerminals (length self.old.net.terminals) edit.now }
+        requires held { HoldsTaken self.old.links edit.now }
+        ensures loses { LosesThen self.old.links edit.now self.new.links }
+        ensures net { self.new.net ≡ self.old.net }
+    {
+        match *edit {
+            Edit::Add { .. } => {}
+            Edit::Drop { from, to, units } => self.lose(from, to, units),
+            Edit::Move {
+                from,
+                to,
+                units,
+                ..
+            } => self.lose(from, to, units),
+        }
+    }
+
+    /// Takes back the first half of an edit.
+    pub(crate) fn take_back(&mut self, edit: &Edit)
+        requires terminals { NamesTerminals (length self.old.net.terminals) edit.now }
+        requires held { HoldsGiven self.old.links edit.now }
+        ensures back { GainsFirst self.new.links edit.now self.old.links }
+        ensures net { self.new.net ≡ self.old.net }
+    {
+        match *edit {
+            Edit::Add { from, to, units } => self.lose(from, to, units),
+            Edit::Drop { .. } => {}
+            Edit::Move {
+                new_from,
+                new_to,
+                units,
+                ..
+            } => self.lose(new_from, new_to, units),
+        }
+    }
+
+    /// A link asks for so many slots more.
+    pub(crate) fn gain(
+        &mut self,
+        alloc: Global,
+        from: TermNo,
+        to: TermNo,
+        units: Units,
+    ) -> Result<(), OutOfMemory>
+        requires sends { from.0 < length self.old.net.terminals }
+        requires receives { to.0 < length self.old.net.terminals }
+        requires differ { from.0 ≢ to.0 }
+        requires small { HasSumsTo 4096 (matrix_of self.old.net self.old.links) }
+        ensures gains { OnOk result (Gains self.old.links self.new.links from to units) }
+        ensures net { self.new.net ≡ self.old.net }
+        ensures err { OnErr result (self.new.links ≡ self.old.links) }
+    {
+        let (up, down) = (self.net.beam_of(from), self.net.beam_of(to));
+        let slots = units.get();
+        self.demand.add(alloc, from, to, slots)?;
+        self.matrix.add(up, down, slots);
+        Ok(())
+    }
+
+    /// A link asks for so many slots less.
+    pub(crate) fn lose(&mut self, from: TermNo, to: TermNo, units: Units)
+        requires sends { from.0 < length self.old.net.terminals }
+        requires receives { to.0 < length self.old.net.terminals }
+        requires held { units ≤ units_of self.old.links from to }
+        ensures loses { Gains self.new.links self.old.links from to units }
+        ensures net { self.new.net ≡ self.old.net }
+    {
+        let (up, down) = (self.net.beam_of(from), self.net.beam_of(to));
+        let slots = units.get();
+        self.demand.take(from, to, slots);
+        self.matrix.take(up, down, slots);
+    }
+}
