@@ -17,7 +17,7 @@ use Rattle.bt_journal.specs.declared.call.Change.{Change}
 use Rattle.bt_journal.specs.declared.call.Change.TheVariants as change
 use Rattle.bt_book.specs.Machine.{given, taken_from, slots_after, slots_between, matrix_after, with_edit}
 use Rattle.bt_book.specs.Records.{AddsUp}
-use Rattle.bt_book.proofs.Tables.{same_tables, LinesExceed, table-LinesExceed}
+use Rattle.bt_demand.proofs.Tables.{same_tables, LinesExceed, table-LinesExceed}
 
 -- what one more change gives and takes
 given-more : (test : TermNo → TermNo → Bool) (changes : List Change) (edit : Edit)

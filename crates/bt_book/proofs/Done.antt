@@ -19,7 +19,7 @@ use Rattle.bt_journal.specs.declared.call.Change.{Change}
 use Rattle.bt_journal.specs.Journal.{NamesTerminals}
 use Rattle.bt_book.specs.Machine.{with_edit, IsThere, IsGoodEdit}
 use Rattle.bt_book.specs.Records.{AddsUp, KeepsUp, EditsLinks, GainsFirst, HoldsTaken, HoldsGiven}
-use Rattle.bt_book.proofs.Tables.{LinesExceed, table-LinesExceed, same_tables}
+use Rattle.bt_demand.proofs.Tables.{LinesExceed, table-LinesExceed, same_tables}
 use Rattle.bt_book.proofs.After.{AddsUp-Add, AddsUp-Drop, AddsUp-Move, matrix_after-AddsUp}
 use Rattle.bt_book.proofs.Causes.{held_after-units_of}
 

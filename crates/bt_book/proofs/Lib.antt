@@ -1,5 +1,4 @@
 pub mod Start
-pub mod Tables
 pub mod After
 pub mod Occupied
 pub mod Causes

@@ -13,7 +13,7 @@ use Rattle.bt_demand.specs.Traffic.{units_between, matrix_of, HasSumsTo}
 use Rattle.bt_net.specs.Terminals.{is_in_beam, IsInBeam}
 use Rattle.bt_demand.proofs.Matrices.{length-matrix_of, matrix_of-Gains}
 use Rattle.bt_book.specs.Records.{Occupied}
-use Rattle.bt_book.proofs.Tables.{length-row-table, table-LinesExceed}
+use Rattle.bt_demand.proofs.Tables.{length-row-table, table-LinesExceed}
 use Rattle.bt_book.proofs.After.{units_of-in-beams}
 
 -- a beam of the network is one of the matrix
