@@ -1,0 +1,3 @@
+mod Some
+mod Unseen
+mod Sets

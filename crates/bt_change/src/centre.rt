@@ -1,0 +1,210 @@
+// The centre, a machine that brings new editions to the satellite and to the terminals.
+ghost use Rattle.std.specs.Prelude.{◌≡◌, ◌<◌, ◌≤◌, length, reverse, slice_get, vec_len, IfOk, OnErr, IsSome, Some};
+ghost use Rattle.bt_change.specs.Centre.{AreNumbered, act_at, after_turn, begins_with, having_confirmed, having_lost, having_noted, having_placed, is_missing, known_to, some_missing, turn_at};
+ghost use Rattle.bt_change.specs.Last.{last_order};
+ghost use Rattle.bt_change.specs.Terminals.{has};
+
+use crate::known::{has_unseen, later_of, names, told_fore};
+use crate::last::{is_load, is_load_of};
+use crate::terminals::{has, with_terminal, without_terminal};
+use crate::turn::{Turn, act_of, waited_with, wanted_by};
+use bt_air::{Act, Order, Status};
+use bt_frame::{EditionNo, LAST_MARK, MOST_TERMINALS, Mark, OutOfMemory, TermNo, TermSet};
+use std::alloc::Global;
+use std::marker::Model;
+
+/// The centre.
+#[derive(Drop)]
+pub struct Centre {
+    // from the first on
+    orders: Vec<Order>,
+    kept: Option<Status>,
+    confirmed: TermSet,
+    asking: TermSet,
+    needs: TermSet,
+    waited: u32,
+    wanted: Option<Order>,
+}
+
+impl Model for Centre {
+    ghost use Rattle.std.specs.Prelude.{reverse};
+    ghost use Rattle.bt_change.specs.Centre.{State, IsCentre};
+
+    ghost Value = { State };
+
+    ghost view = { λ a. record { orders = reverse a.orders.items; kept = a.kept; confirmed = a.confirmed; asking = a.asking; needs = a.needs; waited = a.waited; wanted = a.wanted } };
+
+    ghost invariant = { λ a. IsCentre (record { orders = reverse a.orders.items; kept = a.kept; confirmed = a.confirmed; asking = a.asking; needs = a.needs; waited = a.waited; wanted = a.wanted }) };
+}
+
+impl Centre {
+    /// A centre that begins with these orders, the first of them first and numbered from 1 on: no status kept, nobody
+    /// confirmed or asking, nothing waited, nothing wanted. `needs` are the terminals that transmit in the edition of
+    /// the last one.
+    pub fn from_orders(orders: Vec<Order>, needs: TermSet) -> Centre
+        requires numbered { AreNumbered (reverse orders.items) }
+        requires few { vec_len orders ≤ 4000000000 }
+        ensures { result ≡ begins_with (reverse orders.items) needs }
+    {
+        Centre {
+            orders,
+            kept: None,
+            confirmed: TermSet(0),
+            asking: TermSet(0),
+            needs,
+            waited: 0,
+            wanted: None,
+        }
+    }
+
+    /// The edition in force in a superframe, where the centre knows it.
+    pub fn known(&self, mark: Mark) -> Option<EditionNo>
+        ensures { result ≡ known_to self.now mark.0 }
+    {
+        let Some(status) = self.kept else {
+            return None;
+        };
+        let unseen = has_unseen(&status, mark, self.orders.as_slice());
+        let told = told_fore(&status, mark);
+        if unseen { None } else { Some(told) }
+    }
+
+    /// Notes what the satellite says of itself, unless a later word of it is kept.
+    pub fn status(&mut self, status: Status)
+        ensures { self.new ≡ having_noted self.old status }
+    {
+        self.kept = Some(later_of(self.kept, status));
+    }
+
+    /// Notes that a terminal holds its bursts of an edition.
+    pub fn confirm(&mut self, mark: Mark, terminal: TermNo, edition: EditionNo)
+        requires { terminal.0 < 64 }
+        ensures { self.new ≡ having_confirmed self.old mark.0 terminal edition }
+    {
+        let is_last = is_load_of(self.last_order(), edition);
+        let is_in_force = names(self.known(mark), edition);
+        if is_last {
+            self.confirmed = with_terminal(self.confirmed, terminal);
+        }
+        if is_in_force {
+            self.asking = without_terminal(self.asking, terminal);
+        }
+    }
+
+    /// Notes that a terminal has restarted.
+    pub fn lost(&mut self, terminal: TermNo)
+        requires { terminal.0 < 64 }
+        ensures { self.new ≡ having_lost self.old terminal }
+    {
+        self.confirmed = without_terminal(self.confirmed, terminal);
+        self.asking = with_terminal(self.asking, terminal);
+    }
+
+    /// The centre's turn in the superframe `mark`. `newest` is the newest edition that has a plan, `lead` the
+    /// superframes from an Arm to its change, and `patience` the turns that are waited for confirmations.
+    pub fn turn(&mut self, mark: Mark, newest: EditionNo, lead: u32, patience: u32) -> Act
+        requires mark { mark.0 ≤ LAST_MARK }
+        requires lead { lead ≤ 32 }
+        requires few { length self.old.orders ≤ 4000000000 }
+        ensures act { result ≡ act_at self.old mark newest lead patience }
+        ensures state { self.new ≡ after_turn self.old mark newest lead patience }
+    {
+        let turn = self.turn_at(mark, newest, lead, patience);
+        let act = act_of(&turn, self.wanted, self.kept, self.last_order());
+        self.waited = turn.waited;
+        self.wanted = wanted_by(act);
+        act
+    }
+
+    /// The order that the centre wants placed.
+    pub fn wanted(&self) -> Option<Order>
+        ensures { result ≡ self.now.wanted }
+    {
+        self.wanted
+    }
+
+    /// The terminal has still to confirm the edition of the last order.
+    pub fn missing(&self, terminal: TermNo) -> bool
+        requires { terminal.0 < 64 }
+        ensures { result ≡ is_missing self.now terminal }
+    {
+        is_load(self.last_order()) && has(self.needs, terminal) && !has(self.confirmed, terminal)
+    }
+
+    /// The terminal asks for its bursts of the edition in force.
+    pub fn asking(&self, terminal: TermNo) -> bool
+        requires { terminal.0 < 64 }
+        ensures { result ≡ has self.now.asking terminal }
+    {
+        has(self.asking, terminal)
+    }
+
+    /// How many orders were placed.
+    pub fn order_count(&self) -> u32
+        ensures { result ≡ length self.now.orders }
+    {
+        self.orders.len() as u32
+    }
+
+    /// The order that was placed at this place, counted from 0.
+    pub fn order(&self, place: u32) -> Order
+        requires { place < length self.now.orders }
+        ensures { slice_get (reverse self.now.orders) place ≡ Some result }
+    {
+        self.orders[place as usize]
+    }
+
+    /// The order that was wanted is placed. `needs` are the terminals that transmit in its edition.
+    ///
+    /// The orders have their own allocator. One is taken as by every call that takes memory.
+    pub fn ordered(&mut self, _alloc: Global, needs: TermSet) -> Result<Order, OutOfMemory>
+        requires { IsSome self.old.wanted }
+        ensures order { IfOk result (λ order. self.old.wanted ≡ Some order) }
+        ensures state { IfOk result (λ order. self.new ≡ having_placed self.old order needs) }
+        ensures unchanged { OnErr result (self.new ≡ self.old) }
+    {
+        let Some(order) = self.wanted else {
+            unreachable!();
+        };
+        self.orders.push(order)?;
+        self.confirmed = TermSet(0);
+        self.needs = needs;
+        self.waited = 0;
+        self.wanted = None;
+        Ok(order)
+    }
+
+    // The last order that was placed.
+    fn last_order(&self) -> Option<Order>
+        ensures { result ≡ last_order self.now.orders }
+    {
+        self.orders.last().copied()
+    }
+
+    // Some terminal has still to confirm.
+    fn some_missing(&self) -> bool
+        ensures { result ≡ some_missing self.now }
+    {
+        for number in 0..MOST_TERMINALS as u8 {
+            if self.missing(TermNo(number)) {
+                return true;
+            }
+        }
+        false
+    }
+
+    // What the present turn goes by.
+    fn turn_at(&self, mark: Mark, newest: EditionNo, lead: u32, patience: u32) -> Turn
+        ensures { result ≡ turn_at self.now mark newest lead patience }
+    {
+        Turn {
+            mark,
+            newest,
+            lead,
+            patience,
+            waited: waited_with(self.waited, self.wanted, self.kept, self.last_order()),
+            some_missing: self.some_missing(),
+            in_force: self.known(mark),
+        }
+    }
+}

@@ -1,0 +1,29 @@
+// Sets of terminals.
+ghost use Rattle.std.specs.Prelude.{◌≡◌, ◌<◌};
+ghost use Rattle.bt_change.specs.Terminals.{has, with_terminal, without_terminal};
+
+use bt_frame::{TermNo, TermSet};
+
+/// The terminal is one of the set.
+pub fn has(terminals: TermSet, terminal: TermNo) -> bool
+    requires { terminal.0 < 64 }
+    ensures { result ≡ has terminals terminal }
+{
+    (terminals.0 >> terminal.0) & 1 == 1
+}
+
+/// The set with the terminal in it.
+pub fn with_terminal(terminals: TermSet, terminal: TermNo) -> TermSet
+    requires { terminal.0 < 64 }
+    ensures { result ≡ with_terminal terminals terminal }
+{
+    TermSet(terminals.0 | 1 << terminal.0)
+}
+
+/// The set without the terminal.
+pub fn without_terminal(terminals: TermSet, terminal: TermNo) -> TermSet
+    requires { terminal.0 < 64 }
+    ensures { result ≡ without_terminal terminals terminal }
+{
+    TermSet(terminals.0 & !(1 << terminal.0))
+}
