@@ -10,9 +10,9 @@ use Rattle.bt_frame.specs.declared.mode.Mode.{Mode}
 use Rattle.bt_net.specs.Network.{Net}
 use Rattle.bt_matrix.specs.Good.{total_duration}
 use Rattle.bt_demand.specs.declared.burst.Burst.{Burst}
-use Rattle.bt_verdict.specs.declared.spans.Span.{Span}
+use Rattle.bt_verdict.specs.declared.holding.Turn.{Turn}
 use Rattle.bt_demand.specs.Plan.{begin_of, Connects, IsHeld}
-use Rattle.bt_verdict.specs.Span.{IsSpanAt}
+use Rattle.bt_verdict.specs.Turn.{IsTurnAt}
 use Rattle.bt_net.specs.Terminals.{IsInBeam}
 use Rattle.bt_verdict.specs.Verdict.{IsFirstWithout}
 use Rattle.bt_verdict.proofs.LatestEnds.{no_burst}
@@ -31,20 +31,20 @@ begin_of-le modes i j le =
     let part = sum_by-take-le (λ (mode : Mode). mode.duration) (take j modes) i in
     omega (arith, part, ap total_duration (take-take i j modes le))
 
--- the mode in whose span a slot lies is the one that has any slot from there on
-one_span : (modes : List Mode) (slot : ℕ) (span : Span) (place last : ℕ) → IsSpanAt modes slot span → begin_of modes place ≤ slot
-    → HoldsAt (λ mode. last ≤ begin_of modes place + mode.duration) modes place → slot < last → (span.place ≡ place) × (place < length modes)
-one_span modes slot span place last at begins ends before = elim (cases_lt place (length modes)) [
+-- the mode that has a slot is the one that has any slot from there on
+one_turn : (modes : List Mode) (slot : ℕ) (turn : Turn) (place last : ℕ) → IsTurnAt modes slot turn → begin_of modes place ≤ slot
+    → HoldsAt (λ mode. last ≤ begin_of modes place + mode.duration) modes place → slot < last → (turn.place ≡ place) × (place < length modes)
+one_turn modes slot turn place last at begins ends before = elim (cases_lt place (length modes)) [
   | inl within ↦
       let next : slot < begin_of modes (place + 1) = omega (arith, begin_of-next modes place no_mode within, ends no_mode) in
-      elim (cases_order span.place place) [
+      elim (cases_order turn.place place) [
         | inl same ↦ (same, within)
         | inr order ↦ elim order [
           | inl lower ↦
-              let inside : span.place < length modes = omega arith in
+              let inside : turn.place < length modes = omega arith in
               let here = at.not_over inside no_mode in
-              absurd (omega (arith, begin_of-next modes span.place no_mode inside, begin_of-le modes (span.place + 1) place (omega arith), at.is.begins, here))
-          | inr higher ↦ absurd (omega (arith, begin_of-le modes (place + 1) span.place (omega arith), at.is.begins, at.begun))
+              absurd (omega (arith, begin_of-next modes turn.place no_mode inside, begin_of-le modes (turn.place + 1) place (omega arith), at.is.begins, here))
+          | inr higher ↦ absurd (omega (arith, begin_of-le modes (place + 1) turn.place (omega arith), at.is.begins, at.begun))
         ]
       ]
   | inr past ↦ absurd (omega (arith, ends no_mode, ap (λ (m : Mode). m.duration) (get_or_past modes place no_mode past)))
@@ -64,37 +64,37 @@ connects_beams net mode from to up down is_up is_down = (
   (λ connects. connects up down is_up is_down),
 )
 
--- the burst is held where the mode whose span has its start holds it
-pub held_by_its_mode : (net : Net) (modes : List Mode) (burst : Burst) (span : Span) (mode : Mode) → IsSpanAt modes burst.start span → span.place < length modes
-    → mode ≡ get_or modes span.place mode → ((0 < burst.length) × (burst.start + burst.length ≤ span.begin + mode.duration)) × Connects net mode burst.from burst.to
+-- the burst is held where the mode whose turn has its start holds it
+pub held_by_its_mode : (net : Net) (modes : List Mode) (burst : Burst) (turn : Turn) (mode : Mode) → IsTurnAt modes burst.start turn → turn.place < length modes
+    → mode ≡ get_or modes turn.place mode → ((0 < burst.length) × (burst.start + burst.length ≤ turn.begin + mode.duration)) × Connects net mode burst.from burst.to
     → IsHeld net modes burst
-held_by_its_mode net modes burst span mode at within is ((some, ends), connected) = record {
+held_by_its_mode net modes burst turn mode at within is ((some, ends), connected) = record {
   some = some;
-  place = span.place;
+  place = turn.place;
   within = record {
     begins = omega (arith, at.is.begins, at.begun);
     connected = λ d.
-        subst (λ (m : Mode). (burst.start + burst.length ≤ begin_of modes span.place + m.duration) × Connects net m burst.from burst.to)
-        (is ∙ get_or_default modes span.place mode d within) (omega (arith, at.is.begins), connected);
+        subst (λ (m : Mode). (burst.start + burst.length ≤ begin_of modes turn.place + m.duration) × Connects net m burst.from burst.to)
+        (is ∙ get_or_default modes turn.place mode d within) (omega (arith, at.is.begins), connected);
   };
 }
 
 -- a burst that is held is held by that mode
-pub its_mode_holds : (net : Net) (modes : List Mode) (burst : Burst) (span : Span) (mode : Mode) → IsSpanAt modes burst.start span → span.place < length modes
-    → mode ≡ get_or modes span.place mode → IsHeld net modes burst
-    → ((0 < burst.length) × (burst.start + burst.length ≤ span.begin + mode.duration)) × Connects net mode burst.from burst.to
-its_mode_holds net modes burst span mode at within is held =
-    let here = one_span modes burst.start span held.place (burst.start + burst.length) at held.within.begins (λ d. (held.within.connected d).0) (omega (arith, held.some)) in
+pub its_mode_holds : (net : Net) (modes : List Mode) (burst : Burst) (turn : Turn) (mode : Mode) → IsTurnAt modes burst.start turn → turn.place < length modes
+    → mode ≡ get_or modes turn.place mode → IsHeld net modes burst
+    → ((0 < burst.length) × (burst.start + burst.length ≤ turn.begin + mode.duration)) × Connects net mode burst.from burst.to
+its_mode_holds net modes burst turn mode at within is held =
+    let here = one_turn modes burst.start turn held.place (burst.start + burst.length) at held.within.begins (λ d. (held.within.connected d).0) (omega (arith, held.some)) in
     let facts = held.within.connected mode in
     let same : get_or modes held.place mode ≡ mode = ap (λ (k : ℕ). get_or modes k mode) (sym here.0) ∙ sym is in
-    let begins : span.begin ≡ begin_of modes held.place = at.is.begins ∙ ap (begin_of modes) here.0 in
+    let begins : turn.begin ≡ begin_of modes held.place = at.is.begins ∙ ap (begin_of modes) here.0 in
     let ends : burst.start + burst.length ≤ begin_of modes held.place + mode.duration = subst (λ (m : Mode). burst.start + burst.length ≤ begin_of modes held.place + m.duration) same facts.0 in
     ((held.some, omega arith), subst (λ (m : Mode). Connects net m burst.from burst.to) same facts.1)
 
 -- behind all modes nothing is held
-pub none_holds : (net : Net) (modes : List Mode) (burst : Burst) (span : Span) → IsSpanAt modes burst.start span → span.place ≡ length modes → ¬ (IsHeld net modes burst)
-none_holds net modes burst span at past held =
-    let here = one_span modes burst.start span held.place (burst.start + burst.length) at held.within.begins (λ d. (held.within.connected d).0) (omega (arith, held.some)) in
+pub none_holds : (net : Net) (modes : List Mode) (burst : Burst) (turn : Turn) → IsTurnAt modes burst.start turn → turn.place ≡ length modes → ¬ (IsHeld net modes burst)
+none_holds net modes burst turn at past held =
+    let here = one_turn modes burst.start turn held.place (burst.start + burst.length) at held.within.begins (λ d. (held.within.connected d).0) (omega (arith, held.some)) in
     omega (arith, here.0, here.1)
 
 -- the first burst that is not held

@@ -1,4 +1,4 @@
--- A table of the slots of bursts, a row for each terminal that sends.
+-- Tables of what items amount to at each two numbers, and the first link in which two of them differ.
 use Rattle.std.proofs.Common.{◌≡◌, ◌≢◌, ℕ, ◌+◌, ◌<◌, ◌≤◌, ◌==◌, ◌&&◌, if◌then◌else◌, List, [], length, replicate, take, get_or, slice_index, slice_set, refl, inl, inr, sym, ap, ◌∙◌, subst, arith}
 use Rattle.std.proofs.lemmas.Bool.{cases_eq, cases_lt}
 use Rattle.std.proofs.lemmas.Bool.Decides.{nat_tests}
@@ -10,11 +10,10 @@ use Rattle.bt_matrix.specs.Traffic.{row_of, entry, with_entry}
 use Rattle.bt_net.specs.Network.{Net}
 use Rattle.bt_demand.specs.declared.burst.Burst.{Burst}
 use Rattle.bt_demand.specs.declared.demand.Link.{Link}
-use Rattle.bt_verdict.specs.declared.links_served.Unserved.{Unserved}
-use Rattle.bt_verdict.specs.PlanVerdict.{IsServed, IsFirstUnserved, AreBetweenTerminals}
+use Rattle.bt_demand.specs.Apart.{AreBetweenTerminals}
 use Rattle.bt_demand.specs.Traffic.{AreOfNetwork}
-use Rattle.bt_verdict.specs.Unserved.{IsForTerminals, AreSlotsSent, IsFirstOther}
-use Rattle.bt_verdict.proofs.LatestEnds.{no_burst}
+use Rattle.bt_verdict.specs.PlanVerdict.{IsServed, IsFirstUnserved}
+use Rattle.bt_verdict.specs.Unserved.{IsForTerminals, AreSumsAt, AreSlotsSent, AreUnitsAsked}
 
 -- a row of the table
 length-row : (table : List (List ℕ)) (from : ℕ) → IsForTerminals table → from < 64 → length (row_of table from) ≡ 64
@@ -43,7 +42,7 @@ IsForTerminals-written table from to n shape from_small =
       columns = All-set (λ (r : List ℕ). length r ≡ 64) table from row (length-set (row_of table from) to n ∙ length-row table from shape from_small) shape.columns;
     }
 
--- what a burst adds to a link
+-- what an item adds
 added-here : (a x b y n : ℕ) → x ≡ a → y ≡ b → (if a == x && b == y then n else 0) ≡ n
 added-here a x b y n from to = grind (arith, nat_tests)
 
@@ -53,30 +52,36 @@ added-other_from a x b y n from = grind (arith, nat_tests)
 added-other_to : (a x b y n : ℕ) → y ≢ b → (if a == x && b == y then n else 0) ≡ 0
 added-other_to a x b y n to = grind (arith, nat_tests)
 
--- one more burst
-pub one_more_burst : (xs : List Burst) (i : ℕ) (table : List (List ℕ)) (n : ℕ) → i < length xs → AreSlotsSent (take i xs) table
-    → (get_or xs i no_burst).from.0 < 64 → (get_or xs i no_burst).to.0 < 64
-    → n ≡ entry table (get_or xs i no_burst).from.0 (get_or xs i no_burst).to.0 + (get_or xs i no_burst).length
-    → AreSlotsSent (take (i + 1) xs) (with_entry table (get_or xs i no_burst).from.0 (get_or xs i no_burst).to.0 n)
-one_more_burst xs i table n within so_far from_small to_small is =
-    let b = get_or xs i no_burst in
+-- a link that asks for nothing
+abbrev pub no_link : Link
+no_link = record { from = record { 0 = 0 }; to = record { 0 = 0 }; units = 0 }
+
+-- one more item
+pub one_more : {X : Type 0} (from to amount : X → ℕ) (xs : List X) (k : ℕ) (d : X) (table : List (List ℕ)) (n : ℕ) → k < length xs
+    → AreSumsAt from to amount (take k xs) table → from (get_or xs k d) < 64 → to (get_or xs k d) < 64
+    → n ≡ entry table (from (get_or xs k d)) (to (get_or xs k d)) + amount (get_or xs k d)
+    → AreSumsAt from to amount (take (k + 1) xs) (with_entry table (from (get_or xs k d)) (to (get_or xs k d)) n)
+one_more from to amount xs k d table n within so_far from_small to_small is =
+    let x = get_or xs k d in
+    let a = from x in
+    let b = to x in
     record {
-      shape = IsForTerminals-written table b.from.0 b.to.0 n so_far.shape from_small;
-      each = λ from to small_from small_to.
-          let more = sum_by_more (λ (burst : Burst). if burst.from.0 == from.0 && burst.to.0 == to.0 then burst.length else 0) xs i no_burst within in
-          let was = so_far.each from to small_from small_to in
-          elim (cases_eq from.0 b.from.0) [
-            | inl same_from ↦ elim (cases_eq to.0 b.to.0) [
+      shape = IsForTerminals-written table a b n so_far.shape from_small;
+      each = λ i j i_small j_small.
+          let more = sum_by_more (λ y. if from y == i && to y == j then amount y else 0) xs k d within in
+          let was = so_far.each i j i_small j_small in
+          elim (cases_eq i a) [
+            | inl same_from ↦ elim (cases_eq j b) [
               | inl same_to ↦
-                  let old : entry table b.from.0 b.to.0 ≡ entry table from.0 to.0 = rw (same_from, same_to) refl in
-                  let new : entry (with_entry table b.from.0 b.to.0 n) from.0 to.0 ≡ n = rw (same_from, same_to) (entry-written table b.from.0 b.to.0 n so_far.shape from_small to_small) in
-                  omega (arith, more, was, old, new, is, added-here b.from.0 from.0 b.to.0 to.0 b.length same_from same_to)
+                  let old : entry table a b ≡ entry table i j = rw (same_from, same_to) refl in
+                  let new : entry (with_entry table a b n) i j ≡ n = rw (same_from, same_to) (entry-written table a b n so_far.shape from_small to_small) in
+                  omega (arith, more, was, old, new, is, added-here a i b j (amount x) same_from same_to)
               | inr other_to ↦
-                  let old : entry table b.from.0 to.0 ≡ entry table from.0 to.0 = rw same_from refl in
-                  let new : entry (with_entry table b.from.0 b.to.0 n) from.0 to.0 ≡ entry table b.from.0 to.0 = rw same_from (entry-other_column table b.from.0 b.to.0 n to.0 so_far.shape from_small other_to) in
-                  omega (arith, more, was, old, new, added-other_to b.from.0 from.0 b.to.0 to.0 b.length other_to)
+                  let old : entry table a j ≡ entry table i j = rw same_from refl in
+                  let new : entry (with_entry table a b n) i j ≡ entry table a j = rw same_from (entry-other_column table a b n j so_far.shape from_small other_to) in
+                  omega (arith, more, was, old, new, added-other_to a i b j (amount x) other_to)
             ]
-            | inr other_from ↦ omega (arith, more, was, entry-other_row table b.from.0 b.to.0 n from.0 to.0 other_from, added-other_from b.from.0 from.0 b.to.0 to.0 b.length other_from)
+            | inr other_from ↦ omega (arith, more, was, entry-other_row table a b n i j other_from, added-other_from a i b j (amount x) other_from)
           ];
     }
 
@@ -103,14 +108,20 @@ pub no_entry : (i j : ℕ) → i < 64 → j < 64 → entry (replicate 64 (replic
 no_entry i j i_small j_small =
     ap (λ (row : List ℕ). slice_index row j) (get_or-replicate {A = List ℕ} 64 i (replicate 64 0) [] i_small) ∙ get_or-replicate {A = ℕ} 64 j 0 0 j_small
 
-pub no_slots : AreSlotsSent [] (replicate 64 (replicate 64 0))
-no_slots = record {
+pub no_items : {X : Type 0} (from to amount : X → ℕ) → AreSumsAt from to amount [] (replicate 64 (replicate 64 0))
+no_items from to amount = record {
   shape = record {
     rows = length-replicate {A = List ℕ} 64 (replicate 64 0);
     columns = All-replicate (λ (row : List ℕ). length row ≡ 64) 64 (replicate 64 0) (length-replicate {A = ℕ} 64 0);
   };
-  each = λ from to small_from small_to. no_entry from.0 to.0 small_from small_to;
+  each = λ i j i_small j_small. no_entry i j i_small j_small;
 }
+
+-- a link that asks for what its bursts have is served
+pub served : (links : List Link) (bursts : List Burst) (asked sent : List (List ℕ)) (from to : TermNo) → AreUnitsAsked links asked → AreSlotsSent bursts sent
+    → from.0 < 64 → to.0 < 64 → entry asked from.0 to.0 ≡ entry sent from.0 to.0 → IsServed links bursts from to
+served links bursts asked sent from to of_links of_bursts from_small to_small same =
+    sym (of_bursts.each from.0 to.0 from_small to_small) ∙ (sym same ∙ of_links.each from.0 to.0 from_small to_small)
 
 -- nothing is asked of terminals that the network has not, nor sent
 pub outside : (net : Net) (links : List Link) (bursts : List Burst) (from to : TermNo) → AreOfNetwork net links → AreBetweenTerminals net bursts
@@ -122,32 +133,27 @@ outside net links bursts from to of_network between past =
     (λ k d within. let there = (of_network k d within).1 in omega (arith, added-other_to (get_or links k d).from.0 from.0 (get_or links k d).to.0 to.0 (get_or links k d).units (λ same. omega arith))) in
     omega (arith, sent, asked)
 
--- a link before one that is the first in its row to have other slots is served
-pub is_first_unserved : (net : Net) (links : List Link) (bursts : List Burst) (table : List (List ℕ)) (from : TermNo) (count : ℕ) (u : Unserved)
-    → AreOfNetwork net links → AreBetweenTerminals net bursts → AreSlotsSent bursts table → count ≡ length net.terminals → count ≤ 64 → from.0 < count
-    → ((a b : TermNo) → a.0 < from.0 → b.0 < count → IsServed links bursts a b) → u.from ≡ from → IsFirstOther links (row_of table from.0) count u
-    → IsFirstUnserved net links bursts u.from u.to u.want u.have
-is_first_unserved net links bursts table from count u of_network between sent all few within earlier same other =
-    let number : u.from.0 ≡ from.0 = ap (λ (t : TermNo). t.0) same in
-    let place = sent.each u.from u.to (omega arith) (omega (arith, other.below)) in
-    let row : entry table u.from.0 u.to.0 ≡ slice_index (row_of table from.0) u.to.0 = rw number refl in
-    record {
-      sends = omega arith;
-      receives = omega (arith, other.below);
-      wanted = other.wanted;
-      sent = other.sent ∙ sym row ∙ place;
-      differ = other.differ;
-      earlier = λ a b before. elim (cases_lt b.0 count) [
-        | inr past ↦ outside net links bursts a b of_network between (omega arith)
-        | inl inside ↦ elim (cases_lt a.0 from.0) [
-          | inl lower ↦ earlier a b lower inside
-          | inr level ↦
-              let here : a.0 ≡ u.from.0 = omega (arith, before.from) in
-              let one : a ≡ u.from = ap (λ (n : ℕ). record { 0 = n }) here in
-              let has = other.earlier b (before.to here) in
-              let known = sent.each u.from b (omega arith) (omega arith) in
-              let at : entry table u.from.0 b.0 ≡ slice_index (row_of table from.0) b.0 = rw number refl in
-              subst (λ (t : TermNo). IsServed links bursts t b) (sym one) (sym known ∙ at ∙ has)
-        ]
-      ];
-    }
+-- a link is the first unserved one, where those before it are served and the two tables differ there
+pub is_first_unserved : (net : Net) (links : List Link) (bursts : List Burst) (asked sent : List (List ℕ)) (count : ℕ) (from to : TermNo)
+    → AreOfNetwork net links → AreBetweenTerminals net bursts → AreUnitsAsked links asked → AreSlotsSent bursts sent
+    → count ≡ length net.terminals → count ≤ 64 → from.0 < count → to.0 < count
+    → ((a b : TermNo) → a.0 < from.0 → b.0 < count → IsServed links bursts a b) → ((b : TermNo) → b.0 < to.0 → IsServed links bursts from b)
+    → entry asked from.0 to.0 ≢ entry sent from.0 to.0
+    → IsFirstUnserved net links bursts from to (entry asked from.0 to.0) (entry sent from.0 to.0)
+is_first_unserved net links bursts asked sent count from to of_network between of_links of_bursts all few sends receives above before differ = record {
+  sends = omega arith;
+  receives = omega arith;
+  wanted = of_links.each from.0 to.0 (omega arith) (omega arith);
+  sent = of_bursts.each from.0 to.0 (omega arith) (omega arith);
+  differ = differ;
+  earlier = λ a b order. elim (cases_lt b.0 count) [
+    | inr past ↦ outside net links bursts a b of_network between (omega arith)
+    | inl inside ↦ elim (cases_lt a.0 from.0) [
+      | inl lower ↦ above a b lower inside
+      | inr level ↦
+          let here : a.0 ≡ from.0 = omega (arith, order.from) in
+          let one : a ≡ from = ap (λ (n : ℕ). let terminal : TermNo = record { 0 = n } in terminal) here in
+          subst (λ (t : TermNo). IsServed links bursts t b) (sym one) (before b (order.to here))
+    ]
+  ];
+}

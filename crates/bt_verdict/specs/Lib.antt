@@ -2,5 +2,5 @@ pub mod Verdict
 pub mod Short
 pub mod PlanVerdict
 pub mod Meeting
-pub mod Span
+pub mod Turn
 pub mod Unserved

@@ -1,9 +1,10 @@
--- Connections that get fewer slots than they want, as the checker looks for them: row by row.
-use Rattle.std.specs.Prelude.{◌≡◌, ℕ, ◌<◌, ◌≤◌, List, length}
+-- Connections that get fewer slots than they want, as the checker looks for them.
+use Rattle.std.specs.Prelude.{◌≡◌, ℕ, ◌<◌, ◌≤◌, List, length, All}
+use Rattle.bt_frame.specs.declared.mode.Mode.{Mode}
 use Rattle.bt_frame.specs.declared.schedule.Schedule.{Schedule}
 use Rattle.bt_matrix.specs.Traffic.{entry}
 use Rattle.bt_matrix.specs.Good.{slots_of}
-use Rattle.bt_verdict.specs.declared.schedule_check.Short.{Short}
+use Rattle.bt_verdict.specs.declared.shortages.Short.{Short}
 
 -- the connection wants more slots than the modes give it
 pub record IsShort (rows : List (List ℕ)) (schedule : Schedule) (short : Short) : Type 0 where
@@ -16,3 +17,8 @@ pub record IsShort (rows : List (List ℕ)) (schedule : Schedule) (short : Short
 -- the modes give the slots that one uplink beam wants to each downlink beam below `end`
 abbrev pub CarriesBelow : List (List ℕ) → Schedule → ℕ → ℕ → Type 0
 CarriesBelow rows schedule up end = (down : ℕ) → down < end → entry rows up down ≤ slots_of schedule.modes up down
+
+-- the mode's beams are on a table of 16 by 16
+pub record IsOfTable (mode : Mode) : Type 0 where
+  pub up : length mode.perm ≤ 16
+  pub down : All (λ beam. beam < 16) mode.perm

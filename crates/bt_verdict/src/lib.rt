@@ -3,16 +3,23 @@
 //! `specs/Verdict.antt` has the table of verdicts on schedules, `specs/PlanVerdict.antt` that of plans. `laws.rt` and
 //! `plan_laws.rt` have what holds of verdicts and of plans whatever the program does. The other files of specs/ are
 //! for bodies alone.
+//!
+//! The two checkers stand in `schedule_check.rt` and `plan_check.rt`; what they ask, each in a file of its own:
+//! `mode_faults.rt` for V1 to V3, `length_faults.rt` for V4, `meetings.rt` for V5, `holding.rt` for V6, `serving.rt` for
+//! V7, `shortages.rt` for V8. It stands on the matrix (`bt_matrix`), on demands and plans (`bt_demand`) and on the
+//! network (`bt_net`).
 #![tactic(auto)]
 
-mod demand_lines;
+mod holding;
 mod laws;
-mod links_served;
+mod length_faults;
 mod meetings;
+mod mode_faults;
 mod plan_check;
 mod plan_laws;
 mod schedule_check;
-mod spans;
+mod serving;
+mod shortages;
 mod verdict;
 
 pub use laws::one_verdict;

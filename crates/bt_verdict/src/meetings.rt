@@ -2,14 +2,13 @@
 ghost use Rattle.std.specs.Prelude.{◌<◌, ◌≤◌, ◌↔◌, length, IsTrue, MatchOption, All, AllPairs};
 ghost use Rattle.bt_demand.specs.Burst.{AreBursts, IsNotAfter};
 ghost use Rattle.bt_demand.specs.Plan.{ShareABeam};
-ghost use Rattle.bt_verdict.specs.PlanVerdict.{Collide, AreApart, IsFirstMeeting, AreBetweenTerminals};
+ghost use Rattle.bt_demand.specs.Apart.{Collide, AreApart, AreBetweenTerminals};
+ghost use Rattle.bt_verdict.specs.PlanVerdict.{IsFirstMeeting};
 ghost use Rattle.bt_verdict.specs.Meeting.{ShareASlot, IsFirstMet, IsFirstLate};
 
 use bt_demand::{Burst, MOST_BURSTS};
+use bt_frame::MOST_BEAMS;
 use bt_net::Network;
-
-/// The most beams of a network.
-const MOST_BEAMS: usize = 16;
 
 /// The places of the first burst that meets an earlier one and of the earliest that it meets, the earlier place first.
 ///

@@ -2,26 +2,27 @@
 ghost use Rattle.std.specs.Prelude.{◌≡◌, length, MatchOption};
 ghost use Rattle.bt_frame.specs.Critical.{IsOfBeams};
 ghost use Rattle.bt_demand.specs.Demand.{IsDemand};
-ghost use Rattle.bt_verdict.specs.PlanVerdict.{AreBetweenTerminals, HasGoodModes, IsPlanVerdict};
+ghost use Rattle.bt_demand.specs.Apart.{AreBetweenTerminals};
+ghost use Rattle.bt_verdict.specs.PlanVerdict.{HasGoodModes, IsPlanVerdict};
 ghost use Rattle.bt_demand.specs.Traffic.{matrix_of, AreOfNetwork, HasSumsTo};
 
 use crate::Verdict;
-use crate::demand_lines::heaviest_unless_least;
-use crate::links_served::first_unserved;
+use crate::holding::first_unheld;
+use crate::length_faults::heavier_in_demand;
 use crate::meetings::first_meeting;
+use crate::mode_faults::{duration_sum, first_bad, first_empty};
 use crate::plan_laws::plans_are_good_by_their_parts;
-use crate::schedule_check::{duration_sum, first_bad, first_empty};
-use crate::spans::first_unheld;
+use crate::serving::first_unserved;
 use bt_demand::{Demand, Link, Plan};
-use bt_matrix::SUM_LAST;
+use bt_frame::SUM_LAST;
 use bt_net::Network;
 
 /// What is wrong first with a burst time plan for that demand, or that it is good.
 ///
-/// It looks at the modes first: that each is a permutation and lasts, that they fill the length, and that the length is
-/// what the heaviest line of the demand asks for. Then it looks at the bursts: that no two meet, that a mode holds each,
-/// and that each link has the slots that it asks for. It walks three times along the bursts, once along the links, and a
-/// few times along the modes; where two bursts meet, a fifth time along those before. It takes no memory.
+/// First come the modes: permutations (V1) that last (V2), fill the length (V3) and are no longer than the heaviest line
+/// of the demand asks for (V4). Then come the bursts: no two of them meet (V5), a mode holds each (V6), and each link
+/// has its slots (V7). Bursts are walked along three times, links twice, modes a few times; where two bursts meet,
+/// those before them once more. It takes no memory.
 pub fn check(net: &Network, demand: &Demand, plan: &Plan) -> Verdict
     requires demand { AreOfNetwork net.now demand.now }
     requires bursts { AreBetweenTerminals net.now plan.now.bursts }
@@ -32,7 +33,7 @@ pub fn check(net: &Network, demand: &Demand, plan: &Plan) -> Verdict
     let links = demand.as_slice();
     match modes_fault(net, links, plan) {
         Some(fault) => fault,
-        None => bursts_verdict(net, demand, plan),
+        None => bursts_verdict(net, links, plan),
     }
 }
 
@@ -57,18 +58,18 @@ fn modes_fault(net: &Network, links: &[Link], plan: &Plan) -> Option<Verdict>
     if sum != u64::from(length) {
         return Some(Verdict::V3 { sum, length });
     }
-    let (critical, sum) = heaviest_unless_least(net, links, schedule)?;
+    let (critical, sum) = heavier_in_demand(net, links, schedule)?;
     let sum = u64::from(sum);
     Some(Verdict::V4 { critical, sum })
 }
 
 /// The verdict on a plan whose modes are good.
-fn bursts_verdict(net: &Network, demand: &Demand, plan: &Plan) -> Verdict
-    requires demand { AreOfNetwork net.now demand.now }
-    requires links { IsDemand demand.now }
+fn bursts_verdict(net: &Network, links: &[Link], plan: &Plan) -> Verdict
+    requires links { AreOfNetwork net.now links.now }
+    requires demand { IsDemand links.now }
     requires bursts { AreBetweenTerminals net.now plan.now.bursts }
-    requires modes { HasGoodModes net.now demand.now plan.now.schedule }
-    ensures { IsPlanVerdict net.now demand.now plan.now result }
+    requires modes { HasGoodModes net.now links.now plan.now.schedule }
+    ensures { IsPlanVerdict net.now links.now plan.now result }
 {
     let bursts = plan.bursts.as_slice();
     if let Some((first, second)) = first_meeting(net, bursts) {
@@ -77,7 +78,7 @@ fn bursts_verdict(net: &Network, demand: &Demand, plan: &Plan) -> Verdict
     if let Some(burst) = first_unheld(net, plan.schedule.modes.as_slice(), bursts) {
         return Verdict::V6 { burst };
     }
-    match first_unserved(net, demand, bursts) {
+    match first_unserved(net, links, bursts) {
         Some(unserved) => unserved.verdict(),
         None => {
             plans_are_good_by_their_parts();

@@ -9,7 +9,8 @@ ghost use Rattle.bt_demand.specs.declared.plan.Plan.{Plan};
 ghost use Rattle.bt_verdict.specs.declared.verdict.Verdict.{Verdict};
 ghost use Rattle.bt_demand.specs.Demand.{IsDemand};
 ghost use Rattle.bt_demand.specs.Plan.{Triple, Carries, IsHeld, IsGoodPlan};
-ghost use Rattle.bt_verdict.specs.PlanVerdict.{AreApart, AreBetweenTerminals, HasGoodModes, IsPlanVerdict, IsServed};
+ghost use Rattle.bt_demand.specs.Apart.{AreApart, AreBetweenTerminals};
+ghost use Rattle.bt_verdict.specs.PlanVerdict.{HasGoodModes, IsPlanVerdict, IsServed};
 ghost use Rattle.bt_demand.specs.Traffic.{matrix_of, AreOfNetwork};
 
 /// No assignment whatever carries a demand in fewer slots than a line of its matrix asks for: the triples of one

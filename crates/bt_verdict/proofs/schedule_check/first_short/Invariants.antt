@@ -1,7 +1,0 @@
-use Rattle.std.proofs.Common.{ℕ, ◌<◌, length}
-use Rattle.bt_verdict.specs.Short.{CarriesBelow}
-use Rattle.bt_verdict.proofs.schedule_check.first_short.Given as goal
-
--- the connections from the uplink beams so far get the slots that they want
-abbrev pub invariant-loop-up : goal.invariant-loop-up
-invariant-loop-up g l = (up : ℕ) → up < l.up → CarriesBelow (g.M.Traffic.rows l.matrix) l.schedule up (length (g.M.Traffic.rows l.matrix))
