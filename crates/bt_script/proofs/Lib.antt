@@ -1,6 +1,5 @@
-pub mod Words
+pub mod Shapes
 pub mod ScriptLines
 pub mod Grouping
-pub mod Edits
 pub mod Naming
 pub mod Order

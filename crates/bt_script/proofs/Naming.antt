@@ -1,28 +1,32 @@
 -- What a text spells names terminals of the network alone.
-use Rattle.std.proofs.Common.{◌≡◌, ℕ, zero, suc, ◌+◌, ◌<◌, Bool, true, false, cond, ◌||◌, List, [], ◌∷◌, ◌++◌, length, All, Option, Some, None, Ok, Err, refl, position, option_map, arith}
-use Rattle.std.specs.Prelude.{codes}
+use Rattle.std.proofs.Common.{◌≡◌, ℕ, zero, suc, ◌+◌, Bool, true, false, cond, ◌||◌, List, [], ◌∷◌, ◌++◌, length, All, Option, Some, None, Ok, Err, refl, position, option_map, option_and_then, arith}
 use Rattle.std.specs.Str.{bytes_eq}
 use Rattle.std.proofs.lemmas.List.{length-map}
 use Rattle.std.proofs.lemmas.List.Elements.{All-append, All-nil, All-cons, All-tail}
 use Rattle.std.proofs.lemmas.List.Quantifiers.{position-Some}
-use Rattle.bt_text.specs.Text.{words}
 use Rattle.bt_frame.specs.declared.numbers.BeamNo.{BeamNo}
 use Rattle.bt_frame.specs.declared.numbers.TermNo.{TermNo}
 use Rattle.bt_net.specs.Network.{Net, names_of}
+use Rattle.bt_net.specs.Terminals.{IsTerminal, IsBetweenTerminals, terminal_of}
 use Rattle.bt_journal.specs.declared.call.Edit.{Edit}
-use Rattle.bt_journal.specs.declared.call.Edit.TheVariants.{Add, Drop, Move}
-use Rattle.bt_script.specs.declared.fault.ScriptCode.TheVariants.{S1, S2, S4, S5}
+use Rattle.bt_journal.specs.declared.call.Edit.TheVariants as edit
+use Rattle.bt_journal.specs.Journal.{NamesTerminals}
+use Rattle.bt_text.specs.Reading.{◌>>=◌, or_fault}
+use Rattle.bt_script.specs.declared.fault.ScriptCode.{ScriptCode}
+use Rattle.bt_script.specs.declared.fault.ScriptCode.TheVariants.{S1, S2, S3, S4, S5}
+use Rattle.bt_script.specs.declared.shape.LineShape.{LineShape}
+use Rattle.bt_script.specs.declared.shape.LineShape.TheVariants as shape
 use Rattle.bt_script.specs.declared.line.ScriptLine.{ScriptLine}
 use Rattle.bt_script.specs.declared.line.ScriptLine.TheVariants as line
 use Rattle.bt_script.specs.declared.script.DeskLine.{DeskLine}
-use Rattle.bt_script.specs.declared.script.DeskLine.TheVariants as desk_line
+use Rattle.bt_script.specs.declared.script.DeskLine.TheVariants as said_line
 use Rattle.bt_script.specs.declared.script.Item.{Item}
 use Rattle.bt_script.specs.declared.script.Item.TheVariants as item
-use Rattle.bt_text.specs.Reading.{◌>>=◌, or_fault}
 use Rattle.bt_script.specs.Reading.{Reading}
-use Rattle.bt_script.specs.ScriptText.{is_word, numbers_in, link_in, ranges_in, one_link, two_links, one_link_in, two_links_in, add_or_drop, move_in, move_by, edit_by, edit_in, desk_in, is_passed_over, desk_line_in, line_in, is_round, limited_line, last_in, lines_in, own_lines, lines_of, entry_of, desks_of, rounds_at, items_of}
-use Rattle.bt_net.specs.Terminals.{terminal_of, are_names}
-use Rattle.bt_journal.specs.Journal.{NamesTerminals}
+use Rattle.bt_script.specs.LineShape.{Shape, shape_of}
+use Rattle.bt_script.specs.Range.{within}
+use Rattle.bt_script.specs.Stages.{link_of, with_terminals, desk_edit, in_range, may_stand, line_in}
+use Rattle.bt_script.specs.ScriptText.{is_round, limited_line, last_in, lines_in, own_lines, lines_of, entry_of, desks_of, rounds_at, items_of}
 use Rattle.bt_script.specs.Named.{IsLineFor, IsItemFor}
 
 -- whatever is read holds this
@@ -43,102 +47,83 @@ chosen : {A : Type 0} (P : A → Type 0) (test : Bool) (a b : Reading A) → Rea
 chosen P true a b h k = h
 chosen P false a b h k = k
 
-abbrev pub IsTerm : Net → TermNo → Type 0
-IsTerm net t = t.0 < length net.terminals
+-- whatever is found holds this
+abbrev pub Finds : {A : Type 0} → (A → Type 0) → Option A → Type 0
+Finds P (Some x) = P x
+Finds P None = Unit {0}
 
-found : (net : Net) (at : ℕ) (name : List ℕ) (o : Option ℕ) → position (bytes_eq name) (names_of net.terminals) ≡ o → Reads (IsTerm net) (or_fault (S2, at) (option_map (λ (place : ℕ). record { 0 = place }) o))
-found net at name None e = tt
-found net at name (Some i) e = let p = position-Some (bytes_eq name) (names_of net.terminals) i [] e in omega (arith, p.0, length-map net.terminals (λ (t : List ℕ × BeamNo). t.0))
+or_fault-Reads : {A : Type 0} (P : A → Type 0) (fault : ScriptCode × ℕ) (o : Option A) → Finds P o → Reads P (or_fault fault o)
+or_fault-Reads P fault (Some x) h = h
+or_fault-Reads P fault None h = tt
 
+option_map-Finds : {A B : Type 0} (P : A → Type 0) (Q : B → Type 0) (f : A → B) (o : Option A) → Finds P o → ((x : A) → P x → Q (f x)) → Finds Q (option_map f o)
+option_map-Finds P Q f (Some x) h k = k x h
+option_map-Finds P Q f None h k = tt
+
+option_and_then-Finds : {A B : Type 0} (P : A → Type 0) (Q : B → Type 0) (after : A → Option B) (o : Option A) → Finds P o → ((x : A) → P x → Finds Q (after x)) → Finds Q (option_and_then after o)
+option_and_then-Finds P Q after (Some x) h k = k x h
+option_and_then-Finds P Q after None h k = tt
+
+-- anything is found
+all-Finds : {A : Type 0} (o : Option A) → Finds (λ _. Unit {0}) o
+all-Finds (Some x) = tt
+all-Finds None = tt
+
+found : (net : Net) (name : List ℕ) (o : Option ℕ) → position (bytes_eq name) (names_of net.terminals) ≡ o → Finds (IsTerminal net) (option_map (λ (place : ℕ). record { 0 = place }) o)
+found net name None e = tt
+found net name (Some i) e = let p = position-Some (bytes_eq name) (names_of net.terminals) i [] e in omega (arith, p.0, length-map net.terminals (λ (t : List ℕ × BeamNo). t.0))
+
+-- both are terminals of the network
 abbrev pub IsLink : Net → TermNo × TermNo → Type 0
-IsLink net l = IsTerm net l.0 × IsTerm net l.1
+IsLink net link = IsBetweenTerminals net link.0 link.1
 
-link_in-Reads : (net : Net) (at : ℕ) (from to : List ℕ) → Reads (IsLink net) (link_in net at from to)
-link_in-Reads net at from to =
-    then (IsTerm net) (IsLink net) (or_fault (S2, at) (terminal_of net from)) (λ f. or_fault (S2, at) (terminal_of net to) >>= λ t. Ok (f, t)) (found net at from _ refl)
-    (λ f hf. then (IsTerm net) (IsLink net) (or_fault (S2, at) (terminal_of net to)) (λ t. Ok (f, t)) (found net at to _ refl) (λ t ht. (hf, ht)))
+link_of-Finds : (net : Net) (from to : List ℕ) → Finds (IsLink net) (link_of net from to)
+link_of-Finds net from to =
+    option_and_then-Finds (IsTerminal net) (IsLink net) (λ f. option_map (λ t. (f, t)) (terminal_of net to)) (terminal_of net from) (found net from _ refl)
+    (λ f hf. option_map-Finds (IsTerminal net) (IsLink net) (λ t. (f, t)) (terminal_of net to) (found net to _ refl) (λ t ht. (hf, ht)))
 
-abbrev pub IsOne : Net → (ℕ × ℕ) × (TermNo × TermNo) → Type 0
-IsOne net l = IsLink net l.1
+-- a line whose terminals are those of the network
+abbrev pub HasTerminals : Net → LineShape TermNo → Type 0
+HasTerminals net shape.Remark = Unit {0}
+HasTerminals net shape.Round = Unit {0}
+HasTerminals net (shape.Add desk from to units) = IsBetweenTerminals net from to
+HasTerminals net (shape.Drop desk from to units) = IsBetweenTerminals net from to
+HasTerminals net (shape.Move desk from to new_from new_to units) = IsBetweenTerminals net from to × IsBetweenTerminals net new_from new_to
 
-one_link-Reads : (net : Net) (at : ℕ) (numbers : ℕ × ℕ) (from to : List ℕ) → Reads (IsOne net) (one_link net at numbers from to)
-one_link-Reads net at numbers from to =
-    then (IsLink net) (IsOne net) (link_in net at from to) (λ link. ranges_in at numbers >>= λ ranges. Ok (ranges, link)) (link_in-Reads net at from to)
-    (λ link h. after_any (IsOne net) (ranges_in at numbers) (λ ranges. Ok (ranges, link)) (λ ranges. h))
-
-one_link_in-Reads : (net : Net) (at : ℕ) (desk from to units : List ℕ) → Reads (IsOne net) (one_link_in net at desk from to units)
-one_link_in-Reads net at desk from to units =
-    chosen (IsOne net) (are_names from to) (numbers_in at desk units >>= λ numbers. one_link net at numbers from to) (Err (S1, at))
-    (after_any (IsOne net) (numbers_in at desk units) (λ numbers. one_link net at numbers from to) (λ numbers. one_link-Reads net at numbers from to)) tt
-
-abbrev pub IsTwo : Net → (ℕ × ℕ) × ((TermNo × TermNo) × (TermNo × TermNo)) → Type 0
-IsTwo net l = IsLink net l.1.0 × IsLink net l.1.1
-
-two_links-Reads : (net : Net) (at : ℕ) (numbers : ℕ × ℕ) (from to new_from new_to : List ℕ) → Reads (IsTwo net) (two_links net at numbers from to new_from new_to)
-two_links-Reads net at numbers from to new_from new_to =
-    then (IsLink net) (IsTwo net) (link_in net at from to) (λ link. link_in net at new_from new_to >>= λ new_link. ranges_in at numbers >>= λ ranges. Ok (ranges, (link, new_link))) (link_in-Reads net at from to)
-    (λ link h. then (IsLink net) (IsTwo net) (link_in net at new_from new_to) (λ new_link. ranges_in at numbers >>= λ ranges. Ok (ranges, (link, new_link))) (link_in-Reads net at new_from new_to)
-    (λ new_link k. after_any (IsTwo net) (ranges_in at numbers) (λ ranges. Ok (ranges, (link, new_link))) (λ ranges. (h, k))))
-
-two_links_in-Reads : (net : Net) (at : ℕ) (desk from to new_from new_to units : List ℕ) → Reads (IsTwo net) (two_links_in net at desk from to new_from new_to units)
-two_links_in-Reads net at desk from to new_from new_to units =
-    let both = numbers_in at desk units >>= λ numbers. two_links net at numbers from to new_from new_to in
-    chosen (IsTwo net) (are_names from to) (cond (are_names new_from new_to) both (Err (S1, at))) (Err (S1, at))
-    (chosen (IsTwo net) (are_names new_from new_to) both (Err (S1, at))
-    (after_any (IsTwo net) (numbers_in at desk units) (λ numbers. two_links net at numbers from to new_from new_to) (λ numbers. two_links-Reads net at numbers from to new_from new_to)) tt) tt
-
-abbrev pub IsEdit : Net → ℕ × Edit → Type 0
-IsEdit net e = NamesTerminals (length net.terminals) e.1
-
-add_or_drop-Reads : (kind : List ℕ) (net : Net) (at : ℕ) (desk from to units : List ℕ) → Reads (IsEdit net) (add_or_drop kind net at desk from to units)
-add_or_drop-Reads kind net at desk from to units =
-    let one = one_link_in net at desk from to units in
-    let is : Reads (IsOne net) (one_link_in net at desk from to units) = one_link_in-Reads net at desk from to units in
-    let added = one >>= λ l. Ok (l.0.0, Add l.1.0 l.1.1 l.0.1) in
-    let dropped = one >>= λ l. Ok (l.0.0, Drop l.1.0 l.1.1 l.0.1) in
-    chosen (IsEdit net) (is_word (codes "add") kind) added (cond (is_word (codes "drop") kind) dropped (Err (S1, at)))
-    (then (IsOne net) (IsEdit net) one (λ l. Ok (l.0.0, Add l.1.0 l.1.1 l.0.1)) is (λ l h. h))
-    (chosen (IsEdit net) (is_word (codes "drop") kind) dropped (Err (S1, at))
-    (then (IsOne net) (IsEdit net) one (λ l. Ok (l.0.0, Drop l.1.0 l.1.1 l.0.1)) is (λ l h. h)) tt)
-
-move_in-Reads : (kind : List ℕ) (net : Net) (at : ℕ) (desk from to new_from new_to units : List ℕ) → Reads (IsEdit net) (move_in kind net at desk from to new_from new_to units)
-move_in-Reads kind net at desk from to new_from new_to units =
-    let two = two_links_in net at desk from to new_from new_to units in
-    chosen (IsEdit net) (is_word (codes "move") kind) (two >>= λ l. Ok (l.0.0, Move l.1.0.0 l.1.0.1 l.1.1.0 l.1.1.1 l.0.1)) (Err (S1, at))
-    (then (IsTwo net) (IsEdit net) two (λ l. Ok (l.0.0, Move l.1.0.0 l.1.0.1 l.1.1.0 l.1.1.1 l.0.1)) (two_links_in-Reads net at desk from to new_from new_to units) (λ l h. (h.0.0, h.0.1, h.1.0, h.1.1))) tt
-
-move_by-Reads : (kind : List ℕ) (net : Net) (at : ℕ) (desk from to new_from new_to : List ℕ) (last : List (List ℕ)) → Reads (IsEdit net) (move_by kind net at desk from to new_from new_to last)
-move_by-Reads kind net at desk from to new_from new_to [] = tt
-move_by-Reads kind net at desk from to new_from new_to (units ∷ []) = move_in-Reads kind net at desk from to new_from new_to units
-move_by-Reads kind net at desk from to new_from new_to (units ∷ more ∷ rest) = tt
-
-edit_by-Reads : (kind : List ℕ) (net : Net) (at : ℕ) (desk from to : List ℕ) (last : List (List ℕ)) → Reads (IsEdit net) (edit_by kind net at desk from to last)
-edit_by-Reads kind net at desk from to [] = tt
-edit_by-Reads kind net at desk from to (units ∷ []) = add_or_drop-Reads kind net at desk from to units
-edit_by-Reads kind net at desk from to (new_from ∷ new_to ∷ last) = move_by-Reads kind net at desk from to new_from new_to last
-
-edit_in-Reads : (net : Net) (at : ℕ) (ws : List (List ℕ)) → Reads (IsEdit net) (edit_in net at ws)
-edit_in-Reads net at [] = tt
-edit_in-Reads net at (a ∷ []) = tt
-edit_in-Reads net at (a ∷ b ∷ []) = tt
-edit_in-Reads net at (a ∷ b ∷ c ∷ []) = tt
-edit_in-Reads net at (desk ∷ kind ∷ from ∷ to ∷ last) = edit_by-Reads kind net at desk from to last
-
-desk_in-Reads : (net : Net) (at : ℕ) (ws : List (List ℕ)) → Reads (IsEdit net) (desk_in net at ws)
-desk_in-Reads net at [] = tt
-desk_in-Reads net at (head ∷ rest) = chosen (IsEdit net) (is_word (codes "desk") head) (edit_in net at rest) (Err (S1, at)) (edit_in-Reads net at rest) tt
+with_terminals-Finds : (net : Net) (s : Shape) → Finds (HasTerminals net) (with_terminals net s)
+with_terminals-Finds net shape.Remark = tt
+with_terminals-Finds net shape.Round = tt
+with_terminals-Finds net (shape.Add desk from to units) =
+    option_map-Finds (IsLink net) (HasTerminals net) (λ link. shape.Add desk link.0 link.1 units) (link_of net from to) (link_of-Finds net from to) (λ link h. h)
+with_terminals-Finds net (shape.Drop desk from to units) =
+    option_map-Finds (IsLink net) (HasTerminals net) (λ link. shape.Drop desk link.0 link.1 units) (link_of net from to) (link_of-Finds net from to) (λ link h. h)
+with_terminals-Finds net (shape.Move desk from to new_from new_to units) =
+    option_and_then-Finds (IsLink net) (HasTerminals net) (λ link. option_map (λ new. shape.Move desk link.0 link.1 new.0 new.1 units) (link_of net new_from new_to)) (link_of net from to) (link_of-Finds net from to)
+    (λ link h. option_map-Finds (IsLink net) (HasTerminals net) (λ new. shape.Move desk link.0 link.1 new.0 new.1 units) (link_of net new_from new_to) (link_of-Finds net new_from new_to) (λ new k. (h, k)))
 
 abbrev pub IsSaid : Net → ScriptLine → Type 0
-IsSaid net line.PassedOver = Unit {0}
+IsSaid net line.Remark = Unit {0}
 IsSaid net line.Round = Unit {0}
 IsSaid net (line.Edit desk edit) = NamesTerminals (length net.terminals) edit
 
+desk_edit-Finds : (net : Net) (desk units : ℕ) (asked : ℕ → Edit) → ((u : ℕ) → NamesTerminals (length net.terminals) (asked u)) → Finds (IsSaid net) (desk_edit desk units asked)
+desk_edit-Finds net desk units asked names =
+    option_and_then-Finds (λ _. Unit {0}) (IsSaid net) (λ d. option_map (λ u. line.Edit d (asked u)) (within 4096 units)) (within 16 desk) (all-Finds (within 16 desk))
+    (λ d h. option_map-Finds (λ _. Unit {0}) (IsSaid net) (λ u. line.Edit d (asked u)) (within 4096 units) (all-Finds (within 4096 units)) (λ u k. names u))
+
+in_range-Finds : (net : Net) (named : LineShape TermNo) → HasTerminals net named → Finds (IsSaid net) (in_range named)
+in_range-Finds net shape.Remark h = tt
+in_range-Finds net shape.Round h = tt
+in_range-Finds net (shape.Add desk from to units) h = desk_edit-Finds net desk units (edit.Add from to) (λ u. h)
+in_range-Finds net (shape.Drop desk from to units) h = desk_edit-Finds net desk units (edit.Drop from to) (λ u. h)
+in_range-Finds net (shape.Move desk from to new_from new_to units) h = desk_edit-Finds net desk units (edit.Move from to new_from new_to) (λ u. (h.0.0, h.0.1, h.1.0, h.1.1))
+
 line_in-Reads : (net : Net) (at : ℕ) (is_open : Bool) (text : List ℕ) → Reads (IsSaid net) (line_in net at is_open text)
 line_in-Reads net at is_open text =
-    chosen (IsSaid net) (is_passed_over text) (Ok line.PassedOver) (cond (is_word (codes "round") text) (Ok line.Round) (desk_line_in net at is_open (words text))) tt
-    (chosen (IsSaid net) (is_word (codes "round") text) (Ok line.Round) (desk_line_in net at is_open (words text)) tt
-    (then (IsEdit net) (IsSaid net) (desk_in net at (words text)) (λ edit. cond is_open (Ok (line.Edit edit.0 edit.1)) (Err (S4, at))) (desk_in-Reads net at (words text))
-    (λ edit h. chosen (IsSaid net) is_open (Ok (line.Edit edit.0 edit.1)) (Err (S4, at)) h tt)))
+    after_any (IsSaid net) (or_fault (S1, at) (shape_of text)) (λ shaped. or_fault (S2, at) (with_terminals net shaped) >>= λ named. or_fault (S3, at) (in_range named) >>= λ said. cond (may_stand is_open said) (Ok said) (Err (S4, at)))
+    (λ shaped. then (HasTerminals net) (IsSaid net) (or_fault (S2, at) (with_terminals net shaped)) (λ named. or_fault (S3, at) (in_range named) >>= λ said. cond (may_stand is_open said) (Ok said) (Err (S4, at))) (or_fault-Reads (HasTerminals net) (S2, at) (with_terminals net shaped) (with_terminals-Finds net shaped))
+    (λ named h. then (IsSaid net) (IsSaid net) (or_fault (S3, at) (in_range named)) (λ said. cond (may_stand is_open said) (Ok said) (Err (S4, at))) (or_fault-Reads (IsSaid net) (S3, at) (in_range named) (in_range-Finds net named h))
+    (λ said k. chosen (IsSaid net) (may_stand is_open said) (Ok said) (Err (S4, at)) k tt)))
 
 limited_line-Reads : (net : Net) (at : ℕ) (is_open : Bool) (text : List ℕ) → Reads (IsSaid net) (limited_line net at is_open text)
 limited_line-Reads net at is_open text = chosen (IsSaid net) _ (line_in net at is_open text) (Err (S5, at)) (line_in-Reads net at is_open text) tt
@@ -161,9 +146,9 @@ pick P true xs ys h k = h
 pick P false xs ys h k = k
 
 own-All : (net : Net) (desk : ℕ) (one : ScriptLine) → IsSaid net one → All (IsLineFor net) (own_lines desk one)
-own-All net desk line.PassedOver h = All-nil (IsLineFor net)
+own-All net desk line.Remark h = All-nil (IsLineFor net)
 own-All net desk line.Round h = All-nil (IsLineFor net)
-own-All net desk (line.Edit number edit) h = pick (IsLineFor net) _ (desk_line.Edit edit ∷ []) [] (All-cons (IsLineFor net) (desk_line.Edit edit) [] h (All-nil (IsLineFor net))) (All-nil (IsLineFor net))
+own-All net desk (line.Edit number edit) h = pick (IsLineFor net) _ (said_line.Edit edit ∷ []) [] (All-cons (IsLineFor net) (said_line.Edit edit) [] h (All-nil (IsLineFor net))) (All-nil (IsLineFor net))
 
 lines-All : (net : Net) (desk : ℕ) (said : List ScriptLine) → All (IsSaid net) said → All (IsLineFor net) (lines_of desk said)
 lines-All net desk [] h = All-nil (IsLineFor net)

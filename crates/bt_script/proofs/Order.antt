@@ -1,5 +1,5 @@
--- The desks of a round ascend by number.
-use Rattle.std.proofs.Common.{ℕ, zero, suc, ◌+◌, ◌<◌, ◌≤◌, Bool, true, false, cond, List, [], ◌∷◌, ◌++◌, All, arith}
+-- The desks of a round ascend by number, are 1 to 16, and have lines.
+use Rattle.std.proofs.Common.{ℕ, zero, suc, ◌+◌, ◌<◌, ◌≤◌, Bool, true, false, cond, List, [], ◌∷◌, ◌++◌, length, All, arith}
 use Rattle.std.specs.Prelude.{AllPairs}
 use Rattle.std.proofs.lemmas.List.Elements.{All-append, All-nil, All-cons}
 use Rattle.std.proofs.lemmas.List.Kept.{AllPairs-cons}
@@ -7,6 +7,7 @@ use Rattle.bt_script.specs.declared.line.ScriptLine.{ScriptLine}
 use Rattle.bt_script.specs.declared.script.DeskLine.{DeskLine}
 use Rattle.bt_script.specs.declared.script.Item.TheVariants as item
 use Rattle.bt_script.specs.ScriptText.{is_round, lines_of, entry_of, desks_of, rounds_at, items_of}
+use Rattle.bt_script.specs.Desks.{AreDesks}
 use Rattle.bt_script.specs.Named.{HasDesksInOrder}
 
 -- a desk with its lines
@@ -39,6 +40,30 @@ desks_ordered desk zero said = none_ordered
 desks_ordered desk (suc more) said =
     let later : All (λ (b : Desk). desk + 1 ≤ b.0) (desks_of (desk + 1) more said) = desks_from (desk + 1) (desk + 1) more said (omega arith) in
     with_first desk (lines_of desk said) (desks_of (desk + 1) more said) (λ i d within. omega (arith, later i d within)) (desks_ordered (desk + 1) more said)
+
+entry_below : (most desk : ℕ) (own : List DeskLine) → desk ≤ most → All (λ (b : Desk). b.0 ≤ most) (entry_of desk own)
+entry_below most desk [] h = All-nil (λ (b : Desk). b.0 ≤ most)
+entry_below most desk (first ∷ more) h = All-cons (λ (b : Desk). b.0 ≤ most) (desk, first ∷ more) [] h (All-nil (λ (b : Desk). b.0 ≤ most))
+
+desks_below : (most desk more : ℕ) (said : List ScriptLine) → desk + more ≤ most + 1 → All (λ (b : Desk). b.0 ≤ most) (desks_of desk more said)
+desks_below most desk zero said h = All-nil (λ (b : Desk). b.0 ≤ most)
+desks_below most desk (suc more) said h = All-append (λ (b : Desk). b.0 ≤ most) (entry_of desk (lines_of desk said)) (desks_of (desk + 1) more said) (entry_below most desk (lines_of desk said) (omega (arith, h))) (desks_below most (desk + 1) more said (omega (arith, h)))
+
+entry_lines : (desk : ℕ) (own : List DeskLine) → All (λ (b : Desk). 0 < length b.1) (entry_of desk own)
+entry_lines desk [] = All-nil (λ (b : Desk). 0 < length b.1)
+entry_lines desk (first ∷ more) = All-cons (λ (b : Desk). 0 < length b.1) (desk, first ∷ more) [] (omega arith) (All-nil (λ (b : Desk). 0 < length b.1))
+
+desks_lines : (desk more : ℕ) (said : List ScriptLine) → All (λ (b : Desk). 0 < length b.1) (desks_of desk more said)
+desks_lines desk zero said = All-nil (λ (b : Desk). 0 < length b.1)
+desks_lines desk (suc more) said = All-append (λ (b : Desk). 0 < length b.1) (entry_of desk (lines_of desk said)) (desks_of (desk + 1) more said) (entry_lines desk (lines_of desk said)) (desks_lines (desk + 1) more said)
+
+-- the desks that the lines say are those of a round
+pub said_desks : (said : List ScriptLine) → AreDesks (desks_of 1 16 said)
+said_desks said = record {
+  ascend = desks_ordered 1 16 said;
+  numbered = λ i d within. (desks_from 1 1 16 said (omega arith) i d within, desks_below 16 1 16 said (omega arith) i d within);
+  have_lines = desks_lines 1 16 said;
+}
 
 round_ordered : (opens : Bool) (said : List ScriptLine) → All HasDesksInOrder (cond opens (item.Round (record { desks = desks_of 1 16 said }) ∷ []) [])
 round_ordered true said = All-cons HasDesksInOrder (item.Round (record { desks = desks_of 1 16 said })) [] (desks_ordered 1 16 said) (All-nil HasDesksInOrder)

@@ -1,3 +1,7 @@
 pub mod Reading
+pub mod Range
+pub mod Desks
+pub mod LineShape
+pub mod Stages
 pub mod ScriptText
 pub mod Named

@@ -1,72 +1,28 @@
 // The rounds that the lines of a script say.
-ghost use Rattle.std.specs.Prelude.{◌≡◌, ◌++◌, ◌||◌, IfOk, OnOk};
+ghost use Rattle.std.specs.Prelude.{◌≡◌, ◌+◌, ◌<◌, ◌++◌, [], ℕ, vec_len, All, IfOk, OnOk};
+ghost use Rattle.std.specs.List.{slice_index_or};
 ghost use Rattle.bt_script.specs.ScriptText.{is_round, own_lines, lines_of, entry_of, desks_of, rounds_at, items_of};
 
 use crate::line::ScriptLine;
-use crate::{DeskLine, DeskLines, Desks, Item, Items, Round};
+use crate::{DeskLines, Desks, Item, Items, Round};
 use bt_frame::OutOfMemory;
 use std::alloc::Global;
+use std::mem;
 
-/// The line begins a round.
-pub fn is_round(line: &ScriptLine) -> bool
-    ensures { result ≡ is_round line.now }
-{
-    match line {
-        ScriptLine::Round => true,
-        _ => false,
-    }
-}
+/// The most desks of a round.
+const MOST_DESKS: usize = 16;
 
-// Adds the line, if it is one of the desk.
-fn add_own(desk: u8, one: &ScriptLine, lines: &mut Vec<DeskLine>) -> Result<(), OutOfMemory>
-    ensures { OnOk result (lines.new.items ≡ lines.old.items ++ own_lines desk one.now) }
+/// The rounds that the lines say.
+pub fn items_of(alloc: Global, said: &[ScriptLine]) -> Result<Items, OutOfMemory>
+    ensures { IfOk result (λ items. items ≡ items_of said.now) }
 {
-    match one {
-        ScriptLine::Edit { desk: number, edit } if *number == desk => {
-            lines.push(DeskLine::Edit(*edit))?;
-            Ok(())
-        }
-        _ => Ok(()),
-    }
-}
-
-// The lines of a desk, as far as the next round.
-fn desk_lines(alloc: Global, desk: u8, said: &[ScriptLine]) -> Result<DeskLines, OutOfMemory>
-    ensures { IfOk result (λ lines. lines ≡ lines_of desk said.now) }
-{
-    let mut lines = Vec::new(alloc);
+    let mut items = Vec::new(alloc);
     let mut rest = said;
     while let [first, after @ ..] = rest {
-        if is_round(first) {
-            return Ok(DeskLines::of(lines));
-        }
-        add_own(desk, first, &mut lines)?;
+        add_round(alloc, first, after, &mut items)?;
         rest = after;
     }
-    Ok(DeskLines::of(lines))
-}
-
-// Adds the desk, if it has lines.
-fn add_desk(desk: u8, lines: DeskLines, desks: &mut Vec<(u8, DeskLines)>) -> Result<(), OutOfMemory>
-    ensures { OnOk result (desks.new.items ≡ desks.old.items ++ entry_of desk lines) }
-{
-    if lines.as_slice().is_empty() {
-        return Ok(());
-    }
-    desks.push((desk, lines))?;
-    Ok(())
-}
-
-// The desks of the round that stands in front of these lines.
-fn desks_of(alloc: Global, said: &[ScriptLine]) -> Result<Desks, OutOfMemory>
-    ensures { IfOk result (λ desks. desks ≡ desks_of 1 16 said.now) }
-{
-    let mut desks = Vec::new(alloc);
-    for desk in 1..17 {
-        let lines = desk_lines(alloc, desk, said)?;
-        add_desk(desk, lines, &mut desks)?;
-    }
-    Ok(Desks::of(desks))
+    Ok(Items::of(items))
 }
 
 // Adds the round that the line begins, if it begins one.
@@ -86,15 +42,83 @@ fn add_round(
     Ok(())
 }
 
-/// The rounds that the lines say.
-pub fn items_of(alloc: Global, said: &[ScriptLine]) -> Result<Items, OutOfMemory>
-    ensures { IfOk result (λ items. items ≡ items_of said.now) }
+// The line begins a round.
+fn is_round(line: &ScriptLine) -> bool
+    ensures { result ≡ is_round line.now }
 {
-    let mut items = Vec::new(alloc);
+    match line {
+        ScriptLine::Round => true,
+        _ => false,
+    }
+}
+
+// The desks of the round that stands in front of these lines.
+fn desks_of(alloc: Global, said: &[ScriptLine]) -> Result<Desks, OutOfMemory>
+    ensures { IfOk result (λ desks. desks ≡ desks_of 1 16 said.now) }
+{
+    let mut table = lines_by_desk(alloc, said)?;
+    let mut desks = Vec::new(alloc);
+    for desk in 1..17 {
+        let place = usize::from(desk) - 1;
+        let lines = mem::replace(&mut table[place], DeskLines::none(alloc));
+        add_desk(desk, lines, &mut desks)?;
+    }
+    Ok(Desks::of(desks))
+}
+
+// Adds the desk, if it has lines.
+fn add_desk(desk: u8, lines: DeskLines, desks: &mut Vec<(u8, DeskLines)>) -> Result<(), OutOfMemory>
+    ensures { OnOk result (desks.new.items ≡ desks.old.items ++ entry_of desk lines) }
+{
+    if lines.as_slice().is_empty() {
+        return Ok(());
+    }
+    desks.push((desk, lines))?;
+    Ok(())
+}
+
+// The lines as far as the next round, by desk: those of desk 1 first.
+fn lines_by_desk(alloc: Global, said: &[ScriptLine]) -> Result<Vec<DeskLines>, OutOfMemory>
+    ensures count { IfOk result (λ table. vec_len table ≡ 16) }
+    ensures lines { IfOk result (λ table. (d : ℕ) → d < 16 → slice_index_or table.items d [] ≡ lines_of (d + 1) said.now) }
+{
+    let mut table = empty_table(alloc)?;
     let mut rest = said;
     while let [first, after @ ..] = rest {
-        add_round(alloc, first, after, &mut items)?;
+        if is_round(first) {
+            return Ok(table);
+        }
+        add_own(first, &mut table)?;
         rest = after;
     }
-    Ok(Items::of(items))
+    Ok(table)
+}
+
+// No lines for each desk.
+fn empty_table(alloc: Global) -> Result<Vec<DeskLines>, OutOfMemory>
+    ensures count { IfOk result (λ table. vec_len table ≡ 16) }
+    ensures empty { IfOk result (λ table. All (λ lines. lines ≡ []) table.items) }
+{
+    let mut table = Vec::with_capacity(alloc, MOST_DESKS)?;
+    for _ in 0..MOST_DESKS {
+        table.push(DeskLines::none(alloc))?;
+    }
+    Ok(table)
+}
+
+// Adds the line to those of its desk, if it is a desk's.
+fn add_own(line: &ScriptLine, table: &mut Vec<DeskLines>) -> Result<(), OutOfMemory>
+    requires { vec_len table.old ≡ 16 }
+    ensures count { vec_len table.new ≡ 16 }
+    ensures lines { OnOk result ((d : ℕ) → d < 16
+        → slice_index_or table.new.items d [] ≡ slice_index_or table.old.items d [] ++ own_lines (d + 1) line.now) }
+{
+    match line {
+        ScriptLine::Remark => Ok(()),
+        ScriptLine::Round => Ok(()),
+        ScriptLine::Edit { desk, edit } => {
+            let place = usize::from(desk.get() - 1);
+            table[place].add_edit(edit)
+        }
+    }
 }

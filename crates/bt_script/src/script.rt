@@ -1,7 +1,10 @@
 // A script: what happens in each of its rounds.
-ghost use Rattle.std.specs.Prelude.{◌≡◌};
+ghost use Rattle.std.specs.Prelude.{◌≡◌, ◌++◌, ◌∷◌, [], OnOk, OnErr};
+ghost use Rattle.bt_script.specs.Desks.{AreDesks};
 
+use bt_frame::OutOfMemory;
 use bt_journal::Edit;
+use std::alloc::Global;
 use std::marker::Model;
 
 /// A line of a desk.
@@ -34,6 +37,24 @@ impl DeskLines {
         DeskLines { lines }
     }
 
+    /// No lines.
+    pub fn none(alloc: Global) -> DeskLines
+        ensures { result ≡ [] }
+    {
+        DeskLines {
+            lines: Vec::new(alloc),
+        }
+    }
+
+    /// Adds an edit behind the other lines.
+    pub fn add_edit(&mut self, edit: &Edit) -> Result<(), OutOfMemory>
+        ensures ok { OnOk result (self.new ≡ self.old ++ DeskLine.Edit edit.now ∷ []) }
+        ensures err { OnErr result (self.new ≡ self.old) }
+    {
+        self.lines.push(DeskLine::Edit(*edit))?;
+        Ok(())
+    }
+
     /// The lines in order.
     pub fn as_slice(&self) -> &[DeskLine]
         ensures { result.now ≡ self.now }
@@ -42,7 +63,7 @@ impl DeskLines {
     }
 }
 
-/// The numbers of desks, each with its lines.
+/// The numbers of desks, each with its lines. They ascend from 1 to 16 at most, and each of them has a line.
 #[derive(Debug, Drop)]
 pub struct Desks {
     desks: Vec<(u8, DeskLines)>,
@@ -51,15 +72,19 @@ pub struct Desks {
 impl Model for Desks {
     ghost use Rattle.std.specs.Prelude.{ℕ, List};
     ghost use Rattle.bt_script.specs.declared.script.DeskLine.{DeskLine};
+    ghost use Rattle.bt_script.specs.Desks.{AreDesks};
 
     ghost Value = { List (ℕ × List DeskLine) };
 
     ghost view = { λ a. a.desks.items };
+
+    ghost invariant = { λ a. AreDesks a.desks.items };
 }
 
 impl Desks {
     /// These desks.
     pub fn of(desks: Vec<(u8, DeskLines)>) -> Desks
+        requires { AreDesks desks.items }
         ensures { result ≡ desks.items }
     {
         Desks { desks }
@@ -67,13 +92,14 @@ impl Desks {
 
     /// The desks in order.
     pub fn as_slice(&self) -> &[(u8, DeskLines)]
-        ensures { result.now ≡ self.now }
+        ensures same { result.now ≡ self.now }
+        ensures desks { AreDesks self.now }
     {
         self.desks.as_slice()
     }
 }
 
-/// A round. Its desks ascend by number, and each of them has a line.
+/// A round: what its desks do.
 #[derive(Debug, Drop)]
 pub struct Round {
     pub desks: Desks,

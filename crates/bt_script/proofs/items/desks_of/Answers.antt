@@ -1,9 +1,25 @@
--- one desk further
-use Rattle.bt_script.specs.ScriptText.{desks_of}
-use Rattle.bt_script.proofs.Grouping.{next_desk}
+-- one desk further, and all of them
+use Rattle.std.proofs.Common.{◌≡◌, ◌+◌, ◌-◌, [], ap, ◌∙◌, arith, rules}
+use Rattle.std.specs.List.{slice_index_or}
+use Rattle.std.proofs.lemmas.List.{get_or_read}
+use Rattle.bt_script.specs.ScriptText.{lines_of, desks_of}
+use Rattle.bt_script.proofs.Grouping.{next_desk, all_desks}
 use Rattle.bt_script.proofs.items.desks_of.Goals as goal
 
 pub loop-desk-preserved : goal.loop-desk-preserved
 loop-desk-preserved c =
-    rw (c.in_ok-add_desk.ensures, c.in_ok-lines.ensures)
-    (next_desk c.loop-desk.desks.items c.loop-desk.desk c.args.said.now (desks_of 1 16 c.args.said.now) c.loop-desk-test.true c.loop-desk.invariant)
+    let desk = c.loop-desk.desk in
+    let said = c.args.said.now in
+    let table = c.loop-desk.table.items in
+    let own = c.loop-desk.invariant.lines (desk - 1) (omega arith) (omega arith) in
+    let same : desk - 1 + 1 ≡ desk = omega arith in
+    let got = get_or_read table _ _ (omega arith) c.index_mut.ensures.value [] in
+    let read : c.replace-lines.result ≡ lines_of desk said = c.replace-lines.ensures.value ∙ got ∙ ap (λ p. slice_index_or table (p - 1) []) c.from-place.ensures ∙ own ∙ ap (λ n. lines_of n said) same in
+    record {
+      desks = rw (c.in_ok-add_desk.ensures, read) (next_desk c.loop-desk.desks.items desk said (desks_of 1 16 said) c.loop-desk-test.true c.loop-desk.invariant.desks);
+      count = search rules;
+      lines = search rules;
+    }
+
+pub of-requires : goal.of-requires
+of-requires c = all_desks c.loop-desk.desks.items c.loop-desk.desk c.args.said.now c.loop-desk-test.false c.loop-desk.invariant.desks

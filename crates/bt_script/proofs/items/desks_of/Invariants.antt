@@ -1,7 +1,12 @@
--- the desks so far, in front of those that are left
-use Rattle.std.proofs.Common.{◌≡◌, ◌-◌, ◌++◌}
-use Rattle.bt_script.specs.ScriptText.{desks_of}
+-- the desks so far, in front of those that are left, and the lines of these in the table
+use Rattle.std.proofs.Common.{◌≡◌, ℕ, ◌+◌, ◌-◌, ◌<◌, ◌≤◌, [], ◌++◌, vec_len}
+use Rattle.std.specs.List.{slice_index_or}
+use Rattle.bt_script.specs.ScriptText.{lines_of, desks_of}
 use Rattle.bt_script.proofs.items.desks_of.Given as goal
 
 abbrev pub invariant-loop-desk : goal.invariant-loop-desk
-invariant-loop-desk l = l.desks.items ++ desks_of l.desk (17 - l.desk) l.said ≡ desks_of 1 16 l.said
+invariant-loop-desk l = record {
+  desks : l.desks.items ++ desks_of l.desk (17 - l.desk) l.said ≡ desks_of 1 16 l.said;
+  count : vec_len l.table ≡ 16;
+  lines : (d : ℕ) → l.desk ≤ d + 1 → d < 16 → slice_index_or l.table.items d [] ≡ lines_of (d + 1) l.said;
+}
