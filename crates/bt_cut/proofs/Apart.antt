@@ -13,7 +13,7 @@ use Rattle.bt_demand.specs.declared.demand.Link.{Link}
 use Rattle.bt_demand.specs.Burst.{Covers}
 use Rattle.bt_demand.specs.Plan.{begin_of}
 use Rattle.bt_net.specs.Terminals.{beam_at, IsInBeam, is_in_beam}
-use Rattle.bt_verdict.specs.PlanVerdict.{Collide}
+use Rattle.bt_demand.specs.Apart.{Collide}
 use Rattle.bt_demand.specs.Traffic.{AreOfNetwork, units_between}
 use Rattle.bt_cut.specs.Parts.{IsPart}
 use Rattle.bt_cut.specs.Serving.{IsPiece}

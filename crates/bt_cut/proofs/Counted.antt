@@ -17,7 +17,7 @@ use Rattle.bt_demand.specs.declared.burst.Burst.{Burst}
 use Rattle.bt_demand.specs.declared.demand.Link.{Link}
 use Rattle.bt_demand.specs.Demand.{Ends, ends_of, IsDemand, units_of}
 use Rattle.bt_demand.specs.Plan.{begin_of}
-use Rattle.bt_verdict.specs.PlanVerdict.{slots_sent}
+use Rattle.bt_demand.specs.Apart.{slots_sent}
 use Rattle.bt_demand.specs.Traffic.{AreOfNetwork, units_between}
 use Rattle.bt_net.specs.Terminals.{IsInBeam, is_in_beam}
 use Rattle.bt_demand.proofs.Links.{units_of_at}

@@ -1,5 +1,5 @@
--- Links one after the other: how many there may be, and what each leaves of its connection.
-use Rattle.std.proofs.Common.{◌≡◌, ◌≢◌, ℕ, zero, suc, ◌+◌, ◌-◌, ◌*◌, ◌<◌, ◌≤◌, ◌==◌, ◌&&◌, if◌then◌else◌, List, length, take, get_or, slice_set, refl, sym, ap, ◌∙◌, subst, inl, inr, arith, length-set, get_or-set_same, get_or-set_other, eq-eqb}
+-- Links one after the other, and what each leaves of its connection.
+use Rattle.std.proofs.Common.{◌≡◌, ◌≢◌, ℕ, ◌+◌, ◌*◌, ◌<◌, ◌≤◌, ◌==◌, ◌&&◌, if◌then◌else◌, List, length, take, slice_set, refl, sym, ap, ◌∙◌, subst, inl, inr, arith, length-set, get_or-set_same, get_or-set_other, eq-eqb}
 use Rattle.std.specs.List.{HoldsAt}
 use Rattle.std.proofs.lemmas.Bool.{cases_eq}
 use Rattle.std.proofs.lemmas.Bool.Decides.{nat_tests}
@@ -10,8 +10,7 @@ use Rattle.bt_frame.specs.declared.mode.Mode.{Mode}
 use Rattle.bt_net.specs.Network.{Net}
 use Rattle.bt_matrix.specs.Good.{slots_in, slots_of, total_duration}
 use Rattle.bt_demand.specs.declared.demand.Link.{Link}
-use Rattle.bt_demand.specs.Demand.{IsDemand}
-use Rattle.bt_demand.specs.Traffic.{AreOfNetwork, units_between}
+use Rattle.bt_demand.specs.Traffic.{units_between}
 use Rattle.bt_net.specs.Terminals.{IsInBeam, is_in_beam}
 use Rattle.bt_cut.specs.declared.connection.Connection.{Connection}
 use Rattle.bt_cut.specs.declared.connection.Span.{Span}
@@ -19,33 +18,7 @@ use Rattle.bt_cut.specs.Serving.{slots_in_all, AreTurns, taken_of, HasGiven, Has
 use Rattle.bt_cut.proofs.Numbers.{slots_in-le}
 use Rattle.bt_cut.proofs.Parts.{units_between-more}
 
--- a link at a place has ends that are not before those of so many
-ends_grow : (net : Net) (links : List Link) (k : ℕ) (d : Link) → IsDemand links → AreOfNetwork net links → length net.terminals ≤ 64 → k < length links
-    → k ≤ (get_or links k d).from.0 * 64 + (get_or links k d).to.0
-ends_grow net links zero d is of few within = omega arith
-ends_grow net links (suc k) d is of few within =
-    let before = ends_grow net links k d is of few (omega arith) in
-    let less = is.ordered k (suc k) d (omega arith) within in
-    let here = of k d (omega arith) in
-    let next = of (suc k) d within in
-    elim (cases_eq (get_or links k d).from.0 (get_or links (suc k) d).from.0) [
-      | inl same ↦ omega (arith, before, less.to same, same)
-      | inr other ↦ let more : (get_or links k d).from.0 + 1 ≤ (get_or links (suc k) d).from.0 = omega (arith, less.from) in omega (arith, before, more, here.0, here.1)
-    ]
-
--- so there are no more than pairs of terminals
-pub few_links : (net : Net) (links : List Link) → IsDemand links → AreOfNetwork net links → length net.terminals ≤ 64 → length links ≤ 4096
-few_links net links is of few =
-    elim (cases_eq (length links) 0) [
-      | inl none ↦ omega arith
-      | inr some ↦
-          let d : Link = record { from = record { 0 = 0 }; to = record { 0 = 0 }; units = 0 } in
-          let last = length links - 1 in
-          let within : last < length links = omega arith in
-          let ends = of last d within in
-          omega (arith, ends_grow net links last d is of few within, ends.0, ends.1)
-    ]
-
+-- what a link adds at its own connection, and at another
 pub share-same : (up down units : ℕ) → (if up == up && down == down then units else 0) ≡ units
 share-same up down units = rw (eq-eqb up up refl, eq-eqb down down refl) refl
 

@@ -19,7 +19,8 @@ use Rattle.bt_demand.specs.declared.plan.Plan.{Plan}
 use Rattle.bt_demand.specs.Burst.{IsNotAfter}
 use Rattle.bt_demand.specs.Demand.{IsDemand, units_of}
 use Rattle.bt_demand.specs.Plan.{IsGoodPlan}
-use Rattle.bt_verdict.specs.PlanVerdict.{AreBetweenTerminals, HasGoodModes, slots_sent}
+use Rattle.bt_demand.specs.Apart.{AreBetweenTerminals, slots_sent}
+use Rattle.bt_verdict.specs.PlanVerdict.{HasGoodModes}
 use Rattle.bt_demand.specs.Traffic.{AreOfNetwork, matrix_of, units_between}
 use Rattle.bt_demand.proofs.Matrices.{length-matrix_of}
 use Rattle.bt_verdict.proofs.PlanParts.{good_by_parts}

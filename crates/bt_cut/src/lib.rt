@@ -15,6 +15,3 @@ mod table;
 pub use cutting::cut;
 pub use laws::cuttings_are_good;
 pub use planning::make_plan;
-
-#[cfg(test)]
-mod tests;

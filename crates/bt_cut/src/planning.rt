@@ -2,7 +2,7 @@
 ghost use Rattle.std.specs.Prelude.{◌≡◌, IfOk};
 ghost use Rattle.bt_matrix.specs.Traffic.{IsHeaviest};
 ghost use Rattle.bt_demand.specs.Plan.{IsGoodPlan};
-ghost use Rattle.bt_verdict.specs.PlanVerdict.{AreBetweenTerminals};
+ghost use Rattle.bt_demand.specs.Apart.{AreBetweenTerminals};
 ghost use Rattle.bt_demand.specs.Traffic.{matrix_of, AreOfNetwork, HasSumsTo};
 
 use crate::cut;

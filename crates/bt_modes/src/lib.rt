@@ -13,6 +13,3 @@ mod step;
 pub use decomposition::decompose;
 pub use padding::{Padded, pad};
 pub use planning::schedule;
-
-#[cfg(test)]
-mod tests;

@@ -7,7 +7,8 @@ use Rattle.bt_demand.specs.Demand.{IsDemand}
 use Rattle.bt_demand.specs.Traffic.{AreOfNetwork, units_between}
 use Rattle.bt_cut.specs.declared.connection.Connection.{Connection}
 use Rattle.bt_cut.specs.Serving.{ArePieces, HasSlots}
-use Rattle.bt_cut.proofs.Links.{enough_left, few_links, slots_few, IsTable-given}
+use Rattle.bt_demand.proofs.FewLinks.{few_links}
+use Rattle.bt_cut.proofs.Links.{enough_left, slots_few, IsTable-given}
 use Rattle.bt_cut.proofs.Parts.{AreParts-more}
 use Rattle.bt_cut.proofs.bursts.bursts_of.Goals as goal
 
