@@ -55,7 +55,7 @@ made_changes opening caller edit number most history reserved after same is =
     ∙ changes_grow opening history (entry_of caller edit (Done number most)) (Some (change.Edit edit)) refl)
 
 -- one edit more is one edition more
-edition-more : (changes : List Change) (edit : Edit) → edition (with_edit changes edit) ≡ edition changes + 1
+pub edition-more : (changes : List Change) (edit : Edit) → edition (with_edit changes edit) ≡ edition changes + 1
 edition-more changes edit = omega (arith, sum_by-append edits_in changes (change.Edit edit ∷ []), sum_by-cons edits_in (change.Edit edit) [])
 
 counts_made : (changes : List Change) (count edits : ℕ) (net : Net) (edit : Edit) → Counts changes count edits → CanMake net (running changes) (change.Edit edit)

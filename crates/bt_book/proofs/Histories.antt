@@ -29,7 +29,7 @@ changes_of-one : (entry : Entry) (o : Option Change) → change_made entry.call 
 changes_of-one entry None is = rw is refl
 changes_of-one entry (Some change) is = rw is refl
 
-changes_of-cons : (first : Entry) (rest : List Entry) → changes_of (first ∷ rest) ≡ as_list (change_made first.call first.reply) ++ changes_of rest
+pub changes_of-cons : (first : Entry) (rest : List Entry) → changes_of (first ∷ rest) ≡ as_list (change_made first.call first.reply) ++ changes_of rest
 changes_of-cons first rest = filter_map-append (λ (e : Entry). change_made e.call e.reply) (first ∷ []) rest ∙ ap (λ one. one ++ changes_of rest) (changes_of-one first _ refl)
 
 -- with one entry more the changes are those before it, and what it made

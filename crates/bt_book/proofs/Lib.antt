@@ -5,3 +5,4 @@ pub mod Causes
 pub mod Done
 pub mod Histories
 pub mod Entries
+pub mod Redone

@@ -31,7 +31,7 @@ matrix_of-start net original links matrix size copied no_link size_is matrix_is 
     rw (no_link, matrix_of-none net, copied, ← size_is) matrix_is
 
 -- no change and no link
-KeepsUp-start : (net : Net) → KeepsUp net [] []
+pub KeepsUp-start : (net : Net) → KeepsUp net [] []
 KeepsUp-start net = record {
   adds_up = λ test. refl;
   fits = subst (HasSumsTo net.slots) (sym (matrix_of-none net)) (HasSumsTo-zeros (length net.beams) net.slots);

@@ -1,6 +1,6 @@
 -- For bodies alone: what contracts see of the machine and of the occupancy of its frame, and what is kept beside the
 -- changes.
-use Rattle.std.specs.Prelude.{◌≡◌, ℕ, ◌+◌, ◌≤◌, ◌<◌, Bool, false, List, length, sum_by, Option, Some, None}
+use Rattle.std.specs.Prelude.{◌≡◌, ℕ, ◌+◌, ◌≤◌, ◌<◌, Bool, false, List, ◌++◌, length, sum_by, Option, Some, None}
 use Rattle.bt_frame.specs.declared.numbers.TermNo.{TermNo}
 use Rattle.bt_net.specs.Network.{Net}
 use Rattle.bt_matrix.specs.Traffic.{row_sum, column_sum}
@@ -12,11 +12,11 @@ use Rattle.bt_journal.specs.declared.call.Change.TheVariants as change
 use Rattle.bt_journal.specs.declared.entry.Entry.{Entry}
 use Rattle.bt_journal.specs.declared.call.Edit.{Edit}
 use Rattle.bt_journal.specs.declared.call.Edit.TheVariants.{Add, Drop, Move}
-use Rattle.bt_journal.specs.Journal.{is_made}
+use Rattle.bt_journal.specs.Journal.{NamesTerminals, is_made, change_made}
 use Rattle.bt_journal.specs.declared.reply.Reply.{Reply}
 use Rattle.bt_journal.specs.declared.reply.Reply.TheVariants.{NotThere, RowFull, ColumnFull, BookFull}
 use Rattle.bt_book.specs.declared.lines.Lines.{Lines}
-use Rattle.bt_book.specs.Machine.{State, given, taken_from, most_changes, edition, Follows, GainsFrom, GainsTo, matrix_after, with_edit, held_after, IsGoodEdit, IsCause, IsRefusal, CanMake}
+use Rattle.bt_book.specs.Machine.{State, given, taken_from, most_changes, edition, Follows, GainsFrom, GainsTo, matrix_after, with_edit, held_after, HasEnds, IsGoodEdit, IsCause, IsRefusal, CanMake}
 
 -- a network, and the links of the demand on it
 pub record Occupied : Type 0 where
@@ -110,3 +110,38 @@ abbrev pub HoldsGiven : List Link → Edit → Type 0
 HoldsGiven links (Add from to units) = units ≤ units_of links from to
 HoldsGiven links (Drop _ _ _) = Unit {0}
 HoldsGiven links (Move _ _ new_from new_to units) = units ≤ units_of links new_from new_to
+
+-- the edit that a call made, if any
+abbrev pub IsEditMade : Entry → Option Edit → Type 0
+IsEditMade entry None = change_made entry.call entry.reply ≡ None
+IsEditMade entry (Some edit) = change_made entry.call entry.reply ≡ Some (change.Edit edit)
+
+-- the links add up to first changes that have so many edits among them
+pub record IsRedone (changes : List Change) (number : ℕ) (links : List Link) : Type 0 where
+  pub before : List Change
+  pub after : List Change
+  pub parts : changes ≡ before ++ after
+  pub counted : edition before ≡ number
+  pub adds_up : AddsUp before links
+
+-- On the way there: first changes were made again, and so many edits are left; while some are, the changes ahead are
+-- all others.
+pub record Redoes (net : Net) (changes ahead : List Change) (links : List Link) (number left : ℕ) : Type 0 where
+  pub before : List Change
+  pub after : List Change
+  pub parts : changes ≡ before ++ after
+  pub keeps : KeepsUp net before links
+  pub counted : edition before + left ≡ number
+  pub next : 0 < left → after ≡ ahead
+
+-- what an edit that is made again asks of the demand
+pub record CanRedo (net : Net) (links : List Link) (edit : Edit) : Type 0 where
+  pub terminals : NamesTerminals (length net.terminals) edit
+  pub ends : HasEnds edit
+  pub held : HoldsTaken links edit
+  pub small : HasSumsTo 4096 (matrix_of net links)
+
+-- an edit was made again and one fewer is left, or none was left and nothing changed
+pub record RedoesOne (old : List Link) (edit : Edit) (left : ℕ) (new : List Link) (after : ℕ) : Type 0 where
+  pub made : 0 < left → EditsLinks old edit new × (after + 1 ≡ left)
+  pub past : left ≡ 0 → (new ≡ old) × (after ≡ 0)

@@ -1,6 +1,6 @@
 // The book of changes, with the store of its records.
-ghost use Rattle.std.specs.Prelude.{◌≡◌, ◌++◌, ◌∷◌, [], length, IfOk, IfErr, OnErr};
-ghost use Rattle.bt_book.specs.Machine.{edition, running, IsDemandAfter, IsOfNetwork, Step};
+ghost use Rattle.std.specs.Prelude.{◌≡◌, ◌≤◌, ◌++◌, ◌∷◌, [], length, IfOk, IfErr, OnErr};
+ghost use Rattle.bt_book.specs.Machine.{edition, running, IsDemandAfter, IsDemandAt, IsOfNetwork, Step};
 
 use crate::machine::Machine;
 use bt_base::Keeper;
@@ -84,6 +84,14 @@ impl<K: Keeper> Book<K> {
         ensures { IsDemandAfter self.now.state.changes result.now }
     {
         self.machine.demand()
+    }
+
+    /// The demand of an edition: that after as many edits. The edition is not past the last.
+    pub fn demand_at(&self, alloc: Global, number: EditionNo) -> Result<Demand, OutOfMemory>
+        requires { number.0 ≤ edition self.now.state.changes }
+        ensures { IfOk result (λ demand. IsDemandAt self.now.state.changes number.0 demand) }
+    {
+        self.machine.demand_at(alloc, number)
     }
 
     /// The store, and the entries of all calls in order.

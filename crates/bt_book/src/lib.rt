@@ -9,6 +9,7 @@
 mod apply;
 mod book;
 mod cause;
+mod earlier;
 mod laws;
 mod lines;
 mod machine;

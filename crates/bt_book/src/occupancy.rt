@@ -8,7 +8,7 @@ ghost use Rattle.bt_net.specs.Terminals.{IsInBeam};
 ghost use Rattle.bt_net.specs.Network.{IsSound};
 ghost use Rattle.bt_journal.specs.Journal.{NamesTerminals};
 ghost use Rattle.bt_book.specs.Machine.{HasEnds};
-ghost use Rattle.bt_book.specs.Records.{GainsFirst, LosesThen, HoldsTaken, HoldsGiven};
+ghost use Rattle.bt_book.specs.Records.{EditsLinks, GainsFirst, LosesThen, HoldsTaken, HoldsGiven};
 
 use bt_demand::Demand;
 use bt_frame::{BeamNo, OutOfMemory, TermNo, Units};
@@ -57,8 +57,29 @@ impl Occupancy {
         ensures same { result.now ≡ self.now.links }
         ensures demand { IsDemand self.now.links }
     {
+        // This is there for what holds of each demand.
         let _links = self.demand.as_slice();
         &self.demand
+    }
+
+    /// The network.
+    pub(crate) fn network(&self) -> &Network
+        ensures same { result.now ≡ self.now.net }
+        ensures sound { IsSound self.now.net }
+    {
+        // This is there for what holds of each network.
+        let _beams = self.net.beam_count();
+        &self.net
+    }
+
+    /// The demand alone.
+    pub(crate) fn into_demand(self) -> Demand
+        ensures same { result ≡ self.links }
+        ensures demand { IsDemand self.links }
+    {
+        // This is there for what holds of each demand.
+        let _links = self.demand.as_slice();
+        self.demand
     }
 
     /// Traffic slots of a frame.
@@ -67,6 +88,7 @@ impl Occupancy {
         ensures in_range { result ≤ 4096 }
         ensures sound { IsSound self.now.net }
     {
+        // This is there for what holds of each network.
         let _beams = self.net.beam_count();
         self.net.slots()
     }
@@ -87,6 +109,7 @@ impl Occupancy {
         ensures small { result.1 ≤ SUM_LAST }
     {
         let beam = self.net.beam_of(from);
+        // This is there for what holds of each matrix.
         let _size = self.matrix.size();
         (beam, self.matrix.row_sum(beam))
     }
@@ -100,6 +123,7 @@ impl Occupancy {
         ensures small { result.1 ≤ SUM_LAST }
     {
         let beam = self.net.beam_of(to);
+        // This is there for what holds of each matrix.
         let _size = self.matrix.size();
         (beam, self.matrix.column_sum(beam))
     }
@@ -109,6 +133,21 @@ impl Occupancy {
         ensures { (line : Critical) × IsHeaviest (matrix_of self.now.net self.now.links) line result }
     {
         self.matrix.heaviest().1
+    }
+
+    /// Makes an edit. Where memory runs out all is as it was.
+    pub(crate) fn edit(&mut self, alloc: Global, edit: &Edit) -> Result<(), OutOfMemory>
+        requires terminals { NamesTerminals (length self.old.net.terminals) edit.now }
+        requires ends { HasEnds edit.now }
+        requires held { HoldsTaken self.old.links edit.now }
+        requires small { HasSumsTo 4096 (matrix_of self.old.net self.old.links) }
+        ensures ok { OnOk result (EditsLinks self.old.links edit.now self.new.links) }
+        ensures net { self.new.net ≡ self.old.net }
+        ensures err { OnErr result (self.new.links ≡ self.old.links) }
+    {
+        self.gain_first(alloc, edit)?;
+        self.lose_then(edit);
+        Ok(())
     }
 
     /// The first half of an edit: what it gives. Where memory runs out all is as it was.

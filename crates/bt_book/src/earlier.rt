@@ -1,0 +1,97 @@
+// The demand of an earlier edition.
+ghost use Rattle.std.specs.Prelude.{◌≡◌, ◌<◌, ◌≤◌, ◌++◌, [], IfOk, OnOk};
+ghost use Rattle.bt_journal.specs.Journal.{changes_of};
+ghost use Rattle.bt_book.specs.Machine.{edition, Follows, IsDemandAt};
+ghost use Rattle.bt_book.specs.Records.{CanRedo, IsEditMade, IsRedone, RedoesOne};
+
+use crate::machine::Machine;
+use crate::occupancy::Occupancy;
+use bt_demand::Demand;
+use bt_frame::{EditionNo, OutOfMemory};
+use bt_journal::{Call, Change, Edit, Entry, Reply};
+use std::alloc::Global;
+
+impl Machine {
+    /// The demand after so many edits, of those that were made.
+    pub(crate) fn demand_at(&self, alloc: Global, number: EditionNo) -> Result<Demand, OutOfMemory>
+        requires { number.0 ≤ edition self.now.state.changes }
+        ensures { IfOk result (λ demand. IsDemandAt self.now.state.changes number.0 demand) }
+    {
+        let mut occupancy = Occupancy::new(alloc, self.occupancy.network())?;
+        redo(
+            alloc,
+            &mut occupancy,
+            self.opening.as_slice(),
+            self.history.as_slice(),
+            number.0,
+        )?;
+        Ok(occupancy.into_demand())
+    }
+}
+
+/// Makes again the first edits, so many, of those at the opening and in the history.
+fn redo(
+    alloc: Global,
+    occupancy: &mut Occupancy,
+    opening: &[Change],
+    history: &[Entry],
+    number: u32,
+) -> Result<(), OutOfMemory>
+    requires none { occupancy.old.links ≡ [] }
+    requires follows { Follows occupancy.old.net (opening.now ++ changes_of history.now) }
+    requires made { number ≤ edition (opening.now ++ changes_of history.now) }
+    ensures { OnOk result (IsRedone (opening.now ++ changes_of history.now) number occupancy.new.links) }
+{
+    // This is there for what holds of each network: its frame has at most 4096 slots.
+    let _slots = occupancy.slots();
+    let mut left = number;
+    for change in opening {
+        left = redo_one(alloc, occupancy, &edit_of(change), left)?;
+    }
+    for entry in history {
+        if let Some(edit) = edit_made(entry) {
+            left = redo_one(alloc, occupancy, &edit, left)?;
+        }
+    }
+    Ok(())
+}
+
+/// Makes an edit again where some are left, and answers how many are left then.
+fn redo_one(
+    alloc: Global,
+    occupancy: &mut Occupancy,
+    edit: &Edit,
+    left: u32,
+) -> Result<u32, OutOfMemory>
+    requires { 0 < left → CanRedo occupancy.old.net occupancy.old.links edit.now }
+    ensures redone { IfOk result (RedoesOne occupancy.old.links edit.now left occupancy.new.links) }
+    ensures net { occupancy.new.net ≡ occupancy.old.net }
+{
+    if left == 0 {
+        return Ok(0);
+    }
+    occupancy.edit(alloc, edit)?;
+    Ok(left - 1)
+}
+
+/// The edit that a change is.
+fn edit_of(change: &Change) -> Edit
+    ensures { change.now ≡ Change.Edit result }
+{
+    match change {
+        Change::Edit(edit) => *edit,
+    }
+}
+
+/// The edit that a call made.
+fn edit_made(entry: &Entry) -> Option<Edit>
+    ensures { IsEditMade entry.now result }
+{
+    match entry.reply {
+        Reply::Done { .. } => {
+            let Call::Edit(edit) = &entry.call;
+            Some(*edit)
+        }
+        _ => None,
+    }
+}
