@@ -4,7 +4,7 @@ ghost use Rattle.bt_change.specs.Centre.{AreNumbered, act_at, after_turn, begins
 ghost use Rattle.bt_change.specs.Last.{last_order};
 ghost use Rattle.bt_change.specs.Terminals.{has};
 
-use crate::known::{has_unseen, later_of, names, told_fore};
+use crate::known::{in_force, later_of, names};
 use crate::last::{is_load, is_load_of};
 use crate::terminals::{has, with_terminal, without_terminal};
 use crate::turn::{Turn, act_of, waited_with, wanted_by};
@@ -61,12 +61,10 @@ impl Centre {
     pub fn known(&self, mark: Mark) -> Option<EditionNo>
         ensures { result ≡ known_to self.now mark.0 }
     {
-        let Some(status) = self.kept else {
-            return None;
-        };
-        let unseen = has_unseen(&status, mark, self.orders.as_slice());
-        let told = told_fore(&status, mark);
-        if unseen { None } else { Some(told) }
+        match self.kept {
+            Some(status) => in_force(&status, mark, self.orders.as_slice()),
+            None => None,
+        }
     }
 
     /// Notes what the satellite says of itself, unless a later word of it is kept.

@@ -1,14 +1,25 @@
 // What the centre knows of the satellite by a status and by the orders placed.
-ghost use Rattle.std.specs.Prelude.{◌≡◌};
+ghost use Rattle.std.specs.Prelude.{◌≡◌, Some};
 ghost use Rattle.std.specs.List.{list_any};
-ghost use Rattle.bt_change.specs.Known.{is_unseen, later_of, names, told_fore};
+ghost use Rattle.bt_change.specs.Known.{is_unseen, known, later_of, names, told_fore};
 
 use bt_air::{Order, Status};
 use bt_frame::{EditionNo, Mark};
 
-/// The order is an Arm that the status does not know of, and that may have made its change after the status and by
-/// this superframe.
-pub(crate) fn is_unseen(status: &Status, mark: Mark, order: &Order) -> bool
+/// The edition in force in a superframe, by a status and the orders placed, where it is known.
+pub(crate) fn in_force(status: &Status, mark: Mark, orders: &[Order]) -> Option<EditionNo>
+    ensures { result ≡ known (Some status.now) orders.now mark.0 }
+{
+    if has_unseen(status, mark, orders) {
+        return None;
+    }
+    let told = told_fore(status, mark);
+    Some(told)
+}
+
+// The order is an Arm that the status does not know of, and that may have made its change after the status and by
+// this superframe.
+fn is_unseen(status: &Status, mark: Mark, order: &Order) -> bool
     ensures { result ≡ is_unseen status.now mark.0 order.now }
 {
     match order {
@@ -19,8 +30,8 @@ pub(crate) fn is_unseen(status: &Status, mark: Mark, order: &Order) -> bool
     }
 }
 
-/// One of the orders is such an Arm.
-pub(crate) fn has_unseen(status: &Status, mark: Mark, orders: &[Order]) -> bool
+// One of the orders is such an Arm.
+fn has_unseen(status: &Status, mark: Mark, orders: &[Order]) -> bool
     ensures { result ≡ list_any (is_unseen status.now mark.0) orders.now }
 {
     for order in orders {
@@ -31,8 +42,8 @@ pub(crate) fn has_unseen(status: &Status, mark: Mark, orders: &[Order]) -> bool
     false
 }
 
-/// The edition in front in a superframe by what the status alone says.
-pub(crate) fn told_fore(status: &Status, mark: Mark) -> EditionNo
+// The edition in front in a superframe by what the status alone says.
+fn told_fore(status: &Status, mark: Mark) -> EditionNo
     ensures { result ≡ told_fore status.now.armed status.now.fore mark.0 }
 {
     match status.armed {
