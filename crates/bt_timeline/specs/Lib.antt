@@ -1,0 +1,4 @@
+pub mod Lines
+pub mod Timeline
+pub mod Verdicts
+pub mod Written

@@ -1,0 +1,62 @@
+// The lines of a run that belong to no caller.
+ghost use Rattle.std.specs.Prelude.{◌≡◌, ◌++◌, OnOk, OnErr};
+ghost use Rattle.bt_timeline.specs.Timeline.{round_line, start_line, total_line};
+
+use crate::line::{Word, add_line};
+use bt_frame::OutOfMemory;
+use std::alloc::Global;
+
+/// Appends the line of a start: the last edition, the edition of the newest plan, and the mark of the superframe.
+pub fn start_text(
+    alloc: Global,
+    edition: u32,
+    plan: u32,
+    mark: u32,
+    out: &mut Vec<u8>,
+) -> Result<(), OutOfMemory>
+    ensures added { OnOk result (out.new.items ≡ out.old.items ++ start_line edition plan mark) }
+    ensures unchanged { OnErr result (out.new.items ≡ out.old.items) }
+{
+    let words = [
+        Word::Text("start"),
+        Word::Text("edition"),
+        Word::number(edition),
+        Word::Text("plan"),
+        Word::number(plan),
+        Word::Text("mark"),
+        Word::number(mark),
+    ];
+    add_line(alloc, &words, out)
+}
+
+/// Appends the line that begins a round.
+pub fn round_text(alloc: Global, number: u64, out: &mut Vec<u8>) -> Result<(), OutOfMemory>
+    ensures added { OnOk result (out.new.items ≡ out.old.items ++ round_line number) }
+    ensures unchanged { OnErr result (out.new.items ≡ out.old.items) }
+{
+    let words = [Word::Text("round"), Word::Number(number)];
+    add_line(alloc, &words, out)
+}
+
+/// Appends the last line of a run: how many edits were done, how many were refused, and how many the store failed.
+pub fn total_text(
+    alloc: Global,
+    done: u64,
+    refused: u64,
+    failed: u64,
+    out: &mut Vec<u8>,
+) -> Result<(), OutOfMemory>
+    ensures added { OnOk result (out.new.items ≡ out.old.items ++ total_line done refused failed) }
+    ensures unchanged { OnErr result (out.new.items ≡ out.old.items) }
+{
+    let words = [
+        Word::Text("total"),
+        Word::Text("done"),
+        Word::Number(done),
+        Word::Text("refused"),
+        Word::Number(refused),
+        Word::Text("store"),
+        Word::Number(failed),
+    ];
+    add_line(alloc, &words, out)
+}
