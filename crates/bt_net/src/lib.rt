@@ -15,5 +15,5 @@ mod reading;
 mod terminals;
 
 pub use fault::{NetFault, Path};
-pub use name::{is_name, is_terminal_name};
+pub use name::{are_names, is_name, is_terminal_name};
 pub use network::Network;

@@ -2,6 +2,7 @@
 ghost use Rattle.std.specs.Prelude.{◌≡◌};
 ghost use Rattle.std.specs.List.{list_all};
 ghost use Rattle.bt_net.specs.Name.{is_name_byte, is_reserved, is_name as is_name_of, is_terminal_name as is_terminal_name_of};
+ghost use Rattle.bt_net.specs.Terminals.{are_names as are_names_of};
 
 fn is_name_byte(byte: u8) -> bool
     ensures { result ≡ is_name_byte byte }
@@ -25,6 +26,13 @@ pub fn is_name(word: &[u8]) -> bool
             first.is_ascii_alphabetic() && rest.len() <= 15 && are_name_bytes(rest)
         }
     }
+}
+
+/// Whether both words have the shape of a name.
+pub fn are_names(from: &[u8], to: &[u8]) -> bool
+    ensures { result ≡ are_names_of from.now to.now }
+{
+    is_name(from) && is_name(to)
 }
 
 // Whether a word means something else where a terminal is named.
