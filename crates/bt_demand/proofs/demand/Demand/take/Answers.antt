@@ -1,4 +1,4 @@
-use Rattle.std.proofs.Common.{arith}
+use Rattle.std.proofs.Common.{◌<◌, length, arith}
 use Rattle.bt_demand.proofs.Links.{units_of_gap, IsDemand-remove, enough, taken}
 use Rattle.bt_demand.proofs.demand.Demand.take.Goals as goal
 
@@ -8,10 +8,14 @@ unreachable-requires c = omega (arith, c.requires.held, units_of_gap c.args.self
 
 -- the link leaves
 pub invariant_of-self : goal.invariant_of-self
-invariant_of-self c = rw c.remove.ensures.items (IsDemand-remove c.self.inside.links.items c.in-Ok.place c.self.invariant (rw c.self.view_is c.in-Ok.ensures.found.in_range))
+invariant_of-self c =
+    let inside : c.in-Ok.place < length c.self.inside.links.items = rw c.self.view_is c.in-Ok.ensures.found.in_range in
+    rw c.remove.ensures.items (IsDemand-remove c.self.inside.links.items _ c.self.invariant (omega (arith, inside)))
 
 pub returns-then-held-units-clause-demand : goal.returns-then-held-units-clause-demand
-returns-then-held-units-clause-demand c = rw c.remove.ensures.items (IsDemand-remove c.self.inside.links.items c.in-Ok.place c.self.invariant (rw c.self.view_is c.in-Ok.ensures.found.in_range))
+returns-then-held-units-clause-demand c =
+    let inside : c.in-Ok.place < length c.self.inside.links.items = rw c.self.view_is c.in-Ok.ensures.found.in_range in
+    rw c.remove.ensures.items (IsDemand-remove c.self.inside.links.items _ c.self.invariant (omega (arith, inside)))
 
 -- the link keeps some slots
 pub overflow_sub-held : goal.overflow_sub-held
