@@ -3,6 +3,8 @@ use Rattle.std.specs.Prelude.{ℕ, zero, suc, ◌+◌, ◌==◌, ◌||◌, if◌
 use Rattle.bt_text.specs.Text.{lines}
 use Rattle.bt_text.specs.Reading.{◌>>=◌}
 use Rattle.bt_net.specs.Network.{Net}
+use Rattle.bt_script.specs.declared.desk_no.TheConstants.{MOST_DESKS}
+use Rattle.bt_script.specs.declared.reader.TheConstants.{MOST_LINES}
 use Rattle.bt_script.specs.declared.fault.ScriptCode.TheVariants.{S1, S5}
 use Rattle.bt_script.specs.declared.line.ScriptLine.{ScriptLine}
 use Rattle.bt_script.specs.declared.line.ScriptLine.TheVariants as line
@@ -22,7 +24,7 @@ is_round (line.Edit _ _) = false
 
 -- a line that has a newline behind it, or the fault where that line would be one too many
 abbrev pub limited_line : Net → ℕ → Bool → List ℕ → Reading ScriptLine
-limited_line net at is_open text = if nat_le at 20000 then line_in net at is_open text else Err (S5, at)
+limited_line net at is_open text = if nat_le at MOST_LINES then line_in net at is_open text else Err (S5, at)
 
 -- a line behind those that were read: whether a round is open behind it, and all the lines
 abbrev pub added : Bool → List ScriptLine → Reading ScriptLine → Reading (Bool × List ScriptLine)
@@ -31,7 +33,7 @@ added is_open front reading = reading >>= λ one. Ok (is_open || is_round one, f
 -- the last line, which has no newline behind it
 abbrev pub last_in : ℕ → List ℕ → Reading (List ScriptLine)
 last_in at [] = Ok []
-last_in at (_ ∷ _) = if nat_le at 20000 then Err (S1, at) else Err (S5, at)
+last_in at (_ ∷ _) = if nat_le at MOST_LINES then Err (S1, at) else Err (S5, at)
 
 -- what the lines say, the first of them line `at`
 abbrev pub lines_in : Net → ℕ → Bool → List (List ℕ) → Reading (List ScriptLine)
@@ -62,7 +64,7 @@ desks_of desk (suc more) said = entry_of desk (lines_of desk said) ++ desks_of (
 
 -- the round that a line begins, where it begins one, with the lines that follow
 abbrev pub rounds_at : ScriptLine → List ScriptLine → List Item
-rounds_at first rest = if is_round first then item.Round (record { desks = desks_of 1 16 rest }) ∷ [] else []
+rounds_at first rest = if is_round first then item.Round (record { desks = desks_of 1 MOST_DESKS rest }) ∷ [] else []
 
 -- the rounds that the lines say
 abbrev pub items_of : List ScriptLine → List Item

@@ -1,5 +1,6 @@
 -- A line of a script is read in four stages: its shape, its names, its ranges, and whether it may stand where it stands.
 use Rattle.std.specs.Prelude.{ℕ, if◌then◌else◌, Bool, true, List, Option, Some, Ok, Err, option_map, option_and_then}
+use Rattle.bt_frame.specs.declared.limits.TheConstants.{MOST_UNITS}
 use Rattle.bt_frame.specs.declared.numbers.TermNo.{TermNo}
 use Rattle.bt_net.specs.Network.{Net}
 use Rattle.bt_net.specs.Terminals.{terminal_of}
@@ -7,6 +8,7 @@ use Rattle.bt_journal.specs.declared.call.Edit.{Edit}
 use Rattle.bt_journal.specs.declared.call.Edit.TheVariants as edit
 use Rattle.bt_text.specs.Reading.{◌>>=◌, or_fault}
 use Rattle.bt_script.specs.declared.fault.ScriptCode.TheVariants.{S1, S2, S3, S4}
+use Rattle.bt_script.specs.declared.desk_no.TheConstants.{MOST_DESKS}
 use Rattle.bt_script.specs.declared.shape.LineShape.{LineShape}
 use Rattle.bt_script.specs.declared.shape.LineShape.TheVariants as shape
 use Rattle.bt_script.specs.declared.line.ScriptLine.{ScriptLine}
@@ -30,7 +32,7 @@ with_terminals net (shape.Move desk from to new_from new_to units) =
 
 -- a desk is numbered 1 to 16, and units are 1 to 4096
 abbrev pub desk_edit : ℕ → ℕ → (ℕ → Edit) → Option ScriptLine
-desk_edit desk units asked = option_and_then (λ d. option_map (λ u. line.Edit d (asked u)) (within 4096 units)) (within 16 desk)
+desk_edit desk units asked = option_and_then (λ d. option_map (λ u. line.Edit d (asked u)) (within MOST_UNITS units)) (within MOST_DESKS desk)
 
 -- the line, where its numbers are in range
 abbrev pub in_range : LineShape TermNo → Option ScriptLine

@@ -1,12 +1,13 @@
 // The number of a desk.
 ghost use Rattle.std.specs.Prelude.{◌≡◌};
 ghost use Rattle.bt_frame.specs.Range.{IsWithin};
+ghost use Rattle.bt_script.specs.declared.desk_no.TheConstants.{MOST_DESKS};
 ghost use Rattle.bt_script.specs.Range.{within};
 
 use std::marker::Model;
 
-/// The greatest number of a desk.
-const DESK_LAST: u64 = 16;
+/// The most desks: they are numbered from 1.
+pub const MOST_DESKS: u8 = 16;
 
 /// The number of a desk: 1 to 16.
 #[derive(Clone, Copy, Debug, PartialEq, Eq)]
@@ -30,9 +31,9 @@ impl Model for DeskNo {
 impl DeskNo {
     /// The desk of that number, or None outside 1 to 16.
     pub fn new(number: u64) -> Option<DeskNo>
-        ensures { result ≡ within 16 number }
+        ensures { result ≡ within MOST_DESKS number }
     {
-        if 1 <= number && number <= DESK_LAST {
+        if 1 <= number && number <= u64::from(MOST_DESKS) {
             Some(DeskNo {
                 number: number as u8,
             })
@@ -44,7 +45,7 @@ impl DeskNo {
     /// The number of the desk.
     pub fn get(self) -> u8
         ensures same { result ≡ self }
-        ensures in_range { IsWithin 1 16 result }
+        ensures in_range { IsWithin 1 MOST_DESKS result }
     {
         self.number
     }

@@ -1,16 +1,15 @@
 // The rounds that the lines of a script say.
 ghost use Rattle.std.specs.Prelude.{◌≡◌, ◌+◌, ◌<◌, ◌++◌, [], ℕ, vec_len, All, IfOk, OnOk};
 ghost use Rattle.std.specs.List.{slice_index_or};
+ghost use Rattle.bt_script.specs.declared.desk_no.TheConstants.{MOST_DESKS};
 ghost use Rattle.bt_script.specs.ScriptText.{is_round, own_lines, lines_of, entry_of, desks_of, rounds_at, items_of};
 
+use crate::desk_no::MOST_DESKS;
 use crate::line::ScriptLine;
 use crate::{DeskLines, Desks, Item, Items, Round};
 use bt_frame::OutOfMemory;
 use std::alloc::Global;
 use std::mem;
-
-/// The most desks of a round.
-const MOST_DESKS: usize = 16;
 
 /// The rounds that the lines say.
 pub fn items_of(alloc: Global, said: &[ScriptLine]) -> Result<Items, OutOfMemory>
@@ -54,11 +53,11 @@ fn is_round(line: &ScriptLine) -> bool
 
 // The desks of the round that stands in front of these lines.
 fn desks_of(alloc: Global, said: &[ScriptLine]) -> Result<Desks, OutOfMemory>
-    ensures { IfOk result (λ desks. desks ≡ desks_of 1 16 said.now) }
+    ensures { IfOk result (λ desks. desks ≡ desks_of 1 MOST_DESKS said.now) }
 {
     let mut table = lines_by_desk(alloc, said)?;
     let mut desks = Vec::new(alloc);
-    for desk in 1..17 {
+    for desk in 1..MOST_DESKS + 1 {
         let place = usize::from(desk) - 1;
         let lines = mem::replace(&mut table[place], DeskLines::none(alloc));
         add_desk(desk, lines, &mut desks)?;
@@ -79,8 +78,8 @@ fn add_desk(desk: u8, lines: DeskLines, desks: &mut Vec<(u8, DeskLines)>) -> Res
 
 // The lines as far as the next round, by desk: those of desk 1 first.
 fn lines_by_desk(alloc: Global, said: &[ScriptLine]) -> Result<Vec<DeskLines>, OutOfMemory>
-    ensures count { IfOk result (λ table. vec_len table ≡ 16) }
-    ensures lines { IfOk result (λ table. (d : ℕ) → d < 16 → slice_index_or table.items d [] ≡ lines_of (d + 1) said.now) }
+    ensures count { IfOk result (λ table. vec_len table ≡ MOST_DESKS) }
+    ensures lines { IfOk result (λ table. (d : ℕ) → d < MOST_DESKS → slice_index_or table.items d [] ≡ lines_of (d + 1) said.now) }
 {
     let mut table = empty_table(alloc)?;
     let mut rest = said;
@@ -96,10 +95,10 @@ fn lines_by_desk(alloc: Global, said: &[ScriptLine]) -> Result<Vec<DeskLines>, O
 
 // No lines for each desk.
 fn empty_table(alloc: Global) -> Result<Vec<DeskLines>, OutOfMemory>
-    ensures count { IfOk result (λ table. vec_len table ≡ 16) }
+    ensures count { IfOk result (λ table. vec_len table ≡ MOST_DESKS) }
     ensures empty { IfOk result (λ table. All (λ lines. lines ≡ []) table.items) }
 {
-    let mut table = Vec::with_capacity(alloc, MOST_DESKS)?;
+    let mut table = Vec::with_capacity(alloc, usize::from(MOST_DESKS))?;
     for _ in 0..MOST_DESKS {
         table.push(DeskLines::none(alloc))?;
     }
@@ -108,9 +107,9 @@ fn empty_table(alloc: Global) -> Result<Vec<DeskLines>, OutOfMemory>
 
 // Adds the line to those of its desk, if it is a desk's.
 fn add_own(line: &ScriptLine, table: &mut Vec<DeskLines>) -> Result<(), OutOfMemory>
-    requires { vec_len table.old ≡ 16 }
-    ensures count { vec_len table.new ≡ 16 }
-    ensures lines { OnOk result ((d : ℕ) → d < 16
+    requires { vec_len table.old ≡ MOST_DESKS }
+    ensures count { vec_len table.new ≡ MOST_DESKS }
+    ensures lines { OnOk result ((d : ℕ) → d < MOST_DESKS
         → slice_index_or table.new.items d [] ≡ slice_index_or table.old.items d [] ++ own_lines (d + 1) line.now) }
 {
     match line {

@@ -1,5 +1,6 @@
 // One line of a script: what it says, or the fault of the first stage that it does not pass.
 ghost use Rattle.std.specs.Prelude.{◌≡◌};
+ghost use Rattle.bt_frame.specs.declared.limits.TheConstants.{MOST_UNITS};
 ghost use Rattle.bt_text.specs.Reading.{Gives};
 ghost use Rattle.bt_script.specs.LineShape.{each_name};
 ghost use Rattle.bt_script.specs.Range.{within};
@@ -167,7 +168,7 @@ fn in_range(named: LineShape<TermNo>) -> Option<ScriptLine>
 
 // The units of an edit.
 fn units_of(units: u64) -> Option<Units>
-    ensures { result ≡ within 4096 units }
+    ensures { result ≡ within MOST_UNITS units }
 {
     if units > u64::from(MOST_UNITS) {
         return None;

@@ -1,6 +1,7 @@
 // A script from its text.
 ghost use Rattle.std.specs.Prelude.{◌≤◌, [], length, false, All, IfOk, OnOk};
 ghost use Rattle.bt_text.specs.Text.{lines};
+ghost use Rattle.bt_script.specs.declared.reader.TheConstants.{MOST_LINES};
 ghost use Rattle.bt_script.specs.Named.{HasDesksInOrder, IsItemFor};
 ghost use Rattle.bt_text.specs.Reading.{Gives};
 ghost use Rattle.bt_script.specs.ScriptText.{limited_line, added, last_in, lines_in, script_of};
@@ -13,7 +14,7 @@ use bt_text::{fault_at, first_line};
 use std::alloc::Global;
 
 /// The most lines of a script, those that are passed over included.
-const LINES_LAST: u32 = 20000;
+const MOST_LINES: u32 = 20000;
 
 impl Script {
     /// The script that the bytes spell for this network, or the first line with a fault.
@@ -59,7 +60,7 @@ fn add_line(
 ) -> Result<bool, ScriptFault>
     ensures reading { Gives (λ opened. (opened, said.new.items)) result
         (added is_open said.old.items (limited_line net.now at is_open line.now)) }
-    ensures limit { OnOk result (at ≤ 20000) }
+    ensures limit { OnOk result (at ≤ MOST_LINES) }
 {
     match limited_line(net, at, is_open, line)? {
         ScriptLine::Remark => {
@@ -85,9 +86,9 @@ fn limited_line(
     line: &[u8],
 ) -> Result<ScriptLine, ScriptFault>
     ensures reading { Gives (λ line. line) result (limited_line net.now at is_open line.now) }
-    ensures limit { OnOk result (at ≤ 20000) }
+    ensures limit { OnOk result (at ≤ MOST_LINES) }
 {
-    if at > LINES_LAST {
+    if at > MOST_LINES {
         return Err(fault_at(ScriptCode::S5, at));
     }
     read_line(net, at, is_open, line)
@@ -99,7 +100,7 @@ fn last_line(at: u32, rest: &[u8]) -> Result<(), ScriptFault>
 {
     if rest.is_empty() {
         Ok(())
-    } else if at > LINES_LAST {
+    } else if at > MOST_LINES {
         Err(fault_at(ScriptCode::S5, at))
     } else {
         Err(fault_at(ScriptCode::S1, at))
