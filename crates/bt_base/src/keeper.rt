@@ -65,6 +65,7 @@ pub trait Keeper {
         ensures bytes { IfOk result (λ bytes. Gives (told self.old) bytes.items) }
         ensures short { IfOk result (λ bytes. vec_len bytes ≤ STORE_LAST) }
         ensures too_long { IsErrOf result KeepFault.TooLong → IsLonger (told self.old) STORE_LAST }
+        ensures same_count { IsErrOf result KeepFault.OutOfMemory → fault_count self.new ≡ fault_count self.old }
         ensures cause { HasCause KeepFault.Failed (fault_count self.old) (fault_count self.new) result }
         ensures same { told self.new ≡ told self.old };
 

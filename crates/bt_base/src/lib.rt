@@ -1,7 +1,8 @@
 //! The outside: what files, a sink and a store of records promise, these in memory, and the adapters to the real ones.
 //!
-//! It also gives out the words of the field and of texts, which stand in crates of their own. `specs/Told.antt` says
-//! what the outside promises, `specs/Held.antt` and `specs/Calls.antt` what its objects in memory are seen as.
+//! It stands on `bt_frame` and `bt_text`, the words of the field and of texts, and gives those out too. All of `specs/`
+//! is promise: `Told.antt` says what the outside promises, `Held.antt` and `Calls.antt` what its objects in memory are
+//! seen as.
 #![tactic(auto)]
 
 mod dir_files;

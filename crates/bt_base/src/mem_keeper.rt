@@ -87,6 +87,7 @@ impl Keeper for MemKeeper {
         ensures bytes { IfOk result (λ bytes. Gives (Some self.old.bytes) bytes.items) }
         ensures short { IfOk result (λ bytes. vec_len bytes ≤ STORE_LAST) }
         ensures too_long { IsErrOf result KeepFault.TooLong → IsLonger (Some self.old.bytes) STORE_LAST }
+        ensures same_count { IsErrOf result KeepFault.OutOfMemory → self.new.calls.faults ≡ self.old.calls.faults }
         ensures cause { HasCause KeepFault.Failed self.old.calls.faults self.new.calls.faults result }
         ensures same { Some self.new.bytes ≡ Some self.old.bytes }
 
@@ -111,6 +112,7 @@ impl Keeper for MemKeeper {
             → (Some self.new.bytes ≡ Some self.old.bytes)
             ⊎ (Some self.new.bytes ≡ shortened (Some self.old.bytes) length) }
         ensures out_of_memory { IsErrOf result KeepFault.OutOfMemory → Some self.new.bytes ≡ Some self.old.bytes }
+        ensures same_count { IsErrOf result KeepFault.OutOfMemory → self.new.calls.faults ≡ self.old.calls.faults }
         ensures not_too_long { IsErrOf result KeepFault.TooLong → ⊥ }
         ensures cause { HasCause KeepFault.Failed self.old.calls.faults self.new.calls.faults result }
 

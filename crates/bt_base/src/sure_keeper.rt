@@ -62,6 +62,7 @@ impl Keeper for SureKeeper {
         ensures bytes { IfOk result (λ bytes. Gives (Some self.old) bytes.items) }
         ensures short { IfOk result (λ bytes. vec_len bytes ≤ STORE_LAST) }
         ensures too_long { IsErrOf result KeepFault.TooLong → IsLonger (Some self.old) STORE_LAST }
+        ensures same_count { IsErrOf result KeepFault.OutOfMemory → let none : ℕ = 0 in none ≡ none }
         ensures cause { HasCause KeepFault.Failed 0 0 result }
         ensures same { Some self.new ≡ Some self.old }
         ensures not_failed { IsErrOf result KeepFault.Failed → ⊥ }

@@ -136,11 +136,11 @@ IsThere changes (Add _ _ _) = Unit {0}
 IsThere changes (Drop from to units) = units ≤ held_after changes from to
 IsThere changes (Move from to _ _ units) = units ≤ held_after changes from to
 
--- after the edit the row of the link that gains is within the frame
+-- with the edit made, the uplink beam of the link that gains sends in no more slots than the frame has
 abbrev pub FitsRow : Net → List Change → Edit → Type 0
 FitsRow net changes edit = (beam : BeamNo) → GainsFrom net edit beam → row_sum (matrix_after net (with_edit changes edit)) beam.0 ≤ net.slots
 
--- after the edit the column of the link that gains is within the frame
+-- with the edit made, the downlink beam of the link that gains receives in no more slots than the frame has
 abbrev pub FitsColumn : Net → List Change → Edit → Type 0
 FitsColumn net changes edit = (beam : BeamNo) → GainsTo net edit beam → column_sum (matrix_after net (with_edit changes edit)) beam.0 ≤ net.slots
 
