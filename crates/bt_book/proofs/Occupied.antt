@@ -3,6 +3,7 @@ use Rattle.std.proofs.Common.{◌≡◌, ℕ, zero, suc, ◌+◌, ◌-◌, ◌<�
 use Rattle.std.proofs.lemmas.List.{set-get_or}
 use Rattle.bt_frame.specs.declared.numbers.BeamNo.{BeamNo}
 use Rattle.bt_frame.specs.declared.numbers.TermNo.{TermNo}
+use Rattle.bt_frame.specs.declared.limits.TheConstants.{MOST_SLOTS, MOST_UNITS, SUM_LAST}
 use Rattle.bt_frame.specs.declared.schedule.Critical.{Critical}
 use Rattle.bt_frame.specs.declared.schedule.Critical.TheVariants.{Row, Column}
 use Rattle.bt_net.specs.Network.{Net}
@@ -84,12 +85,12 @@ matrix-more net old new matrix next from to units up down is gains up_is down_is
 
 -- a link and the lines of its beams have room for units
 pub record HasRoom (net : Net) (links : List Link) (matrix : List (List ℕ)) (from to : TermNo) (units up down : ℕ) : Type 0 where
-  pub link : units_of links from to + units ≤ 1048576
-  pub row : row_sum matrix up + units ≤ 1048576
-  pub column : column_sum matrix down + units ≤ 1048576
+  pub link : units_of links from to + units ≤ SUM_LAST
+  pub row : row_sum matrix up + units ≤ SUM_LAST
+  pub column : column_sum matrix down + units ≤ SUM_LAST
 
 pub has_room : (net : Net) (links : List Link) (matrix : List (List ℕ)) (from to : TermNo) (units : ℕ) (up down : BeamNo) → matrix ≡ matrix_of net links
-    → HasSumsTo 4096 (matrix_of net links) → units ≤ 4096 → IsInBeam net from up → IsInBeam net to down
+    → HasSumsTo MOST_SLOTS (matrix_of net links) → units ≤ MOST_UNITS → IsInBeam net from up → IsInBeam net to down
     → up.0 < length net.beams → down.0 < length net.beams → HasRoom net links matrix from to units up.0 down.0
 has_room net links matrix from to units up down is sums few up_is down_is in_rows in_columns =
     let held = units_of links from to in
@@ -106,8 +107,8 @@ has_room net links matrix from to units up down is sums few up_is down_is in_row
     }
 
 -- the same of a load and of what it holds inside
-pub small_inside : (inside load : Occupied) → inside ≡ load → HasSumsTo 4096 (matrix_of load.net load.links) → HasSumsTo 4096 (matrix_of inside.net inside.links)
-small_inside inside load is small = subst (λ (l : Occupied). HasSumsTo 4096 (matrix_of l.net l.links)) (sym is) small
+pub small_inside : (inside load : Occupied) → inside ≡ load → HasSumsTo MOST_SLOTS (matrix_of load.net load.links) → HasSumsTo MOST_SLOTS (matrix_of inside.net inside.links)
+small_inside inside load is small = subst (λ (l : Occupied). HasSumsTo MOST_SLOTS (matrix_of l.net l.links)) (sym is) small
 
 -- the heaviest line, by the matrix that is kept
 pub heaviest-kept : (matrix : List (List ℕ)) (inside load : Occupied) (line : Critical) (most : ℕ) → inside ≡ load → matrix ≡ matrix_of inside.net inside.links

@@ -3,6 +3,7 @@ use Rattle.std.proofs.Common.{◌≡◌, ℕ, ◌+◌, ◌-◌, ◌<◌, ◌≤�
 use Rattle.std.proofs.lemmas.List.{append-nil, drop_more}
 use Rattle.std.proofs.lemmas.Bool.{cases_eq}
 use Rattle.std.proofs.Math.ListN.{drop_of_length-le}
+use Rattle.bt_frame.specs.declared.limits.TheConstants.{MOST_SLOTS}
 use Rattle.bt_net.specs.Network.{Net, IsSound}
 use Rattle.bt_demand.specs.declared.demand.Link.{Link}
 use Rattle.bt_demand.specs.Demand.{IsDemand}
@@ -39,10 +40,10 @@ Redoes-start net changes links number none = record {
   next = λ _. refl;
 }
 
-small_lines : (most : ℕ) (rows : List (List ℕ)) → most ≤ 4096 → HasSumsTo most rows → HasSumsTo 4096 rows
+small_lines : (most : ℕ) (rows : List (List ℕ)) → most ≤ MOST_SLOTS → HasSumsTo most rows → HasSumsTo MOST_SLOTS rows
 small_lines most rows few sums line within = omega (arith, few, sums line within)
 
-pub can_redo : (net now : Net) (changes ahead : List Change) (links : List Link) (number left : ℕ) (edit : Edit) → now ≡ net → net.slots ≤ 4096 → Follows net changes
+pub can_redo : (net now : Net) (changes ahead : List Change) (links : List Link) (number left : ℕ) (edit : Edit) → now ≡ net → net.slots ≤ MOST_SLOTS → Follows net changes
     → Redoes net changes (change.Edit edit ∷ ahead) links number left → 0 < left → CanRedo now links edit
 can_redo net now changes ahead links number left edit same few follow redoes some =
     let parts : changes ≡ redoes.before ++ change.Edit edit ∷ ahead = redoes.parts ∙ ap (λ (c : List Change). redoes.before ++ c) (redoes.next some) in

@@ -2,6 +2,7 @@
 -- changes.
 use Rattle.std.specs.Prelude.{◌≡◌, ℕ, ◌+◌, ◌≤◌, ◌<◌, Bool, false, List, ◌++◌, length, sum_by, Option, Some, None}
 use Rattle.bt_frame.specs.declared.numbers.TermNo.{TermNo}
+use Rattle.bt_frame.specs.declared.limits.TheConstants.{MOST_SLOTS}
 use Rattle.bt_net.specs.Network.{Net}
 use Rattle.bt_matrix.specs.Traffic.{row_sum, column_sum}
 use Rattle.bt_demand.specs.declared.demand.Link.{Link}
@@ -139,7 +140,7 @@ pub record CanRedo (net : Net) (links : List Link) (edit : Edit) : Type 0 where
   pub terminals : NamesTerminals (length net.terminals) edit
   pub ends : HasEnds edit
   pub held : HoldsTaken links edit
-  pub small : HasSumsTo 4096 (matrix_of net links)
+  pub small : HasSumsTo MOST_SLOTS (matrix_of net links)
 
 -- an edit was made again and one fewer is left, or none was left and nothing changed
 pub record RedoesOne (old : List Link) (edit : Edit) (left : ℕ) (new : List Link) (after : ℕ) : Type 0 where

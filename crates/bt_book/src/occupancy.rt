@@ -11,7 +11,7 @@ ghost use Rattle.bt_book.specs.Machine.{HasEnds};
 ghost use Rattle.bt_book.specs.Records.{EditsLinks, GainsFirst, LosesThen, HoldsTaken, HoldsGiven};
 
 use bt_demand::Demand;
-use bt_frame::{BeamNo, OutOfMemory, TermNo, Units};
+use bt_frame::{BeamNo, MOST_SLOTS, OutOfMemory, TermNo, Units};
 use bt_journal::Edit;
 use bt_matrix::{Dense, SUM_LAST, Traffic};
 use bt_net::Network;
@@ -85,7 +85,7 @@ impl Occupancy {
     /// Traffic slots of a frame.
     pub(crate) fn slots(&self) -> u32
         ensures same { result ≡ self.now.net.slots }
-        ensures in_range { result ≤ 4096 }
+        ensures in_range { result ≤ MOST_SLOTS }
         ensures sound { IsSound self.now.net }
     {
         // This is there for what holds of each network.
@@ -140,7 +140,7 @@ impl Occupancy {
         requires terminals { NamesTerminals (length self.old.net.terminals) edit.now }
         requires ends { HasEnds edit.now }
         requires held { HoldsTaken self.old.links edit.now }
-        requires small { HasSumsTo 4096 (matrix_of self.old.net self.old.links) }
+        requires small { HasSumsTo MOST_SLOTS (matrix_of self.old.net self.old.links) }
         ensures ok { OnOk result (EditsLinks self.old.links edit.now self.new.links) }
         ensures net { self.new.net ≡ self.old.net }
         ensures err { OnErr result (self.new.links ≡ self.old.links) }
@@ -154,7 +154,7 @@ impl Occupancy {
     pub(crate) fn gain_first(&mut self, alloc: Global, edit: &Edit) -> Result<(), OutOfMemory>
         requires terminals { NamesTerminals (length self.old.net.terminals) edit.now }
         requires ends { HasEnds edit.now }
-        requires small { HasSumsTo 4096 (matrix_of self.old.net self.old.links) }
+        requires small { HasSumsTo MOST_SLOTS (matrix_of self.old.net self.old.links) }
         ensures ok { OnOk result (GainsFirst self.old.links edit.now self.new.links) }
         ensures net { self.new.net ≡ self.old.net }
         ensures err { OnErr result (self.new.links ≡ self.old.links) }
@@ -220,7 +220,7 @@ impl Occupancy {
         requires sends { from.0 < length self.old.net.terminals }
         requires receives { to.0 < length self.old.net.terminals }
         requires differ { from.0 ≢ to.0 }
-        requires small { HasSumsTo 4096 (matrix_of self.old.net self.old.links) }
+        requires small { HasSumsTo MOST_SLOTS (matrix_of self.old.net self.old.links) }
         ensures gains { OnOk result (Gains self.old.links self.new.links from to units) }
         ensures net { self.new.net ≡ self.old.net }
         ensures err { OnErr result (self.new.links ≡ self.old.links) }
