@@ -1,4 +1,4 @@
-//! One turn of a seat.
+// One turn of a seat: it draws a ticket, waits for it, uses the object and passes the turn on.
 ghost use Rattle.std.specs.Prelude.{◌≡◌, ℕ, ◌%◌, ◌^◌, [], ◌∷◌, List, Some, None, MatchResult};
 ghost use Rattle.bt_line.specs.declared.object.Entry.{Entry};
 ghost use Rattle.bt_line.specs.Legal.{entry_of};
@@ -25,7 +25,7 @@ pub(crate) type Top<O> = Shared<
 
 pub(crate) type Place<O> = Seat<Option<O>, View<O, <O as Object>::Call, <O as Object>::Reply>>;
 
-// Draws a ticket, and waits until it is served. The object is then out with the seat.
+// Draws a ticket, and waits until it is served. The object is then the seat's. The wait has no bound.
 fn take_turn<O: Object, R: Wait>(rt: &R, top: &Top<O>, place: &mut Place<O>)
     requires table { (place.old.table_id ≡ top.now.table_id) × IsSized top.now.table_id }
     requires idle { IsIdle place.old.me }
@@ -43,7 +43,7 @@ fn take_turn<O: Object, R: Wait>(rt: &R, top: &Top<O>, place: &mut Place<O>)
     unreachable!()
 }
 
-// Gives the object back, and passes the turn on.
+// Puts the object back, and passes the turn on. The seat has then seen the history with its own call in it.
 fn give_back<O: Object>(top: &Top<O>, place: &mut Place<O>, object: O)
     requires table { (place.old.table_id ≡ top.now.table_id) × IsSized top.now.table_id }
     requires out { place.old.me.1 ≡ (0, None) ∷ [] }
@@ -59,7 +59,7 @@ fn give_back<O: Object>(top: &Top<O>, place: &mut Place<O>, object: O)
     top.fetch_add::<PassOn<O>>(place, 1, 1);
 }
 
-/// One call of the caller whose seat it is.
+/// One call of the caller whose seat it is, in its turn.
 pub(crate) fn call_at<O: Object, R: Wait>(
     rt: &R,
     alloc: Global,
