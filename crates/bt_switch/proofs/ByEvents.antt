@@ -18,8 +18,8 @@ use Rattle.bt_switch.specs.Orders.{back_with, joining, telling, StandsFor}
 use Rattle.bt_switch.proofs.Ahead.{mark_ticked}
 use Rattle.bt_switch.proofs.Said.{stands_for}
 
--- one event more
-state_more : (s : State) (events : List SatelliteEvent) (event : SatelliteEvent) → state_after s (events ++ event ∷ []) ≡ after_event (state_after s events) event
+-- the state after a run with one event more
+pub state_more : (s : State) (events : List SatelliteEvent) (event : SatelliteEvent) → state_after s (events ++ event ∷ []) ≡ after_event (state_after s events) event
 state_more s [] event = refl
 state_more s (first ∷ events) event = state_more (after_event s first) events event
 

@@ -3,5 +3,5 @@ mod Ascending
 mod Standing
 mod Said
 mod Ahead
-mod ByEvents
+pub mod ByEvents
 mod Joins

@@ -1,0 +1,12 @@
+mod Orders
+mod Tells
+mod Joins
+mod Standing
+mod Heard
+mod Pairs
+mod Triples
+mod Frames
+mod Onboard
+mod Banks
+mod Ground
+mod Sends

@@ -1,0 +1,5 @@
+use Rattle.bt_world.proofs.Banks.{banks-hold}
+use Rattle.bt_world.proofs.laws.banks_hold_plans.Goals as goal
+
+pub returns : goal.returns
+returns c = banks-hold

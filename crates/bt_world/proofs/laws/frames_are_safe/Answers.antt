@@ -1,0 +1,8 @@
+use Rattle.bt_world.proofs.Frames.{frame-safe, transmits-front}
+use Rattle.bt_world.proofs.laws.frames_are_safe.Goals as goal
+
+pub returns-clause-own : goal.returns-clause-own
+returns-clause-own c = transmits-front
+
+pub returns-clause-safe : goal.returns-clause-safe
+returns-clause-safe c = frame-safe c.apart_bursts_spell_apart_triples.ensures.triples

@@ -1,0 +1,86 @@
+// What holds of every world, whatever is lost, repeated or late and whoever restarts.
+ghost use Rattle.std.specs.Prelude.{◌≡◌, ◌⊎◌, ℕ, List, [], ◌∷◌, ◌++◌, All};
+ghost use Rattle.bt_frame.specs.declared.numbers.TermNo.{TermNo};
+ghost use Rattle.bt_demand.specs.declared.burst.Burst.{Burst};
+ghost use Rattle.bt_switch.specs.Orders.{StandsFor, telling};
+ghost use Rattle.bt_switch.specs.Satellite.{status_of};
+ghost use Rattle.bt_term.specs.Terminal.{sent as transmitted};
+ghost use Rattle.bt_world.specs.Air.{AreFlyable, IsAir, IsSafe, fore, transmits};
+ghost use Rattle.bt_world.specs.Event.{Event, Happening, Opening};
+ghost use Rattle.bt_world.specs.Example.{a, a_burst, b, b_burst, calm, calm_sent, late, late_sent, late_until, lossy, opened, reset};
+ghost use Rattle.bt_world.specs.Fits.{IsWorld};
+ghost use Rattle.bt_world.specs.Ground.{Agrees, terminal};
+ghost use Rattle.bt_world.specs.Laws.{Ascend, IsOrdered, IsRight, AreAmong};
+ghost use Rattle.bt_world.specs.Satellite.{BanksHold, satellite};
+ghost use Rattle.bt_world.specs.World.{accepted, bursts_for, heard, held, log, mark, modes_of, orders, plan_of, plans, sent};
+
+use bt_air::Sent;
+use bt_demand::apart_bursts_spell_apart_triples;
+use bt_switch::accepted_orders_are_said_by_events;
+
+/// Each Load and each Arm that is sent is one of the orders placed, and so is each order that the satellite accepted.
+/// The accepted ones have ascending numbers.
+pub fn orders_come_first()
+    ensures sent { (o : Opening) (events : List Event) → All (IsOrdered (orders o (log o events))) (sent o (log o events)) }
+    ensures accepted { (o : Opening) (events : List Event) → AreAmong (orders o (log o events)) (accepted o (log o events)) }
+    ensures ascend { (o : Opening) (events : List Event) → Ascend (accepted o (log o events)) }
+{}
+
+/// Each Reference names none, or the edition in front in its superframe.
+pub fn references_are_right()
+    ensures { (o : Opening) (events : List Event) → All (IsRight (accepted o (log o events))) (sent o (log o events)) }
+{}
+
+/// Every frame is safe, and each terminal that transmits sends exactly its bursts of the plan in front.
+pub fn frames_are_safe()
+    ensures own { (o : Opening) (events : List Event) (number : TermNo) → (transmits o (log o events) number ≡ [])
+        ⊎ (transmits o (log o events) number ≡ bursts_for number (plan_of (plans o (log o events)) (fore o (log o events)))) }
+    ensures safe { (o : Opening) (events : List Event) (bursts : List Burst) → AreFlyable o events → IsAir o (log o events) bursts
+        → IsSafe o.net (modes_of (plan_of (plans o (log o events)) (fore o (log o events)))) bursts }
+{
+    apart_bursts_spell_apart_triples();
+}
+
+/// The satellite is what the accepted orders say, and says so.
+pub fn satellite_is_said()
+    ensures stands { (o : Opening) (past : List Happening) → StandsFor (accepted o past) (satellite o past) }
+    ensures mark { (o : Opening) (past : List Happening) → (satellite o past).mark.0 ≡ mark o past }
+    ensures status { (o : Opening) (past : List Happening) → status_of (satellite o past) ≡ telling (accepted o past) (mark o past) }
+{
+    accepted_orders_are_said_by_events();
+}
+
+/// Each bank of the satellite holds the modes of the plan of its edition, so that the connections of a safe frame are
+/// those that the switch makes.
+pub fn banks_hold_plans()
+    ensures { (o : Opening) (events : List Event) → IsWorld o events → BanksHold (plans o (log o events)) (satellite o (log o events)) }
+{}
+
+/// Each terminal has heard and holds what the events say.
+pub fn terminals_are_said()
+    ensures { (o : Opening) (past : List Happening) (number : TermNo) → Agrees number (mark o past) (heard o past number) (held o past number) (terminal o past number) }
+{}
+
+/// Each terminal transmits what the events say.
+pub fn transmissions_are_said()
+    ensures { (o : Opening) (events : List Event) (number : TermNo)
+        → transmitted (terminal o (log o events) number) (record { 0 = mark o (log o events) }) ≡ transmits o (log o events) number }
+{}
+
+/// Worlds in which a change is made: a calm one, one in which a terminal misses the first Reference of the new edition,
+/// one in which a terminal restarts afterwards, and one in which the Arm comes late, after a restart of the centre.
+pub fn some_worlds_change()
+    ensures sent { sent opened (log opened calm) ≡ calm_sent }
+    ensures mark { mark opened (log opened calm) ≡ 3 }
+    ensures fore { (fore opened (log opened calm)).0 ≡ 2 }
+    ensures first { transmits opened (log opened calm) a ≡ a_burst ∷ [] }
+    ensures second { transmits opened (log opened calm) b ≡ b_burst ∷ [] }
+    ensures lossy_first { transmits opened (log opened lossy) a ≡ [] }
+    ensures lossy_second { transmits opened (log opened lossy) b ≡ b_burst ∷ [] }
+    ensures late { sent opened (log opened late) ≡ late_sent }
+    ensures silent { transmits opened (log opened late_until) a ≡ [] }
+    ensures late_first { transmits opened (log opened late) a ≡ a_burst ∷ [] }
+    ensures late_second { transmits opened (log opened late) b ≡ b_burst ∷ [] }
+    ensures reset_sent { sent opened (log opened reset) ≡ calm_sent ++ Sent.Lost a ∷ Sent.Confirm a (record { 0 = 2 }) ∷ [] }
+    ensures reset_first { transmits opened (log opened reset) a ≡ a_burst ∷ [] }
+{}

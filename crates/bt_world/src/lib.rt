@@ -1,0 +1,16 @@
+//! The world: satellite, terminals and centre together, over every list of events.
+//!
+//! It stands on the three machines (`bt_switch`, `bt_term`, `bt_change`), on messages (`bt_air`) and on plans
+//! (`bt_demand`). A world is an opening and the events that happened; `specs/World.antt` says of them the superframe,
+//! the orders, what each end knows and holds, and every message that was sent, `specs/Air.antt` what is on the air and
+//! when that is safe, `specs/Fits.antt` what must hold of an opening and of each event. `laws.rt` has what holds of
+//! every world. `specs/Satellite.antt` and `specs/Ground.antt` say what the machines then are, and `specs/Example.antt`
+//! has worlds that run.
+#![tactic(auto)]
+
+mod laws;
+
+pub use laws::{
+    banks_hold_plans, frames_are_safe, orders_come_first, references_are_right, satellite_is_said,
+    some_worlds_change, terminals_are_said, transmissions_are_said,
+};
