@@ -1,6 +1,6 @@
--- The cutting of modes into bursts. For a connection from one beam to another, its slots are numbered in ascending
--- order over the modes that make it, and the units of its links in order of the links. The unit with a number
--- takes the slot with that number.
+-- The cutting of modes into bursts. A connection between two beams hands out its slots as they come in the frame: the
+-- first to the first unit that its links ask for, link by link, and so on. Both are counted from 0, and the unit of a
+-- number has the slot of that number.
 use Rattle.std.specs.Prelude.{◌≡◌, ◌↔◌, ℕ, ◌+◌, ◌<◌, ◌≤◌, List, take, All, AllPairs}
 use Rattle.std.specs.List.{HoldsAt}
 use Rattle.bt_frame.specs.declared.numbers.BeamNo.{BeamNo}
@@ -41,8 +41,8 @@ pub record IsCut (net : Net) (links : List Link) (modes : List Mode) (link mode 
   pub some : 0 < burst.length
   pub slots : (slot : ℕ) → Covers burst slot ↔ Takes net links modes link mode slot
 
--- The bursts are, for each mode and each link, the slots of that mode that its units took, where there are any; each
--- stands once, in order of its start and its terminals.
+-- The bursts are a cutting: each is what one link got of one mode, whatever a link got of a mode is among them, none
+-- is listed twice, and they stand in order.
 pub record IsCutting (net : Net) (links : List Link) (modes : List Mode) (bursts : List Burst) : Type 0 where
   pub ordered : AllPairs IsNotAfter bursts
   pub distinct : AllPairs (λ a b. (a ≡ b) → ⊥) bursts

@@ -1,7 +1,10 @@
 //! Cutting: how the slots of the modes become the bursts of the links.
 //!
 //! `specs/Cutting.antt` has the rule of the cutting. `specs/Serving.antt` and `specs/Parts.antt` say the same by the
-//! numbers of slots and units, as the code counts them.
+//! numbers of slots and units, as the code counts them, and are for bodies alone.
+//!
+//! It stands on `bt_modes` for the modes, on `bt_demand` for demands and plans, and on `bt_verdict` for what makes a
+//! plan good.
 #![tactic(auto)]
 
 mod bursts;
@@ -14,4 +17,4 @@ mod table;
 
 pub use cutting::cut;
 pub use laws::cuttings_are_good;
-pub use planning::make_plan;
+pub use planning::{make_plan, make_plan_for};

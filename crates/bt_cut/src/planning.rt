@@ -8,6 +8,7 @@ ghost use Rattle.bt_demand.specs.Traffic.{matrix_of, AreOfNetwork, HasSumsTo};
 use crate::cut;
 use bt_demand::{Demand, Plan, traffic_of};
 use bt_frame::{EditionNo, OutOfMemory};
+use bt_matrix::Dense;
 use bt_modes::schedule;
 use bt_net::Network;
 use std::alloc::Global;
@@ -27,6 +28,25 @@ pub fn make_plan(
     ensures heaviest { IfOk result (λ plan. IsHeaviest (matrix_of net.now demand.now) plan.schedule.critical plan.schedule.length) }
 {
     let matrix = traffic_of(alloc, net, demand)?;
-    let modes = schedule(alloc, &matrix)?;
+    make_plan_for(alloc, net, demand, &matrix, edition)
+}
+
+/// The same plan, where the demand's matrix is at hand.
+pub fn make_plan_for(
+    alloc: Global,
+    net: &Network,
+    demand: &Demand,
+    matrix: &Dense,
+    edition: EditionNo,
+) -> Result<Plan, OutOfMemory>
+    requires terminals { AreOfNetwork net.now demand.now }
+    requires fits { HasSumsTo 4096 (matrix_of net.now demand.now) }
+    requires matrix { matrix.now ≡ matrix_of net.now demand.now }
+    ensures edition { IfOk result (λ plan. plan.edition ≡ edition) }
+    ensures terminals { IfOk result (λ plan. AreBetweenTerminals net.now plan.bursts) }
+    ensures good { IfOk result (λ plan. IsGoodPlan net.now demand.now plan) }
+    ensures heaviest { IfOk result (λ plan. IsHeaviest (matrix_of net.now demand.now) plan.schedule.critical plan.schedule.length) }
+{
+    let modes = schedule(alloc, matrix)?;
     cut(alloc, net, demand, edition, modes)
 }

@@ -13,8 +13,8 @@ ghost use Rattle.bt_demand.specs.Apart.{AreApart, AreBetweenTerminals};
 ghost use Rattle.bt_verdict.specs.PlanVerdict.{HasGoodModes, IsPlanVerdict, IsServed};
 ghost use Rattle.bt_demand.specs.Traffic.{matrix_of, AreOfNetwork};
 
-/// No assignment whatever carries a demand in fewer slots than a line of its matrix asks for: the triples of one
-/// line lie in different slots.
+/// However slots are given out, a demand takes as many as any line of its matrix asks for: the beam of that line can be
+/// used by one link at a time.
 pub fn no_assignment_is_shorter()
     ensures { (net : Net) (links : List Link) (triples : List Triple) (slots : ℕ) (line : Critical)
         → IsDemand links → Carries net links slots triples
