@@ -13,7 +13,7 @@ use bt_net::Network;
 use bt_text::{fault_at, first_line};
 use std::alloc::Global;
 
-/// The most lines of a script, those that are passed over included.
+/// The most lines of a script; remarks count.
 const MOST_LINES: u32 = 20000;
 
 impl Script {
