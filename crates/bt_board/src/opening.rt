@@ -1,4 +1,4 @@
-//! The opening of a board.
+// The opening of a board.
 ghost use Rattle.std.specs.Prelude.{◌≡◌, ◌+◌, ◌<◌, ◌≤◌, ◌^◌, Some, IfOk, IfErr, MatchResult, [], ◌∷◌, ◌++◌, drop, length, All};
 ghost use Rattle.left_right.specs.Sides.{view};
 ghost use Rattle.bt_board.specs.Log.{head_of};

@@ -1,4 +1,4 @@
-//! The log of the plans that were posted, of which the proofs alone know.
+// The log of the plans that were posted, of which the proofs alone know.
 use bt_demand::Plan;
 use logbook::{Gain, Plain, Play, Rule};
 

@@ -1,9 +1,9 @@
-//! The publisher.
-ghost use Rattle.std.specs.Prelude.{◌≡◌, ◌+◌, ◌<◌, ◌≤◌, ◌^◌, Some, IfOk, MatchResult, [], ◌∷◌, ◌++◌, drop, fold};
+// The publisher.
+ghost use Rattle.std.specs.Prelude.{◌≡◌, ◌⊎◌, ◌+◌, ◌<◌, ◌≤◌, ◌^◌, Some, IfOk, MatchResult, [], ◌∷◌, ◌++◌, drop, fold};
 ghost use Rattle.std.specs.Arc.{arc_value};
 ghost use Rattle.left_right.specs.Sides.{view};
 ghost use mathlib.Core.List.{IsPrefix};
-ghost use Rattle.bt_board.specs.Plans.{next_edition, last_of};
+ghost use Rattle.bt_board.specs.Plans.{next_edition, last_of, Ascends};
 ghost use Rattle.bt_board.specs.Log.{head_of};
 ghost use Rattle.bt_board.specs.Rule.{Knows};
 ghost use Rattle.bt_board.specs.Posted.{posted};
@@ -158,12 +158,24 @@ impl Publisher {
 
     /// The plan that was posted last.
     pub fn newest(&self) -> &Plan
-        ensures { last_of self.now.plans ≡ Some result.now }
+        ensures last { last_of self.now.plans ≡ Some result.now }
+        ensures ascends { Ascends self.now.plans }
     {
+        let mut seen = self.seen.again();
+        seen.learn(&self.seen);
         match &self.writer {
             Some(writer) => &writer.published().plan,
             None => unreachable!(),
         }
+    }
+
+    /// Of the publisher's list and a reader's of one board, one begins the other. It does nothing when it runs.
+    pub fn compare(&self, reader: &Reader)
+        requires same { reader.now.board ≡ self.now.board }
+        ensures { IsPrefix reader.now.plans self.now.plans ⊎ IsPrefix self.now.plans reader.now.plans }
+    {
+        let mut both = self.seen.again();
+        both.learn(&reader.kept.seen);
     }
 
     pub(crate) fn edition(&self) -> u32

@@ -1,4 +1,4 @@
-//! The rule of the board: whoever knows a log takes plans of that log alone.
+// The rule of the board: whoever knows a log takes plans of that log alone.
 use crate::shown::Shown;
 use crate::view::View;
 use atomic_table::{Join, Split};

@@ -1,4 +1,4 @@
-//! What the board shows: a plan, and the list of plans that it ends.
+// What the board shows: a plan, and the list of plans that it ends.
 ghost use Rattle.std.specs.Prelude.{◌≡◌, Some, IfOk};
 ghost use Rattle.std.specs.Arc.{arc_value};
 ghost use Rattle.bt_board.specs.Plans.{last_of};

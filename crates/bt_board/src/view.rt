@@ -1,4 +1,4 @@
-//! What the board's rule keeps for each seat.
+// What the board's rule keeps for each seat.
 use crate::plan_log::PlanLog;
 use bt_demand::Plan;
 use logbook::Seen;
