@@ -1,0 +1,4 @@
+pub mod LegalHistories
+pub mod Asking
+pub mod Rounds
+pub mod Totals
