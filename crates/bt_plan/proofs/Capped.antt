@@ -1,7 +1,6 @@
 -- A number too great is out of a range whether it is capped or not, and one in the range is never capped.
-use Rattle.std.proofs.Common.{◌≡◌, ℕ, ◌-◌, ◌^◌, ◌<◌, ◌≤◌, Bool, true, false, cond, leb, ◌&&◌, List, [], ◌∷◌, map, refl, sym, ◌∙◌, arith, inl, inr}
-use Rattle.std.specs.List.{list_all}
-use Rattle.std.proofs.lemmas.Bool.{leb-true, le-leb, lt-leb, cases_lt}
+use Rattle.std.proofs.Common.{◌≡◌, ℕ, ◌-◌, ◌^◌, ◌<◌, ◌≤◌, Bool, true, false, cond, leb, ◌&&◌, refl, sym, ◌∙◌, arith, inl, inr}
+use Rattle.std.proofs.lemmas.Bool.{le-leb, lt-leb, cases_lt}
 use Rattle.bt_text.specs.Text.{capped}
 
 pub capped-small : (most n : ℕ) → most < 2 ^ 64 - 1 → n ≤ most → capped n ≡ n
@@ -21,20 +20,10 @@ leb-one-capped n =
       | inr le ↦ le-leb 1 (capped n) (omega arith) ∙ sym (le-leb 1 n le)
     ]
 
-pub list_all-capped : (most : ℕ) (ns : List ℕ) → most < 2 ^ 64 - 1 → list_all (λ n. leb n most) (map capped ns) ≡ list_all (λ n. leb n most) ns
-list_all-capped most [] small = refl
-list_all-capped most (n ∷ ns) small = rw (leb-capped most n small, list_all-capped most ns small) refl
-
 -- a test that holds of both
 pub and_parts : (a b : Bool) → (a && b) ≡ true → (a ≡ true) × (b ≡ true)
 and_parts true b e = (refl, e)
 and_parts false b e = absurd cc
-
-pub map-capped : (most : ℕ) (ns : List ℕ) → most < 2 ^ 64 - 1 → list_all (λ n. leb n most) ns ≡ true → map capped ns ≡ ns
-map-capped most [] small e = refl
-map-capped most (n ∷ ns) small e =
-    let parts = and_parts (leb n most) (list_all (λ n. leb n most) ns) e in
-    rw (capped-small most n small (leb-true n most parts.0), map-capped most ns small parts.1) refl
 
 -- what a test decides may be changed where the test holds
 pub cond-at_true : {X : Type 0} (b : Bool) (x y z : X) → (b ≡ true → x ≡ y) → cond b x z ≡ cond b y z

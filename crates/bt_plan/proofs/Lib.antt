@@ -1,5 +1,7 @@
 pub mod Capped
 pub mod ModeLines
+pub mod LinkTables
+pub mod LineWords
 pub mod NamedTerminals
 pub mod OneBurst
 pub mod OnePlan
@@ -11,4 +13,3 @@ pub mod ReadBack
 pub mod Rows
 pub mod Spelled
 pub mod TrafficLines
-pub mod Words

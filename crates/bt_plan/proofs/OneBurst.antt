@@ -5,7 +5,7 @@ use Rattle.std.proofs.lemmas.List.Elements.{All-cons, All-nil}
 use Rattle.std.proofs.lemmas.List.Kept.{AllPairs-cons}
 use Rattle.std.proofs.lemmas.Option.{cond_some, option_and_then_some}
 use Rattle.bt_text.specs.Reading.{◌>>=◌, or_fault}
-use Rattle.bt_text.specs.Text.{words, spaced}
+use Rattle.bt_text.specs.Text.{words, spaced, is_word}
 use Rattle.bt_frame.specs.declared.numbers.EditionNo.{EditionNo}
 use Rattle.bt_frame.specs.declared.numbers.TermNo.{TermNo}
 use Rattle.bt_text.proofs.TextLines.{spaced-words}
@@ -17,7 +17,7 @@ use Rattle.bt_demand.specs.Demand.{Ends}
 use Rattle.bt_plan.specs.PlanSpelling.{edition_line, burst_line, IsBurstInRange}
 use Rattle.bt_plan.specs.PlanText.{edition_in, span_of, span_in, burst_with, burst_between, burst_behind, burst_in, burst_below, plan_end, bursts_in}
 use Rattle.bt_plan.specs.Reading.{Fault}
-use Rattle.bt_plan.specs.ScheduleText.{is_word, number_to}
+use Rattle.bt_text.specs.WordReader.{number_to}
 use Rattle.bt_plan.specs.TerminalNames.{ends_in}
 use Rattle.bt_net.specs.Terminals.{name_at, are_names, terminal_of}
 use Rattle.bt_plan.proofs.NamedTerminals.{IsNamed, terminal_named}

@@ -6,7 +6,7 @@ use Rattle.std.proofs.lemmas.List.Elements.{All-cons, All-nil, All-weaker}
 use Rattle.std.proofs.lemmas.List.Sums.{AllPass-from_list_all}
 use Rattle.std.proofs.lemmas.Option.{cond_some, option_and_then_some, same_Some}
 use Rattle.std.proofs.lemmas.Slice.Eq.{bytes_eq-Decides}
-use Rattle.bt_text.specs.Text.{words, lines, spaced, numbers_of, number_of}
+use Rattle.bt_text.specs.Text.{words, lines, spaced, numbers_of, number_of, is_word}
 use Rattle.bt_frame.specs.declared.mode.Mode.{Mode}
 use Rattle.bt_frame.specs.declared.schedule.Critical.{Critical}
 use Rattle.bt_frame.specs.declared.schedule.Critical.TheVariants.{Row, Column}
@@ -18,7 +18,8 @@ use Rattle.bt_plan.specs.declared.text_fault.TextCode.TheVariants.{M1}
 use Rattle.bt_frame.specs.Critical.{IsOfBeams}
 use Rattle.bt_text.specs.Reading.{◌>>=◌, or_fault}
 use Rattle.bt_plan.specs.Reading.{Fault}
-use Rattle.bt_plan.specs.ScheduleText.{is_word, number_to, length_in, line_in, critical_in, mode_with, mode_in, end_in, modes_in, critical_and_modes, schedule_in, schedule_of}
+use Rattle.bt_plan.specs.ScheduleText.{length_in, line_in, critical_in, mode_with, mode_in, end_in, modes_in, critical_and_modes, schedule_in, schedule_of}
+use Rattle.bt_text.specs.WordReader.{number_to}
 use Rattle.bt_plan.specs.ScheduleSpelling.{IsInRange, IsModeInRange, length_line, critical_line, mode_line, schedule_lines, schedule_spelling}
 use Rattle.bt_plan.proofs.ReadBack.{lines_from_modes, mode_numbers-small}
 use Rattle.bt_plan.proofs.Spelled.{bind_ok, ok_is}

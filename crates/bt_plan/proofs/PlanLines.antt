@@ -1,12 +1,12 @@
 -- Reading the lines of a plan one after the other, as loops do, up to the end.
-use Rattle.std.proofs.Common.{◌≡◌, ℕ, suc, ◌+◌, ◌<◌, Bool, true, false, cond, eqb, codes, List, [], ◌∷◌, ◌++◌, length, get_or, All, AllPairs, Option, Some, None, Ok, Err, refl, sym, ap, subst, ◌∙◌, append_assoc, arith, inl, inr}
-use Rattle.std.proofs.lemmas.Bool.{eqb-true}
+use Rattle.std.proofs.Common.{◌≡◌, ℕ, suc, ◌+◌, ◌≤◌, Bool, true, false, cond, eqb, codes, List, [], ◌∷◌, ◌++◌, length, get_or, All, AllPairs, drop, Option, Some, None, option_and_then, Ok, Err, refl, sym, ap, subst, ◌∙◌, append_assoc, arith, inl, inr}
+use Rattle.std.proofs.lemmas.Bool.{eqb-true, le-leb}
 use Rattle.std.proofs.lemmas.Bool.Decides.{nat_tests}
 use Rattle.std.proofs.lemmas.List.{append-nil}
 use Rattle.std.proofs.lemmas.List.Elements.{All-nil, All-cons, All-append}
 use Rattle.std.proofs.lemmas.List.Quantifiers.{all_pairs_push}
 use Rattle.bt_text.specs.Reading.{◌>>=◌, or_fault, IsFaultOf}
-use Rattle.bt_text.specs.Text.{words, lines}
+use Rattle.bt_text.specs.Text.{words, lines, is_word}
 use Rattle.bt_frame.specs.declared.mode.Mode.{Mode}
 use Rattle.bt_text.proofs.FirstLine.{lines-HasFirst, lines_after_end}
 use Rattle.bt_text.proofs.Front.{with_front, regroup}
@@ -17,16 +17,28 @@ use Rattle.bt_plan.specs.declared.text_fault.TextCode.{TextCode}
 use Rattle.bt_text.specs.declared.fault.LineFault.{LineFault}
 use Rattle.bt_text.specs.declared.fault.LineFault.TheVariants.{At, OutOfMemory}
 use Rattle.bt_demand.specs.Burst.{IsNotAfter}
-use Rattle.bt_plan.specs.PlanText.{is_not_after, in_order, burst_in, burst_behind, burst_below, plan_end, bursts_in, is_mode, modes_and_bursts, first_says}
+use Rattle.bt_plan.specs.PlanText.{is_not_after, in_order, span_of, span_in, burst_between, burst_in, burst_behind, burst_below, plan_end, bursts_in, is_mode, modes_and_bursts, first_says}
 use Rattle.bt_plan.specs.Reading.{Fault, Reading}
-use Rattle.bt_plan.specs.ScheduleText.{is_word, mode_in}
+use Rattle.bt_plan.specs.ScheduleText.{mode_in}
+use Rattle.bt_text.specs.WordReader.{number_to, first_word}
 use Rattle.bt_plan.proofs.Spelled.{bind_ok, ok_is, guard_ok}
 
--- a burst has two numbers
-pub few_words : (net : Net) (at : ℕ) (ws : List (List ℕ)) → length ws < 2 → burst_behind net at ws ≡ Err (P1, at)
-few_words net at [] few = refl
-few_words net at (a ∷ []) few = refl
-few_words net at (a ∷ b ∷ rest) few = absurd (omega arith)
+-- a burst's numbers, and the words behind them
+span_read : (from slots : List ℕ) (start count : ℕ) → Some start ≡ number_to 65535 from → Some count ≡ number_to 65536 slots → 1 ≤ count → span_in from slots ≡ Some (start, count)
+span_read from slots start count first second some =
+    ap (option_and_then (λ s. option_and_then (span_of s) (number_to 65536 slots))) (sym first) ∙ ap (option_and_then (span_of start)) (sym second) ∙ rw (le-leb 1 count some) refl
+
+numbers_read : (net : Net) (at start count : ℕ) (ws : List (List ℕ)) → Some start ≡ option_and_then (number_to 65535) (first_word ws) → Some count ≡ option_and_then (number_to 65536) (first_word (drop 1 ws)) → 1 ≤ count
+    → burst_behind net at ws ≡ burst_between net at (start, count) (drop 1 (drop 1 ws))
+numbers_read net at start count [] first second some = absurd cc
+numbers_read net at start count (from ∷ []) first second some = absurd cc
+numbers_read net at start count (from ∷ slots ∷ ends) first second some =
+    ap (λ span. or_fault {Fault = Fault} (P1, at) span >>= λ s. burst_between net at s ends) (span_read from slots start count first second some)
+
+pub burst_read : (net : Net) (at start count : ℕ) (ws behind ends : List (List ℕ)) → Some start ≡ option_and_then (number_to 65535) (first_word ws) → behind ≡ drop 1 ws → Some count ≡ option_and_then (number_to 65536) (first_word behind) → ends ≡ drop 1 behind → 1 ≤ count
+    → burst_behind net at ws ≡ burst_between net at (start, count) ends
+burst_read net at start count ws behind ends first is second last some =
+    numbers_read net at start count ws first (rw is at second) some ∙ ap (burst_between net at (start, count)) (sym (last ∙ ap (drop 1) is))
 
 -- the order that is tested
 pub IsNotAfter-tested : (a b : Burst) → is_not_after a b ≡ true → IsNotAfter a b

@@ -6,7 +6,7 @@ use Rattle.std.proofs.lemmas.Bool.{le-leb}
 use Rattle.std.proofs.lemmas.Bool.Decides.{nat_tests}
 use Rattle.std.proofs.lemmas.List.Elements.{All-head, All-tail}
 use Rattle.bt_text.specs.Reading.{◌>>=◌, or_fault}
-use Rattle.bt_text.specs.Text.{words, lacks}
+use Rattle.bt_text.specs.Text.{words, lacks, is_word}
 use Rattle.bt_frame.specs.declared.mode.Mode.{Mode}
 use Rattle.bt_frame.specs.declared.numbers.EditionNo.{EditionNo}
 use Rattle.bt_text.proofs.TextLines.{words-spaced, lines-ended, lacks-spaced}
@@ -22,7 +22,8 @@ use Rattle.bt_plan.specs.PlanSpelling.{edition_line, burst_line, plan_lines, pla
 use Rattle.bt_plan.specs.PlanText.{edition_in, span_of, span_in, burst_between, burst_in, is_not_after, burst_below, plan_end, bursts_in, is_mode, modes_and_bursts, first_says, parts_behind, critical_behind, length_behind, plan_in, plan_of}
 use Rattle.bt_plan.specs.Reading.{Fault, Reading}
 use Rattle.bt_plan.specs.ScheduleSpelling.{length_line, critical_line, mode_line, IsModeInRange}
-use Rattle.bt_plan.specs.ScheduleText.{is_word, number_to, critical_in, mode_in}
+use Rattle.bt_plan.specs.ScheduleText.{critical_in, mode_in}
+use Rattle.bt_text.specs.WordReader.{number_to}
 use Rattle.bt_plan.specs.TerminalNames.{ends_in}
 use Rattle.bt_net.specs.Terminals.{name_at}
 use Rattle.bt_plan.proofs.NamedTerminals.{terminal_found, is_name-name_at, name_lacks}

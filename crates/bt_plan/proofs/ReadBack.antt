@@ -4,7 +4,7 @@ use Rattle.std.specs.List.{All, list_all}
 use Rattle.std.proofs.lemmas.Bool.{le-leb, lt-ltb, eq-eqb}
 use Rattle.std.proofs.lemmas.List.Elements.{All-cons, All-head, All-tail, All-weaker}
 use Rattle.std.proofs.lemmas.List.Sums.{list_all-from_AllPass}
-use Rattle.bt_text.specs.Text.{words, lacks}
+use Rattle.bt_text.specs.Text.{words, lacks, is_word}
 use Rattle.bt_frame.specs.declared.mode.Mode.{Mode}
 use Rattle.bt_frame.specs.declared.schedule.Critical.{Critical}
 use Rattle.bt_frame.specs.declared.schedule.Critical.TheVariants.{Row, Column}
@@ -14,7 +14,8 @@ use Rattle.bt_text.proofs.TextNumbers.{lacks-decimal, lacks-decimals, number_of-
 use Rattle.bt_plan.specs.declared.text_fault.TextCode.TheVariants.{M1}
 use Rattle.bt_frame.specs.Critical.{IsOfBeams}
 use Rattle.bt_text.specs.Reading.{◌>>=◌, or_fault}
-use Rattle.bt_plan.specs.ScheduleText.{is_word, number_to, length_in, line_in, critical_in, mode_with, mode_in, end_in, modes_in, critical_and_modes, schedule_in, schedule_of}
+use Rattle.bt_plan.specs.ScheduleText.{length_in, line_in, critical_in, mode_with, mode_in, end_in, modes_in, critical_and_modes, schedule_in, schedule_of}
+use Rattle.bt_text.specs.WordReader.{number_to}
 use Rattle.bt_plan.specs.ScheduleSpelling.{IsInRange, IsModeInRange, length_line, critical_line, mode_line, schedule_lines, schedule_spelling}
 
 -- the length

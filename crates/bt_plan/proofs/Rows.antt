@@ -1,19 +1,15 @@
 -- Reading rows one after the other, as a loop does.
-use Rattle.std.proofs.Common.{◌≡◌, ℕ, zero, suc, ◌+◌, ◌-◌, ◌<◌, false, cond, leb, eqb, List, [], ◌∷◌, ◌++◌, length, map, Option, Some, None, Ok, Err, refl, sym, ap, ◌∙◌, arith, lit<, inl, inr}
-use Rattle.std.specs.Option.{option_map}
-use Rattle.std.specs.List.{list_all}
-use Rattle.std.proofs.lemmas.List.{length-map}
-use Rattle.bt_text.specs.Text.{words, lines, numbers_of, capped}
-use Rattle.bt_plan.specs.declared.text_fault.TextCode.TheVariants.{X1, X2}
+use Rattle.std.proofs.Common.{◌≡◌, ℕ, zero, suc, ◌+◌, ◌-◌, ◌<◌, false, eqb, List, [], ◌∷◌, ◌++◌, length, Ok, Err, refl, sym, ap, ◌∙◌, arith, inl, inr}
+use Rattle.bt_text.specs.Text.{words, lines, numbers_of}
+use Rattle.bt_plan.specs.declared.text_fault.TextCode.TheVariants.{X1}
 use Rattle.bt_plan.specs.declared.text_fault.TextCode.{TextCode}
 use Rattle.bt_text.specs.declared.fault.LineFault.{LineFault}
 use Rattle.bt_text.specs.declared.fault.LineFault.TheVariants.{At, OutOfMemory}
-use Rattle.bt_text.specs.Reading.{◌>>=◌, or_fault, IsFaultOf}
+use Rattle.bt_text.specs.Reading.{◌>>=◌, IsFaultOf}
 use Rattle.bt_plan.specs.Reading.{Reading}
 use Rattle.bt_plan.specs.MatrixText.{size_in, row_in, rows_in, matrix_in, matrix_of}
 use Rattle.bt_text.proofs.Front.{with_front, regroup}
 use Rattle.bt_text.proofs.FirstLine.{lines-HasFirst, lines_after_end}
-use Rattle.bt_plan.proofs.Capped.{list_all-capped, map-capped, cond-at_true}
 
 -- the size, and the rows that follow it
 pub matrix_from_line : (text line rest : List ℕ) → lines text ≡ line ∷ lines rest → matrix_of text ≡ (size_in (numbers_of (words line)) >>= λ size. rows_in size size 2 (lines rest))
@@ -26,17 +22,6 @@ rows_in-line : (size more at : ℕ) (line text : List ℕ) → rows_in size (suc
 rows_in-line size more at line text =
     let next = lines-HasFirst text in
     rw next.2 refl
-
--- the row is that of the numbers as they are capped
-row_in-some : (size at : ℕ) (ns : List ℕ) → row_in size at (Some ns) ≡ row_in size at (Some (map capped ns))
-row_in-some size at ns =
-    rw (length-map ns capped, list_all-capped 4096 ns (lit< tt))
-    (ap (λ (r : Reading (List ℕ)). cond (eqb (length ns) size) r (Err (X1, at)))
-    (cond-at_true (list_all (λ n. leb n 4096) ns) (Ok ns) (Ok (map capped ns)) (Err (X2, at)) (λ e. ap (λ (row : List ℕ). Ok row) (sym (map-capped 4096 ns (lit< tt) e)))))
-
-pub row_from_numbers : (size at : ℕ) (o : Option (List ℕ)) → row_in size at o ≡ (or_fault (X1, at) (option_map (map capped) o) >>= λ ns. row_in size at (Some ns))
-row_from_numbers size at None = refl
-row_from_numbers size at (Some ns) = row_in-some size at ns
 
 -- the rows left in the text that begins with line `at`, when line 2 has the first
 abbrev pub left : ℕ → ℕ → List (List ℕ) → Reading (List (List ℕ))

@@ -24,7 +24,7 @@ use Rattle.bt_demand.specs.Demand.{ends_of, IsBefore, IsLink, IsDemand, units_of
 use Rattle.bt_net.specs.Terminals.{beam_at, are_names}
 use Rattle.bt_plan.specs.Reading.{Fault, Reading}
 use Rattle.bt_demand.specs.Traffic.{matrix_of, HasSumsTo}
-use Rattle.bt_plan.specs.TrafficText.{belongs_before, with_link, row_fits, column_fits, fitting, links_with, line_with, links_in, units_in, link_between, link_with, named_link, link_behind, AreRead}
+use Rattle.bt_plan.specs.TrafficText.{belongs_before, with_link, row_fits, column_fits, fitting, links_with, line_with, links_in, units_in, link_between, link_with, named_link, AreRead}
 use Rattle.bt_plan.specs.TerminalNames.{ends_in}
 use Rattle.bt_plan.proofs.Capped.{leb-capped, leb-one-capped, capped-small, cond-at_true, and_parts}
 use Rattle.bt_demand.proofs.Links.{before_trans, units_at}
@@ -190,14 +190,6 @@ by_number net at from to n (Some m) is =
 pub named_by_number : (net : Net) (at : ℕ) (from to units : List ℕ) (n : ℕ) → are_names from to ≡ true → Some n ≡ option_map capped (number_of units)
     → named_link net at from to units ≡ link_with net at from to n
 named_by_number net at from to units n named is = rw named (by_number net at from to n (number_of units) is)
-
--- three words stand behind `link`
-pub other_length : (net : Net) (at : ℕ) (ws : List (List ℕ)) → (length ws ≡ 3 → ⊥) → link_behind net at ws ≡ Err (T1, at)
-other_length net at [] other = refl
-other_length net at (a ∷ []) other = refl
-other_length net at (a ∷ b ∷ []) other = refl
-other_length net at (a ∷ b ∷ c ∷ []) other = absurd (other refl)
-other_length net at (a ∷ b ∷ c ∷ d ∷ rest) other = refl
 
 -- no link was read yet
 pub none_read : (net : Net) → 1 ≤ length net.beams → length net.beams ≤ 16 → AreRead net [] (replicate (length net.beams) (replicate (length net.beams) 0))

@@ -1,4 +1,5 @@
 pub mod Reading
+pub mod LineNumbers
 pub mod MatrixText
 pub mod ScheduleText
 pub mod ScheduleSpelling
@@ -6,3 +7,4 @@ pub mod TerminalNames
 pub mod PlanSpelling
 pub mod TrafficText
 pub mod PlanText
+pub mod LinkTable

@@ -1,6 +1,6 @@
 -- The text of a burst time plan for a network: its edition, its length, its critical line, its modes, its bursts, and `end`.
 use Rattle.std.specs.Prelude.{ℕ, ◌+◌, ◌==◌, ◌&&◌, ◌||◌, if◌then◌else◌, nat_le, nat_lt, codes, Bool, false, length, List, [], ◌∷◌, Option, Some, None, Ok, Err, option_map, option_and_then}
-use Rattle.bt_text.specs.Text.{words, lines}
+use Rattle.bt_text.specs.Text.{words, lines, is_word}
 use Rattle.bt_frame.specs.declared.mode.Mode.{Mode}
 use Rattle.bt_frame.specs.declared.numbers.EditionNo.{EditionNo}
 use Rattle.bt_frame.specs.declared.schedule.Critical.{Critical}
@@ -10,7 +10,8 @@ use Rattle.bt_demand.specs.declared.burst.Burst.{Burst}
 use Rattle.bt_demand.specs.declared.plan.Plan.{Plan}
 use Rattle.bt_plan.specs.declared.text_fault.TextCode.TheVariants.{P1, P2, P3}
 use Rattle.bt_plan.specs.Reading.{Reading}
-use Rattle.bt_plan.specs.ScheduleText.{is_word, number_to, length_in, critical_in, mode_in}
+use Rattle.bt_plan.specs.ScheduleText.{length_in, critical_in, mode_in}
+use Rattle.bt_text.specs.WordReader.{number_to}
 use Rattle.bt_plan.specs.TerminalNames.{ends_in}
 use Rattle.bt_net.specs.Terminals.{are_names}
 

@@ -1,8 +1,8 @@
 -- The text of a switching schedule for so many beams: its length, its critical line, its modes, and `end`.
-use Rattle.std.specs.Prelude.{ℕ, ◌+◌, ◌==◌, ◌&&◌, if◌then◌else◌, nat_le, nat_lt, codes, Bool, length, List, [], ◌∷◌, Option, Some, None, Ok, Err, option_and_then}
+use Rattle.std.specs.Prelude.{ℕ, ◌+◌, ◌==◌, ◌&&◌, if◌then◌else◌, nat_le, nat_lt, codes, length, List, [], ◌∷◌, Option, Some, None, Ok, Err, option_and_then}
 use Rattle.std.specs.List.{list_all}
-use Rattle.std.specs.Str.{bytes_eq}
-use Rattle.bt_text.specs.Text.{words, lines, number_of, numbers_of}
+use Rattle.bt_text.specs.Text.{words, lines, is_word, number_of, numbers_of}
+use Rattle.bt_text.specs.WordReader.{number_to}
 use Rattle.bt_frame.specs.declared.mode.Mode.{Mode}
 use Rattle.bt_frame.specs.declared.schedule.Critical.{Critical}
 use Rattle.bt_frame.specs.declared.schedule.Critical.TheVariants.{Row, Column}
@@ -10,14 +10,6 @@ use Rattle.bt_frame.specs.declared.schedule.Schedule.{Schedule}
 use Rattle.bt_plan.specs.declared.text_fault.TextCode.TheVariants.{M1}
 use Rattle.bt_text.specs.Reading.{◌>>=◌, or_fault}
 use Rattle.bt_plan.specs.Reading.{Reading}
-
--- the word is this one
-abbrev pub is_word : List ℕ → List ℕ → Bool
-is_word name word = bytes_eq word name
-
--- a number of at most `most`
-abbrev pub number_to : ℕ → List ℕ → Option ℕ
-number_to most word = option_and_then (λ n. if nat_le n most then Some n else None) (number_of word)
 
 -- `length L`
 abbrev pub length_in : List (List ℕ) → Option ℕ

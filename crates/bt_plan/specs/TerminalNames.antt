@@ -1,5 +1,5 @@
 -- Terminals as texts name them.
-use Rattle.std.specs.Prelude.{ℕ, ◌<◌, length, List, Ok}
+use Rattle.std.specs.Prelude.{ℕ, List, Ok}
 use Rattle.bt_text.specs.Reading.{◌>>=◌, or_fault}
 use Rattle.bt_net.specs.Network.{Net}
 use Rattle.bt_net.specs.Terminals.{terminal_of}
@@ -9,8 +9,3 @@ use Rattle.bt_plan.specs.Reading.{Fault, Reading}
 -- the terminals of two names, or the fault where no terminal has one of them
 abbrev pub ends_in : Net → Fault → List ℕ → List ℕ → Reading Ends
 ends_in net fault from to = or_fault fault (terminal_of net from) >>= λ f. or_fault fault (terminal_of net to) >>= λ t. Ok (f, t)
-
--- both ends are terminals of the network
-pub record AreTerminals (net : Net) (ends : Ends) : Type 0 where
-  pub sends : ends.0.0 < length net.terminals
-  pub receives : ends.1.0 < length net.terminals

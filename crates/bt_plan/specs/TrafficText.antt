@@ -1,6 +1,6 @@
 -- The text of a demand: a line for each link, in any order.
 use Rattle.std.specs.Prelude.{◌≡◌, ◌≢◌, ℕ, ◌+◌, ◌<◌, ◌≤◌, ◌==◌, ◌&&◌, ◌||◌, if◌then◌else◌, nat_le, nat_lt, codes, Bool, false, length, unwrap_or, option_map, List, [], ◌∷◌, Ok, Err}
-use Rattle.bt_text.specs.Text.{words, lines, number_of}
+use Rattle.bt_text.specs.Text.{words, lines, number_of, is_word}
 use Rattle.bt_frame.specs.declared.numbers.TermNo.{TermNo}
 use Rattle.bt_text.specs.Reading.{◌>>=◌, or_fault}
 use Rattle.bt_matrix.specs.Traffic.{row_sum, column_sum, IsTraffic}
@@ -10,7 +10,6 @@ use Rattle.bt_plan.specs.declared.text_fault.TextCode.TheVariants.{T1, T2, T3, T
 use Rattle.bt_demand.specs.Demand.{Ends, IsDemand, units_of}
 use Rattle.bt_net.specs.Terminals.{beam_at, are_names}
 use Rattle.bt_plan.specs.Reading.{Reading}
-use Rattle.bt_plan.specs.ScheduleText.{is_word}
 use Rattle.bt_plan.specs.TerminalNames.{ends_in}
 use Rattle.bt_demand.specs.Traffic.{matrix_of, AreOfNetwork}
 

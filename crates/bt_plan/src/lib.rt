@@ -1,14 +1,17 @@
 //! The texts of matrices, schedules, demands and burst time plans. It also gives out demands and plans, and their
 //! verdicts, which stand in crates of their own.
 //!
-//! `specs/MatrixText.antt`, `specs/ScheduleText.antt`, `specs/TrafficText.antt` and `specs/PlanText.antt` are the
-//! grammars, line by line, with the fault of each line; `specs/ScheduleSpelling.antt` and `specs/PlanSpelling.antt` have
-//! the one text of each schedule and of each plan, and `laws.rt` that there is no other.
+//! It stands on `bt_text` for lines and words, on `bt_net` for the names of terminals, and on the values of `bt_frame`,
+//! `bt_matrix` and `bt_demand`. Promises are in `specs/MatrixText.antt`, `specs/ScheduleText.antt`,
+//! `specs/TrafficText.antt` and `specs/PlanText.antt`, the grammars line by line with the fault of each line;
+//! `specs/TerminalNames.antt`, the ends that two names give; `specs/Reading.antt`, what a reader answers; and
+//! `specs/ScheduleSpelling.antt` and `specs/PlanSpelling.antt`, the one text of each schedule and of each plan.
+//! `laws.rt` says that there is no other. `specs/LineNumbers.antt` and `specs/LinkTable.antt` are for bodies alone.
 #![tactic(auto)]
 
 mod laws;
-mod lines;
-mod matrix_text;
+mod link_table;
+mod matrix_reader;
 mod names;
 mod plan_reader;
 mod plan_writer;
@@ -20,7 +23,7 @@ mod traffic_reader;
 pub use bt_demand::{Burst, Bursts, Demand, Link, MOST_BURSTS, Plan, traffic_of};
 pub use bt_verdict::{Verdict, check, check_modes};
 pub use laws::{plans_have_one_spelling, schedules_have_one_spelling};
-pub use matrix_text::read_matrix;
+pub use matrix_reader::read_matrix;
 pub use plan_reader::read_plan;
 pub use plan_writer::plan_text;
 pub use schedule_reader::read_schedule;

@@ -1,14 +1,13 @@
 -- Numbers: what words are, and how a number is spelled.
-use Rattle.std.proofs.Common.{zero, suc, ◌≡◌, ℕ, ◌+◌, ◌-◌, ◌^◌, ◌<◌, ◌≤◌, ◌==◌, Bool, true, false, Option, Some, None, IsSomeAnd, option_and_then, if◌then◌else◌, List, [], ◌∷◌, ◌++◌, map, length, get_or, drop, decimal, not, refl, sym, ap, ◌∙◌, add-one, append_assoc, arith, rules}
+use Rattle.std.proofs.Common.{zero, suc, ◌≡◌, ℕ, ◌-◌, ◌^◌, ◌<◌, ◌≤◌, ◌==◌, Bool, true, false, Option, Some, None, option_and_then, if◌then◌else◌, List, [], ◌∷◌, map, length, get_or, decimal, not, refl, sym, ap, ◌∙◌, arith, rules}
 use Rattle.std.specs.Char.{is_ascii_digit}
 use Rattle.std.specs.List.{All, list_all}
 use Rattle.std.specs.Option.{option_map}
 use Rattle.std.specs.Str.Parse.{digits_value}
-use Rattle.std.proofs.Math.Seq.{drop-cons}
 use Rattle.std.proofs.lemmas.Bool.Decides.{nat_tests}
 use Rattle.std.proofs.lemmas.Fmt.{decimal_is_IsNumeral, decimal-digits_value, decimal_digit, first_decimal}
-use Rattle.std.proofs.lemmas.List.{append-nil, drop_all, drop-map, length-map}
-use Rattle.std.proofs.lemmas.List.Elements.{All-head, All-map, All-same, All-tail, All-weaker}
+use Rattle.std.proofs.lemmas.List.{length-map}
+use Rattle.std.proofs.lemmas.List.Elements.{All-head, All-same, All-tail}
 use Rattle.std.proofs.lemmas.Str.Parse.{digits_value_short, IsNumeralModel, numerals_by_value}
 use Rattle.bt_text.specs.Text.{words, is_number, number_of, numbers_of, capped, spaced, lacks}
 use Rattle.bt_text.proofs.TextLines.{lacks-spaced, words-spaced, spaced-words}
@@ -94,40 +93,6 @@ length-numbers_of (word ∷ words) ns is =
     let (n, more, first, rest, whole) = front (number_of word) (numbers_of words) ns is in
     ap length whole ∙ ap suc (length-numbers_of words more rest)
 
--- what a capped number tells of the number
-pub number_of_from_capped : (number : Option ℕ) (n : ℕ) → n < 2 ^ 64 - 1 → Some n ≡ option_map capped number → number ≡ Some n
-number_of_from_capped None n small is = cc
-number_of_from_capped (Some m) n small is = let held : n ≡ capped m = cc in ap Some (omega arith)
-
-pub above_from_capped : (number : Option ℕ) (n k : ℕ) → k < n → Some n ≡ option_map capped number → IsSomeAnd number (λ m. k < m)
-above_from_capped None n k above is = cc
-above_from_capped (Some m) n k above is = let held : n ≡ capped m = cc in omega arith
-
-uncapped : (ms : List ℕ) → All (λ n. n < 2 ^ 64 - 1) (map capped ms) → map capped ms ≡ ms
-uncapped [] small = refl
-uncapped (m ∷ ms) small =
-    let first : capped m < 2 ^ 64 - 1 = All-head (λ n. n < 2 ^ 64 - 1) (capped m) (map capped ms) small in
-    let here : capped m ≡ m = omega arith in
-    rw (uncapped ms (All-tail (λ n. n < 2 ^ 64 - 1) (capped m) (map capped ms) small)) (ap (λ n. n ∷ ms) here)
-
-pub numbers_of_from_capped : (numbers : Option (List ℕ)) (ns : List ℕ) → All (λ n. n < 2 ^ 64 - 1) ns → Some ns ≡ option_map (map capped) numbers → numbers ≡ Some ns
-numbers_of_from_capped None ns small is = cc
-numbers_of_from_capped (Some ms) ns small is =
-    let held : ns ≡ map capped ms = cc in
-    ap Some (sym (uncapped ms (All-same (λ n. n < 2 ^ 64 - 1) (map capped ms) ns (sym held) small)) ∙ sym held)
-
-pub capped_from_numbers : (numbers : Option (List ℕ)) (ns : List ℕ) → Some ns ≡ option_map (map capped) numbers → IsSomeAnd numbers (λ ms. ns ≡ map capped ms)
-capped_from_numbers None ns is = cc
-capped_from_numbers (Some ms) ns is = cc
-
--- a number beyond a limit is still beyond it
-pub beyond_from_capped : (numbers : Option (List ℕ)) (ns : List ℕ) (most : ℕ) → Some ns ≡ option_map (map capped) numbers → (All (λ n. n ≤ most) ns → ⊥) → IsSomeAnd numbers (λ ms. All (λ n. n ≤ most) ms → ⊥)
-beyond_from_capped None ns most is beyond = cc
-beyond_from_capped (Some ms) ns most is beyond = λ within.
-    let held : ns ≡ map capped ms = cc in
-    let lowered = All-weaker (λ m. m ≤ most) (λ m. capped m ≤ most) (λ m low. omega arith) ms within in
-    beyond (All-same (λ n. n ≤ most) ns (map capped ms) held (All-map (λ n. n ≤ most) capped ms lowered))
-
 -- no digit is a byte of another kind
 pub lacks_from_digits : (byte : ℕ) (word : List ℕ) → is_ascii_digit byte ≡ false → list_all is_ascii_digit word ≡ true → lacks byte word ≡ true
 lacks_from_digits byte [] other digits = refl
@@ -157,51 +122,3 @@ line_from_numbers_of line ns small is = sym (spaced-words line) ∙ ap spaced (d
 
 pub lacks-number_line : (byte : ℕ) (ns : List ℕ) → (32 == byte) ≡ false → is_ascii_digit byte ≡ false → All (λ n. n < 2 ^ 64) ns → lacks byte (spaced (map decimal ns)) ≡ true
 lacks-number_line byte ns space digit small = lacks-spaced byte (map decimal ns) space ∙ lacks-decimals byte ns digit small
-
--- the numbers that the words are, as u64s hold them
-abbrev pub capped_numbers : List (List ℕ) → Option (List ℕ)
-capped_numbers words = option_map (map capped) (numbers_of words)
-
--- what the first word and the rest give together
-abbrev in_front : Option ℕ → Option (List ℕ) → Option (List ℕ)
-in_front first rest = option_and_then (λ n. option_map (λ ns. n ∷ ns) rest) first
-
-capped_both : (first : Option ℕ) (rest : Option (List ℕ)) → option_map (map capped) (option_and_then (λ n. option_and_then (λ ns. Some (n ∷ ns)) rest) first) ≡ in_front (option_map capped first) (option_map (map capped) rest)
-capped_both None rest = refl
-capped_both (Some n) None = refl
-capped_both (Some n) (Some ns) = refl
-
-none_from_capped : (ns : Option (List ℕ)) → option_map (map capped) ns ≡ None → ns ≡ None
-none_from_capped None is = refl
-none_from_capped (Some ns) is = cc
-
-pushed : (so_far : List ℕ) (n : ℕ) (rest : Option (List ℕ)) → option_map (λ ns. so_far ++ ns) (option_map (λ ns. n ∷ ns) rest) ≡ option_map (λ ns. so_far ++ n ∷ [] ++ ns) rest
-pushed so_far n None = refl
-pushed so_far n (Some ns) = ap Some (sym (append_assoc so_far (n ∷ []) ns))
-
--- as at a step of a loop over words x that are seen by v
-module _ {X : Type 0} (v : X → List ℕ) (xs : List X) (i : ℕ) (d : X) where
-  drop_at : i < length xs → drop i (map v xs) ≡ v (get_or xs i d) ∷ drop (i + 1) (map v xs)
-  drop_at within = rw (drop-map v i xs, drop-map v (i + 1) xs, add-one, drop-cons xs i d within)
-
-  capped_numbers-drop : i < length xs → capped_numbers (drop i (map v xs)) ≡ in_front (option_map capped (number_of (v (get_or xs i d)))) (capped_numbers (drop (i + 1) (map v xs)))
-  capped_numbers-drop within = ap capped_numbers (drop_at within) ∙ capped_both (number_of (v (get_or xs i d))) (numbers_of (drop (i + 1) (map v xs)))
-
-  -- one more number behind those so far
-  pub capped_numbers_more : (so_far : List ℕ) (n : ℕ) → i < length xs → Some n ≡ option_map capped (number_of (v (get_or xs i d))) → capped_numbers (map v xs) ≡ option_map (λ rest. so_far ++ rest) (capped_numbers (drop i (map v xs))) → capped_numbers (map v xs) ≡ option_map (λ rest. so_far ++ n ∷ [] ++ rest) (capped_numbers (drop (i + 1) (map v xs)))
-  capped_numbers_more so_far n within is whole =
-      let rest = capped_numbers (drop (i + 1) (map v xs)) in
-      let here : capped_numbers (drop i (map v xs)) ≡ in_front (Some n) rest = capped_numbers-drop within ∙ ap (λ o. in_front o rest) (sym is) in
-      whole ∙ ap (option_map (λ ns. so_far ++ ns)) here ∙ pushed so_far n rest
-
-  -- a word that is no number
-  pub numbers_of_stop : (so_far : List ℕ) → i < length xs → number_of (v (get_or xs i d)) ≡ None → capped_numbers (map v xs) ≡ option_map (λ rest. so_far ++ rest) (capped_numbers (drop i (map v xs))) → numbers_of (map v xs) ≡ None
-  numbers_of_stop so_far within is whole =
-      let here : capped_numbers (drop i (map v xs)) ≡ None = capped_numbers-drop within ∙ ap (λ o. in_front (option_map capped o) (capped_numbers (drop (i + 1) (map v xs)))) is in
-      none_from_capped (numbers_of (map v xs)) (whole ∙ ap (option_map (λ rest. so_far ++ rest)) here)
-
--- no word is left
-pub capped_numbers_end : {X : Type 0} (v : X → List ℕ) (xs : List X) (i : ℕ) (so_far : List ℕ) → length xs ≤ i → capped_numbers (map v xs) ≡ option_map (λ rest. so_far ++ rest) (capped_numbers (drop i (map v xs))) → Some so_far ≡ capped_numbers (map v xs)
-capped_numbers_end v xs i so_far past whole =
-    let none_left : drop i (map v xs) ≡ [] = drop_all i (map v xs) (omega (arith, length-map xs v)) in
-    sym (whole ∙ ap (λ rest. option_map (λ ns. so_far ++ ns) (capped_numbers rest)) none_left ∙ ap Some (append-nil so_far))

@@ -1,8 +1,9 @@
 //! Texts: numbers, words and lines, how each is spelled, and how a reader goes through them to the first fault.
 //!
-//! `specs/Text.antt` says what a number, a word and a line are, `specs/Reading.antt` how a reader goes on from part to
-//! part, `specs/WordReader.antt` what a reader of a line's words has in front of it, and `spelling.rt` that each is
-//! spelled in one way.
+//! It stands on the kit's `memchr` and `itoa`, and on `bt_frame` for want of memory alone. Promises are in
+//! `specs/Text.antt`, what a number, a word and a line are; `specs/Reading.antt`, how a reader goes on from part to part;
+//! and `specs/WordReader.antt`, what a reader of a line's words has in front of it. `spelling.rt` says that each is spelled
+//! in one way. In `specs/WordReader.antt` `digits_after` is for bodies alone.
 #![tactic(auto)]
 
 mod fault;
@@ -15,8 +16,5 @@ pub use spelling::{
     lines_have_one_text, number_lines_have_one_spelling, numbers_have_one_spelling,
     words_have_one_line,
 };
-pub use text::{
-    all_numbers, first_line, is_word, lines, next_line, number, number_of_digits, number_text,
-    words,
-};
+pub use text::{first_line, is_word, next_line, number, number_of_digits, number_text};
 pub use word_reader::WordReader;

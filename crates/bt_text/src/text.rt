@@ -4,7 +4,7 @@ ghost use Rattle.std.specs.List.{list_all, slice_split};
 ghost use Rattle.std.specs.Char.{is_ascii_digit};
 ghost use Rattle.std.specs.Option.{option_map};
 ghost use Rattle.std.specs.Str.Parse.{digits_value};
-ghost use Rattle.bt_text.specs.Text.{words, lines, is_word, number_of, number_of_digits, numbers_of, capped};
+ghost use Rattle.bt_text.specs.Text.{lines, is_word, number_of, number_of_digits, capped};
 
 use bt_frame::OutOfMemory;
 use itoa::Buffer;
@@ -61,26 +61,6 @@ fn digits(word: &[u8]) -> Option<u64>
     Some(number)
 }
 
-/// The numbers that the words are, each as `number` gives it; None where one of the words is no number.
-pub fn all_numbers(alloc: Global, words: &[&[u8]]) -> Result<Option<Vec<u64>>, OutOfMemory>
-    ensures value { IfOk result (λ found. option_map (λ v. v.items) found
-        ≡ option_map (map capped) (numbers_of (map (λ word. word.now) words.now))) }
-    ensures exact { IfOk result (λ found. IfSome found (λ v. All (λ n. n < 2 ^ 64 - 1) v.items
-        → numbers_of (map (λ word. word.now) words.now) ≡ Some v.items)) }
-    ensures count { IfOk result (λ found. IfSome found (λ v. vec_len v ≡ length words.now)) }
-    ensures none { IfOk result (λ found.
-        IfNone found (numbers_of (map (λ word. word.now) words.now) ≡ None)) }
-{
-    let mut numbers = Vec::with_capacity(alloc, words.len())?;
-    for word in words {
-        let Some(number) = number(word) else {
-            return Ok(None);
-        };
-        numbers.push(number)?;
-    }
-    Ok(Some(numbers))
-}
-
 /// Appends a number in decimal digits.
 pub fn number_text(alloc: Global, number: u64, out: &mut Vec<u8>) -> Result<(), OutOfMemory>
     ensures ok { OnOk result (out.new.items ≡ out.old.items ++ decimal number) }
@@ -113,28 +93,4 @@ pub fn first_line(text: &[u8]) -> Option<(&[u8], &[u8])>
 {
     let (_, end) = next_line(text, 0)?;
     Some((&text[..end], &text[end + 1..]))
-}
-
-/// The words of a line, cut at every single space.
-pub fn words(alloc: Global, line: &[u8]) -> Result<Vec<&[u8]>, OutOfMemory>
-    ensures words { IfOk result (λ v. map (λ word. word.now) v.items ≡ words line.now) }
-    ensures count { IfOk result (λ v. vec_len v ≡ length (words line.now)) }
-{
-    cut_at(alloc, line, b' ')
-}
-
-/// The lines of a text, cut at every newline: the last of them is what stands behind the last newline.
-pub fn lines(alloc: Global, text: &[u8]) -> Result<Vec<&[u8]>, OutOfMemory>
-    ensures lines { IfOk result (λ v. map (λ line. line.now) v.items ≡ lines text.now) }
-    ensures count { IfOk result (λ v. vec_len v ≡ length (lines text.now)) }
-{
-    cut_at(alloc, text, b'\n')
-}
-
-// What stands between the separators.
-fn cut_at(alloc: Global, bytes: &[u8], separator: u8) -> Result<Vec<&[u8]>, OutOfMemory>
-    ensures { IfOk result (λ v.
-        map (λ part. part.now) v.items ≡ slice_split (λ b. b == separator) bytes.now) }
-{
-    Ok(bytes.split(|byte| *byte == separator).collect(alloc)?)
 }

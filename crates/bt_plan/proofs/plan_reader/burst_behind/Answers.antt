@@ -1,8 +1,7 @@
--- words that are too few for a burst
-use Rattle.std.proofs.Common.{map, arith}
-use Rattle.std.proofs.lemmas.List.{length-map}
-use Rattle.bt_plan.proofs.PlanLines.{few_words}
+-- the numbers of a burst, and the words behind them
+use Rattle.std.proofs.Common.{arith}
+use Rattle.bt_plan.proofs.PlanLines.{burst_read}
 use Rattle.bt_plan.proofs.plan_reader.burst_behind.Goals as goal
 
-pub returns-in_default : goal.returns-in_default
-returns-in_default c = rw c.fault.ensures (few_words c.args.net.now c.args.at (map (λ word. word.now) c.args.words.now) (omega (arith, length-map c.args.words.now (λ word. word.now), c.in_default.len_below)))
+pub returns : goal.returns
+returns c = rw (burst_read c.args.net.now c.args.at c.in-Some.start c.in-Some-number_to.slots c.args.words c.number_to.new.self c.number_to-2.new.self c.in-Some.ensures.number c.in-Some.ensures.rest c.in-Some-number_to.ensures.number c.in-Some-number_to.ensures.rest (omega arith)) c.burst_between.ensures

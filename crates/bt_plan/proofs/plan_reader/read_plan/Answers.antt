@@ -17,4 +17,4 @@ returns-in_err-edition-clause-reading c =
 
 pub returns-clause-reading : goal.returns-clause-reading
 returns-clause-reading c =
-    rw (first_line_says 1 edition_in (length_behind c.args.net.now) (lines c.args.bytes.now) c.in-Some.line.now c.in-Some.rest.now c.in-Some.ensures.line, c.in_ok-edition.ensures) c.length_behind.ensures.reading
+    rw (first_line_says 1 edition_in (length_behind c.args.net.now) (lines c.args.bytes.now) c.in-Some.line.now c.in-Some.rest.now c.in-Some.ensures.line, c.in_ok-edition.ensures) c.read_from_length.ensures.reading

@@ -1,11 +1,16 @@
--- words that are too few or too many for a link
-use Rattle.std.proofs.Common.{map, arith}
-use Rattle.std.proofs.lemmas.List.{length-map}
-use Rattle.bt_plan.proofs.TrafficLines.{other_length}
+-- three words, and none behind them
+use Rattle.std.proofs.Common.{◌≡◌, ◌∷◌, [], ap, ◌∙◌}
+use Rattle.bt_text.proofs.Fronts.{front_word, no_word}
 use Rattle.bt_plan.proofs.traffic_reader.link_behind.Goals as goal
 
-pub returns-in-len4-up-clause-reading : goal.returns-in-len4-up-clause-reading
-returns-in-len4-up-clause-reading c = rw c.fault_at-in-len4-up.ensures (other_length c.args.net.now c.args.at (map (λ word. word.now) c.args.words.now) (λ three. omega (arith, three, length-map c.args.words.now (λ word. word.now), c.in-len4-up.len_at_least)))
-
-pub returns-in_default-clause-reading : goal.returns-in_default-clause-reading
-returns-in_default-clause-reading c = rw c.fault_at.ensures (other_length c.args.net.now c.args.at (map (λ word. word.now) c.args.words.now) (λ three. omega (arith, three, length-map c.args.words.now (λ word. word.now), c.in_default.len_below)))
+pub returns-clause-reading : goal.returns-clause-reading
+returns-clause-reading c =
+    let from = c.in-Some.from.now in
+    let to = c.in-Some-next.to.now in
+    let units = c.in-Some-next-2.units.now in
+    let first = front_word from c.args.words c.next.new.self c.in-Some.ensures.word c.in-Some.ensures.rest in
+    let second = front_word to c.next.new.self c.next-2.new.self c.in-Some-next.ensures.word c.in-Some-next.ensures.rest in
+    let third = front_word units c.next-2.new.self c.next-3.new.self c.in-Some-next-2.ensures.word c.in-Some-next-2.ensures.rest in
+    let none = no_word c.next-3.new.self c.if-not-is_done.ensures in
+    let whole : c.args.words ≡ from ∷ to ∷ units ∷ [] = first ∙ ap (λ ws. from ∷ ws) second ∙ ap (λ ws. from ∷ to ∷ ws) third ∙ ap (λ ws. from ∷ to ∷ units ∷ ws) none in
+    rw whole c.named_link.ensures.reading

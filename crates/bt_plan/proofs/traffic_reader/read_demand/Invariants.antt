@@ -6,9 +6,9 @@ use Rattle.bt_plan.proofs.traffic_reader.read_demand.Given as goal
 
 abbrev pub invariant-loop-line : goal.invariant-loop-line
 invariant-loop-line l = record {
-  reading : links_in l.net l.at l.demand (lines l.rest) ≡ links_in l.net 1 [] (lines l.bytes);
-  read : AreRead l.net l.demand l.matrix;
-  count : l.at ≡ 1 + length l.demand;
+  reading : links_in l.net l.at l.links (lines l.rest) ≡ links_in l.net 1 [] (lines l.bytes);
+  read : AreRead l.net l.links l.matrix;
+  count : l.at ≡ 1 + length l.links;
 }
 
 abbrev pub decreases-loop-line : goal.decreases-loop-line

@@ -1,0 +1,228 @@
+-- The links of a table: their slots, their order, and what a place that is written changes.
+use Rattle.std.proofs.Common.{◌≡◌, ◌≢◌, ℕ, zero, suc, ◌+◌, ◌*◌, ◌/◌, ◌%◌, ◌<◌, ◌≤◌, ◌==◌, ◌&&◌, if◌then◌else◌, Bool, true, false, cond, List, [], ◌∷◌, ◌++◌, length, get_or, set, replicate, take, All, refl, sym, ap, subst, ◌∙◌, arith}
+use Rattle.std.proofs.lemmas.Bool.Decides.{nat_tests}
+use Rattle.std.proofs.lemmas.List.{length-replicate, length-set, length-take, take_more}
+use Rattle.std.proofs.lemmas.List.Elements.{All-nil, All-cons}
+use Rattle.std.proofs.lemmas.List.Kept.{AllPairs-cons}
+use Rattle.std.proofs.lemmas.List.Sums.{sum_by-cons}
+use Rattle.bt_frame.specs.declared.limits.TheConstants.{SUM_LAST}
+use Rattle.bt_frame.specs.declared.numbers.TermNo.{TermNo}
+use Rattle.bt_demand.specs.declared.demand.Link.{Link}
+use Rattle.bt_demand.specs.Demand.{ends_of, IsBefore, IsLink, IsDemand, units_where, units_of, Gains}
+use Rattle.bt_demand.proofs.SameDemand.{same_demands}
+use Rattle.bt_plan.specs.LinkTable.{sender, receiver, link_at, with_place, links_from, IsPlace, ArePlaces, IsTable}
+
+-- what a place gives to the links that pass a test
+abbrev pub share : (TermNo → TermNo → Bool) → ℕ → ℕ → ℕ
+share test place units = if test (sender place) (receiver place) then units else 0
+
+nothing : (b : Bool) → cond {A = ℕ} b 0 0 ≡ 0
+nothing true = refl
+nothing false = refl
+
+-- the first place and the rest
+sum-place : (test : TermNo → TermNo → Bool) (place units : ℕ) (rest : List ℕ) → units_where test (links_from place (units ∷ rest)) ≡ share test place units + units_where test (links_from (place + 1) rest)
+unfolding links_from with_place
+sum-place test place zero rest = omega (arith, nothing (test (sender place) (receiver place)))
+sum-place test place (suc n) rest = sum_by-cons (λ (link : Link). if test link.from link.to then link.units else 0) (link_at place (suc n)) (links_from (place + 1) rest)
+
+no_links : (place : ℕ) → links_from place [] ≡ []
+unfolding links_from
+no_links place = refl
+
+sum-none : (test : TermNo → TermNo → Bool) (place : ℕ) → units_where test (links_from place []) ≡ 0
+sum-none test place = ap (units_where test) (no_links place)
+
+-- a place that asked for nothing now asks for units
+pub sum-set : (test : TermNo → TermNo → Bool) (place i at units : ℕ) (us : List ℕ) → at ≡ place + i → i < length us → get_or us i 0 ≡ 0
+    → units_where test (links_from place (set us i units)) ≡ units_where test (links_from place us) + share test at units
+sum-set test place i at units [] is within none = absurd (omega arith)
+sum-set test place zero at units (u ∷ us) is within none =
+    let here : at ≡ place = omega arith in
+    omega (arith, sum-place test place units us, sum-place test place u us, ap (λ (n : ℕ). share test place n) none, nothing (test (sender place) (receiver place)), ap (λ (n : ℕ). share test n units) here)
+sum-set test place (suc j) at units (u ∷ us) is within none =
+    omega (arith, sum-place test place u (set us j units), sum-place test place u us, sum-set test (place + 1) j at units us (omega arith) (omega arith) none)
+
+-- one place more
+pub sum-push : (test : TermNo → TermNo → Bool) (place at units : ℕ) (us : List ℕ) → at ≡ place + length us
+    → units_where test (links_from place (us ++ units ∷ [])) ≡ units_where test (links_from place us) + share test at units
+sum-push test place at units [] is =
+    let here : at ≡ place = omega arith in
+    omega (arith, sum-place test place units [], sum-none test place, sum-none test (place + 1), ap (λ (n : ℕ). share test n units) here)
+sum-push test place at units (u ∷ us) is =
+    omega (arith, sum-place test place u (us ++ units ∷ []), sum-place test place u us, sum-push test (place + 1) at units us (omega arith))
+
+-- the test of a link's ends
+abbrev pub has_ends : TermNo → TermNo → TermNo → TermNo → Bool
+has_ends from to a b = a.0 == from.0 && b.0 == to.0
+
+own_place : (from to : TermNo) (place units : ℕ) → place ≡ from.0 * 64 + to.0 → to.0 < 64 → share (has_ends from to) place units ≡ units
+own_place from to place units is small =
+    let sends : place / 64 ≡ from.0 = omega arith in
+    let receives : place % 64 ≡ to.0 = omega arith in
+    let both : has_ends from to (sender place) (receiver place) ≡ true = grind (arith, nat_tests) in
+    rw both refl
+
+other_place : (from to : TermNo) (place units : ℕ) → (place ≡ from.0 * 64 + to.0 → ⊥) → to.0 < 64 → share (has_ends from to) place units ≡ 0
+other_place from to place units other small =
+    let apart : place / 64 ≡ from.0 → place % 64 ≡ to.0 → ⊥ = λ sends receives. other (omega arith) in
+    let neither : has_ends from to (sender place) (receiver place) ≡ false = grind (arith, nat_tests, apart) in
+    rw neither refl
+
+-- places behind a link's place have none of its slots
+units-before : (from to : TermNo) (place : ℕ) (us : List ℕ) → from.0 * 64 + to.0 < place → to.0 < 64 → units_of (links_from place us) from to ≡ 0
+units-before from to place [] before small = sum-none (has_ends from to) place
+units-before from to place (u ∷ us) before small =
+    omega (arith, sum-place (has_ends from to) place u us, other_place from to place u (λ is. absurd (omega arith)) small, units-before from to (place + 1) us (omega arith) small)
+
+-- a link's slots stand at its place
+pub units-at : (from to : TermNo) (place i : ℕ) (us : List ℕ) → from.0 * 64 + to.0 ≡ place + i → to.0 < 64 → units_of (links_from place us) from to ≡ get_or us i 0
+units-at from to place i [] is small = sum-none (has_ends from to) place
+units-at from to place zero (u ∷ us) is small =
+    omega (arith, sum-place (has_ends from to) place u us, own_place from to place u (omega arith) small, units-before from to (place + 1) us (omega arith) small)
+units-at from to place (suc j) (u ∷ us) is small =
+    omega (arith, sum-place (has_ends from to) place u us, other_place from to place u (λ same. absurd (omega arith)) small, units-at from to (place + 1) j us (omega arith) small)
+
+-- the link of a place stands before those of the places behind it
+place_before : (p q u v : ℕ) → p < q → IsBefore (ends_of (link_at p u)) (ends_of (link_at q v))
+place_before p q u v before = record { from = omega arith; to = λ same. omega arith }
+
+behind : (p q u : ℕ) (us : List ℕ) → p < q → All (λ link. IsBefore (ends_of (link_at p u)) (ends_of link)) (links_from q us)
+unfolding links_from with_place
+behind p q u [] before = All-nil (λ (link : Link). IsBefore (ends_of (link_at p u)) (ends_of link))
+behind p q u (zero ∷ us) before = behind p (q + 1) u us (omega arith)
+behind p q u (suc n ∷ us) before =
+    All-cons (λ (link : Link). IsBefore (ends_of (link_at p u)) (ends_of link)) (link_at q (suc n)) (links_from (q + 1) us) (place_before p q u (suc n) before) (behind p (q + 1) u us (omega arith))
+
+none_IsDemand : IsDemand []
+none_IsDemand = record { ordered = λ i j d lt within. absurd (omega arith); each = All-nil IsLink }
+
+-- the links of a table are a demand
+pub places-IsDemand : (place : ℕ) (us : List ℕ) → ArePlaces place us → IsDemand (links_from place us)
+unfolding links_from with_place ArePlaces
+places-IsDemand place [] are = none_IsDemand
+places-IsDemand place (zero ∷ us) are = places-IsDemand (place + 1) us are.1
+places-IsDemand place (suc n ∷ us) are =
+    let rest = places-IsDemand (place + 1) us are.1 in
+    record {
+      ordered = AllPairs-cons (λ a b. IsBefore (ends_of a) (ends_of b)) (link_at place (suc n)) (links_from (place + 1) us) (behind place (place + 1) (suc n) us (omega arith)) rest.ordered;
+      each = All-cons IsLink (link_at place (suc n)) (links_from (place + 1) us) (record { differ = are.0.differ (omega arith); some = omega arith; few = are.0.few }) rest.each;
+    }
+
+-- a place is written
+pub set-ArePlaces : (place i at units : ℕ) (us : List ℕ) → at ≡ place + i → IsPlace at units → ArePlaces place us → ArePlaces place (set us i units)
+unfolding ArePlaces
+set-ArePlaces place i at units [] is one are = tt
+set-ArePlaces place zero at units (u ∷ us) is one are =
+    let here : at ≡ place = omega arith in
+    (subst (λ n. IsPlace n units) here one, are.1)
+set-ArePlaces place (suc j) at units (u ∷ us) is one are = (are.0, set-ArePlaces (place + 1) j at units us (omega arith) one are.1)
+
+-- a link's place is one of a table
+own_IsPlace : (from to : TermNo) (place units : ℕ) → place ≡ from.0 * 64 + to.0 → to.0 < 64 → from.0 ≢ to.0 → units ≤ 4096 → IsPlace place units
+own_IsPlace from to place units is small differ few = record {
+  differ = λ some same. differ (omega arith);
+  few = omega arith;
+}
+
+pub set-IsTable : (places : List ℕ) (place units : ℕ) (from to : TermNo) → place ≡ from.0 * 64 + to.0 → to.0 < 64 → from.0 ≢ to.0 → units ≤ 4096 → IsTable places → IsTable (set places place units)
+set-IsTable places place units from to is small differ few table = record {
+  size = length-set places place units ∙ table.size;
+  each = set-ArePlaces 0 place place units places (omega arith) (own_IsPlace from to place units is small differ few) table.each;
+}
+
+-- the link of its ends gains
+same_terminal : (a b : TermNo) → a.0 ≡ b.0 → a ≡ b
+same_terminal a b is = ap (λ (n : ℕ). record { 0 = n }) is
+
+own_share : (test : TermNo → TermNo → Bool) (from to : TermNo) (place units : ℕ) → place ≡ from.0 * 64 + to.0 → to.0 < 64 → share test place units ≡ (if test from to then units else 0)
+own_share test from to place units is small =
+    let sends : sender place ≡ from = same_terminal (sender place) from (omega arith) in
+    let receives : receiver place ≡ to = same_terminal (receiver place) to (omega arith) in
+    ap (λ (a : TermNo). if test a (receiver place) then units else 0) sends ∙ ap (λ (b : TermNo). if test from b then units else 0) receives
+
+pub gains-set : (places : List ℕ) (place units : ℕ) (from to : TermNo) → place ≡ from.0 * 64 + to.0 → to.0 < 64 → place < length places → get_or places place 0 ≡ 0
+    → Gains (links_from 0 places) (links_from 0 (set places place units)) from to units
+gains-set places place units from to is small within none test =
+    omega (arith, sum-set test 0 place place units places (omega arith) within none, own_share test from to place units is small)
+
+-- the first places
+pub take-ArePlaces : (place n : ℕ) (us : List ℕ) → ArePlaces place us → ArePlaces place (take n us)
+unfolding ArePlaces
+take-ArePlaces place zero us are = tt
+take-ArePlaces place (suc n) [] are = tt
+take-ArePlaces place (suc n) (u ∷ us) are = (are.0, take-ArePlaces (place + 1) n us are.1)
+
+-- places that ask for nothing
+pub empty-ArePlaces : (place n : ℕ) → ArePlaces place (replicate n 0)
+unfolding ArePlaces
+empty-ArePlaces place zero = tt
+empty-ArePlaces place (suc n) = (record { differ = λ some. absurd (omega arith); few = omega arith }, empty-ArePlaces (place + 1) n)
+
+-- the whole table, where no link was read
+pub empty_table : (places : List ℕ) (n : ℕ) → n ≡ 4096 → places ≡ replicate n 0 → IsTable places
+empty_table places n is same = record {
+  size = ap length same ∙ length-replicate n 0 ∙ is;
+  each = subst (ArePlaces 0) (sym same) (empty-ArePlaces 0 n);
+}
+
+pub empty-links : (place n : ℕ) → links_from place (replicate n 0) ≡ []
+unfolding links_from with_place
+empty-links place zero = refl
+empty-links place (suc n) = empty-links (place + 1) n
+
+-- a place of a table, and the links of the places before it
+place_is : (place i at : ℕ) (us : List ℕ) → at ≡ place + i → i < length us → ArePlaces place us → IsPlace at (get_or us i 0)
+unfolding ArePlaces
+place_is place i at [] is within are = absurd (omega arith)
+place_is place zero at (u ∷ us) is within are =
+    let here : place ≡ at = omega arith in
+    subst (λ n. IsPlace n u) here are.0
+place_is place (suc j) at (u ∷ us) is within are = place_is (place + 1) j at us (omega arith) (omega arith) are.1
+
+past_end : (us : List ℕ) (i : ℕ) → length us ≤ i → get_or us i 0 ≡ 0
+past_end [] i past = refl
+past_end (u ∷ us) zero past = absurd (omega arith)
+past_end (u ∷ us) (suc j) past = past_end us j (omega arith)
+
+-- so many of a table's places
+abbrev pub links_to : List ℕ → ℕ → List Link
+links_to places place = links_from 0 (take place places)
+
+to-IsDemand : (places : List ℕ) (place : ℕ) → IsTable places → IsDemand (links_to places place)
+to-IsDemand places place table = places-IsDemand 0 (take place places) (take-ArePlaces 0 place places table.each)
+
+sum-next : (test : TermNo → TermNo → Bool) (places : List ℕ) (place : ℕ) → place < length places
+    → units_where test (links_to places (place + 1)) ≡ units_where test (links_to places place) + share test place (get_or places place 0)
+sum-next test places place within =
+    let long : length (take place places) ≡ place = omega (arith, length-take place places) in
+    ap (λ (us : List ℕ). units_where test (links_from 0 us)) (take_more places place 0 within) ∙ sum-push test 0 place (get_or places place 0) (take place places) (omega arith)
+
+-- a place that asks for slots
+pub place_ends : (places : List ℕ) (place units : ℕ) → IsTable places → place < 4096 → 0 < units → units ≡ get_or places place 0 → place / 64 ≢ place % 64
+place_ends places place units table within some is =
+    (place_is 0 place place places (omega arith) (omega (arith, table.size)) table.each).differ (omega arith)
+
+pub place_fits : (places : List ℕ) (place units : ℕ) → IsTable places → place < 4096 → units ≡ get_or places place 0 → units_of (links_to places place) (sender place) (receiver place) + units ≤ SUM_LAST
+place_fits places place units table within is =
+    let few = (place_is 0 place place places (omega arith) (omega (arith, table.size)) table.each).few in
+    let none = units-at (sender place) (receiver place) 0 place (take place places) (omega arith) (omega arith) ∙ past_end (take place places) place (omega (arith, length-take place places)) in
+    omega (arith, few, none)
+
+-- the demand with the link of one more place
+pub next_place : (places : List ℕ) (place units : ℕ) (old new : List Link) → IsTable places → place < 4096 → units ≡ get_or places place 0 → old ≡ links_to places place
+    → IsDemand new → Gains old new (sender place) (receiver place) units → new ≡ links_to places (place + 1)
+next_place places place units old new table within is so_far is_new gains =
+    same_demands new (links_to places (place + 1)) is_new (to-IsDemand places (place + 1) table) (λ e.
+    let test = has_ends e.0 e.1 in
+    omega (arith, gains test, ap (λ (links : List Link). units_where test links) so_far, ap (λ (n : ℕ). share test place n) is, sum-next test places place (omega (arith, table.size))))
+
+-- and without one, where it asks for nothing
+pub same_place : (places : List ℕ) (place units : ℕ) (old : List Link) → IsTable places → place < 4096 → units ≡ get_or places place 0 → units ≡ 0 → old ≡ links_to places place → old ≡ links_to places (place + 1)
+same_place places place units old table within is none so_far =
+    so_far ∙ same_demands (links_to places place) (links_to places (place + 1)) (to-IsDemand places place table) (to-IsDemand places (place + 1) table) (λ e.
+    let test = has_ends e.0 e.1 in
+    omega (arith, ap (λ (n : ℕ). share test place n) (sym is ∙ none), nothing (test (sender place) (receiver place)), sum-next test places place (omega (arith, table.size))))
+
+pub no_place : (places : List ℕ) → links_to places 0 ≡ []
+no_place places = no_links 0

@@ -1,0 +1,11 @@
+-- a word is left behind the entries
+use Rattle.std.proofs.Common.{◌≡◌, ◌-◌, sym, ap, ◌∙◌, arith}
+use Rattle.bt_plan.specs.LineNumbers.{numbers_to}
+use Rattle.bt_plan.proofs.LineWords.{behind, numbers_past}
+use Rattle.bt_plan.proofs.matrix_reader.read_entries.Goals as goal
+
+pub returns-else-is_done : goal.returns-else-is_done
+returns-else-is_done c =
+    let so_far = c.loop.entries.items in
+    let none_left : c.args.size - c.loop.counter ≡ 0 = omega arith in
+    sym (sym c.loop.invariant.whole ∙ ap (λ k. behind so_far (numbers_to 4096 k c.loop.words)) none_left ∙ numbers_past 4096 so_far c.loop.words c.if-is_done.ensures)
