@@ -2,8 +2,8 @@
 //!
 //! It stands on the network, the demand and the journal's calls and replies, and is handed a store. `specs/Machine.antt`
 //! has the machine as a relation over the list of changes, with each sum taken afresh, and `specs/Book.antt` what
-//! contracts see of a book; these are promises. `specs/Records.antt` is for bodies alone. `laws.rt` has what holds of
-//! all histories.
+//! contracts see of a book, which a turn lock may hand round; these are promises. `specs/Records.antt` is for bodies
+//! alone. `laws.rt` has what holds of all histories.
 #![tactic(auto)]
 
 mod apply;
@@ -13,6 +13,7 @@ mod earlier;
 mod laws;
 mod lines;
 mod machine;
+mod object;
 mod occupancy;
 
 pub use book::Book;
