@@ -16,7 +16,7 @@ use Rattle.bt_world.specs.Event.{Opening, Event, Tick, Turn, Ordered, Deliver, F
 use Rattle.bt_world.specs.World.{plans, first_or, plan_of, modes_of, bursts_for, heard, held, holds, terminals, log}
 use Rattle.bt_world.specs.Air.{fore, where_held, bursts_in, transmits, IsAir, IsSafe, AreFlyable}
 use Rattle.bt_demand.specs.Flyable.{IsFlyable}
-use Rattle.bt_world.proofs.Tells.{IsNoneOr}
+use Rattle.bt_world.specs.Laws.{IsNoneOr}
 use Rattle.bt_world.proofs.Heard.{heard-right}
 use Rattle.bt_world.proofs.Pairs.{AllPairs-append, of_members, AllPairs-permutation}
 use Rattle.bt_world.proofs.Triples.{all_switched}

@@ -14,7 +14,8 @@ use Rattle.bt_air.specs.declared.sent.Sent.TheVariants as sends
 use Rattle.bt_air.specs.Orders.{fore_at}
 use Rattle.bt_world.specs.Event.{Opening, Event, Happening, Ticks, Turns, Orders, Hears, Shows, Resets, Restarts, Installs}
 use Rattle.bt_world.specs.World.{mark, plans, accepted, orders, kept, comes_to, log, joining_with, heard, heard_by}
-use Rattle.bt_world.proofs.Tells.{IsNoneOr, MayJoin}
+use Rattle.bt_world.proofs.Tells.{MayJoin}
+use Rattle.bt_world.specs.Laws.{IsNoneOr}
 use Rattle.bt_world.proofs.Joins.{Nothing, One, IsSoundIfAny, joined}
 use Rattle.bt_world.proofs.Standing.{Comes, comes, world-holds}
 

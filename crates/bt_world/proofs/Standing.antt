@@ -20,10 +20,11 @@ use Rattle.bt_switch.specs.Orders.{telling}
 use Rattle.bt_change.specs.Known.{known, is_later, later_of}
 use Rattle.bt_world.specs.World.{with_wanted}
 use Rattle.bt_world.specs.World.{mark, plans, accepted, wanted, orders, kept, noting, known_now, terminals, is_missing, is_asking, has_burst, plan_of, plans_for, order_again, last_plans, sent_by_act, sent_to_asking, sent_by_order, sent_by_satellite, sent_by_terminal, sent_with, sent, comes_to, log, joining_with, heard, holds}
-use Rattle.bt_world.specs.Laws.{IsRight, IsOrdered, AreAmong, Ascend}
+use Rattle.bt_world.specs.Laws.{IsRight, IsOrdered, TellsFront, AreAmong, Ascend}
 use Rattle.bt_world.proofs.Orders.{Settled, settled-later, free-past}
 use Rattle.bt_world.specs.Laws.{IsAmong}
-use Rattle.bt_world.proofs.Tells.{IsNoneOr, Tells, IsSound, MayJoin, tells-placed, sound-placed, tells-begun, sound-begun, tells-joined, sound-joined, tells-new}
+use Rattle.bt_world.proofs.Tells.{Tells, IsSound, MayJoin, tells-placed, sound-placed, tells-begun, sound-begun, tells-joined, sound-joined, tells-new}
+use Rattle.bt_world.specs.Laws.{IsNoneOr}
 use Rattle.bt_world.proofs.Joins.{Nothing, One, IsSoundIfAny, joined}
 
 -- the status that is kept, if one is
@@ -338,3 +339,18 @@ pub messages-ordered : (o : Opening) (events : List Event) → All (IsOrdered (o
 messages-ordered o events =
     let past = log o events in
     All-weaker (IsSound (orders o past) (accepted o past) (mark o past)) (IsOrdered (orders o past)) (is-ordered (orders o past) (accepted o past) (mark o past)) (sent o past) (world-holds o events).each
+
+-- each Status tells the edition in front
+tells-front : (placed taken : List Order) (now : ℕ) (one : Sent) → IsSound placed taken now one → TellsFront placed taken one
+tells-front placed taken now (sends.Load command edition) sound = tt
+tells-front placed taken now (sends.Arm command edition due) sound = tt
+tells-front placed taken now (sends.Status status) tells = tells.right
+tells-front placed taken now (sends.PlanFor to edition) sound = tt
+tells-front placed taken now (sends.Confirm from edition) sound = tt
+tells-front placed taken now (sends.Reference superframe in_force) sound = tt
+tells-front placed taken now (sends.Lost from) sound = tt
+
+pub statuses-tell : (o : Opening) (events : List Event) → All (TellsFront (orders o (log o events)) (accepted o (log o events))) (sent o (log o events))
+statuses-tell o events =
+    let past = log o events in
+    All-weaker (IsSound (orders o past) (accepted o past) (mark o past)) (TellsFront (orders o past) (accepted o past)) (tells-front (orders o past) (accepted o past) (mark o past)) (sent o past) (world-holds o events).each

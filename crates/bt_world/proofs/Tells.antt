@@ -14,11 +14,7 @@ use Rattle.std.specs.List.{list_any}
 use Rattle.bt_change.specs.Known.{is_unseen, known, told_fore}
 use Rattle.bt_switch.specs.Orders.{telling}
 use Rattle.bt_world.proofs.Orders.{Settled, told-fore_at, has_unseen-among, known-more}
-use Rattle.bt_world.specs.Laws.{IsAmong}
-
--- nothing is known, or this edition
-abbrev pub IsNoneOr : Option EditionNo → EditionNo → Type 0
-IsNoneOr found edition = (found ≡ None) ⊎ (found ≡ Some edition)
+use Rattle.bt_world.specs.Laws.{IsAmong, IsNoneOr}
 
 -- From its superframe on, what the status makes known is the edition in front by the orders that the satellite accepted.
 pub record Tells (orders accepted : List Order) (mark : ℕ) (status : Status) : Type 0 where

@@ -10,7 +10,7 @@ ghost use Rattle.bt_world.specs.Event.{Event, Happening, Opening};
 ghost use Rattle.bt_world.specs.Example.{a, a_burst, b, b_burst, calm, calm_sent, late, late_sent, late_until, lossy, opened, reset};
 ghost use Rattle.bt_world.specs.Fits.{IsWorld};
 ghost use Rattle.bt_world.specs.Ground.{Agrees, terminal};
-ghost use Rattle.bt_world.specs.Laws.{Ascend, IsOrdered, IsRight, AreAmong};
+ghost use Rattle.bt_world.specs.Laws.{AreAmong, Ascend, IsOrdered, IsRight, TellsFront};
 ghost use Rattle.bt_world.specs.Satellite.{BanksHold, satellite};
 ghost use Rattle.bt_world.specs.World.{accepted, bursts_for, heard, held, log, mark, modes_of, orders, plan_of, plans, sent};
 
@@ -24,6 +24,13 @@ pub fn orders_come_first()
     ensures sent { (o : Opening) (events : List Event) → All (IsOrdered (orders o (log o events))) (sent o (log o events)) }
     ensures accepted { (o : Opening) (events : List Event) → AreAmong (orders o (log o events)) (accepted o (log o events)) }
     ensures ascend { (o : Opening) (events : List Event) → Ascend (accepted o (log o events)) }
+{}
+
+/// From its superframe on, whatever happens afterwards, each Status that was sent makes nothing known to the centre, or
+/// the edition in front.
+pub fn statuses_stay_true()
+    ensures { (o : Opening) (events : List Event)
+        → All (TellsFront (orders o (log o events)) (accepted o (log o events))) (sent o (log o events)) }
 {}
 
 /// Each Reference names none, or the edition in front in its superframe.

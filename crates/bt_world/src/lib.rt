@@ -12,5 +12,5 @@ mod laws;
 
 pub use laws::{
     banks_hold_plans, frames_are_safe, orders_come_first, references_are_right, satellite_is_said,
-    some_worlds_change, terminals_are_said, transmissions_are_said,
+    some_worlds_change, statuses_stay_true, terminals_are_said, transmissions_are_said,
 };

@@ -1,0 +1,5 @@
+use Rattle.bt_world.proofs.Standing.{statuses-tell}
+use Rattle.bt_world.proofs.laws.statuses_stay_true.Goals as goal
+
+pub returns : goal.returns
+returns c = λ o events. statuses-tell o events
