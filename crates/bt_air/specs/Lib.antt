@@ -4,3 +4,4 @@ pub mod MessageText
 pub mod Spelling
 pub mod Range
 pub mod Orders
+pub mod Editions

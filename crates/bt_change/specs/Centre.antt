@@ -8,10 +8,11 @@ use Rattle.bt_frame.specs.declared.numbers.TermSet.{TermSet}
 use Rattle.bt_air.specs.declared.order.Order.{Order}
 use Rattle.bt_air.specs.declared.order.Status.{Status}
 use Rattle.bt_air.specs.declared.sent.Act.{Act}
+use Rattle.bt_air.specs.Editions.{names}
 use Rattle.bt_air.specs.Orders.{command_of}
 use Rattle.bt_change.specs.Terminals.{no_terminal, has, with_terminal, without_terminal}
 use Rattle.bt_change.specs.Last.{last_order, is_load_of, is_load}
-use Rattle.bt_change.specs.Known.{known, later_of, names}
+use Rattle.bt_change.specs.Known.{known, later_of}
 use Rattle.bt_change.specs.declared.turn.Turn.{Turn}
 use Rattle.bt_change.specs.Turn.{act_of, waited_with, wanted_by}
 

@@ -31,8 +31,3 @@ is_later new old = nat_lt old.mark.0 new.mark.0 || (old.mark.0 == new.mark.0 && 
 abbrev pub later_of : Option Status → Status → Status
 later_of None new = new
 later_of (Some old) new = if is_later new old then new else old
-
--- this edition is the one named
-abbrev pub names : Option EditionNo → EditionNo → Bool
-names None edition = false
-names (Some named) edition = edition.0 == named.0

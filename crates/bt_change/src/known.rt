@@ -1,7 +1,8 @@
 // What the centre knows of the satellite by a status and by the orders placed.
 ghost use Rattle.std.specs.Prelude.{◌≡◌, Some};
 ghost use Rattle.std.specs.List.{list_any};
-ghost use Rattle.bt_change.specs.Known.{is_unseen, known, later_of, names, told_fore};
+ghost use Rattle.bt_air.specs.Editions.{names};
+ghost use Rattle.bt_change.specs.Known.{is_unseen, known, later_of, told_fore};
 
 use bt_air::{Order, Status};
 use bt_frame::{EditionNo, Mark};

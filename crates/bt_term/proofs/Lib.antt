@@ -1,3 +1,5 @@
 mod Rows
 mod Silence
 mod Distinct
+pub mod Ground
+mod ByEvents

@@ -1,5 +1,5 @@
 -- Runs of a terminal: messages that it hears, each in a superframe, and restarts, in any order.
-use Rattle.std.specs.Prelude.{◌≡◌, ◌≢◌, List, [], ◌∷◌, Option, Some, None}
+use Rattle.std.specs.Prelude.{◌≡◌, ◌≢◌, List, [], ◌∷◌, ◌++◌, Option, Some, None}
 use Rattle.bt_frame.specs.declared.numbers.Mark.{Mark}
 use Rattle.bt_demand.specs.declared.burst.Burst.{Burst}
 use Rattle.bt_air.specs.declared.message.Message.{Message}
@@ -21,6 +21,11 @@ after_event s Restarts = new_of s.number
 abbrev pub state_after : State → List TerminalEvent → State
 state_after s [] = s
 state_after s (event ∷ events) = state_after (after_event s event) events
+
+-- the events from the first on, of those from the latest on
+abbrev pub oldest_first : List TerminalEvent → List TerminalEvent
+oldest_first [] = []
+oldest_first (event ∷ earlier) = oldest_first earlier ++ event ∷ []
 
 -- the message is the reference burst of a superframe
 abbrev pub IsReferenceOf : Mark → Message → Type 0

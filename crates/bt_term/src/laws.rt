@@ -7,7 +7,8 @@ ghost use Rattle.bt_demand.specs.declared.burst.Burst.{Burst};
 ghost use Rattle.bt_air.specs.declared.message.Message.{Message};
 ghost use Rattle.bt_term.specs.Banks.{hold};
 ghost use Rattle.bt_term.specs.Terminal.{State, new_of, in_force, step_of, sent};
-ghost use Rattle.bt_term.specs.Run.{TerminalEvent, TakesReference, AreDistinct, a_frame, state_after};
+ghost use Rattle.bt_term.specs.Run.{TerminalEvent, TakesReference, AreDistinct, a_frame, oldest_first, state_after};
+ghost use Rattle.bt_term.specs.Said.{Agrees, NeverFalls, heard_in, held_after};
 
 use bt_air::{Heard, Message};
 
@@ -30,6 +31,13 @@ pub fn bursts_in_force_stay()
     ensures { (s : State) (mark : Mark) (named : EditionNo) (to : TermNo) (edition : EditionNo) (bursts : List Burst)
         → in_force s.heard mark ≡ Some named → hold s.banks named ≡ true
         → sent (step_of s mark (Message.PlanFor to edition bursts)).1 mark ≡ sent s mark }
+{}
+
+/// What a terminal has heard in the present superframe, and the editions of which it holds its bursts, are said by its
+/// events alone, where superframes never fall. Here the latest event stands first.
+pub fn terminals_are_said_by_events()
+    ensures { (number : TermNo) (now : ℕ) (latest : List TerminalEvent) → NeverFalls now latest
+        → Agrees number now (heard_in now latest) (held_after number latest) (state_after (new_of number) (oldest_first latest)) }
 {}
 
 /// No run brings one edition into both banks.
