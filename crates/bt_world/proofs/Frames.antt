@@ -13,7 +13,8 @@ use Rattle.bt_demand.specs.declared.plan.Plan.{Plan}
 use Rattle.bt_demand.specs.Plan.{IsHeld, ShareABeam, Meet, all_triples}
 use Rattle.bt_demand.specs.Apart.{Collide, AreApart}
 use Rattle.bt_world.specs.Event.{Opening, Event, Tick, Turn, Ordered, Deliver, Frame, ResetTerminal, RestartCentre, Install}
-use Rattle.bt_world.specs.World.{plans, first_or, plan_of, modes_of, bursts_for, heard, held, holds, terminals, log}
+use Rattle.bt_world.specs.World.{plans, first_or, plan_of, modes_of, bursts_for, heard, held, terminals, log}
+use Rattle.bt_term.specs.Said.{holds}
 use Rattle.bt_world.specs.Air.{fore, where_held, bursts_in, transmits, IsAir, IsSafe, AreFlyable}
 use Rattle.bt_demand.specs.Flyable.{IsFlyable}
 use Rattle.bt_world.specs.Laws.{IsNoneOr}

@@ -26,7 +26,8 @@ use Rattle.bt_term.specs.Terminal.{State, new_of, step_of, is_for_another, havin
 use Rattle.bt_world.specs.Event.{Opening, Event, Tick, Turn, Ordered, Deliver, Frame, ResetTerminal, RestartCentre, Install, Happening, Ticks, Turns, Orders, Hears, Shows, Resets, Restarts, Installs}
 use Rattle.bt_world.specs.World.{mark, plans, plan_of, bursts_for, has_burst, message_of, wanted, orders, heard, known_now, terminals, is_missing, is_missing_of, is_confirmed, plans_for, order_again, last_plans, sent_by_act, sent_to_asking, sent_by_order, sent_by_satellite, sent_by_terminal, sent_by_hearing, sent_with, sent, log, act}
 use Rattle.bt_world.specs.Air.{where_held, bursts_in, transmits}
-use Rattle.bt_world.specs.Ground.{after_hearing, terminal, editions_in, IsFilledInOrder}
+use Rattle.bt_world.specs.Ground.{after_hearing, terminal}
+use Rattle.bt_term.specs.Said.{editions_in, IsFilledInOrder}
 use Rattle.bt_world.proofs.Banks.{plan-stays}
 use Rattle.bt_world.proofs.Ground.{terminal-agrees}
 

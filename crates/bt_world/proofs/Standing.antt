@@ -19,7 +19,8 @@ use Rattle.bt_world.specs.Event.{Opening, Event, Tick, Turn, Ordered, Deliver, F
 use Rattle.bt_switch.specs.Orders.{telling}
 use Rattle.bt_change.specs.Known.{known, is_later, later_of}
 use Rattle.bt_world.specs.World.{with_wanted}
-use Rattle.bt_world.specs.World.{mark, plans, accepted, wanted, orders, kept, noting, known_now, terminals, is_missing, is_asking, has_burst, plan_of, plans_for, order_again, last_plans, sent_by_act, sent_to_asking, sent_by_order, sent_by_satellite, sent_by_terminal, sent_with, sent, comes_to, log, joining_with, heard, holds}
+use Rattle.bt_world.specs.World.{mark, plans, accepted, wanted, orders, kept, noting, known_now, terminals, is_missing, is_asking, has_burst, plan_of, plans_for, order_again, last_plans, sent_by_act, sent_to_asking, sent_by_order, sent_by_satellite, sent_by_terminal, sent_with, sent, comes_to, log, joining_with, heard}
+use Rattle.bt_term.specs.Said.{holds}
 use Rattle.bt_world.specs.Laws.{IsRight, IsOrdered, TellsFront, AreAmong, Ascend}
 use Rattle.bt_world.proofs.Orders.{Settled, settled-later, free-past}
 use Rattle.bt_world.specs.Laws.{IsAmong}

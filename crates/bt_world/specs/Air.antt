@@ -14,7 +14,8 @@ use Rattle.bt_demand.specs.Flyable.{IsFlyable}
 use Rattle.bt_air.specs.Orders.{fore_at}
 use Rattle.bt_switch.specs.Slots.{HasSlot}
 use Rattle.bt_world.specs.Event.{Opening, Event, Install, Happening}
-use Rattle.bt_world.specs.World.{mark, plans, accepted, heard, held, holds, plan_of, bursts_for, terminals}
+use Rattle.bt_world.specs.World.{mark, plans, accepted, heard, held, plan_of, bursts_for, terminals}
+use Rattle.bt_term.specs.Said.{holds}
 
 -- the edition in front
 abbrev pub fore : Opening → List Happening → EditionNo

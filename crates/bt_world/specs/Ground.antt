@@ -1,14 +1,11 @@
 -- The terminals of a world: the state of each.
-use Rattle.std.specs.Prelude.{◌≡◌, ℕ, ◌≤◌, ◌==◌, if◌then◌else◌, List, [], ◌∷◌, Option, Some, None}
-use Rattle.bt_frame.specs.declared.numbers.EditionNo.{EditionNo}
+use Rattle.std.specs.Prelude.{ℕ, ◌==◌, if◌then◌else◌, List, [], ◌∷◌, Option, Some, None}
 use Rattle.bt_frame.specs.declared.numbers.TermNo.{TermNo}
 use Rattle.bt_demand.specs.declared.plan.Plan.{Plan}
 use Rattle.bt_air.specs.declared.sent.Place.{Place}
 use Rattle.bt_air.specs.declared.sent.Place.TheVariants.{Terminal}
 use Rattle.bt_air.specs.declared.sent.Sent.{Sent}
-use Rattle.bt_term.specs.declared.bank.Bank.{Bank}
-use Rattle.bt_term.specs.declared.reference.Reference.{Reference}
-use Rattle.bt_term.specs.Terminal.{State, new_of, step_of, in_force}
+use Rattle.bt_term.specs.Terminal.{State, new_of, step_of}
 use Rattle.bt_world.specs.Event.{Opening, Happening, Hears, Resets}
 use Rattle.bt_world.specs.World.{mark, plans, message_of}
 
@@ -27,27 +24,3 @@ terminal o [] number = new_of number
 terminal o (Hears sent place ∷ past) number = after_delivery (terminal o past number) number (mark o past) (plans o past) sent place
 terminal o (Resets other ∷ past) number = if other.0 == number.0 then new_of number else terminal o past number
 terminal o (_ ∷ past) number = terminal o past number
-
--- the editions that banks hold
-abbrev pub editions_in : Option Bank → Option Bank → List EditionNo
-editions_in None second = []
-editions_in (Some first) None = first.edition ∷ []
-editions_in (Some first) (Some second) = first.edition ∷ second.edition ∷ []
-
--- the first bank is filled before the second
-abbrev pub IsFilledInOrder : Option Bank → Option Bank → Type 0
-IsFilledInOrder None (Some second) = ⊥
-IsFilledInOrder _ _ = Unit {0}
-
--- the Reference that was heard is of a superframe that has begun
-abbrev pub HasBegun : Option Reference → ℕ → Type 0
-HasBegun None now = Unit {0}
-HasBegun (Some reference) now = reference.superframe.0 ≤ now
-
--- the state of a terminal is what was heard and is held
-pub record Agrees (number : TermNo) (now : ℕ) (named : Option EditionNo) (editions : List EditionNo) (s : State) : Type 0 where
-  pub same : s.number ≡ number
-  pub begun : HasBegun s.heard now
-  pub heard : in_force s.heard (record { 0 = now }) ≡ named
-  pub filled : IsFilledInOrder s.banks.first s.banks.second
-  pub held : editions_in s.banks.first s.banks.second ≡ editions

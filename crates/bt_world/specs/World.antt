@@ -1,6 +1,6 @@
 -- A world as its events say it. Lists of events, of what they came to, of orders and of plans have the latest first;
 -- the list of messages has the first first, since messages are numbered.
-use Rattle.std.specs.Prelude.{ℕ, ◌+◌, ◌==◌, ◌&&◌, ◌||◌, nat_lt, not, if◌then◌else◌, max, Bool, true, false, List, [], ◌∷◌, ◌++◌, map, length, filter, slice_get, Option, Some, None}
+use Rattle.std.specs.Prelude.{ℕ, ◌+◌, ◌==◌, ◌&&◌, ◌||◌, not, if◌then◌else◌, max, Bool, true, false, List, [], ◌∷◌, ◌++◌, map, length, filter, slice_get, Option, Some, None}
 use Rattle.std.specs.List.{range_with_len, list_any}
 use Rattle.bt_frame.specs.declared.mode.Mode.{Mode}
 use Rattle.bt_frame.specs.declared.numbers.EditionNo.{EditionNo}
@@ -22,7 +22,9 @@ use Rattle.bt_world.specs.Event.{Opening, Event, Tick, Turn, Ordered, Deliver, F
 use Rattle.bt_switch.specs.Orders.{joining, telling}
 use Rattle.bt_demand.specs.Apart.{bursts_from}
 use Rattle.bt_change.specs.declared.turn.Turn.{Turn as Sight}
-use Rattle.bt_change.specs.Known.{known, later_of, names}
+use Rattle.bt_air.specs.Editions.{names}
+use Rattle.bt_term.specs.Said.{holds, taking}
+use Rattle.bt_change.specs.Known.{known, later_of}
 use Rattle.bt_change.specs.Last.{last_order, is_load_of}
 use Rattle.bt_change.specs.Turn.{act_of, one_more, wanted_by}
 
@@ -240,18 +242,6 @@ heard o (Resets other ∷ past) terminal = if other.0 == terminal.0 then None el
 heard o (Hears sent place ∷ past) terminal = heard_more (heard o past terminal) (mark o past) terminal sent place
 heard o (_ ∷ past) terminal = heard o past terminal
 
--- what is held in the place of the lower of two editions: one that is not less, unless the lower one is named
-abbrev pub giving : EditionNo → Option EditionNo → EditionNo → EditionNo
-giving low named edition = if nat_lt edition.0 low.0 then low else (if names named low then low else edition)
-
--- the editions that are held, with one more: at most two
-abbrev pub taking : List EditionNo → Option EditionNo → EditionNo → List EditionNo
-taking [] named edition = edition ∷ []
-taking (a ∷ []) named edition = if a.0 == edition.0 then a ∷ [] else a ∷ edition ∷ []
-taking (a ∷ b ∷ rest) named edition =
-    if a.0 == edition.0 || b.0 == edition.0 then a ∷ b ∷ rest
-    else (if nat_lt b.0 a.0 then a ∷ giving b named edition ∷ [] else giving a named edition ∷ b ∷ [])
-
 -- the editions that a terminal holds, once it has heard a message
 abbrev pub held_by : List EditionNo → Option EditionNo → TermNo → Option Sent → List EditionNo
 held_by before named terminal (Some (sends.PlanFor for edition)) = if for.0 == terminal.0 then taking before named edition else before
@@ -268,10 +258,6 @@ held o [] terminal = []
 held o (Resets other ∷ past) terminal = if other.0 == terminal.0 then [] else held o past terminal
 held o (Hears sent place ∷ past) terminal = held_more (held o past terminal) (heard o past terminal) terminal sent place
 held o (_ ∷ past) terminal = held o past terminal
-
--- this edition is held
-abbrev pub holds : List EditionNo → EditionNo → Bool
-holds editions edition = list_any (λ (one : EditionNo). one.0 == edition.0) editions
 
 -- a PlanFor to these terminals
 abbrev pub plans_for : List TermNo → EditionNo → List Sent

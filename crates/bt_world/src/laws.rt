@@ -9,7 +9,8 @@ ghost use Rattle.bt_world.specs.Air.{AreFlyable, IsAir, IsSafe, fore, transmits}
 ghost use Rattle.bt_world.specs.Event.{Event, Happening, Opening};
 ghost use Rattle.bt_world.specs.Example.{a, a_burst, b, b_burst, calm, calm_sent, late, late_sent, late_until, lossy, opened, reset};
 ghost use Rattle.bt_world.specs.Fits.{IsWorld};
-ghost use Rattle.bt_world.specs.Ground.{Agrees, terminal};
+ghost use Rattle.bt_term.specs.Said.{Agrees};
+ghost use Rattle.bt_world.specs.Ground.{terminal};
 ghost use Rattle.bt_world.specs.Laws.{AreAmong, Ascend, IsOrdered, IsRight, TellsFront};
 ghost use Rattle.bt_world.specs.Satellite.{BanksHold, satellite};
 ghost use Rattle.bt_world.specs.World.{accepted, bursts_for, heard, held, log, mark, modes_of, orders, plan_of, plans, sent};
