@@ -65,7 +65,7 @@ state_grows net opening history entry after step =
     ∙ ap running (sym (changes_grow opening history entry _ refl))
 
 -- after its first entry, a history goes on from what that made
-first_made : (changes : List Change) (first : Entry) (rest : List Entry)
+pub first_made : (changes : List Change) (first : Entry) (rest : List Entry)
     → changes ++ changes_of (first ∷ rest) ≡ (changes ++ as_list (change_made first.call first.reply)) ++ changes_of rest
 first_made changes first rest =
     ap (λ c. changes ++ c) (changes_of-cons first rest) ∙ sym (append_assoc changes (as_list (change_made first.call first.reply)) (changes_of rest))

@@ -6,3 +6,4 @@ pub mod Done
 pub mod Histories
 pub mod Entries
 pub mod Redone
+pub mod TurnLock

@@ -1,5 +1,5 @@
 -- What contracts see of a book, and its calls as steps of an object that a turn lock hands round.
-use Rattle.std.specs.Prelude.{◌≡◌, List}
+use Rattle.std.specs.Prelude.{◌≡◌, ℕ, List}
 use Rattle.std.proofs.Common.{subst, sym}
 use Rattle.bt_net.specs.Network.{Net}
 use Rattle.bt_line.specs.declared.object.Entry as line
@@ -28,3 +28,11 @@ line_entry entry = record { caller = entry.caller; call = entry.call; reply = en
 -- a call that names terminals of a network names those of an equal one
 pub test_stays : (old new : Net) (asked : Call) → new ≡ old → IsOfNetwork old asked → IsOfNetwork new asked
 test_stays old new asked same passes = subst (λ (net : Net). IsOfNetwork net asked) (sym same) passes
+
+-- the same, with the number of the caller, which no step asks for
+abbrev pub book_steps : {S : Type 0} → Books S → ℕ → Call → Reply → Books S → Type 0
+book_steps old caller asked reply new = BookStep old asked reply new
+
+-- an entry of a turn lock as the journal has it
+abbrev pub journal_entry : line.Entry Call Reply → Entry
+journal_entry entry = record { caller = entry.caller; call = entry.call; reply = entry.reply }

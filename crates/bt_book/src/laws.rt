@@ -1,12 +1,17 @@
 // What holds of histories, whatever the program does.
-ghost use Rattle.std.specs.Prelude.{◌≡◌, ◌++◌, ◌∷◌, [], List};
+ghost use Rattle.std.specs.Prelude.{◌≡◌, ◌++◌, ◌∷◌, [], List, map};
 ghost use Rattle.bt_net.specs.Network.{Net, IsSound};
 ghost use Rattle.bt_journal.specs.declared.call.Call.{Call};
 ghost use Rattle.bt_journal.specs.declared.call.Change.{Change};
 ghost use Rattle.bt_journal.specs.declared.entry.Entry.{Entry};
 ghost use Rattle.bt_journal.specs.declared.reply.Reply.{Reply};
 ghost use Rattle.bt_journal.specs.Journal.{changes_of};
-ghost use Rattle.bt_book.specs.Machine.{State, state_after, Follows, Legal, NamesBeams, Step};
+ghost use Rattle.bt_line.specs.declared.object.Entry as line;
+ghost use Rattle.bt_line.specs.Legal as line_legal;
+ghost use Rattle.bt_book.specs.Book.{Books, book_steps, journal_entry};
+ghost use Rattle.bt_book.specs.Machine.{running, State, state_after, Follows, Legal, NamesBeams, Step};
+
+use bt_base::Keeper;
 
 /// A legal history stays legal with one step more, from the state that it came to; and the state after it is then
 /// the one after that step.
@@ -23,6 +28,19 @@ pub fn histories_grow_by_steps()
 pub fn legal_changes_follow()
     ensures { (net : Net) (opening : List Change) (history : List Entry) → Follows net opening
         → Legal net opening history → Follows net (opening ++ changes_of history) }
+{}
+
+/// The history that a turn lock makes of a book's calls is one of the machine: legal from the changes at its start, and
+/// it leads to the state of the book at its end. The network and the store stay.
+pub fn lines_of_books_are_legal<K: Keeper>()
+    ensures legal { (start end : Books K) (opening : List Change) (log : List (line.Entry Call Reply))
+        → start.state ≡ running opening → line_legal.Legal book_steps start log end
+        → Legal start.net opening (map journal_entry log) }
+    ensures state { (start end : Books K) (opening : List Change) (log : List (line.Entry Call Reply))
+        → start.state ≡ running opening → line_legal.Legal book_steps start log end
+        → end.state ≡ state_after opening (map journal_entry log) }
+    ensures kept { (start end : Books K) (log : List (line.Entry Call Reply)) → line_legal.Legal book_steps start log end
+        → (end.net ≡ start.net) × (end.store ≡ start.store) }
 {}
 
 /// The beams that a reply names are the network's.
