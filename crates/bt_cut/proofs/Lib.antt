@@ -12,3 +12,4 @@ pub mod Plans
 pub mod Prefixes
 pub mod Served
 pub mod Tables
+pub mod Buckets

@@ -1,3 +1,4 @@
+pub mod Bucket
 pub mod Cutting
 pub mod Parts
 pub mod Serving

@@ -34,9 +34,10 @@ pub fn cut(
     ensures good_plan { IfOk result (λ plan. IsGoodPlan net.now demand.now plan) }
 {
     let bursts = bursts_of(alloc, net, demand, schedule.modes.as_slice())?;
+    let ordered = in_order(alloc, bursts)?;
     Ok(Plan {
         edition,
         schedule,
-        bursts: Bursts::of(in_order(bursts)),
+        bursts: Bursts::of(ordered),
     })
 }
