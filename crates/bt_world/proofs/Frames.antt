@@ -15,7 +15,7 @@ use Rattle.bt_demand.specs.Apart.{Collide, AreApart}
 use Rattle.bt_world.specs.Event.{Opening, Event, Tick, Turn, Ordered, Deliver, Frame, ResetTerminal, RestartCentre, Install}
 use Rattle.bt_world.specs.World.{plans, first_or, plan_of, modes_of, bursts_for, heard, held, terminals, log}
 use Rattle.bt_term.specs.Said.{holds}
-use Rattle.bt_world.specs.Air.{fore, where_held, bursts_in, transmits, IsAir, IsSafe, AreFlyable}
+use Rattle.bt_world.specs.Air.{fore, where_held, bursts_under, transmits, IsAir, IsSafe, AreFlyable}
 use Rattle.bt_demand.specs.Flyable.{IsFlyable}
 use Rattle.bt_world.specs.Laws.{IsNoneOr}
 use Rattle.bt_world.proofs.Heard.{heard-right}
@@ -50,15 +50,15 @@ plan_of-flyable net (plan ∷ earlier) edition flyable =
 
 -- a terminal transmits nothing, or its bursts of the plan in front
 held-one : (all : List Plan) (terminal : TermNo) (front : EditionNo) (test : Bool)
-    → (bursts_in all terminal (if test then Some front else None) ≡ []) ⊎ (bursts_in all terminal (if test then Some front else None) ≡ bursts_for terminal (plan_of all front))
+    → (bursts_under all terminal (if test then Some front else None) ≡ []) ⊎ (bursts_under all terminal (if test then Some front else None) ≡ bursts_for terminal (plan_of all front))
 held-one all terminal front true = inr refl
 held-one all terminal front false = inl refl
 
 one-transmits : (all : List Plan) (terminal : TermNo) (editions : List EditionNo) (named : Option EditionNo) (front : EditionNo) → IsNoneOr named front
-    → (bursts_in all terminal (where_held editions named) ≡ []) ⊎ (bursts_in all terminal (where_held editions named) ≡ bursts_for terminal (plan_of all front))
-one-transmits all terminal editions named front (inl none) = inl (ap (λ (n : Option EditionNo). bursts_in all terminal (where_held editions n)) none)
+    → (bursts_under all terminal (where_held editions named) ≡ []) ⊎ (bursts_under all terminal (where_held editions named) ≡ bursts_for terminal (plan_of all front))
+one-transmits all terminal editions named front (inl none) = inl (ap (λ (n : Option EditionNo). bursts_under all terminal (where_held editions n)) none)
 one-transmits all terminal editions named front (inr some) = subst
-    (λ (n : Option EditionNo). (bursts_in all terminal (where_held editions n) ≡ []) ⊎ (bursts_in all terminal (where_held editions n) ≡ bursts_for terminal (plan_of all front)))
+    (λ (n : Option EditionNo). (bursts_under all terminal (where_held editions n) ≡ []) ⊎ (bursts_under all terminal (where_held editions n) ≡ bursts_for terminal (plan_of all front)))
     (sym some) (held-one all terminal front (holds editions front))
 
 pub transmits-front : (o : Opening) (events : List Event) (terminal : TermNo)

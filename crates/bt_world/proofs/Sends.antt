@@ -25,7 +25,7 @@ use Rattle.bt_term.specs.Banks.{bank_of, bursts_of_bank as bank_bursts}
 use Rattle.bt_term.specs.Terminal.{State, new_of, step_of, is_for_another, having_heard, storing, bursts_named, sent as transmitted}
 use Rattle.bt_world.specs.Event.{Opening, Event, Tick, Turn, Ordered, Deliver, Frame, ResetTerminal, RestartCentre, Install, Happening, Ticks, Turns, Orders, Hears, Shows, Resets, Restarts, Installs}
 use Rattle.bt_world.specs.World.{mark, plans, plan_of, bursts_for, has_burst, message_of, wanted, orders, heard, known_now, terminals, is_missing, is_missing_of, is_confirmed, plans_for, order_again, last_plans, sent_by_act, sent_to_asking, sent_by_order, sent_by_satellite, sent_by_terminal, sent_by_hearing, sent_with, sent, log, act}
-use Rattle.bt_world.specs.Air.{where_held, bursts_in, transmits}
+use Rattle.bt_world.specs.Air.{where_held, bursts_under, transmits}
 use Rattle.bt_world.specs.Ground.{after_hearing, terminal}
 use Rattle.bt_term.specs.Said.{editions_in, IsFilledInOrder}
 use Rattle.bt_world.proofs.Banks.{plan-stays}
@@ -265,19 +265,19 @@ bank-bursts : (all : List Plan) (number : TermNo) (bank : Bank) (edition : Editi
 bank-bursts all number bank edition e is = is.bursts ∙ ap (λ (x : EditionNo). bursts_for number (plan_of all x)) (same-edition bank.edition edition e)
 
 one-bank : (all : List Plan) (number : TermNo) (a : Bank) (edition : EditionNo) (first : Bool) → (a.edition.0 == edition.0) ≡ first → IsBankOf all number a
-    → bank_bursts (bank_of (record { first = Some a; second = None }) edition) ≡ bursts_in all number (where_held (a.edition ∷ []) (Some edition))
+    → bank_bursts (bank_of (record { first = Some a; second = None }) edition) ≡ bursts_under all number (where_held (a.edition ∷ []) (Some edition))
 one-bank all number a edition true p is = rw p (bank-bursts all number a edition p is)
 one-bank all number a edition false p is = rw p refl
 
 two-banks : (all : List Plan) (number : TermNo) (a b : Bank) (edition : EditionNo) (first second : Bool) → (a.edition.0 == edition.0) ≡ first → (b.edition.0 == edition.0) ≡ second
     → IsBankOf all number a → IsBankOf all number b
-    → bank_bursts (bank_of (record { first = Some a; second = Some b }) edition) ≡ bursts_in all number (where_held (a.edition ∷ b.edition ∷ []) (Some edition))
+    → bank_bursts (bank_of (record { first = Some a; second = Some b }) edition) ≡ bursts_under all number (where_held (a.edition ∷ b.edition ∷ []) (Some edition))
 two-banks all number a b edition true second p q is also = rw p (bank-bursts all number a edition p is)
 two-banks all number a b edition false true p q is also = rw (p, q) (bank-bursts all number b edition q also)
 two-banks all number a b edition false false p q is also = rw (p, q) refl
 
 named-bursts : (all : List Plan) (number : TermNo) (first second : Option Bank) (named : Option EditionNo) → IsFilledInOrder first second → IsBank all number first → IsBank all number second
-    → bursts_named (record { first = first; second = second }) named ≡ bursts_in all number (where_held (editions_in first second) named)
+    → bursts_named (record { first = first; second = second }) named ≡ bursts_under all number (where_held (editions_in first second) named)
 named-bursts all number first second None filled is also = refl
 named-bursts all number None None (Some edition) filled is also = refl
 named-bursts all number None (Some b) (Some edition) filled is also = absurd filled
@@ -293,4 +293,4 @@ transmits-said o events number =
     let banks = world-banks o events number in
     ap (λ (n : Option EditionNo). bursts_named s.banks n) agrees.heard
     ∙ named-bursts (plans o past) number s.banks.first s.banks.second (heard o past number) agrees.filled banks.0 banks.1
-    ∙ ap (λ (list : List EditionNo). bursts_in (plans o past) number (where_held list (heard o past number))) agrees.held
+    ∙ ap (λ (list : List EditionNo). bursts_under (plans o past) number (where_held list (heard o past number))) agrees.held

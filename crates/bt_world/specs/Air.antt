@@ -27,13 +27,13 @@ where_held editions None = None
 where_held editions (Some edition) = if holds editions edition then Some edition else None
 
 -- the bursts of a terminal in the plan of an edition, if there is one
-abbrev pub bursts_in : List Plan → TermNo → Option EditionNo → List Burst
-bursts_in all terminal None = []
-bursts_in all terminal (Some edition) = bursts_for terminal (plan_of all edition)
+abbrev pub bursts_under : List Plan → TermNo → Option EditionNo → List Burst
+bursts_under all terminal None = []
+bursts_under all terminal (Some edition) = bursts_for terminal (plan_of all edition)
 
 -- what a terminal transmits: its bursts in the plan of the edition that it heard, where it holds that edition
 abbrev pub transmits : Opening → List Happening → TermNo → List Burst
-transmits o past terminal = bursts_in (plans o past) terminal (where_held (held o past terminal) (heard o past terminal))
+transmits o past terminal = bursts_under (plans o past) terminal (where_held (held o past terminal) (heard o past terminal))
 
 -- the bursts of a frame: those of all terminals, in order
 pub record IsAir (o : Opening) (past : List Happening) (bursts : List Burst) : Type 0 where
