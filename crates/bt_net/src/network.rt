@@ -125,17 +125,6 @@ impl Network {
         self.beams.name_of(beam.0 as usize)
     }
 
-    /// The terminal of a name.
-    pub fn find(&self, name: &str) -> Option<TermNo>
-        ensures number { option_map (λ t. t.0) result ≡ position (bytes_eq name.now) (names_of self.now.terminals) }
-        ensures none { IfNone result (¬ (Contains (names_of self.now.terminals) name.now)) }
-        ensures some { IfSome result (λ t. option_map (λ p. p.0) (slice_get self.now.terminals t.0) ≡ Some name.now) }
-        ensures in_range { IfSome result (λ t. t.0 < length self.now.terminals) }
-    {
-        let number = self.terminals.find(name)?;
-        Some(TermNo(number as u8))
-    }
-
     /// The terminal that a word names.
     pub fn terminal_named(&self, word: &[u8]) -> Option<TermNo>
         ensures terminal { result ≡ terminal_of self.now word.now }
