@@ -4,7 +4,6 @@ pub mod Words
 pub mod OneAnswer
 pub mod Printed
 pub mod Misspelt
-pub mod LegalHistories
-pub mod Playing
-pub mod Totals
 pub mod Named
+pub mod Runs
+pub mod Alone

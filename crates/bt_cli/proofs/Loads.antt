@@ -4,14 +4,14 @@ use Rattle.bt_base.specs.Told.{Rose}
 use Rattle.bt_cli.specs.declared.answer.Answer.{Answer}
 use Rattle.bt_cli.specs.declared.answer.Stop.{Stop}
 use Rattle.bt_cli.specs.declared.answer.Stop.TheVariants.{Early, OutOfMemory}
-use Rattle.bt_cli.specs.declared.history.History.{History}
 use Rattle.bt_net.specs.Network.{Net}
 use Rattle.bt_demand.specs.declared.demand.Link.{Link}
 use Rattle.bt_cli.specs.Kinds.{demand_file, plan_file}
 use Rattle.bt_cli.specs.Fitting.{Fits, WhereItFits}
 use Rattle.bt_cli.specs.CheckPlan.{ChecksPlanText, ChecksDemand, JudgesPlan}
+use Rattle.bt_centre.specs.Output.{Output}
 use Rattle.bt_cli.specs.Printing.{CameTo}
-use Rattle.bt_cli.specs.Outcome.{Outcome, Kind, IsLoaded, CannotRead, Loads, EndsBy}
+use Rattle.bt_cli.specs.Outcome.{Outcome, Kind, IsLoaded, CannotRead, Loads, StopsAtLoad, PrintsOneOf}
 
 -- a count that rose since a later moment rose since an earlier one
 pub Rose-sooner : (before between now : ℕ) → before ≤ between → Rose between now → Rose before now
@@ -24,15 +24,24 @@ CameTo-among P Q among (Ok answer) came = among _ came
 CameTo-among P Q among (Err (Early answer)) came = among _ came
 CameTo-among P Q among (Err OutOfMemory) came = tt
 
--- and what ended by one of these outcomes ended by one of those
-pub EndsBy-among : (P Q : Outcome → Type 0) → ((outcome : Outcome) → P outcome → Q outcome) → (L M : List History → Type 0) → ((histories : List History) → L histories → M histories) → (old new : Option (List ℕ)) (failed : Type 0) (status : ℕ) (histories : List History) → EndsBy P L old new failed status histories → EndsBy Q M old new failed status histories
-EndsBy-among P Q among L M left old new failed status histories (inl ended) = inl (ended.0, left histories ended.1)
-EndsBy-among P Q among L M left old new failed status histories (inr (outcome, so, same, printed)) = inr (outcome, among outcome so, same, printed)
+-- what was printed of one of these outcomes was one of those
+pub PrintsOneOf-among : (output : Output) (P Q : Outcome → Type 0) → ((outcome : Outcome) → P outcome → Q outcome) → (status : ℕ) → PrintsOneOf output P status → PrintsOneOf output Q status
+PrintsOneOf-among output P Q among status (inl none) = inl none
+PrintsOneOf-among output P Q among status (inr (outcome, so, printed)) = inr (outcome, among outcome so, printed)
 
 -- the same outcomes where fewer failures count
 pub CannotRead-sooner : (told : List ℕ → Option (List ℕ)) (later sooner : Type 0) → (later → sooner) → (name : List ℕ) (outcome : Outcome) → CannotRead told later name outcome → CannotRead told sooner name outcome
 CannotRead-sooner told later sooner rise name outcome (inl fault) = inl (rise fault.0, fault.1)
 CannotRead-sooner told later sooner rise name outcome (inr long) = inr long
+
+stops_sooner : {Value Fault : Type 0} (kind : Kind Value Fault) (told : List ℕ → Option (List ℕ)) (later sooner : Type 0) → (later → sooner) → (name : List ℕ) (outcome : Outcome) → StopsAtLoad kind told later name outcome → StopsAtLoad kind told sooner name outcome
+stops_sooner kind told later sooner rise name outcome (inl unread) = inl (CannotRead-sooner told later sooner rise name outcome unread)
+stops_sooner kind told later sooner rise name outcome (inr misspelt) = inr misspelt
+
+pub StopsAtLoad-moved : {Value Fault : Type 0} (kind : Kind Value Fault) (told now : List ℕ → Option (List ℕ)) (before between end : ℕ) (name : List ℕ) → now ≡ told → before ≤ between → (outcome : Outcome) → StopsAtLoad kind now (Rose between end) name outcome → StopsAtLoad kind told (Rose before end) name outcome
+StopsAtLoad-moved kind told now before between end name same sooner outcome so =
+    let P : (List ℕ → Option (List ℕ)) → Type 0 = λ held. StopsAtLoad kind held (Rose between end) name outcome in
+    stops_sooner kind told (Rose between end) (Rose before end) (Rose-sooner before between end sooner) name outcome (subst P same so)
 
 pub Loads-sooner : {Value Fault : Type 0} (kind : Kind Value Fault) (told : List ℕ → Option (List ℕ)) (later sooner : Type 0) → (later → sooner) → (name : List ℕ) (after : Value → Outcome → Type 0) (outcome : Outcome) → Loads kind told later name after outcome → Loads kind told sooner name after outcome
 Loads-sooner kind told later sooner rise name after outcome (inl (inl unread)) = inl (inl (CannotRead-sooner told later sooner rise name outcome unread))

@@ -1,5 +1,5 @@
 -- Where the files are told and no read failed, what is asked has one answer.
-use Rattle.std.proofs.Common.{◌≡◌, ℕ, ◌<◌, ◌≤◌, ◌⊎◌, inl, inr, List, length, Option, Some, Result, Ok, Err, sym, ap, ◌∙◌, subst, arith}
+use Rattle.std.proofs.Common.{◌≡◌, ℕ, ◌<◌, ◌≤◌, ◌⊎◌, inl, inr, List, length, Option, Some, None, Result, Ok, Err, sym, ap, ◌∙◌, subst, arith}
 use Rattle.bt_base.specs.Told.{Gives, IsLonger}
 use Rattle.bt_frame.specs.declared.schedule.Schedule.{Schedule}
 use Rattle.bt_verdict.specs.declared.verdict.Verdict.{Verdict}
@@ -12,13 +12,14 @@ use Rattle.bt_demand.specs.Demand.{IsDemand}
 use Rattle.bt_verdict.specs.PlanVerdict.{IsPlanVerdict}
 use Rattle.bt_demand.specs.Traffic.{matrix_of}
 use Rattle.bt_verdict.specs.Verdict.{IsVerdict}
-use Rattle.bt_cli.specs.CheckPlan.{plan_verdict_words, JudgesPlan, ChecksPlanText, ChecksDemand}
+use Rattle.bt_cli.specs.CheckPlan.{JudgesPlan, ChecksPlanText, ChecksDemand}
 use Rattle.bt_cli.specs.Fitting.{overload_words, Fits, NamesOverload, WhereItFits}
 use Rattle.bt_cli.specs.Plans.{PrintsPlan, PlansDemand}
-use Rattle.bt_cli.specs.Lines.{line_of, verdict_words}
+use Rattle.bt_timeline.specs.Lines.{line_of}
+use Rattle.bt_timeline.specs.Verdicts.{verdict_words}
 use Rattle.bt_cli.specs.Outcome.{Outcome, Kind, text_alone, IsContent, IsLoaded, Misspells, Loads}
 use Rattle.bt_cli.specs.Kinds.{matrix_file, schedule_file, network_file, demand_file, plan_file, script_file}
-use Rattle.bt_cli.specs.Run.{RunsScript, IsRun}
+use Rattle.bt_cli.specs.Run.{RunsScript, PrintsRun}
 use Rattle.bt_cli.specs.Check.{ChecksSchedule, Judges, verdict_status}
 use Rattle.bt_cli.specs.Modes.{PrintsSchedule}
 use Rattle.bt_cli.specs.Request.{Request, Faulty, CheckModes, CheckPlan, PlanModes, PlanDemand, RunScript}
@@ -100,7 +101,7 @@ OneVerdict = (rows : List (List ℕ)) (schedule : Schedule) (a b : Verdict) → 
 pub Judges-same : OneVerdict → (rows : List (List ℕ)) (schedule : Schedule) (a b : Outcome) → Judges rows schedule a → Judges rows schedule b → a ≡ b
 Judges-same law rows schedule a b (verdict, holds, says) (verdict', holds', says') =
     let one : verdict ≡ verdict' = law rows schedule verdict verdict' holds holds' in
-    says ∙ ap (λ v. text_alone (line_of (verdict_words v)) (verdict_status v)) one ∙ sym says'
+    says ∙ ap (λ v. text_alone (line_of (verdict_words None v)) (verdict_status v)) one ∙ sym says'
 
 -- a plan has at most one verdict for a demand
 abbrev pub OnePlanVerdict : Type 0
@@ -110,7 +111,7 @@ OnePlanVerdict = (net : Net) (links : List Link) (plan : Plan) (a b : Verdict) �
 pub JudgesPlan-same : OnePlanVerdict → (net : Net) (links : List Link) (plan : Plan) → (a b : Outcome) → JudgesPlan net links plan a → JudgesPlan net links plan b → a ≡ b
 JudgesPlan-same law net links plan a b one other =
     let same : one.verdict ≡ other.verdict = law net links plan one.verdict other.verdict one.demand one.is other.is in
-    one.says ∙ ap (λ v. text_alone (line_of (plan_verdict_words net v)) (verdict_status v)) same ∙ sym other.says
+    one.says ∙ ap (λ v. text_alone (line_of (verdict_words (Some net) v)) (verdict_status v)) same ∙ sym other.says
 
 -- a matrix has one heaviest line
 abbrev pub OneLine : Type 0
@@ -191,4 +192,4 @@ Answers-same laws told (PlanModes matrix) of_matrix a b first second =
 Answers-same laws told (PlanDemand net traffic) (of_net, of_traffic) a b first second =
     Loads-same AreAlike same_alike network_file told net of_net.0 of_net.1 (λ network. PlansDemand told ⊥ traffic network) (PlansDemand-same laws told traffic of_traffic) a b first second
 Answers-same laws told (RunScript net script _) (of_net, of_script) a b first second =
-    Loads-same AreAlike same_alike network_file told net of_net.0 of_net.1 (λ network. RunsScript told ⊥ script network) (λ network. Loads-same AreAlike same_alike (script_file network) told script of_script.0 of_script.1 (λ read. IsRun network read) (λ read a b one other. done_alike a b one.done other.done)) a b first second
+    Loads-same AreAlike same_alike network_file told net of_net.0 of_net.1 (λ network. RunsScript told ⊥ script network) (λ network. Loads-same AreAlike same_alike (script_file network) told script of_script.0 of_script.1 (λ read. PrintsRun network read) (λ read a b one other. done_alike a b one.1 other.1)) a b first second

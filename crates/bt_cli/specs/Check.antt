@@ -1,10 +1,10 @@
 -- `check MATRIX MODES`: the matrix is loaded, then the schedule, and the verdict is printed.
-use Rattle.std.specs.Prelude.{ℕ, List, length, Option}
+use Rattle.std.specs.Prelude.{ℕ, List, length, Option, None}
 use Rattle.bt_frame.specs.declared.schedule.Schedule.{Schedule}
 use Rattle.bt_verdict.specs.declared.verdict.Verdict.{Verdict}
 use Rattle.bt_verdict.specs.declared.verdict.Verdict.TheVariants.{Good}
 use Rattle.bt_verdict.specs.Verdict.{IsVerdict}
-use Rattle.bt_cli.specs.Lines.{verdict_words}
+use Rattle.bt_timeline.specs.Verdicts.{verdict_words}
 use Rattle.bt_cli.specs.Kinds.{matrix_file, schedule_file}
 use Rattle.bt_cli.specs.Outcome.{Outcome, Loads, Says}
 
@@ -15,7 +15,7 @@ verdict_status _ = 9
 
 -- the line of the verdict on the schedule
 abbrev pub Judges : List (List ℕ) → Schedule → Outcome → Type 0
-Judges rows schedule outcome = (verdict : Verdict) × IsVerdict rows schedule verdict × Says (verdict_words verdict) (verdict_status verdict) outcome
+Judges rows schedule outcome = (verdict : Verdict) × IsVerdict rows schedule verdict × Says (verdict_words None verdict) (verdict_status verdict) outcome
 
 -- the schedule is loaded, for as many beams as the matrix has, and judged
 abbrev pub ChecksSchedule : (List ℕ → Option (List ℕ)) → Type 0 → List ℕ → List (List ℕ) → Outcome → Type 0

@@ -1,35 +1,23 @@
 -- `check NET TRAFFIC PLAN`: the network is loaded, then the demand, then the plan, and the verdict is printed.
-use Rattle.std.specs.Prelude.{ℕ, ◌<◌, List, [], ◌∷◌, length, codes, decimal, Option}
+use Rattle.std.specs.Prelude.{ℕ, List, Option, Some}
 use Rattle.bt_net.specs.Network.{Net}
 use Rattle.bt_demand.specs.declared.demand.Link.{Link}
 use Rattle.bt_demand.specs.declared.plan.Plan.{Plan}
 use Rattle.bt_verdict.specs.declared.verdict.Verdict.{Verdict}
-use Rattle.bt_verdict.specs.declared.verdict.Verdict.TheVariants.{V7}
 use Rattle.bt_demand.specs.Demand.{IsDemand}
 use Rattle.bt_verdict.specs.PlanVerdict.{IsPlanVerdict}
-use Rattle.bt_net.specs.Terminals.{name_at}
 use Rattle.bt_cli.specs.Check.{verdict_status}
 use Rattle.bt_cli.specs.Fitting.{WhereItFits}
 use Rattle.bt_cli.specs.Kinds.{network_file, demand_file, plan_file}
-use Rattle.bt_cli.specs.Lines.{verdict_words}
+use Rattle.bt_timeline.specs.Verdicts.{verdict_words}
 use Rattle.bt_cli.specs.Outcome.{Outcome, Loads, Says}
-
--- the words of a verdict on a plan, which names terminals
-abbrev pub plan_verdict_words : Net → Verdict → List (List ℕ)
-plan_verdict_words net (V7 from to want have) = codes "V7" ∷ name_at net from ∷ name_at net to ∷ decimal want ∷ decimal have ∷ []
-plan_verdict_words net verdict = verdict_words verdict
-
--- the terminals that a verdict names are the network's
-abbrev pub NamesTheNetworks : Net → Verdict → Type 0
-NamesTheNetworks net (V7 from to want have) = (from.0 < length net.terminals) × (to.0 < length net.terminals)
-NamesTheNetworks net verdict = Unit {0}
 
 -- the line of the verdict on the plan, for links that are a demand
 pub record JudgesPlan (net : Net) (links : List Link) (plan : Plan) (outcome : Outcome) : Type 0 where
   pub demand : IsDemand links
   pub verdict : Verdict
   pub is : IsPlanVerdict net links plan verdict
-  pub says : Says (plan_verdict_words net verdict) (verdict_status verdict) outcome
+  pub says : Says (verdict_words (Some net) verdict) (verdict_status verdict) outcome
 
 -- the plan is loaded, and judged
 abbrev pub ChecksPlanText : (List ℕ → Option (List ℕ)) → Type 0 → List ℕ → Net → List Link → Outcome → Type 0

@@ -11,7 +11,5 @@ pub mod Modes
 pub mod Fitting
 pub mod Plans
 pub mod CheckPlan
-pub mod Timeline
 pub mod Run
-pub mod Progress
 pub mod Top

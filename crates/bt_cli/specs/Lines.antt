@@ -1,6 +1,5 @@
--- The lines that the program prints, each as its words.
-use Rattle.std.specs.Prelude.{ℕ, ◌++◌, List, [], ◌∷◌, codes, decimal}
-use Rattle.bt_frame.specs.declared.schedule.Critical.TheVariants.{Row, Column}
+-- The lines that name a fault, each as its words.
+use Rattle.std.specs.Prelude.{ℕ, List, [], ◌∷◌, codes, decimal}
 use Rattle.bt_net.specs.declared.fault.NetFault.{NetFault}
 use Rattle.bt_net.specs.declared.fault.NetFault.TheVariants as net_fault
 use Rattle.bt_net.specs.Fault.{path_text}
@@ -8,14 +7,6 @@ use Rattle.bt_script.specs.declared.fault.ScriptCode.{ScriptCode}
 use Rattle.bt_script.specs.declared.fault.ScriptCode.TheVariants.{S1, S2, S3, S4, S5}
 use Rattle.bt_plan.specs.declared.text_fault.TextCode.{TextCode}
 use Rattle.bt_plan.specs.declared.text_fault.TextCode.TheVariants.{X1, X2, M1, T1, T2, T3, T4, T5, P1, P2, P3}
-use Rattle.bt_verdict.specs.declared.verdict.Verdict.{Verdict}
-use Rattle.bt_verdict.specs.declared.verdict.Verdict.TheVariants.{Good, V1, V2, V3, V4, V5, V6, V7, V8}
-
--- the words of a line with a space between each two, and a newline behind the last
-abbrev pub line_of : List (List ℕ) → List ℕ
-line_of [] = 10 ∷ []
-line_of (word ∷ []) = word ++ 10 ∷ []
-line_of (word ∷ next ∷ rest) = word ++ 32 ∷ line_of (next ∷ rest)
 
 -- the code of a text's fault
 abbrev pub code_name : TextCode → List ℕ
@@ -56,16 +47,3 @@ script_code_name S5 = codes "S5"
 -- the words of a script's first fault, with its line
 abbrev pub script_fault : ScriptCode → ℕ → List (List ℕ)
 script_fault code line = codes "fault" ∷ script_code_name code ∷ decimal line ∷ []
-
--- the words of a verdict
-abbrev pub verdict_words : Verdict → List (List ℕ)
-verdict_words Good = codes "good" ∷ []
-verdict_words (V1 mode) = codes "V1" ∷ decimal mode ∷ []
-verdict_words (V2 mode) = codes "V2" ∷ decimal mode ∷ []
-verdict_words (V3 sum length) = codes "V3" ∷ decimal sum ∷ decimal length ∷ []
-verdict_words (V4 (Row up) sum) = codes "V4" ∷ codes "row" ∷ decimal up.0 ∷ decimal sum ∷ []
-verdict_words (V4 (Column down) sum) = codes "V4" ∷ codes "column" ∷ decimal down.0 ∷ decimal sum ∷ []
-verdict_words (V5 first second) = codes "V5" ∷ decimal first ∷ decimal second ∷ []
-verdict_words (V6 burst) = codes "V6" ∷ decimal burst ∷ []
-verdict_words (V7 from to want have) = codes "V7" ∷ decimal from.0 ∷ decimal to.0 ∷ decimal want ∷ decimal have ∷ []
-verdict_words (V8 up down want have) = codes "V8" ∷ decimal up.0 ∷ decimal down.0 ∷ decimal want ∷ decimal have ∷ []

@@ -3,19 +3,29 @@
 -- Possible outcomes are put together from 'what comes after' functions in the order of the work, so that each refusal
 -- stands where its step stands.
 use Rattle.std.specs.Prelude.{◌≡◌, ℕ, ◌≤◌, ◌⊎◌, List, [], ◌∷◌, length, codes, Option, Result, Err, Ok}
-use Rattle.bt_base.specs.Told.{Gives, IsLonger, gained, GainsPrefix}
-use Rattle.bt_cli.specs.declared.history.History.{History}
-use Rattle.bt_cli.specs.Lines.{line_of}
+use Rattle.bt_base.specs.Told.{Gives, IsLonger, Rose}
+use Rattle.bt_timeline.specs.Lines.{line_of}
+use Rattle.bt_centre.specs.Output.{Output, Prints}
 
--- what the work came to: the text to print, the status to end with, and the histories of a run
+-- what the work came to: the text to print, and the status to end with
 pub record Outcome : Type 0 where
   pub text : List ℕ
   pub status : ℕ
-  pub histories : List History
 
--- nothing was run, and a text is to be printed
+-- this text, with this status
 abbrev pub text_alone : List ℕ → ℕ → Outcome
-text_alone text status = record { text = text; status = status; histories = [] }
+text_alone text status = record { text = text; status = status }
+
+-- What the files tell at the start of a call: the bytes of each name; and how often they had failed at its start and
+-- at its end.
+pub record Input : Type 0 where
+  pub told : List ℕ → Option (List ℕ)
+  pub faults_before : ℕ
+  pub faults_after : ℕ
+
+-- a file could not be read in the call: the count of faults rose, or stands at its last value
+abbrev pub HasFailed : Input → Type 0
+HasFailed input = Rose input.faults_before input.faults_after
 
 -- one line of these words, with this status
 abbrev pub Says : List (List ℕ) → ℕ → Outcome → Type 0
@@ -56,14 +66,6 @@ Loads {Value} kind told failed name after outcome =
     StopsAtLoad kind told failed name outcome
     ⊎ ((value : Value) × IsLoaded kind told name value × after value outcome)
 
--- The text was written whole; or the sink failed, and a first part of the text was written.
-abbrev pub Prints : Option (List ℕ) → Option (List ℕ) → Type 0 → Outcome → ℕ → Type 0
-Prints old new failed outcome status =
-    ((new ≡ gained old outcome.text) × (status ≡ outcome.status))
-    ⊎ (failed × GainsPrefix old outcome.text new × (status ≡ 6))
-
--- memory ran out, and left these histories; or the work had one of these outcomes, and it was printed
-abbrev pub EndsBy : (Outcome → Type 0) → (List History → Type 0) → Option (List ℕ) → Option (List ℕ) → Type 0 → ℕ → List History → Type 0
-EndsBy Outcomes Leaves old new failed status histories =
-    ((status ≡ 1) × Leaves histories)
-    ⊎ ((outcome : Outcome) × Outcomes outcome × (histories ≡ outcome.histories) × Prints old new failed outcome status)
+-- memory ran out; or the work had one of these outcomes, and it was printed
+abbrev pub PrintsOneOf : Output → (Outcome → Type 0) → ℕ → Type 0
+PrintsOneOf output Outcomes status = (status ≡ 1) ⊎ ((outcome : Outcome) × Outcomes outcome × Prints output outcome.text outcome.status status)

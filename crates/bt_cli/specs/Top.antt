@@ -1,13 +1,13 @@
 -- The promise of the whole program: what it prints and the status that it ends with, for each command.
 use Rattle.std.specs.Prelude.{◌≡◌, ℕ, ◌⊎◌, List, [], ◌∷◌, codes, Option, Some}
-use Rattle.bt_cli.specs.declared.history.History.{History}
-use Rattle.bt_cli.specs.Outcome.{Outcome, Says, EndsBy}
+use Rattle.bt_centre.specs.Output.{Output}
+use Rattle.bt_cli.specs.Outcome.{Outcome, Input, HasFailed, Says, PrintsOneOf}
 use Rattle.bt_cli.specs.Request.{Request, Faulty, CheckModes, CheckPlan, PlanModes, PlanDemand, RunScript}
 use Rattle.bt_cli.specs.Check.{ChecksModes}
 use Rattle.bt_cli.specs.CheckPlan.{ChecksPlan}
 use Rattle.bt_cli.specs.Modes.{PrintsModes}
 use Rattle.bt_cli.specs.Plans.{Plans}
-use Rattle.bt_cli.specs.Run.{Runs, AreLegal}
+use Rattle.bt_cli.specs.Run.{End, EndsRun, Runs, RunsNothing}
 
 -- the outcome of what is asked, by the command
 abbrev pub Answers : (List ℕ → Option (List ℕ)) → Type 0 → Request → Outcome → Type 0
@@ -18,20 +18,27 @@ Answers told failed (PlanModes matrix) = PrintsModes told failed matrix
 Answers told failed (PlanDemand net traffic) = Plans told failed net traffic
 Answers told failed (RunScript net script _) = Runs told failed net script
 
--- the histories that stand where memory ran out: none, or legal ones of a run
-abbrev pub LeavesHistories : (List ℕ → Option (List ℕ)) → Request → List History → Type 0
-LeavesHistories told Faulty histories = histories ≡ []
-LeavesHistories told (CheckModes _ _) histories = histories ≡ []
-LeavesHistories told (CheckPlan _ _ _) histories = histories ≡ []
-LeavesHistories told (PlanModes _) histories = histories ≡ []
-LeavesHistories told (PlanDemand _ _) histories = histories ≡ []
-LeavesHistories told (RunScript net _ _) histories = AreLegal told net histories
+-- Memory ran out; or what is asked had one of its outcomes, and it was printed.
+abbrev pub Answered : Input → Output → Request → ℕ → Type 0
+Answered input output request status = PrintsOneOf output (Answers input.told (HasFailed input) request) status
 
--- Memory ran out; or what is asked had one of its outcomes, and it was printed. `read_failed` and `write_failed` say
--- that the count of faults of the files and of the sink rose.
-abbrev pub Ends : (List ℕ → Option (List ℕ)) → Type 0 → Option (List ℕ) → Option (List ℕ) → Type 0 → Request → ℕ → List History → Type 0
-Ends told read_failed written now_written write_failed request status histories =
-    EndsBy (Answers told read_failed request) (LeavesHistories told request) written now_written write_failed status histories
+-- a command that runs nothing was answered
+abbrev pub EndsAlone : {Store : Type 0} → Input → Output → Request → End Store → Type 0
+EndsAlone input output request end = RunsNothing end × Answered input output request end.status
+
+-- what is asked runs no script
+abbrev pub RunsNone : Request → Type 0
+RunsNone (RunScript _ _ _) = ⊥
+RunsNone _ = Unit {0}
+
+-- How the program ends: by the command that is asked for.
+abbrev pub Ends : {Store : Type 0} → Input → Output → Request → End Store → Type 0
+Ends input output Faulty end = EndsAlone input output Faulty end
+Ends input output (CheckModes matrix modes) end = EndsAlone input output (CheckModes matrix modes) end
+Ends input output (CheckPlan net traffic plan) end = EndsAlone input output (CheckPlan net traffic plan) end
+Ends input output (PlanModes matrix) end = EndsAlone input output (PlanModes matrix) end
+Ends input output (PlanDemand net traffic) end = EndsAlone input output (PlanDemand net traffic) end
+Ends input output (RunScript net script _) end = EndsRun input output net script end
 
 -- the file of that name is told
 abbrev pub IsTold : (List ℕ → Option (List ℕ)) → List ℕ → Type 0

@@ -1,9 +1,12 @@
 // What is to be printed, and the status that goes with it.
 ghost use Rattle.bt_cli.specs.declared.answer.Stop.TheVariants.{OutOfMemory};
-ghost use Rattle.std.specs.Prelude.{◌≡◌};
-ghost use Rattle.std.specs.String.{string_bytes};
+ghost use Rattle.std.specs.Prelude.{◌≡◌, map, IfOk};
+ghost use Rattle.bt_timeline.specs.Lines.{word_bytes};
+ghost use Rattle.bt_cli.specs.Answer.{AnswerIs, StopIs};
+ghost use Rattle.bt_cli.specs.Outcome.{Says};
 
-use std::alloc::AllocError;
+use bt_timeline::{Word, add_line};
+use std::alloc::{AllocError, Global};
 
 /// A text to print, its last newline included, and the status to end with.
 #[derive(Debug, Drop)]
@@ -13,15 +16,17 @@ pub struct Answer {
 }
 
 impl Answer {
-    /// One line, its newline included, and the status to end with.
-    pub fn line(line: String, status: u8) -> Answer
-        ensures text { result.text.items ≡ string_bytes line }
-        ensures status { result.status ≡ status }
+    /// One line of these words, and the status to end with.
+    pub fn says(
+        alloc: Global,
+        words: &[Word<'_>],
+        status: u8,
+    ) -> Result<Answer, bt_frame::OutOfMemory>
+        ensures { IfOk result (AnswerIs (Says (map word_bytes words.now) status)) }
     {
-        Answer {
-            text: line.into_bytes(),
-            status,
-        }
+        let mut text = Vec::new(alloc);
+        add_line(alloc, words, &mut text)?;
+        Ok(Answer { text, status })
     }
 }
 
@@ -32,6 +37,18 @@ pub enum Stop {
     Early(Answer),
     /// Memory ran out.
     OutOfMemory,
+}
+
+impl Stop {
+    /// One line of these words in the place of the command's own answer, and the status to end with.
+    pub fn says(alloc: Global, words: &[Word<'_>], status: u8) -> Stop
+        ensures { StopIs (Says (map word_bytes words.now) status) result }
+    {
+        match Answer::says(alloc, words, status) {
+            Ok(answer) => Stop::Early(answer),
+            Err(_) => Stop::OutOfMemory,
+        }
+    }
 }
 
 impl From<AllocError> for Stop {

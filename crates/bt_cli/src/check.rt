@@ -1,23 +1,25 @@
 // `check MATRIX MODES`.
-ghost use Rattle.std.specs.Prelude.{◌≡◌, map, codes, []};
+ghost use Rattle.std.specs.Prelude.{◌≡◌, map, codes, None};
 ghost use Rattle.std.specs.String.{string_bytes};
 ghost use Rattle.bt_base.specs.Told.{Rose};
 ghost use Rattle.bt_matrix.specs.Traffic.{IsLine, IsTraffic};
 ghost use Rattle.bt_cli.specs.Check.{ChecksModes, ChecksSchedule, Judges, verdict_status};
 ghost use Rattle.bt_cli.specs.Printing.{CameTo};
+ghost use Rattle.bt_timeline.specs.Verdicts.{CanName};
+ghost use Rattle.bt_verdict.specs.Verdict.{IsVerdict};
 ghost use Rattle.bt_cli.specs.Request.{first_word, request_of};
-ghost use Rattle.bt_cli.specs.Top.{Answers, Ends};
+ghost use Rattle.bt_cli.specs.Top.{Answered, Answers};
 
 use crate::answer::{Answer, Stop};
 use crate::check_plan::check_plan_files;
 use crate::faulty::faulty_words;
-use crate::lines::verdict_line;
 use crate::load::{load_matrix, load_schedule};
 use crate::print::print;
 use crate::request::{Command, command_of};
 use bt_base::{Files, Sink};
 use bt_frame::Schedule;
 use bt_matrix::{Dense, Traffic};
+use bt_timeline::verdict_text;
 use bt_verdict::{Verdict, check_modes};
 use std::alloc::Global;
 
@@ -33,9 +35,9 @@ pub fn check_command<F: Files, O: Sink>(
     out: &mut O,
 ) -> u8
     requires { first_word (map string_bytes words.now) ≡ Some (codes "check") }
-    ensures { Ends (F.told files.old) (Rose (F.fault_count files.old) (F.fault_count files.new))
-        (O.told out.old) (O.told out.new) (Rose (O.fault_count out.old) (O.fault_count out.new))
-        (request_of (map string_bytes words.now)) result [] }
+    ensures { Answered (record { told = F.told files.old; faults_before = F.fault_count files.old; faults_after = F.fault_count files.new })
+        (record { before = O.told out.old; after = O.told out.new; faults_before = O.fault_count out.old; faults_after = O.fault_count out.new })
+        (request_of (map string_bytes words.now)) result }
 {
     let outcome = check_words(alloc, words, files);
     print(alloc, out, outcome)
@@ -83,9 +85,21 @@ fn judge(alloc: Global, matrix: &Dense, schedule: &Schedule) -> Result<Answer, S
     requires { IsLine matrix.now schedule.now.critical }
     ensures { CameTo (Judges matrix.now schedule.now) result }
 {
-    let verdict = check_modes(matrix, schedule);
-    let line = verdict_line(alloc, &verdict)?;
-    Ok(Answer::line(line, status_of(&verdict)))
+    let verdict = verdict_on_modes(matrix, schedule);
+    let mut text = Vec::new(alloc);
+    verdict_text(alloc, None, &verdict, &mut text)?;
+    let status = status_of(&verdict);
+    Ok(Answer { text, status })
+}
+
+/// The verdict, which names no terminals.
+#[tactic(auto, using(crate::proofs::Named::verdict_names_none))]
+fn verdict_on_modes(matrix: &Dense, schedule: &Schedule) -> Verdict
+    requires { IsLine matrix.now schedule.now.critical }
+    ensures verdict { IsVerdict matrix.now schedule.now result }
+    ensures names { CanName None result }
+{
+    check_modes(matrix, schedule)
 }
 
 /// The status that goes with a verdict.

@@ -1,27 +1,25 @@
 // `check NET TRAFFIC PLAN`.
-ghost use Rattle.std.specs.Prelude.{◌≡◌, length, IfOk};
-ghost use Rattle.std.specs.String.{string_bytes};
+ghost use Rattle.std.specs.Prelude.{length, Some};
 ghost use Rattle.bt_base.specs.Told.{Rose};
 ghost use Rattle.bt_frame.specs.Critical.{IsOfBeams};
 ghost use Rattle.bt_verdict.specs.PlanVerdict.{AreBetweenTerminals, IsPlanVerdict};
 ghost use Rattle.bt_demand.specs.Traffic.{matrix_of, AreOfNetwork, HasSumsTo};
-ghost use Rattle.bt_cli.specs.Check.{verdict_status};
-ghost use Rattle.bt_cli.specs.CheckPlan.{plan_verdict_words, ChecksDemand, ChecksPlan, ChecksPlanText, JudgesPlan, NamesTheNetworks};
+ghost use Rattle.bt_cli.specs.CheckPlan.{ChecksDemand, ChecksPlan, ChecksPlanText, JudgesPlan};
 ghost use Rattle.bt_cli.specs.Fitting.{WhereItFits};
-ghost use Rattle.bt_cli.specs.Lines.{line_of};
+ghost use Rattle.bt_timeline.specs.Verdicts.{CanName};
 ghost use Rattle.bt_cli.specs.Printing.{CameTo};
 
 use crate::answer::{Answer, Stop};
 use crate::check::status_of;
 use crate::fit::test_fit;
-use crate::lines::verdict_line;
 use crate::load::{load_demand, load_network, load_plan};
 use bt_base::Files;
 use bt_demand::{Demand, Plan};
 use bt_matrix::SUM_LAST;
 use bt_net::Network;
+use bt_timeline::verdict_text;
 use bt_verdict::{Verdict, check};
-use std::alloc::{AllocError, Global};
+use std::alloc::Global;
 
 /// The verdict on the plan in a file, for the demand and the network in two others.
 pub fn check_plan_files<F: Files>(
@@ -91,8 +89,10 @@ fn judge_plan(alloc: Global, net: &Network, demand: &Demand, plan: &Plan) -> Res
 {
     let _links = demand.as_slice();
     let verdict = verdict_on(net, demand, plan);
-    let line = plan_verdict_line(alloc, net, &verdict)?;
-    Ok(Answer::line(line, status_of(&verdict)))
+    let mut text = Vec::new(alloc);
+    verdict_text(alloc, Some(net), &verdict, &mut text)?;
+    let status = status_of(&verdict);
+    Ok(Answer { text, status })
 }
 
 /// The verdict, which names terminals of the network alone.
@@ -103,27 +103,7 @@ fn verdict_on(net: &Network, demand: &Demand, plan: &Plan) -> Verdict
     requires critical { IsOfBeams (length net.now.beams) plan.now.schedule.critical }
     requires sums { HasSumsTo SUM_LAST (matrix_of net.now demand.now) }
     ensures verdict { IsPlanVerdict net.now demand.now plan.now result }
-    ensures names { NamesTheNetworks net.now result }
+    ensures names { CanName (Some net.now) result }
 {
     check(net, demand, plan)
-}
-
-/// The line of a verdict on a plan.
-fn plan_verdict_line(alloc: Global, net: &Network, verdict: &Verdict) -> Result<String, AllocError>
-    requires { NamesTheNetworks net.now verdict.now }
-    ensures { IfOk result (λ text. string_bytes text ≡ line_of (plan_verdict_words net.now verdict.now)) }
-{
-    match *verdict {
-        Verdict::V7 {
-            from,
-            to,
-            want,
-            have,
-        } => format!(in alloc;
-            "V7 {} {} {want} {have}\n",
-            net.name_of(from),
-            net.name_of(to)
-        ),
-        _ => verdict_line(alloc, verdict),
-    }
 }

@@ -1,17 +1,17 @@
 // Does a demand fit the slots of a frame?
-ghost use Rattle.std.specs.Prelude.{◌≡◌, ◌<◌, IfErr, IfOk, OnOk};
-ghost use Rattle.std.specs.String.{string_bytes};
+ghost use Rattle.std.specs.Prelude.{IfErr, OnOk};
 ghost use Rattle.bt_demand.specs.Traffic.{matrix_of, AreOfNetwork, HasSumsTo};
 ghost use Rattle.bt_cli.specs.Answer.{StopIs};
 ghost use Rattle.bt_cli.specs.Fitting.{overload_words, Fits, NamesOverload};
-ghost use Rattle.bt_cli.specs.Lines.{line_of};
+ghost use Rattle.bt_cli.specs.Outcome.{Says};
 
-use crate::answer::{Answer, Stop};
+use crate::answer::Stop;
 use bt_demand::{Demand, traffic_of};
 use bt_frame::Critical;
 use bt_matrix::{SUM_LAST, Traffic};
 use bt_net::Network;
-use std::alloc::{AllocError, Global};
+use bt_timeline::Word;
+use std::alloc::Global;
 
 /// The demand fits the frame, or the answer that names its heaviest line.
 pub fn test_fit(alloc: Global, net: &Network, demand: &Demand) -> Result<(), Stop>
@@ -25,18 +25,24 @@ pub fn test_fit(alloc: Global, net: &Network, demand: &Demand) -> Result<(), Sto
     if sum <= net.slots() {
         return Ok(());
     }
-    match overload_line(alloc, line, sum) {
-        Ok(line) => Err(Stop::Early(Answer::line(line, 4))),
-        Err(_) => Err(Stop::OutOfMemory),
-    }
+    Err(overload_stop(alloc, line, sum))
 }
 
-/// The line of a demand that does not fit.
-fn overload_line(alloc: Global, line: Critical, sum: u32) -> Result<String, AllocError>
-    ensures { IfOk result (λ text. string_bytes text ≡ line_of (overload_words line sum)) }
+/// The answer that names the heaviest line of a demand that does not fit.
+fn overload_stop(alloc: Global, line: Critical, sum: u32) -> Stop
+    ensures { StopIs (Says (overload_words line sum) 4) result }
 {
-    match line {
-        Critical::Row(up) => format!(in alloc; "fault T6 row {} {sum}\n", up.0),
-        Critical::Column(down) => format!(in alloc; "fault T6 column {} {sum}\n", down.0),
-    }
+    let (name, beam) = match line {
+        Critical::Row(up) => ("row", up),
+        Critical::Column(down) => ("column", down),
+    };
+    let beam = Word::number(u32::from(beam.0));
+    let words = [
+        Word::Text("fault"),
+        Word::Text("T6"),
+        Word::Text(name),
+        beam,
+        Word::number(sum),
+    ];
+    Stop::says(alloc, &words, 4)
 }

@@ -6,7 +6,7 @@ ghost use Rattle.bt_plan.specs.MatrixText.{matrix_of};
 ghost use Rattle.bt_plan.specs.ScheduleSpelling.{schedule_spelling};
 ghost use Rattle.bt_plan.specs.ScheduleText.{schedule_of};
 ghost use Rattle.bt_cli.specs.Check.{Judges};
-ghost use Rattle.bt_cli.specs.Lines.{line_of};
+ghost use Rattle.bt_timeline.specs.Lines.{line_of};
 ghost use Rattle.bt_cli.specs.Outcome.{Outcome, Says, text_alone};
 ghost use Rattle.bt_cli.specs.Request.{Request};
 ghost use Rattle.bt_cli.specs.Top.{Answers, AreTold, IsOneAnswer};

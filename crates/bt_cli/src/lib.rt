@@ -1,7 +1,9 @@
 //! The commands of the program, and the top call that carries its promise.
 //!
-//! `specs/Top.antt` says what the program prints and with which status it ends, case by case in the order of
-//! the work; `specs/Lines.antt` has the printed lines.
+//! It stands on the readers of files, on the planners and checkers, on the run of scripts (`bt_centre`) and on the
+//! printed lines (`bt_timeline`). Promises: `specs/Top.antt` says how the program ends, case by case in the order of
+//! the work, and the files that it names say so of each command; `specs/Outcome.antt` has their words and
+//! `specs/Lines.antt` the lines of faults. For bodies alone: `Answer`, `Command`, `Printing` and `Stops`.
 #![tactic(auto)]
 
 mod answer;
@@ -9,26 +11,18 @@ mod check;
 mod check_plan;
 mod faulty;
 mod fit;
-mod history;
 mod laws;
-mod lines;
 mod load;
 mod modes;
 mod plan;
-#[cfg(test)]
-mod plan_tests;
-mod play;
 mod print;
 mod request;
 mod run;
 mod stops;
-#[cfg(test)]
-mod tests;
-mod timeline;
 mod top;
 
+pub use bt_centre::{Histories, History};
 pub use check::check_command;
-pub use history::{Histories, History};
 pub use laws::{one_answer, printed_schedules_are_read_back};
 pub use modes::modes_command;
 pub use plan::plan_command;

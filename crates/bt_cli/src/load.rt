@@ -4,12 +4,12 @@ ghost use Rattle.bt_base.specs.Told.{Rose};
 ghost use Rattle.bt_frame.specs.Critical.{IsOfBeams};
 ghost use Rattle.bt_verdict.specs.PlanVerdict.{AreBetweenTerminals};
 ghost use Rattle.bt_demand.specs.Traffic.{matrix_of, AreOfNetwork, HasSumsTo};
-ghost use Rattle.bt_script.specs.Named.{HasDesksInOrder, IsItemFor};
+ghost use Rattle.bt_script.specs.Named.{IsItemFor};
 ghost use Rattle.bt_cli.specs.Outcome.{IsContent, CannotRead, IsLoaded, StopsAtLoad};
 ghost use Rattle.bt_cli.specs.Kinds.{demand_file, matrix_file, network_file, plan_file, schedule_file, script_file};
 ghost use Rattle.bt_cli.specs.Answer.{StopIs};
 
-use crate::answer::{Answer, Stop};
+use crate::answer::Stop;
 use crate::stops::{network_stop, script_stop, text_stop};
 use bt_base::{FileFault, Files};
 use bt_demand::{Demand, Plan};
@@ -18,6 +18,7 @@ use bt_matrix::{Dense, SUM_LAST};
 use bt_net::Network;
 use bt_plan::{read_demand, read_matrix, read_plan, read_schedule};
 use bt_script::Script;
+use bt_timeline::Word;
 use std::alloc::Global;
 
 /// The most bytes that a file may have: 4 MiB.
@@ -34,12 +35,13 @@ pub fn read_file<F: Files>(alloc: Global, files: &mut F, name: &str) -> Result<V
     match files.read(alloc, name, FILE_LAST) {
         Ok(bytes) => Ok(bytes),
         Err(FileFault::Failed) => {
-            let line = format!(in alloc; "fault read {name}\n")?;
-            Err(Stop::Early(Answer::line(line, 5)))
+            let words = [Word::Text("fault"), Word::Text("read"), Word::Text(name)];
+            Err(Stop::says(alloc, &words, 5))
         }
         Err(FileFault::TooLong) => {
-            let line = format!(in alloc; "fault too long {name}\n")?;
-            Err(Stop::Early(Answer::line(line, 10)))
+            let long = (Word::Text("too"), Word::Text("long"));
+            let words = [Word::Text("fault"), long.0, long.1, Word::Text(name)];
+            Err(Stop::says(alloc, &words, 10))
         }
         Err(FileFault::OutOfMemory) => Err(Stop::OutOfMemory),
     }
@@ -146,7 +148,6 @@ pub fn load_script<F: Files>(
     net: &Network,
 ) -> Result<Script, Stop>
     ensures terminals { IfOk result (λ script. All (IsItemFor net.now) script.items) }
-    ensures ascending { IfOk result (λ script. All HasDesksInOrder script.items) }
     ensures loaded { IfOk result (λ script. IsLoaded (script_file net.now) (F.told files.old) name.now script) }
     ensures stops { IfErr result (StopIs (StopsAtLoad (script_file net.now) (F.told files.old)
         (Rose (F.fault_count files.old) (F.fault_count files.new)) name.now)) }

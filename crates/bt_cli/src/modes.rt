@@ -1,11 +1,11 @@
 // `modes MATRIX`.
-ghost use Rattle.std.specs.Prelude.{◌≡◌, map, codes, []};
+ghost use Rattle.std.specs.Prelude.{◌≡◌, map, codes};
 ghost use Rattle.std.specs.String.{string_bytes};
 ghost use Rattle.bt_base.specs.Told.{Rose};
 ghost use Rattle.bt_cli.specs.Modes.{PrintsModes, PrintsSchedule};
 ghost use Rattle.bt_cli.specs.Printing.{CameTo};
 ghost use Rattle.bt_cli.specs.Request.{first_word, request_of};
-ghost use Rattle.bt_cli.specs.Top.{Answers, Ends};
+ghost use Rattle.bt_cli.specs.Top.{Answered, Answers};
 
 use crate::answer::{Answer, Stop};
 use crate::faulty::faulty_words;
@@ -28,9 +28,9 @@ pub fn modes_command<F: Files, O: Sink>(
     out: &mut O,
 ) -> u8
     requires { first_word (map string_bytes words.now) ≡ Some (codes "modes") }
-    ensures { Ends (F.told files.old) (Rose (F.fault_count files.old) (F.fault_count files.new))
-        (O.told out.old) (O.told out.new) (Rose (O.fault_count out.old) (O.fault_count out.new))
-        (request_of (map string_bytes words.now)) result [] }
+    ensures { Answered (record { told = F.told files.old; faults_before = F.fault_count files.old; faults_after = F.fault_count files.new })
+        (record { before = O.told out.old; after = O.told out.new; faults_before = O.fault_count out.old; faults_after = O.fault_count out.new })
+        (request_of (map string_bytes words.now)) result }
 {
     let outcome = modes_words(alloc, words, files);
     print(alloc, out, outcome)

@@ -1,5 +1,4 @@
 // Printing what the work came to.
-ghost use Rattle.bt_base.specs.Told.{Rose};
 ghost use Rattle.bt_cli.specs.Printing.{EndsAfter, EndsWith};
 
 use crate::answer::{Answer, Stop};
@@ -14,7 +13,7 @@ const WRITE_FAILED: u8 = 6;
 
 /// Prints what the work came to, and gives the status to end with.
 pub fn print<O: Sink>(alloc: Global, out: &mut O, outcome: Result<Answer, Stop>) -> u8
-    ensures { EndsWith (O.told out.old) (O.told out.new) (Rose (O.fault_count out.old) (O.fault_count out.new)) outcome result }
+    ensures { EndsWith (record { before = O.told out.old; after = O.told out.new; faults_before = O.fault_count out.old; faults_after = O.fault_count out.new }) outcome result }
 {
     match outcome {
         Ok(answer) | Err(Stop::Early(answer)) => print_answer(alloc, out, &answer),
@@ -24,7 +23,7 @@ pub fn print<O: Sink>(alloc: Global, out: &mut O, outcome: Result<Answer, Stop>)
 
 /// Prints an answer, and gives the status to end with.
 fn print_answer<O: Sink>(alloc: Global, out: &mut O, answer: &Answer) -> u8
-    ensures { EndsAfter (O.told out.old) (O.told out.new) (Rose (O.fault_count out.old) (O.fault_count out.new)) answer.now result }
+    ensures { EndsAfter (record { before = O.told out.old; after = O.told out.new; faults_before = O.fault_count out.old; faults_after = O.fault_count out.new }) answer.now result }
 {
     match out.write(alloc, answer.text.as_slice()) {
         Ok(()) => answer.status,

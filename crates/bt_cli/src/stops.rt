@@ -1,12 +1,16 @@
 // The answers that name the first fault of a file's bytes.
+ghost use Rattle.std.specs.Prelude.{◌≡◌, ◌∷◌, [], codes};
+ghost use Rattle.bt_net.specs.Fault.{path_text};
 ghost use Rattle.bt_cli.specs.Stops.{NamesNetworkFault, NamesScriptFault, NamesTextFault};
 ghost use Rattle.bt_cli.specs.Answer.{StopIs};
+ghost use Rattle.bt_cli.specs.Lines.{code_name, script_code_name};
+ghost use Rattle.bt_cli.specs.Outcome.{Says};
 
-use crate::answer::{Answer, Stop};
-use crate::lines::{network_fault_line, script_fault_line, text_fault_line};
-use bt_net::NetFault;
-use bt_plan::TextFault;
-use bt_script::ScriptFault;
+use crate::answer::Stop;
+use bt_net::{NetFault, Path};
+use bt_plan::{TextCode, TextFault};
+use bt_script::{ScriptCode, ScriptFault};
+use bt_timeline::Word;
 use std::alloc::Global;
 
 /// The status where the bytes of a file leave its grammar or its limits.
@@ -21,10 +25,32 @@ pub fn text_stop(alloc: Global, fault: TextFault) -> Stop
 {
     match fault {
         TextFault::OutOfMemory => Stop::OutOfMemory,
-        TextFault::At { code, line } => match text_fault_line(alloc, code, line) {
-            Ok(line) => Stop::Early(Answer::line(line, FAULTY_TEXT)),
-            Err(_) => Stop::OutOfMemory,
-        },
+        TextFault::At { code, line } => {
+            let words = [
+                Word::Text("fault"),
+                Word::Text(code_text(code)),
+                Word::number(line),
+            ];
+            Stop::says(alloc, &words, FAULTY_TEXT)
+        }
+    }
+}
+
+fn code_text(code: TextCode) -> &'static str
+    ensures { result.now ≡ code_name code }
+{
+    match code {
+        TextCode::X1 => "X1",
+        TextCode::X2 => "X2",
+        TextCode::M1 => "M1",
+        TextCode::T1 => "T1",
+        TextCode::T2 => "T2",
+        TextCode::T3 => "T3",
+        TextCode::T4 => "T4",
+        TextCode::T5 => "T5",
+        TextCode::P1 => "P1",
+        TextCode::P2 => "P2",
+        TextCode::P3 => "P3",
     }
 }
 
@@ -34,10 +60,25 @@ pub fn network_stop(alloc: Global, fault: NetFault) -> Stop
 {
     match fault {
         NetFault::OutOfMemory => Stop::OutOfMemory,
-        fault => match network_fault_line(alloc, fault) {
-            Ok(line) => Stop::Early(Answer::line(line, NO_NETWORK)),
-            Err(_) => Stop::OutOfMemory,
-        },
+        NetFault::N1 => Stop::says(alloc, &[Word::Text("fault"), Word::Text("N1")], NO_NETWORK),
+        NetFault::N2 { path } => path_stop(alloc, "N2", path),
+        NetFault::N3 { path } => path_stop(alloc, "N3", path),
+        NetFault::N4 { path } => path_stop(alloc, "N4", path),
+        NetFault::N5 { path } => path_stop(alloc, "N5", path),
+        NetFault::N6 { path } => path_stop(alloc, "N6", path),
+    }
+}
+
+/// The answer that names a fault and its place in a network file.
+fn path_stop(alloc: Global, code: &str, path: Path) -> Stop
+    ensures { StopIs (Says (codes "fault" ∷ code.now ∷ path_text path ∷ []) NO_NETWORK) result }
+{
+    match path.text(alloc) {
+        Ok(path) => {
+            let words = [Word::Text("fault"), Word::Text(code), Word::Text(&path)];
+            Stop::says(alloc, &words, NO_NETWORK)
+        }
+        Err(_) => Stop::OutOfMemory,
     }
 }
 
@@ -47,9 +88,25 @@ pub fn script_stop(alloc: Global, fault: ScriptFault) -> Stop
 {
     match fault {
         ScriptFault::OutOfMemory => Stop::OutOfMemory,
-        ScriptFault::At { code, line } => match script_fault_line(alloc, code, line) {
-            Ok(line) => Stop::Early(Answer::line(line, FAULTY_TEXT)),
-            Err(_) => Stop::OutOfMemory,
-        },
+        ScriptFault::At { code, line } => {
+            let code = Word::Text(script_code_text(code));
+            Stop::says(
+                alloc,
+                &[Word::Text("fault"), code, Word::number(line)],
+                FAULTY_TEXT,
+            )
+        }
+    }
+}
+
+fn script_code_text(code: ScriptCode) -> &'static str
+    ensures { result.now ≡ script_code_name code }
+{
+    match code {
+        ScriptCode::S1 => "S1",
+        ScriptCode::S2 => "S2",
+        ScriptCode::S3 => "S3",
+        ScriptCode::S4 => "S4",
+        ScriptCode::S5 => "S5",
     }
 }

@@ -1,11 +1,9 @@
 // The top call.
 ghost use Rattle.std.specs.Prelude.{◌≡◌, map, []};
 ghost use Rattle.std.specs.String.{string_bytes};
-ghost use Rattle.bt_base.specs.Told.{Rose};
 ghost use Rattle.bt_cli.specs.Request.{request_of};
-ghost use Rattle.bt_cli.specs.Top.{Ends};
+ghost use Rattle.bt_cli.specs.Top.{Answered, Ends, RunsNone};
 
-use crate::Histories;
 use crate::check::check_command;
 use crate::faulty::print_faulty_words;
 use crate::modes::modes_command;
@@ -13,6 +11,7 @@ use crate::plan::plan_command;
 use crate::request::{Command, command_of};
 use crate::run::run_files;
 use bt_base::{Files, Keeper, Sink};
+use bt_centre::{Histories, RunEnd};
 use std::alloc::Global;
 use std::sync::Wait;
 use std::thread::Threads;
@@ -29,6 +28,19 @@ pub struct Ended<K> {
 }
 
 impl<K> Ended<K> {
+    /// The end of a run.
+    pub(crate) fn of_run(end: RunEnd<K>) -> Ended<K>
+        ensures status { result.status ≡ end.status }
+        ensures store { result.store ≡ end.store }
+        ensures histories { result.histories ≡ end.histories }
+    {
+        Ended {
+            status: end.status,
+            store: end.store,
+            histories: end.histories,
+        }
+    }
+
     /// The end of a command that runs nothing.
     pub(crate) fn without_run(alloc: Global, status: u8, store: K) -> Ended<K>
         ensures status { result.status ≡ status }
@@ -64,21 +76,34 @@ pub fn centre_main<R: Threads + Wait + Sync, F: Files, O: Sink, K: Keeper + Send
     out: &mut O,
     store: K,
 ) -> Ended<K>
-    ensures ends { Ends (F.told files.old) (Rose (F.fault_count files.old) (F.fault_count files.new))
-        (O.told out.old) (O.told out.new) (Rose (O.fault_count out.old) (O.fault_count out.new))
-        (request_of (map string_bytes words.now)) result.status result.histories }
-    ensures store { result.store ≡ store }
+    ensures ends { Ends (record { told = F.told files.old; faults_before = F.fault_count files.old; faults_after = F.fault_count files.new })
+        (record { before = O.told out.old; after = O.told out.new; faults_before = O.fault_count out.old; faults_after = O.fault_count out.new })
+        (request_of (map string_bytes words.now))
+        (record { status = result.status; histories = result.histories; given = store; left = result.store }) }
 {
     let status = match command_of(words) {
         Command::RunScript { net, script, .. } => {
             return run_files(alloc, net, script, files, out, store);
         }
+        _ => answer(alloc, words, files, out),
+    };
+    Ended::without_run(alloc, status, store)
+}
+
+/// Does what a command asks for that runs nothing, and gives the status to end with.
+fn answer<F: Files, O: Sink>(alloc: Global, words: &[String], files: &mut F, out: &mut O) -> u8
+    requires { RunsNone (request_of (map string_bytes words.now)) }
+    ensures { Answered (record { told = F.told files.old; faults_before = F.fault_count files.old; faults_after = F.fault_count files.new })
+        (record { before = O.told out.old; after = O.told out.new; faults_before = O.fault_count out.old; faults_after = O.fault_count out.new })
+        (request_of (map string_bytes words.now)) result }
+{
+    match command_of(words) {
         Command::Faulty => print_faulty_words(alloc, out),
         Command::CheckModes { .. } | Command::CheckPlan { .. } => {
             check_command(alloc, words, files, out)
         }
         Command::PlanModes { .. } => modes_command(alloc, words, files, out),
         Command::PlanDemand { .. } => plan_command(alloc, words, files, out),
-    };
-    Ended::without_run(alloc, status, store)
+        Command::RunScript { .. } => unreachable!(),
+    }
 }

@@ -1,0 +1,41 @@
+-- A run after the loads of its files.
+use Rattle.std.proofs.Common.{◌≡◌, ℕ, ◌≤◌, inl, inr, refl, List, Option, subst}
+use Rattle.bt_base.specs.Told.{Rose}
+use Rattle.bt_net.specs.Network.{Net}
+use Rattle.bt_script.specs.declared.script.Script.{Script}
+use Rattle.bt_centre.specs.Output.{Output}
+use Rattle.bt_centre.specs.Run.{RunsTo}
+use Rattle.bt_cli.specs.Kinds.{network_file, script_file}
+use Rattle.bt_cli.specs.Outcome.{Outcome, Input, HasFailed, IsLoaded, StopsAtLoad, PrintsOneOf}
+use Rattle.bt_cli.specs.Request.{RunScript}
+use Rattle.bt_cli.specs.Run.{End, EndsRun, EndsScript, HasRun, PrintsRun, Runs, RunsNothing, RunsScript}
+use Rattle.bt_cli.specs.Top.{Answered}
+use Rattle.bt_cli.proofs.Loads.{PrintsOneOf-among, StopsAtLoad-moved}
+
+-- what the files tell, with their faults from one moment to another
+abbrev input_from : (List ℕ → Option (List ℕ)) → ℕ → ℕ → Input
+input_from told before end = record { told = told; faults_before = before; faults_after = end }
+
+-- what is said from the load of the script on holds from an earlier start on
+pub script_sooner : {Store : Type 0} (told now : List ℕ → Option (List ℕ)) (before between end : ℕ) (output : Output) (script : List ℕ) (net : Net) (ended : End Store) → now ≡ told → before ≤ between → EndsScript (input_from now between end) output script net ended → EndsScript (input_from told before end) output script net ended
+script_sooner told now before between end output script net ended same sooner (inl (nothing, stopped)) =
+    inl (nothing, PrintsOneOf-among output (StopsAtLoad (script_file net) now (Rose between end) script) (StopsAtLoad (script_file net) told (Rose before end) script) (λ outcome so. StopsAtLoad-moved (script_file net) told now before between end script same sooner outcome so) ended.status stopped)
+script_sooner told now before between end output script net ended same sooner (inr (read, loaded, ran)) =
+    let P : (List ℕ → Option (List ℕ)) → Type 0 = λ held. IsLoaded (script_file net) held script read in
+    inr (read, subst P same loaded, ran)
+
+-- what a run comes to is one of its outcomes, printed
+ran_answered : {Store : Type 0} (net : Net) (script : Script) (output : Output) (ended : End Store) → RunsTo net script output ended.status ended.histories → PrintsOneOf output (PrintsRun net script) ended.status
+ran_answered net script output ended (inl (none, legal)) = inl none
+ran_answered net script output ended (inr (text, is, printed)) = inr (record { text = text; status = 0 }, ((ended.histories, is), refl), printed)
+
+run_answered : {Store : Type 0} (net : Net) (script : Script) (output : Output) (ended : End Store) → HasRun net script output ended → PrintsOneOf output (PrintsRun net script) ended.status
+run_answered net script output ended so = ran_answered net script output ended so.ran
+
+script_answered : {Store : Type 0} (input : Input) (output : Output) (script : List ℕ) (net : Net) (ended : End Store) → EndsScript input output script net ended → PrintsOneOf output (RunsScript input.told (HasFailed input) script net) ended.status
+script_answered input output script net ended (inl (nothing, stopped)) = PrintsOneOf-among output (StopsAtLoad (script_file net) input.told (HasFailed input) script) (RunsScript input.told (HasFailed input) script net) (λ outcome so. inl so) ended.status stopped
+script_answered input output script net ended (inr (read, loaded, ran)) = PrintsOneOf-among output (PrintsRun net read) (RunsScript input.told (HasFailed input) script net) (λ outcome so. inr (read, loaded, so)) ended.status (run_answered net read output ended ran)
+
+pub runs_answered : {Store : Type 0} (input : Input) (output : Output) (net script journal : List ℕ) (ended : End Store) → EndsRun input output net script ended → Answered input output (RunScript net script journal) ended.status
+runs_answered input output net script journal ended (inl (nothing, stopped)) = PrintsOneOf-among output (StopsAtLoad network_file input.told (HasFailed input) net) (Runs input.told (HasFailed input) net script) (λ outcome so. inl so) ended.status stopped
+runs_answered input output net script journal ended (inr (network, loaded, so)) = PrintsOneOf-among output (RunsScript input.told (HasFailed input) script network) (Runs input.told (HasFailed input) net script) (λ outcome so. inr (network, loaded, so)) ended.status (script_answered input output script network ended so)

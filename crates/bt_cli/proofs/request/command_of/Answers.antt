@@ -1,1 +1,0 @@
--- the command is named by its first word
