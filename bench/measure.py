@@ -1,7 +1,10 @@
-"""What the scripts of this folder share: the built program, its seconds and its memory."""
+"""What the scripts of this folder share: the built program, its seconds, its instructions and its memory."""
 import os
+import re
+import shutil
 import subprocess
 import sys
+import tempfile
 import time
 
 ROOT = os.path.dirname(os.path.dirname(os.path.abspath(__file__)))
@@ -26,6 +29,23 @@ def seconds_of(words):
             sys.exit(f"bench: {done.stdout!r} with status {done.returncode}")
         best = seconds if best is None else min(best, seconds)
     return best, done.stdout
+
+
+def instructions_of(words):
+    """The instructions of a run in millions, its start included, as valgrind counts them; a dash where it is not there."""
+    if shutil.which("valgrind") is None:
+        return "-"
+    with tempfile.TemporaryDirectory() as folder:
+        counts = os.path.join(folder, "counts")
+        counting = ["valgrind", "--tool=callgrind", f"--callgrind-out-file={counts}", *words]
+        done = subprocess.run(counting, capture_output=True, text=True)
+    found = re.search(r"Collected : (\d+)", done.stderr)
+    return "-" if found is None else f"{int(found[1]) / 1e6:.1f}"
+
+
+def growth_of(seconds, before):
+    """How many times the seconds before; nothing for the first."""
+    return "" if before is None else f"{seconds / before:.2f}"
 
 
 def memory_of(words):
