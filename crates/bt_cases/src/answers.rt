@@ -1,0 +1,52 @@
+// Answers as lines of a file of cases.
+use crate::escape::put_line;
+use anyhow::{Context, Result};
+use std::alloc::Global;
+
+/// Which lines of what a command writes are shown.
+#[derive(Clone, Copy, Drop)]
+pub enum Part {
+    All,
+    First(usize),
+    Last(usize),
+}
+
+/// What a command wrote, and its status.
+#[derive(Drop)]
+pub struct Ending {
+    pub written: Vec<u8>,
+    pub status: u8,
+}
+
+impl Ending {
+    /// Appends these of its lines and the status.
+    pub fn put(&self, alloc: Global, part: Part, out: &mut String) -> Result<()> {
+        put_lines(alloc, &self.written, part, out)?;
+        self.put_status(alloc, out)
+    }
+
+    /// Appends the status.
+    pub fn put_status(&self, alloc: Global, out: &mut String) -> Result<()> {
+        let status = self.status;
+        out.push_str(&format!(in alloc; "= {status}\n")?)?;
+        Ok(())
+    }
+}
+
+/// Appends these of the lines, each behind a `>`.
+pub fn put_lines(alloc: Global, bytes: &[u8], part: Part, out: &mut String) -> Result<()> {
+    let mut lines: Vec<&[u8]> = bytes.split(|byte| *byte == b'\n').collect(alloc)?;
+    let last = lines.pop().context("a split has a part")?;
+    let (skipped, shown) = match part {
+        Part::All => (0, lines.len()),
+        Part::First(count) => (0, count),
+        Part::Last(count) => (lines.len().saturating_sub(count), count),
+    };
+    for line in lines.iter().skip(skipped).take(shown) {
+        put_line(alloc, line, "\n", out)?;
+    }
+    if !last.is_empty() {
+        put_line(alloc, last, "\\\n", out)?;
+    }
+    Ok(())
+}

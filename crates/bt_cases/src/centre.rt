@@ -1,0 +1,135 @@
+// The lines of a centre.
+ghost use Rattle.std.specs.Prelude.{◌<◌, IfOk};
+
+use crate::message::status_of;
+use crate::words::{byte_of, number_of};
+use anyhow::{Context, Result, bail, ensure};
+use bt_air::{Act, Order};
+use bt_change::{Centre, with_terminal};
+use bt_frame::{Command, EditionNo, LAST_MARK, Mark, TermNo, TermSet};
+use std::alloc::Global;
+
+/// Does what a line of the centre says; false where the words are another line.
+pub fn show_centre(
+    alloc: Global,
+    centre: &mut Centre,
+    words: &[&str],
+    out: &mut String,
+) -> Result<bool> {
+    match words {
+        ["centre"] => *centre = new_centre(alloc),
+        ["note", words @ ..] => note(centre, words)?,
+        ["known", mark] => put_known(alloc, centre, mark, out)?,
+        ["turn", mark, newest, lead, patience] => {
+            put_turn(alloc, centre, [mark, newest, lead, patience], out)?;
+        }
+        ["ordered", terminals @ ..] => put_ordered(alloc, centre, terminals, out)?,
+        ["waiting", terminal] => put_waiting(centre, terminal, out)?,
+        _ => return Ok(false),
+    }
+    Ok(true)
+}
+
+/// A new centre that has placed no order.
+pub fn new_centre(alloc: Global) -> Centre {
+    Centre::from_orders(Vec::new(alloc), TermSet(0))
+}
+
+/// Notes a status, a confirmation or a restart.
+fn note(centre: &mut Centre, words: &[&str]) -> Result<()> {
+    match words {
+        ["status", words @ ..] => centre.status(status_of(words)?),
+        ["confirm", mark, terminal, edition] => {
+            let (mark, edition) = (Mark(number_of(mark)?), EditionNo(number_of(edition)?));
+            centre.confirm(mark, terminal_of(terminal)?, edition);
+        }
+        ["lost", terminal] => centre.lost(terminal_of(terminal)?),
+        _ => bail!("nothing to note"),
+    }
+    Ok(())
+}
+
+/// The number of a terminal, below 64.
+fn terminal_of(word: &str) -> Result<TermNo>
+    ensures { IfOk result (λ terminal. terminal.0 < 64) }
+{
+    let number = byte_of(word)?;
+    ensure!(number < 64, "no terminal");
+    Ok(TermNo(number))
+}
+
+/// Appends the edition that the centre knows to be in force in that superframe.
+fn put_known(alloc: Global, centre: &Centre, mark: &str, out: &mut String) -> Result<()> {
+    let text = match centre.known(Mark(number_of(mark)?)) {
+        Some(EditionNo(edition)) => format!(in alloc; ">{edition}\n")?,
+        None => format!(in alloc; ">none\n")?,
+    };
+    out.push_str(&text)?;
+    Ok(())
+}
+
+/// Appends what the centre does in its turn, which has a superframe, the newest edition, the lead and the patience.
+fn put_turn(alloc: Global, centre: &mut Centre, turn: [&str; 4], out: &mut String) -> Result<()> {
+    let [mark, newest, lead, patience] = turn;
+    let (mark, newest) = (number_of(mark)?, EditionNo(number_of(newest)?));
+    let (lead, patience) = (number_of(lead)?, number_of(patience)?);
+    ensure!(mark <= LAST_MARK && lead <= 32, "no superframe or no lead");
+    ensure!(centre.order_count() <= 4_000_000_000, "too many orders");
+    match centre.turn(Mark(mark), newest, lead, patience) {
+        Act::Quiet => out.push_str(">quiet\n")?,
+        Act::RepeatLoad { load: true } => out.push_str(">repeat load\n")?,
+        Act::RepeatLoad { load: false } => out.push_str(">repeat plans\n")?,
+        Act::RepeatArm => out.push_str(">repeat arm\n")?,
+        Act::Want(order) => put_order(alloc, ">want", order, out)?,
+    }
+    Ok(())
+}
+
+/// Appends the order that was wanted and is placed now. These terminals transmit in its edition.
+fn put_ordered(
+    alloc: Global,
+    centre: &mut Centre,
+    terminals: &[&str],
+    out: &mut String,
+) -> Result<()> {
+    let mut needs = TermSet(0);
+    for terminal in terminals {
+        needs = with_terminal(needs, terminal_of(terminal)?);
+    }
+    ensure!(centre.wanted().is_some(), "no order is wanted");
+    let order = centre.ordered(alloc, needs).ok().context("out of memory")?;
+    put_order(alloc, ">ordered", order, out)
+}
+
+fn put_order(alloc: Global, word: &str, order: Order, out: &mut String) -> Result<()> {
+    let text = match order {
+        Order::Load {
+            command: Command(command),
+            edition: EditionNo(edition),
+        } => format!(in alloc; "{word} load {command} {edition}\n")?,
+        Order::Arm {
+            command: Command(command),
+            edition: EditionNo(edition),
+            due: Mark(due),
+        } => format!(in alloc; "{word} arm {command} {edition} {due}\n")?,
+    };
+    out.push_str(&text)?;
+    Ok(())
+}
+
+/// Appends whether a terminal has still to confirm, and whether it asks for its bursts.
+fn put_waiting(centre: &Centre, terminal: &str, out: &mut String) -> Result<()> {
+    let terminal = terminal_of(terminal)?;
+    let missing = if centre.missing(terminal) {
+        "missing"
+    } else {
+        "not missing"
+    };
+    let asking = if centre.asking(terminal) {
+        "asking"
+    } else {
+        "not asking"
+    };
+    write!(out, ">{missing}, {asking}\n")?;
+    Ok(())
+}

@@ -1,0 +1,61 @@
+// The lines of a demand whose links gain and lose slots.
+use crate::texts::put_links;
+use crate::words::{byte_of, number_of};
+use anyhow::{Result, bail, ensure};
+use bt_demand::Demand;
+use bt_frame::TermNo;
+use bt_matrix::SUM_LAST;
+use std::alloc::Global;
+
+/// The link gains so many slots. Appends all links of a copy.
+pub fn put_gain(
+    alloc: Global,
+    demand: &mut Demand,
+    link: [&str; 3],
+    out: &mut String,
+) -> Result<()> {
+    let [from, to, units] = link;
+    let (from, to, units) = (byte_of(from)?, byte_of(to)?, number_of(units)?);
+    let held = demand.units(TermNo(from), TermNo(to));
+    ensure!(from != to && 0 < units, "no gain");
+    ensure!(held <= SUM_LAST && units <= SUM_LAST - held, "too much");
+    if demand.add(alloc, TermNo(from), TermNo(to), units).is_err() {
+        bail!("out of memory");
+    }
+    put_copy(alloc, demand, out)
+}
+
+/// The link loses so many slots. Appends all links of a copy.
+pub fn put_loss(
+    alloc: Global,
+    demand: &mut Demand,
+    link: [&str; 3],
+    out: &mut String,
+) -> Result<()> {
+    let [from, to, units] = link;
+    let (from, to, units) = (byte_of(from)?, byte_of(to)?, number_of(units)?);
+    let held = demand.units(TermNo(from), TermNo(to));
+    ensure!(0 < units && units <= held, "no loss");
+    demand.take(TermNo(from), TermNo(to), units);
+    put_copy(alloc, demand, out)
+}
+
+fn put_copy(alloc: Global, demand: &Demand, out: &mut String) -> Result<()> {
+    match demand.copy(alloc) {
+        Ok(copy) => put_links(&copy, out),
+        Err(_full) => bail!("out of memory"),
+    }
+}
+
+/// Appends the slots of a link.
+pub fn put_units(
+    alloc: Global,
+    demand: &Demand,
+    from: &str,
+    to: &str,
+    out: &mut String,
+) -> Result<()> {
+    let units = demand.units(TermNo(byte_of(from)?), TermNo(byte_of(to)?));
+    out.push_str(&format!(in alloc; ">{units}\n")?)?;
+    Ok(())
+}

@@ -1,0 +1,73 @@
+// Bytes as printed text: a byte that is no printed character of ASCII, and the backslash itself, is `\xHH`, in
+// hexadecimal digits. A backslash at the end of a line says that no newline follows there.
+ghost use Rattle.std.specs.Prelude.{◌<◌, IfOk};
+
+use anyhow::{Result, bail};
+use std::alloc::Global;
+
+/// Appends the bytes of a line, and the newline unless a backslash ends the line.
+pub fn take_text(line: &str, bytes: &mut Vec<u8>) -> Result<()> {
+    let (line, is_ended) = match line.strip_suffix('\\') {
+        Some(line) => (line, false),
+        None => (line, true),
+    };
+    take_bytes(line, bytes)?;
+    if is_ended {
+        bytes.push(b'\n')?;
+    }
+    Ok(())
+}
+
+/// Appends the bytes of a text without a backslash at its end.
+pub fn take_bytes(text: &str, bytes: &mut Vec<u8>) -> Result<()> {
+    let mut parts = text.split('\\');
+    if let Some(first) = parts.next() {
+        bytes.extend_from_slice(first.as_bytes())?;
+    }
+    for part in parts {
+        take_escaped(part, bytes)?;
+    }
+    Ok(())
+}
+
+/// Appends the byte that the part of a line behind a backslash begins with, and the rest.
+fn take_escaped(part: &str, bytes: &mut Vec<u8>) -> Result<()> {
+    match part.as_bytes() {
+        [b'x', high, low, rest @ ..] => {
+            bytes.push(hex_byte(*high, *low)?)?;
+            bytes.extend_from_slice(rest)?;
+            Ok(())
+        }
+        _ => bail!("a backslash without x and two digits"),
+    }
+}
+
+/// The byte that two hexadecimal digits spell.
+pub fn hex_byte(high: u8, low: u8) -> Result<u8> {
+    Ok(digit(high)? * 16 + digit(low)?)
+}
+
+/// The value of a hexadecimal digit.
+fn digit(byte: u8) -> Result<u8>
+    ensures { IfOk result (λ n. n < 16) }
+{
+    match byte {
+        b'0'..=b'9' => Ok(byte - b'0'),
+        b'a'..=b'f' => Ok(byte - b'a' + 10),
+        _ => bail!("no hexadecimal digit"),
+    }
+}
+
+/// Appends a line behind a `>`, with what ends it.
+pub fn put_line(alloc: Global, line: &[u8], end: &str, out: &mut String) -> Result<()> {
+    out.push('>')?;
+    for byte in line {
+        if (b' '..=b'~').contains(byte) && *byte != b'\\' {
+            out.push(char::from(*byte))?;
+        } else {
+            out.push_str(&format!(in alloc; "\\x{byte:02x}")?)?;
+        }
+    }
+    out.push_str(end)?;
+    Ok(())
+}

@@ -1,0 +1,276 @@
+// Commands, and the outside that they meet.
+use crate::answers::{Ending, Part};
+use crate::files::Shelf;
+use crate::words::number_of;
+use anyhow::{Result, bail};
+use bt_base::{Fail, Files, MemSink, Sink, SureKeeper, SureSink};
+use bt_cli::{centre_main, check_command, modes_command, plan_command};
+use std::alloc::Global;
+use std::sync::Wait;
+use std::thread::Threads;
+
+/// What the next command meets, and what becomes of its text.
+#[derive(Drop)]
+pub struct Meeting {
+    /// The reads, the writes and the calls on the store that fail.
+    pub reads: Vec<Fail>,
+    pub writes: Vec<Fail>,
+    pub keeps: Vec<Fail>,
+    /// Files and an output that do not fail at all.
+    pub is_sure: bool,
+    /// The command's own call in place of the top call.
+    pub is_alone: bool,
+    /// The lines that are shown.
+    pub part: Part,
+    /// The file that the text becomes in place of being shown.
+    pub into: Option<String>,
+    /// The file of which each beginning is tried.
+    pub beginnings: Option<String>,
+}
+
+impl Meeting {
+    /// Nothing fails, and the whole text is shown.
+    pub fn plain(alloc: Global) -> Meeting {
+        Meeting {
+            reads: Vec::new(alloc),
+            writes: Vec::new(alloc),
+            keeps: Vec::new(alloc),
+            is_sure: false,
+            is_alone: false,
+            part: Part::All,
+            into: None,
+            beginnings: None,
+        }
+    }
+}
+
+/// Sets up what the next command meets; false where the words are another line.
+pub fn set_meeting(alloc: Global, next: &mut Meeting, words: &[&str]) -> Result<bool> {
+    Ok(set_fail(next, words)? || set_flag(next, words) || set_part(alloc, next, words)?)
+}
+
+fn set_fail(next: &mut Meeting, words: &[&str]) -> Result<bool> {
+    match words {
+        ["fail", "read", call] => next.reads.push(fail_of(call, "0")?)?,
+        ["fail", "write", call, kept] => next.writes.push(fail_of(call, kept)?)?,
+        ["fail", "store", call, kept] => next.keeps.push(fail_of(call, kept)?)?,
+        _ => return Ok(false),
+    }
+    Ok(true)
+}
+
+fn fail_of(call: &str, kept: &str) -> Result<Fail> {
+    Ok(Fail {
+        call: number_of(call)?,
+        kept: number_of(kept)?,
+    })
+}
+
+fn set_flag(next: &mut Meeting, words: &[&str]) -> bool {
+    match words {
+        ["sure"] => next.is_sure = true,
+        ["alone"] => next.is_alone = true,
+        _ => return false,
+    }
+    true
+}
+
+fn set_part(alloc: Global, next: &mut Meeting, words: &[&str]) -> Result<bool> {
+    match words {
+        ["first", count] => next.part = Part::First(number_of(count)? as usize),
+        ["last", count] => next.part = Part::Last(number_of(count)? as usize),
+        ["into", name] => next.into = Some(String::from_str(alloc, name)?),
+        ["beginnings", name] => next.beginnings = Some(String::from_str(alloc, name)?),
+        _ => return Ok(false),
+    }
+    Ok(true)
+}
+
+/// What the next command meets, and what the last one left.
+#[derive(Drop)]
+pub struct Outside {
+    pub next: Meeting,
+    pub store: Vec<u8>,
+    /// Of each history how many changes stood before it, and how many entries it has.
+    histories: Vec<(u32, usize)>,
+}
+
+impl Outside {
+    /// An empty store, and no command yet.
+    pub fn new(alloc: Global) -> Outside {
+        Outside {
+            next: Meeting::plain(alloc),
+            store: Vec::new(alloc),
+            histories: Vec::new(alloc),
+        }
+    }
+
+    /// Runs a command, and appends what it writes and its status.
+    pub fn run<R: Threads + Wait + Sync>(
+        &mut self,
+        rt: &R,
+        alloc: Global,
+        shelf: &mut Shelf,
+        words: &[&str],
+        out: &mut String,
+    ) -> Result<()> {
+        if let Some(name) = self.next.beginnings.take() {
+            self.run_beginnings(rt, alloc, shelf, name.as_str(), words, out)?;
+        } else {
+            let ending = self.end_of(rt, alloc, shelf, words)?;
+            self.put(alloc, shelf, ending, out)?;
+        }
+        self.next = Meeting::plain(alloc);
+        Ok(())
+    }
+
+    /// Appends how a command ended, its text unless that becomes a file.
+    fn put(
+        &mut self,
+        alloc: Global,
+        shelf: &mut Shelf,
+        ending: Ending,
+        out: &mut String,
+    ) -> Result<()> {
+        match self.next.into.take() {
+            None => ending.put(alloc, self.next.part, out),
+            Some(name) => {
+                ending.put_status(alloc, out)?;
+                shelf.begin(alloc, name.as_str(), ending.written)
+            }
+        }
+    }
+
+    /// Runs a command with each beginning of a file, from the shortest, and appends each answer that is not as the
+    /// one before.
+    fn run_beginnings<R: Threads + Wait + Sync>(
+        &mut self,
+        rt: &R,
+        alloc: Global,
+        shelf: &Shelf,
+        name: &str,
+        words: &[&str],
+        out: &mut String,
+    ) -> Result<()> {
+        let mut before = String::new(alloc);
+        for length in 0..shelf.text(name)?.len() {
+            let cut = shelf.cut(alloc, name, length)?;
+            let ending = self.end_of(rt, alloc, &cut, words)?;
+            let mut answer = String::new(alloc);
+            ending.put(alloc, self.next.part, &mut answer)?;
+            if answer != before {
+                out.push_str(answer.as_str())?;
+                before = answer;
+            }
+        }
+        Ok(())
+    }
+
+    /// What a command writes, and its status.
+    fn end_of<R: Threads + Wait + Sync>(
+        &mut self,
+        rt: &R,
+        alloc: Global,
+        shelf: &Shelf,
+        words: &[&str],
+    ) -> Result<Ending> {
+        if self.next.is_sure {
+            let mut files = shelf.sure()?;
+            let mut sink = SureSink::new(alloc);
+            let status = self.status_of(rt, alloc, &mut files, &mut sink, words)?;
+            return Ok(Ending {
+                written: sink.written().to_vec(alloc)?,
+                status,
+            });
+        }
+        let mut files = shelf.failing(self.next.reads.clone()?)?;
+        let mut sink = MemSink::new(alloc, self.next.writes.clone()?);
+        let status = self.status_of(rt, alloc, &mut files, &mut sink, words)?;
+        Ok(Ending {
+            written: sink.written().to_vec(alloc)?,
+            status,
+        })
+    }
+
+    fn status_of<R: Threads + Wait + Sync, F: Files, O: Sink>(
+        &mut self,
+        rt: &R,
+        alloc: Global,
+        files: &mut F,
+        sink: &mut O,
+        words: &[&str],
+    ) -> Result<u8> {
+        if self.next.is_alone {
+            status_alone(alloc, files, sink, words)
+        } else {
+            self.status_from_top(rt, alloc, files, sink, words)
+        }
+    }
+
+    /// The status of the top call.
+    fn status_from_top<R: Threads + Wait + Sync, F: Files, O: Sink>(
+        &mut self,
+        rt: &R,
+        alloc: Global,
+        files: &mut F,
+        sink: &mut O,
+        words: &[&str],
+    ) -> Result<u8> {
+        let mut owned = Vec::new(alloc);
+        for word in words {
+            owned.push(String::from_str(alloc, word)?)?;
+        }
+        let store = SureKeeper::new(self.store.clone()?);
+        let ended = centre_main(rt, alloc, &owned, files, sink, store);
+        self.store = ended.store.kept().to_vec(alloc)?;
+        self.histories.clear();
+        for history in ended.histories.as_slice() {
+            self.histories
+                .push((history.before, history.entries.as_slice().len()))?;
+        }
+        Ok(ended.status)
+    }
+
+    /// Appends a line for each history of the last command.
+    pub fn put_histories(&self, alloc: Global, out: &mut String) -> Result<()> {
+        for (before, entries) in &self.histories {
+            out.push_str(&format!(in alloc; ">before {before} entries {entries}\n")?)?;
+        }
+        Ok(())
+    }
+}
+
+/// The status of the call that does the command alone.
+fn status_alone<F: Files, O: Sink>(
+    alloc: Global,
+    files: &mut F,
+    sink: &mut O,
+    words: &[&str],
+) -> Result<u8> {
+    match words {
+        ["check", first, second] => {
+            let words = vec![in alloc;
+                String::from_str(alloc, "check")?,
+                String::from_str(alloc, first)?,
+                String::from_str(alloc, second)?,
+            ]?;
+            Ok(check_command(alloc, &words, files, sink))
+        }
+        ["modes", first] => {
+            let words = vec![in alloc;
+                String::from_str(alloc, "modes")?,
+                String::from_str(alloc, first)?,
+            ]?;
+            Ok(modes_command(alloc, &words, files, sink))
+        }
+        ["plan", first, second] => {
+            let words = vec![in alloc;
+                String::from_str(alloc, "plan")?,
+                String::from_str(alloc, first)?,
+                String::from_str(alloc, second)?,
+            ]?;
+            Ok(plan_command(alloc, &words, files, sink))
+        }
+        _ => bail!("no command with a call of its own"),
+    }
+}

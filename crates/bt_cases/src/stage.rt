@@ -1,0 +1,151 @@
+// The lines of a file of cases: each goes to the file of what it acts on. `docs/cases.md` says what they mean.
+use crate::air::put_message;
+use crate::centre::{new_centre, show_centre};
+use crate::demand::{put_gain, put_loss, put_units};
+use crate::files::{Shelf, set_files};
+use crate::outside::{Outside, set_meeting};
+use crate::pieces::{append, cut, put_keeps, put_reads, put_store, put_writes};
+use crate::planning::show_steps;
+use crate::satellite::show_satellite;
+use crate::terminal::show_terminal;
+use crate::texts::show_text;
+use crate::words::number_of;
+use anyhow::{Context, Result, bail};
+use bt_change::Centre;
+use bt_demand::Demand;
+use bt_frame::{Mark, TermNo};
+use bt_switch::Satellite;
+use bt_term::Terminal;
+use std::alloc::Global;
+use std::sync::Wait;
+use std::thread::Threads;
+
+/// All that the lines of a file of cases act on.
+#[derive(Drop)]
+pub struct Stage {
+    shelf: Shelf,
+    outside: Outside,
+    demand: Demand,
+    satellite: Satellite,
+    terminal: Terminal,
+    centre: Centre,
+}
+
+impl Stage {
+    /// No files, an empty demand, a satellite at superframe 0, terminal 0, and a centre that has placed no order.
+    pub fn new(alloc: Global) -> Stage {
+        Stage {
+            shelf: Shelf::new(alloc),
+            outside: Outside::new(alloc),
+            demand: Demand::empty(alloc),
+            satellite: Satellite::new(alloc, Mark(0)),
+            terminal: Terminal::new(alloc, TermNo(0)),
+            centre: new_centre(alloc),
+        }
+    }
+
+    /// Does what the line says, and appends what is answered.
+    pub fn take<R: Threads + Wait + Sync>(
+        &mut self,
+        rt: &R,
+        alloc: Global,
+        line: &str,
+        out: &mut String,
+    ) -> Result<()> {
+        if let Some(text) = line.strip_prefix('|') {
+            return self.shelf.fill(1, text);
+        }
+        if let Some(text) = line.strip_prefix("fill ") {
+            let (count, text) = text.split_once(' ').context("no text")?;
+            return self.shelf.fill(number_of(count)?, text);
+        }
+        let words: Vec<&str> = line.split(' ').collect(alloc)?;
+        match words.as_slice() {
+            [""] | ["#", ..] => Ok(()),
+            ["$", words @ ..] => self.outside.run(rt, alloc, &mut self.shelf, words, out),
+            words => self.act(alloc, words, out),
+        }
+    }
+
+    /// Does what a line says that runs no command.
+    fn act(&mut self, alloc: Global, words: &[&str], out: &mut String) -> Result<()> {
+        let is_done = self.set(alloc, words)?
+            || self.show_outside(alloc, words, out)?
+            || show_text(alloc, &self.shelf, words, out)?
+            || self.show_planning(alloc, words, out)?
+            || self.show_machine(alloc, words, out)?;
+        if is_done {
+            Ok(())
+        } else {
+            bail!("no line of cases")
+        }
+    }
+
+    /// Sets up files, the store, and what the next command meets.
+    fn set(&mut self, alloc: Global, words: &[&str]) -> Result<bool> {
+        if let ["store", name] = words {
+            self.outside.store = self.shelf.text(name)?.to_vec(alloc)?;
+            return Ok(true);
+        }
+        let next = &mut self.outside.next;
+        Ok(set_files(alloc, &mut self.shelf, words)? || set_meeting(alloc, next, words)?)
+    }
+
+    /// Shows the outside, call by call, and what a command left.
+    fn show_outside(&mut self, alloc: Global, words: &[&str], out: &mut String) -> Result<bool> {
+        match words {
+            ["histories"] => self.outside.put_histories(alloc, out)?,
+            ["stored"] => put_store(alloc, &self.outside, out)?,
+            ["append", name] => append(alloc, &mut self.outside, self.shelf.text(name)?)?,
+            ["cut", length] => cut(alloc, &mut self.outside, number_of(length)?)?,
+            [name, words @ ..] => return self.show_calls(alloc, name, words, out),
+            [] => return Ok(false),
+        }
+        Ok(true)
+    }
+
+    /// Shows calls on objects in memory, one after the other.
+    fn show_calls(
+        &mut self,
+        alloc: Global,
+        name: &str,
+        words: &[&str],
+        out: &mut String,
+    ) -> Result<bool> {
+        match name {
+            "reads" => put_reads(alloc, &mut self.outside, &self.shelf, words, out)?,
+            "writes" => put_writes(alloc, &mut self.outside, words, out)?,
+            "keeps" => put_keeps(alloc, &mut self.outside, words, out)?,
+            _ => return Ok(false),
+        }
+        Ok(true)
+    }
+
+    /// Shows steps of planning, and a demand.
+    fn show_planning(&mut self, alloc: Global, words: &[&str], out: &mut String) -> Result<bool> {
+        match words {
+            ["gain", from, to, units] => {
+                put_gain(alloc, &mut self.demand, [from, to, units], out)?;
+            }
+            ["lose", from, to, units] => {
+                put_loss(alloc, &mut self.demand, [from, to, units], out)?;
+            }
+            ["units", from, to] => put_units(alloc, &self.demand, from, to, out)?,
+            words => return show_steps(alloc, &self.shelf, words, out),
+        }
+        Ok(true)
+    }
+
+    /// Shows messages and the machines that take them.
+    fn show_machine(&mut self, alloc: Global, words: &[&str], out: &mut String) -> Result<bool> {
+        if let ["decode", digits] = words {
+            put_message(alloc, digits, out)?;
+            return Ok(true);
+        }
+        Ok(
+            show_satellite(alloc, &mut self.satellite, words, out)?
+                || show_terminal(alloc, &mut self.terminal, words, out)?
+                || show_centre(alloc, &mut self.centre, words, out)?,
+        )
+    }
+}

@@ -1,0 +1,60 @@
+// The lines of a terminal.
+use crate::air::bursts_told;
+use crate::message::message_of;
+use crate::words::{byte_of, number_of};
+use anyhow::Result;
+use bt_air::Heard;
+use bt_frame::{Mark, TermNo};
+use bt_term::Terminal;
+use std::alloc::Global;
+
+/// Does what a line of a terminal says; false where the words are another line.
+pub fn show_terminal(
+    alloc: Global,
+    terminal: &mut Terminal,
+    words: &[&str],
+    out: &mut String,
+) -> Result<bool> {
+    match words {
+        ["terminal", number] => *terminal = terminal_of(alloc, number)?,
+        ["hear", mark, words @ ..] => put_heard(alloc, terminal, mark, words, out)?,
+        ["sends", mark] => put_sent(alloc, terminal, mark, out)?,
+        ["restart"] => terminal.restart(),
+        _ => return Ok(false),
+    }
+    Ok(true)
+}
+
+/// A new terminal of that number.
+fn terminal_of(alloc: Global, number: &str) -> Result<Terminal> {
+    Ok(Terminal::new(alloc, TermNo(byte_of(number)?)))
+}
+
+/// Appends the answer to a message that is heard in that superframe.
+fn put_heard(
+    alloc: Global,
+    terminal: &mut Terminal,
+    mark: &str,
+    words: &[&str],
+    out: &mut String,
+) -> Result<()> {
+    let message = message_of(alloc, words)?;
+    let heard = match terminal.hear(Mark(number_of(mark)?), message) {
+        Heard::Took => ">took\n",
+        Heard::WrongMark => ">wrongmark\n",
+        Heard::Held => ">held\n",
+        Heard::Stored => ">stored\n",
+        Heard::Older => ">older\n",
+        Heard::InUse => ">inuse\n",
+        Heard::NotForMe => ">notforme\n",
+    };
+    out.push_str(heard)?;
+    Ok(())
+}
+
+/// Appends the bursts that the terminal transmits in that superframe.
+fn put_sent(alloc: Global, terminal: &Terminal, mark: &str, out: &mut String) -> Result<()> {
+    let told = bursts_told(alloc, terminal.sends(Mark(number_of(mark)?)))?;
+    out.push_str(&format!(in alloc; ">bursts{told}\n")?)?;
+    Ok(())
+}

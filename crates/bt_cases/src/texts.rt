@@ -1,0 +1,252 @@
+// What the readers make of texts.
+ghost use Rattle.std.specs.Prelude.{◌≡◌, ◌≤◌, length, IfOk};
+ghost use Rattle.std.specs.Bool.{OnTrue};
+ghost use Rattle.bt_demand.specs.Traffic.{matrix_of, AreOfNetwork, HasSumsTo};
+ghost use Rattle.bt_frame.specs.Critical.{IsOfBeams};
+ghost use Rattle.bt_matrix.specs.Traffic.{IsLine};
+
+use crate::answers::{Part, put_lines};
+use crate::escape::take_bytes;
+use crate::files::Shelf;
+use crate::words::number_of;
+use anyhow::{Context, Result, bail, ensure};
+use bt_demand::{Demand, traffic_of};
+use bt_frame::{BeamNo, Critical, Schedule, TermNo};
+use bt_matrix::{Dense, SUM_LAST, Traffic};
+use bt_net::Network;
+use bt_plan::{plan_text, read_demand, read_matrix, read_plan, read_schedule, schedule_text};
+use bt_text::{next_line, number, number_text};
+use bt_verdict::{Verdict, check_modes};
+use std::alloc::Global;
+
+/// Shows what the readers make of a text.
+pub fn show_text(alloc: Global, shelf: &Shelf, words: &[&str], out: &mut String) -> Result<bool> {
+    match words {
+        ["number", word] => put_number(alloc, word, out)?,
+        ["network", net] => put_network(alloc, shelf.text(net)?, out)?,
+        ["matrix", matrix] => put_matrix(alloc, shelf.text(matrix)?, out)?,
+        ["line", name, place] => put_line_end(alloc, shelf.text(name)?, place, out)?,
+        ["count", word, name] => put_count(alloc, shelf.text(name)?, word, out)?,
+        ["schedule", beams, modes] => put_schedule(alloc, beams, shelf.text(modes)?, out)?,
+        [name, net, text] => return show_over(alloc, shelf, name, [net, text], out),
+        _ => return Ok(false),
+    }
+    Ok(true)
+}
+
+/// Shows what the readers make of a text over a network.
+fn show_over(
+    alloc: Global,
+    shelf: &Shelf,
+    name: &str,
+    texts: [&str; 2],
+    out: &mut String,
+) -> Result<bool> {
+    let [net, text] = texts;
+    match name {
+        "demand" => put_demand(alloc, shelf.text(net)?, shelf.text(text)?, out)?,
+        "traffic" => put_traffic(alloc, shelf.text(net)?, shelf.text(text)?, out)?,
+        "plan" => put_plan(alloc, shelf.text(net)?, shelf.text(text)?, out)?,
+        _ => return Ok(false),
+    }
+    Ok(true)
+}
+
+/// Appends the number that a word spells, printed again.
+fn put_number(alloc: Global, word: &str, out: &mut String) -> Result<()> {
+    let mut spelling = Vec::new(alloc);
+    take_bytes(word, &mut spelling)?;
+    let mut text = Vec::new(alloc);
+    match number(&spelling) {
+        Some(number) => number_text(alloc, number, &mut text)
+            .ok()
+            .context("out of memory")?,
+        None => text.extend_from_slice(b"none")?,
+    }
+    text.push(b'\n')?;
+    put_lines(alloc, &text, Part::All, out)
+}
+
+/// Appends the place of the newline of the line that begins at that place.
+fn put_line_end(alloc: Global, bytes: &[u8], place: &str, out: &mut String) -> Result<()> {
+    let place = number_of(place)? as usize;
+    ensure!(place <= bytes.len(), "a place past the end");
+    let text = match next_line(bytes, place) {
+        Some((start, end)) => format!(in alloc; ">{start} to {end}\n")?,
+        None => format!(in alloc; ">none\n")?,
+    };
+    out.push_str(&text)?;
+    Ok(())
+}
+
+/// Appends how many lines begin with that word.
+fn put_count(alloc: Global, bytes: &[u8], word: &str, out: &mut String) -> Result<()> {
+    let mut count = 0u64;
+    for line in bytes.split(|byte| *byte == b'\n') {
+        if line.starts_with(word.as_bytes()) {
+            count = count.saturating_add(1);
+        }
+    }
+    out.push_str(&format!(in alloc; ">{count}\n")?)?;
+    Ok(())
+}
+
+/// Appends the rows of a matrix.
+fn put_matrix(alloc: Global, bytes: &[u8], out: &mut String) -> Result<()> {
+    let matrix = matrix_from(alloc, bytes)?;
+    put_rows(&matrix, out)
+}
+
+/// Appends the rows of the traffic matrix of a demand.
+fn put_traffic(alloc: Global, net: &[u8], traffic: &[u8], out: &mut String) -> Result<()> {
+    let net = network_from(alloc, net)?;
+    let demand = demand_from(alloc, &net, traffic)?;
+    let matrix = traffic_of(alloc, &net, &demand)
+        .ok()
+        .context("out of memory")?;
+    put_rows(&matrix, out)
+}
+
+fn put_rows(matrix: &Dense, out: &mut String) -> Result<()> {
+    let size = matrix.size() as u8;
+    for up in 0..size {
+        out.push('>')?;
+        for down in 0..size {
+            let units = matrix.get(BeamNo(up), BeamNo(down));
+            let space = if down == 0 { "" } else { " " };
+            write!(out, "{space}{units}")?;
+        }
+        out.push('\n')?;
+    }
+    Ok(())
+}
+
+/// Appends the links of a demand in order.
+fn put_demand(alloc: Global, net: &[u8], traffic: &[u8], out: &mut String) -> Result<()> {
+    let net = network_from(alloc, net)?;
+    let demand = demand_from(alloc, &net, traffic)?;
+    put_links(&demand, out)
+}
+
+/// Appends each link with its slots, its ends by number.
+pub fn put_links(demand: &Demand, out: &mut String) -> Result<()> {
+    for link in demand.as_slice() {
+        let (TermNo(from), TermNo(to), units) = (link.from, link.to, link.units);
+        write!(out, ">{from} {to} {units}\n")?;
+    }
+    Ok(())
+}
+
+/// Appends a copy of a network: its beams, its terminals with the numbers of their beams, and its numbers.
+fn put_network(alloc: Global, bytes: &[u8], out: &mut String) -> Result<()> {
+    let Ok(net) = network_from(alloc, bytes)?.copy(alloc) else {
+        bail!("out of memory");
+    };
+    for beam in 0..net.beam_count() as u8 {
+        let name = net.beam_name(BeamNo(beam));
+        write!(out, ">beam {name}\n")?;
+    }
+    for terminal in 0..net.terminal_count() as u8 {
+        let name = net.name_of(TermNo(terminal));
+        let BeamNo(beam) = net.beam_of(TermNo(terminal));
+        write!(out, ">terminal {name} {beam}\n")?;
+    }
+    let (slots, frames, lead) = (net.slots(), net.frames(), net.lead());
+    let (patience, journal) = (net.patience(), net.journal());
+    write!(
+        out,
+        ">slots {slots} frames {frames} lead {lead}\n>patience {patience} journal {journal}\n"
+    )?;
+    Ok(())
+}
+
+/// Appends a schedule, read for so many beams and written again.
+fn put_schedule(alloc: Global, beams: &str, bytes: &[u8], out: &mut String) -> Result<()> {
+    let schedule = schedule_from(alloc, number_of(beams)?, bytes)?;
+    let text = schedule_text(alloc, &schedule)
+        .ok()
+        .context("out of memory")?;
+    put_lines(alloc, &text, Part::All, out)
+}
+
+/// Appends a plan, read, copied, and written again.
+fn put_plan(alloc: Global, net: &[u8], bytes: &[u8], out: &mut String) -> Result<()> {
+    ensure!(bytes.len() <= 67_108_864, "a long text");
+    let net = network_from(alloc, net)?;
+    let Ok(plan) = read_plan(alloc, &net, bytes) else {
+        bail!("no plan");
+    };
+    let Ok(copy) = plan.copy(alloc) else {
+        bail!("out of memory");
+    };
+    let text = plan_text(alloc, &net, &copy).ok().context("out of memory")?;
+    put_lines(alloc, &text, Part::All, out)
+}
+
+/// Appends the verdict on a schedule that was read for another number of beams than the matrix has.
+pub fn put_verdict(
+    alloc: Global,
+    matrix: &[u8],
+    beams: &str,
+    modes: &[u8],
+    out: &mut String,
+) -> Result<()> {
+    let matrix = matrix_from(alloc, matrix)?;
+    let schedule = schedule_from(alloc, number_of(beams)?, modes)?;
+    ensure!(is_line(&matrix, schedule.critical), "a line of no beam");
+    let verdict = check_modes(&matrix, &schedule);
+    let text = match verdict {
+        Verdict::Good => format!(in alloc; ">good\n")?,
+        Verdict::V1 { mode } => format!(in alloc; ">V1 {mode}\n")?,
+        _ => bail!("a verdict that a command prints"),
+    };
+    out.push_str(&text)?;
+    Ok(())
+}
+
+fn is_line(matrix: &Dense, line: Critical) -> bool
+    ensures { OnTrue result (IsLine matrix.now line) }
+{
+    match line {
+        Critical::Row(beam) => u32::from(beam.0) < matrix.size(),
+        Critical::Column(beam) => u32::from(beam.0) < matrix.size(),
+    }
+}
+
+/// The matrix of a text that is one.
+pub fn matrix_from(alloc: Global, bytes: &[u8]) -> Result<Dense> {
+    match read_matrix(alloc, bytes) {
+        Ok(matrix) => Ok(matrix),
+        Err(_fault) => bail!("no matrix"),
+    }
+}
+
+/// The schedule of a text that is one for so many beams.
+pub fn schedule_from(alloc: Global, beams: u32, bytes: &[u8]) -> Result<Schedule>
+    ensures { IfOk result (λ schedule. IsOfBeams beams schedule.critical) }
+{
+    ensure!(beams <= 16 && bytes.len() <= 67_108_864, "too much");
+    match read_schedule(alloc, beams, bytes) {
+        Ok(schedule) => Ok(schedule),
+        Err(_fault) => bail!("no schedule"),
+    }
+}
+
+/// The network of a file that is one.
+pub fn network_from(alloc: Global, bytes: &[u8]) -> Result<Network> {
+    match Network::read(alloc, bytes) {
+        Ok(net) => Ok(net),
+        Err(_fault) => bail!("no network"),
+    }
+}
+
+/// The demand of a text that is one.
+pub fn demand_from(alloc: Global, net: &Network, bytes: &[u8]) -> Result<Demand>
+    ensures terminals { IfOk result (AreOfNetwork net.now) }
+    ensures sums { IfOk result (λ demand. HasSumsTo SUM_LAST (matrix_of net.now demand)) }
+{
+    match read_demand(alloc, net, bytes) {
+        Ok(demand) => Ok(demand),
+        Err(_fault) => bail!("no demand"),
+    }
+}

@@ -1,0 +1,12 @@
+// Words of a line of cases that are numbers.
+use anyhow::{Context, Result};
+
+/// A number of four bytes.
+pub fn number_of(word: &str) -> Result<u32> {
+    word.parse().context("no number")
+}
+
+/// A number of one byte.
+pub fn byte_of(word: &str) -> Result<u8> {
+    word.parse().context("no number up to 255")
+}
