@@ -1,9 +1,8 @@
 // A network, as the rest of the centre asks it.
-ghost use Rattle.std.specs.Prelude.{◌≡◌, ◌<◌, Some, IfSome, IfNone, IfOk, IsTrue, length, map, position, slice_get, Contains};
+ghost use Rattle.std.specs.Prelude.{◌≡◌, ◌<◌, Some, IfSome, IfOk, IsTrue, length, slice_get};
 ghost use Rattle.std.specs.Option.{option_map};
-ghost use Rattle.std.specs.Str.{bytes_eq};
 ghost use Rattle.bt_net.specs.Name.{is_name as is_name_of, is_terminal_name};
-ghost use Rattle.bt_net.specs.Network.{names_of, IsSound};
+ghost use Rattle.bt_net.specs.Network.{IsSound};
 ghost use Rattle.bt_net.specs.Terminals.{terminal_of, IsTerminal};
 ghost use Rattle.bt_frame.specs.Range.{IsWithin};
 

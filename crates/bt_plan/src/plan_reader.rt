@@ -1,6 +1,6 @@
 // The text of a burst time plan: its edition, its length, its critical line, its modes and its bursts in a line
 // each, and `end`.
-ghost use Rattle.std.specs.Prelude.{◌≡◌, ◌<◌, ◌≤◌, ◌+◌, ◌==◌, ◌^◌, ◌-◌, None, Some, Ok, Err, length, IfOk, IsTrue, AllPairs, if◌then◌else◌};
+ghost use Rattle.std.specs.Prelude.{◌≡◌, ◌<◌, ◌≤◌, ◌+◌, ◌==◌, ◌^◌, ◌-◌, None, Some, Ok, Err, length, IfOk, AllPairs, if◌then◌else◌};
 ghost use Rattle.bt_text.specs.Text.{words, lines};
 ghost use Rattle.bt_text.specs.declared.fault.LineFault.TheVariants.{At};
 ghost use Rattle.bt_text.specs.Reading.{or_fault, Gives};

@@ -1,5 +1,5 @@
 // The text of a demand: a line for each link, in any order.
-ghost use Rattle.std.specs.Prelude.{◌≡◌, ◌+◌, ◌<◌, ◌≤◌, ◌≢◌, length, IfOk, IfErr, OnOk, IsTrue};
+ghost use Rattle.std.specs.Prelude.{◌≡◌, ◌+◌, ◌<◌, ◌≤◌, ◌≢◌, length, IfOk, OnOk};
 ghost use Rattle.bt_text.specs.Text.{words, lines};
 ghost use Rattle.bt_text.specs.Reading.{Gives};
 ghost use Rattle.bt_net.specs.Terminals.{are_names};
