@@ -1,9 +1,8 @@
 // The shape of a line: the first of its four stages.
 ghost use Rattle.std.specs.Prelude.{◌≡◌, option_map};
-ghost use Rattle.bt_net.specs.Terminals.{are_names};
 ghost use Rattle.bt_script.specs.LineShape.{each_name, link_in, links_in, desk_shape, desk_in, words_shape, shape_of};
 
-use bt_net::is_name;
+use bt_net::are_names;
 use bt_text::{WordReader, is_word, number_of_digits};
 
 /// The most digits of a number.
@@ -140,11 +139,4 @@ fn links_in<'a>(mut words: WordReader<'a>) -> Option<((&'a [u8], &'a [u8]), Link
     }
     let link = link_in(words)?;
     Some(((from, to), link))
-}
-
-// Both words have the shape of a name.
-fn are_names(from: &[u8], to: &[u8]) -> bool
-    ensures { result ≡ are_names from.now to.now }
-{
-    is_name(from) && is_name(to)
 }
