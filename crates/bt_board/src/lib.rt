@@ -1,4 +1,4 @@
-//! The board: one publisher posts burst time plans, and readers see the newest without waiting.
+//! The board: one publisher posts burst time plans, and readers look at it without waiting.
 //!
 //! What is shown carries the list of the plans posted so far, so that a reader's list begins the publisher's whatever
 //! either has done since they met. `specs/Posted.antt` and `specs/Plans.antt` are what callers are promised: the board,

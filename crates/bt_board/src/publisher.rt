@@ -21,6 +21,7 @@ use std::alloc::Global;
 use std::marker::Model;
 use std::sync::{Arc, Wait};
 
+/// The publisher's place at the board.
 pub type BoardWriter = Writer<Shown, Shown, View, SameLog>;
 
 /// Adds a plan to the log. Nobody else does, which no proof shows: it would wait for ever.
@@ -178,6 +179,7 @@ impl Publisher {
         both.learn(&reader.kept.seen);
     }
 
+    /// The edition of the last plan that it has posted.
     pub(crate) fn edition(&self) -> u32
         ensures { next_edition self.now.plans ≡ result + 1 }
     {

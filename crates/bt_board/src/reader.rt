@@ -13,6 +13,7 @@ use bt_demand::Plan;
 use bt_frame::OutOfMemory;
 use std::marker::Model;
 
+/// A reader's place at the board.
 pub type Seat = left_right::reader::Reader<Shown, View, SameLog>;
 
 /// Enters the board and takes what is shown, where its edition is past `mine` and is the one that is wanted, if one is.
@@ -68,6 +69,7 @@ impl Reader {
         }
     }
 
+    /// The edition of the last plan that it has seen.
     pub(crate) fn edition(&self) -> u32
         ensures { next_edition self.now.plans ≡ result + 1 }
     {
@@ -119,7 +121,8 @@ impl Reader {
         both.learn(&other.kept.seen);
     }
 
-    /// Sees what is shown, where it is newer. It waits for nobody.
+    /// Sees what is shown, where it is newer and the board lets the reader in; else the reader stays as it was. It waits
+    /// for nobody.
     pub fn look(&mut self) -> Result<(), OutOfMemory>
         ensures board { self.new.board ≡ self.old.board }
         ensures begins { IsPrefix self.old.plans self.new.plans }

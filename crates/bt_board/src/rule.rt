@@ -4,6 +4,7 @@ use crate::view::View;
 use atomic_table::{Join, Split};
 use crossbeam_utils::rule::{Outcome, Protocol};
 
+/// Whoever knows a log takes plans of that log alone.
 pub struct SameLog;
 
 impl Protocol<Shown, View> for SameLog {

@@ -2,7 +2,7 @@
 use Rattle.std.specs.Prelude.{◌≡◌, ℕ, List, [], ◌∷◌, ◌++◌, filter, ◌==◌}
 use Rattle.bt_line.specs.declared.object.Entry.{Entry}
 
--- the entries are steps, one after the other, that lead from the first object to the second
+-- each entry is a step, from the first object on, and the last one leaves the second
 abbrev pub Legal : {O C R : Type 0} → (O → ℕ → C → R → O → Type 0) → O → List (Entry C R) → O → Type 0
 Legal steps from [] to = to ≡ from
 Legal {O} steps from (entry ∷ entries) to = (next : O) × (steps from entry.caller entry.call entry.reply next × Legal steps next entries to)

@@ -40,8 +40,8 @@ module _ {O C R : Type 0} where
     pub count_is : new.me.0.count ≡ old.me.0.count
     pub kept_is : new.me.0.kept ≡ old.me.0.kept
 
-  -- What a pass has seen after a call that was answered: it begins with what the pass had seen, ends with the entry of
-  -- the call, is legal from the start of the line, and of the caller it has the earlier entries and this one.
+  -- What a pass has seen after an answered call: all that it saw before, then what others did meanwhile, then the entry of
+  -- this call; legal from the start of the line; and of its own caller no entry but the earlier ones and this one.
   pub record Gains (steps : O → ℕ → C → R → O → Type 0) (start : O) (old : List (Entry C R)) (entry : Entry C R) (new : List (Entry C R)) : Type 0 where
     pub before : List (Entry C R)
     pub begins : IsPrefix old before

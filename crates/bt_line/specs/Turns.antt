@@ -1,5 +1,5 @@
--- The rule of the turn lock's table, and what each step on it tells. In all of it the log is the history of the line:
--- what the object's stored history has gained since the start.
+-- What always holds of the table that the callers share, and what each step on it tells. The log is the history of the
+-- line: the entries that the object has stored since the line started.
 use Rattle.std.specs.Prelude.{◌≡◌, ◌≢◌, ◌⊎◌, ℕ, ◌+◌, ◌-◌, ◌%◌, ◌^◌, ◌<◌, ◌≤◌, List, [], ◌∷◌, ◌++◌, length, sum_by, Option, Some, None}
 use mathlib.Core.Option.{some, none}
 use lib.ListN.{get_elem?}
@@ -116,18 +116,18 @@ module _ {O C R : Type 0} where
   HasTurn steps history k m m' = (b : List (Entry C R)) × (o : O) × (m' ≡ (record m.0 { ticket = Some k; base = Some b }, (0, Some o) ∷ []))
       × ((x : O) → m.0.start ≡ Some x → Legal steps x b o × (history o ≡ history x ++ b)) × HasSeen b m.0.number m.0.seen
 
-  -- the step `look`: at its own ticket the seat takes the slot
+  -- the step `look`: a seat that finds its own ticket has the slot from then on
   abbrev pub looked : (O → ℕ → C → R → O → Type 0) → (O → List (Entry C R)) → Step (Option O) → Me (Option O) (View O C R) → ℕ → Me (Option O) (View O C R) → Type 0
   looked steps history st m found m' = (k : ℕ) → m.0.ticket ≡ Some k
       → (found ≡ k % 2 ^ 64 → HasTurn steps history k m m') × (found ≢ k % 2 ^ 64 → m' ≡ m)
 
-  -- the step `pass on`: seen is the history of the object given back, or stays where no entry was made
+  -- the step `pass on`: the seat has seen what the object has stored when it gives it back, or no more than before where the call made no entry
   abbrev pub passed : (O → List (Entry C R)) → Step (Option O) → Me (Option O) (View O C R) → ℕ → Me (Option O) (View O C R) → Type 0
   passed history st m found m' = (m' ≡ (rested m.0 m'.0.seen, []))
       × ((x p : O) (b : List (Entry C R)) → m.0.start ≡ Some x → m.0.base ≡ Some b → m.1 ≡ (0, Some p) ∷ []
       → (history p ≡ history x ++ b → m'.0.seen ≡ m.0.seen) × ((e : Entry C R) → history p ≡ history x ++ b ++ e ∷ [] → m'.0.seen ≡ b ++ e ∷ []))
 
-  -- the object may be given back: its history is the base, or the base and one entry of the caller
+  -- the object may be given back: it has stored what it had when it went out, and at most one entry more, of this caller
   abbrev pub MayGive : (O → ℕ → C → R → O → Type 0) → (O → List (Entry C R)) → O → List (Entry C R) → ℕ → O → Type 0
   MayGive steps history x b number p = (Legal steps x b p × (history p ≡ history x ++ b))
       ⊎ ((e : Entry C R) × (e.caller ≡ number) × Legal steps x (b ++ e ∷ []) p × (history p ≡ history x ++ b ++ e ∷ []))

@@ -5,8 +5,7 @@
 //! callers share, and what each step on it tells. `specs/Sums.antt` has the object of the tests.
 //!
 //! The table has two words and one slot. A caller draws a ticket from the first word, and looks at the second until it
-//! is the ticket; then it takes the object out of the slot, calls it, puts it back, and moves the second word on. Each
-//! step on a word or the slot is sequentially consistent.
+//! is the ticket; then it takes the object out of the slot, calls it, puts it back, and moves the second word on.
 #![tactic(auto)]
 
 #[cfg(test)]
