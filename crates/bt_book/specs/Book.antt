@@ -22,8 +22,8 @@ pub record BookStep {S : Type 0} (old : Books S) (asked : Call) (reply : Reply) 
   pub store : new.store ≡ old.store
 
 -- an entry as a turn lock has it
-abbrev pub line_entry : Entry → line.Entry Call Reply
-line_entry entry = record { caller = entry.caller; call = entry.call; reply = entry.reply }
+abbrev pub lock_entry : Entry → line.Entry Call Reply
+lock_entry entry = record { caller = entry.caller; call = entry.call; reply = entry.reply }
 
 -- a call that names terminals of a network names those of an equal one
 pub test_stays : (old new : Net) (asked : Call) → new ≡ old → IsOfNetwork old asked → IsOfNetwork new asked

@@ -211,12 +211,12 @@ pub record Step (net : Net) (old : State) (asked : Call) (reply : Reply) (new : 
   pub named : IsOfNetwork net asked
   pub answered : CallStep net old asked reply new
 
--- the entries of a history are steps one after the other, from this state on
+-- the machine in this state answers each entry's call by its reply, and goes on with the state that the step left
 abbrev pub AreSteps : Net → State → List Entry → Type 0
 AreSteps net old [] = Unit {0}
 AreSteps net old (entry ∷ entries) = (new : State) × Step net old entry.call entry.reply new × AreSteps net new entries
 
--- a legal history: its entries are steps one after the other, from these changes on
+-- the history is legal after these opening changes: the machine that made them, and is not stopped, can give all its replies
 abbrev pub Legal : Net → List Change → List Entry → Type 0
 Legal net opening history = AreSteps net (running opening) history
 

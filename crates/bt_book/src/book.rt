@@ -52,7 +52,7 @@ impl<K: Keeper> Book<K> {
     ///
     /// A refusal leaves the changes as they were, and want of memory leaves all as it was.
     pub fn apply(&mut self, alloc: Global, caller: u32, call: Call) -> Result<Reply, OutOfMemory>
-        requires { IsOfNetwork self.old.net call }
+        requires terminals { IsOfNetwork self.old.net call }
         ensures step { IfOk result (λ reply. Step self.old.net self.old.state call reply self.new.state) }
         ensures entry { IfOk result (λ reply. self.new.history
             ≡ self.old.history ++ record { caller = caller; call = call; reply = reply } ∷ []) }

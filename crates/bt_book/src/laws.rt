@@ -32,7 +32,7 @@ pub fn legal_changes_follow()
 
 /// The history that a turn lock makes of a book's calls is one of the machine: legal from the changes at its start, and
 /// it leads to the state of the book at its end. The network and the store stay.
-pub fn lines_of_books_are_legal<K: Keeper>()
+pub fn locked_books_are_legal<K: Keeper>()
     ensures legal { (start end : Books K) (opening : List Change) (log : List (line.Entry Call Reply))
         → start.state ≡ running opening → line_legal.Legal book_steps start log end
         → Legal start.net opening (map journal_entry log) }

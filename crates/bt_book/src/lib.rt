@@ -17,4 +17,7 @@ mod object;
 mod occupancy;
 
 pub use book::Book;
-pub use laws::{histories_grow_by_steps, legal_changes_follow, replies_name_beams_of_the_network};
+pub use laws::{
+    histories_grow_by_steps, legal_changes_follow, locked_books_are_legal,
+    replies_name_beams_of_the_network,
+};

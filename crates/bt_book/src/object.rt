@@ -1,6 +1,6 @@
 // The book as an object of a turn lock: its calls are steps.
 ghost use Rattle.std.specs.Prelude.{◌≡◌, map};
-ghost use Rattle.bt_book.specs.Book.{BookStep, line_entry, test_stays};
+ghost use Rattle.bt_book.specs.Book.{BookStep, lock_entry, test_stays};
 ghost use Rattle.bt_book.specs.Machine.{IsOfNetwork};
 
 use crate::Book;
@@ -17,7 +17,7 @@ impl<K: Keeper> Object for Book<K> {
 
     ghost steps = { λ old _ call reply new. BookStep old call reply new };
 
-    ghost history = { λ book. map line_entry book.history };
+    ghost history = { λ book. map lock_entry book.history };
 
     ghost takes = { λ book call. IsOfNetwork book.net call };
 

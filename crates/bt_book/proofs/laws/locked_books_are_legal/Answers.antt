@@ -1,5 +1,5 @@
 use Rattle.bt_book.proofs.TurnLock.{Legal-line, state_of_line, kept_by_line}
-use Rattle.bt_book.proofs.laws.lines_of_books_are_legal.Goals as goal
+use Rattle.bt_book.proofs.laws.locked_books_are_legal.Goals as goal
 
 pub returns-clause-legal : goal.returns-clause-legal
 returns-clause-legal g c = Legal-line
