@@ -31,7 +31,7 @@ pub record State : Type 0 where
 abbrev pub begins_with : List Order → TermSet → State
 begins_with orders needs = record { orders = orders; kept = None; confirmed = no_terminal; asking = no_terminal; needs = needs; waited = 0; wanted = None }
 
--- the edition in force in a superframe, where the centre knows it
+-- the edition that the centre knows in a superframe, if it knows one
 abbrev pub known_to : State → ℕ → Option EditionNo
 known_to s mark = known s.kept s.orders mark
 
@@ -40,7 +40,7 @@ abbrev pub having_noted : State → Status → State
 having_noted s status = record s { kept = Some (later_of s.kept status) }
 
 -- with what a terminal holds noted: it has confirmed where that is the edition of the last order, a Load, and it asks no
--- more where that is the edition in force
+-- more where that is the edition known
 abbrev pub having_confirmed : State → ℕ → TermNo → EditionNo → State
 having_confirmed s mark terminal edition = record s {
   confirmed = if is_load_of (last_order s.orders) edition then with_terminal s.confirmed terminal else s.confirmed;

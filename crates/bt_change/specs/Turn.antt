@@ -25,7 +25,7 @@ is_ready turn = not turn.some_missing || nat_le turn.patience turn.waited
 abbrev pub may_arm : Turn → Status → Command → Bool
 may_arm turn status command = status.last.0 == command.0 && (is_ready turn && nat_le (turn.mark.0 + turn.lead) 4000000000)
 
--- a new change begins, with the command after this one, where the newest edition is later than the one in force
+-- a new change begins, with the command after this one, where the newest edition is later than the one known
 abbrev pub attempt : Option EditionNo → EditionNo → ℕ → Act
 attempt None newest last = Quiet
 attempt (Some fore) newest last = if nat_lt fore.0 newest.0 then Want (Load (record { 0 = last + 1 }) newest) else Quiet

@@ -1,10 +1,10 @@
-// The centre, a machine that brings new editions to the satellite and to the terminals.
+// The centre, a machine that wants the orders by which a new edition comes to the front, and says what its turn calls for.
 ghost use Rattle.std.specs.Prelude.{◌≡◌, ◌<◌, ◌≤◌, length, reverse, slice_get, vec_len, IfOk, OnErr, IsSome, Some};
 ghost use Rattle.bt_change.specs.Centre.{AreNumbered, act_at, after_turn, begins_with, having_confirmed, having_lost, having_noted, having_placed, is_missing, known_to, some_missing, turn_at};
 ghost use Rattle.bt_change.specs.Last.{last_order};
 ghost use Rattle.bt_change.specs.Terminals.{has};
 
-use crate::known::{in_force, later_of, names};
+use crate::known::{known_by, later_of, names};
 use crate::last::{is_load, is_load_of};
 use crate::terminals::{has, with_terminal, without_terminal};
 use crate::turn::{Turn, act_of, waited_with, wanted_by};
@@ -44,7 +44,7 @@ impl Centre {
     pub fn from_orders(orders: Vec<Order>, needs: TermSet) -> Centre
         requires numbered { AreNumbered (reverse orders.items) }
         requires few { vec_len orders ≤ 4000000000 }
-        ensures { result ≡ begins_with (reverse orders.items) needs }
+        ensures state { result ≡ begins_with (reverse orders.items) needs }
     {
         Centre {
             orders,
@@ -57,17 +57,17 @@ impl Centre {
         }
     }
 
-    /// The edition in force in a superframe, where the centre knows it.
+    /// The edition that the centre knows to be in front in a superframe, if it knows one.
     pub fn known(&self, mark: Mark) -> Option<EditionNo>
         ensures { result ≡ known_to self.now mark.0 }
     {
         match self.kept {
-            Some(status) => in_force(&status, mark, self.orders.as_slice()),
+            Some(status) => known_by(&status, mark, self.orders.as_slice()),
             None => None,
         }
     }
 
-    /// Notes what the satellite says of itself, unless a later word of it is kept.
+    /// Takes note of a status. Keeps it where none is kept or it is later than the one kept.
     pub fn status(&mut self, status: Status)
         ensures { self.new ≡ having_noted self.old status }
     {
@@ -80,11 +80,11 @@ impl Centre {
         ensures { self.new ≡ having_confirmed self.old mark.0 terminal edition }
     {
         let is_last = is_load_of(self.last_order(), edition);
-        let is_in_force = names(self.known(mark), edition);
+        let is_known = names(self.known(mark), edition);
         if is_last {
             self.confirmed = with_terminal(self.confirmed, terminal);
         }
-        if is_in_force {
+        if is_known {
             self.asking = without_terminal(self.asking, terminal);
         }
     }
@@ -129,7 +129,7 @@ impl Centre {
         is_load(self.last_order()) && has(self.needs, terminal) && !has(self.confirmed, terminal)
     }
 
-    /// The terminal asks for its bursts of the edition in force.
+    /// The terminal has restarted, and asks for its bursts until it holds the edition known.
     pub fn asking(&self, terminal: TermNo) -> bool
         requires { terminal.0 < 64 }
         ensures { result ≡ has self.now.asking terminal }
@@ -156,7 +156,7 @@ impl Centre {
     ///
     /// The orders have their own allocator. One is taken as by every call that takes memory.
     pub fn ordered(&mut self, _alloc: Global, needs: TermSet) -> Result<Order, OutOfMemory>
-        requires { IsSome self.old.wanted }
+        requires wanted { IsSome self.old.wanted }
         ensures order { IfOk result (λ order. self.old.wanted ≡ Some order) }
         ensures state { IfOk result (λ order. self.new ≡ having_placed self.old order needs) }
         ensures unchanged { OnErr result (self.new ≡ self.old) }

@@ -1,8 +1,8 @@
-//! The centre: which edition it knows to be in force, and the orders by which it brings a new one to the front.
+//! The centre: which edition it knows to be in front, and the orders by which it brings a new one to the front.
 //!
 //! It stands on messages and orders (`bt_air`). `docs/machines.md` has the table; `specs/Turn.antt` and `turn.rt` have
 //! its rows in the same order. What is promised beside it stands in `specs/Centre.antt`, the state of the centre and
-//! what each thing that happens to it does, in `specs/Known.antt`, the edition in force, and in `specs/Terminals.antt`,
+//! what each thing that happens to it does, in `specs/Known.antt`, the edition known, and in `specs/Terminals.antt`,
 //! sets of terminals, whose laws stand in `laws.rt`.
 #![tactic(auto)]
 

@@ -21,7 +21,7 @@ pub struct Turn {
     pub waited: u32,
     /// Some terminal has still to confirm.
     pub some_missing: bool,
-    /// The edition in force, where it is known.
+    /// The edition known in the present superframe, if one is.
     pub in_force: Option<EditionNo>,
 }
 
@@ -61,7 +61,7 @@ fn arm(turn: &Turn, command: Command, edition: EditionNo) -> Order
     }
 }
 
-// A new change begins, with the command after the last one, where the newest edition is later than the one in force.
+// A new change begins, with the command after the last one, where the newest edition is later than the one known.
 fn attempt(turn: &Turn, last: u32) -> Act
     requires { last ≤ 4000000000 }
     ensures { result ≡ attempt turn.now.in_force turn.now.newest last }
