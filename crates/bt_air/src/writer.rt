@@ -12,7 +12,7 @@ use std::alloc::Global;
 /// The bytes of a message, as `decode` reads them: at most 81,932, which are those of a Load of 4,096 modes of 16
 /// beams.
 pub fn encode(alloc: Global, message: &Message) -> Result<Vec<u8>, OutOfMemory>
-    requires { IsInRange message.now }
+    requires in_range { IsInRange message.now }
     ensures bytes { IfOk result (λ bytes. bytes.items ≡ message_bytes message.now) }
     ensures short { IfOk result (λ bytes. length bytes.items ≤ 81932) }
 {
