@@ -12,7 +12,7 @@ ghost use Rattle.bt_switch.specs.Run.{SatelliteEvent, a_change, accepted, mark_a
 
 use bt_air::{Message, Order, Taken};
 
-/// Every answer but `Accepted` changes nothing.
+/// A message that is not accepted leaves the satellite as it was.
 pub fn refusals_change_nothing()
     ensures { (s : State) (message : Message) → (step_of s message).0 ≢ Taken.Accepted → (step_of s message).1 ≡ s }
 {}

@@ -67,7 +67,7 @@ impl Satellite {
 
     /// The next superframe begins. A change that is due with it is made.
     pub fn tick(&mut self) -> Status
-        requires { self.old.mark.0 < LAST_MARK }
+        requires mark { self.old.mark.0 < LAST_MARK }
         ensures state { self.new ≡ ticked self.old }
         ensures status { result ≡ status_of self.new }
     {
