@@ -61,7 +61,7 @@ none_yet now at (Hears before one ∷ earlier) later falls =
     let lt : before.0 < now = omega arith in
     not_this (heard_in now earlier) now before one lt ∙ none_yet now before.0 earlier lt falls.1
 
--- what is in force in a later superframe, before its Reference
+-- what is named in a later superframe, before its Reference
 not_in_force : (told : Option Reference) (at now : ℕ) → at < now → HasBegun told at → in_force told (record { 0 = now }) ≡ None
 not_in_force None at now later begun = refl
 not_in_force (Some reference) at now later begun =

@@ -26,7 +26,7 @@ plan_keeps s after false false false false false e = e
 same_mark : (a b : Mark) → a.0 ≡ b.0 → a ≡ b
 same_mark a b e = rw e refl
 
--- nothing is in force by a reference burst of another superframe
+-- nothing is named by a reference burst of another superframe
 other_frame : (superframe mark : Mark) (named : Option EditionNo) (same : Bool) → superframe.0 == mark.0 ≡ same → ¬ (superframe ≡ mark)
     → in_force (Some (record { superframe = superframe; in_force = named })) mark ≡ None
 other_frame superframe mark named true e other = absurd (other (same_mark superframe mark (grind (arith, nat_tests))))

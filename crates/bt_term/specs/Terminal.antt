@@ -23,7 +23,7 @@ pub record State : Type 0 where
 abbrev pub new_of : TermNo → State
 new_of number = record { number = number; banks = no_banks; heard = None }
 
--- the edition in force in a superframe: what the reference burst of this very superframe names
+-- the edition named in a superframe: what the reference burst of this very superframe names
 abbrev pub in_force : Option Reference → Mark → Option EditionNo
 in_force None mark = None
 in_force (Some reference) mark = if reference.superframe.0 == mark.0 then reference.in_force else None
@@ -73,6 +73,6 @@ abbrev pub bursts_named : Banks → Option EditionNo → List Burst
 bursts_named banks None = []
 bursts_named banks (Some edition) = bursts_of_bank (bank_of banks edition)
 
--- the bursts that the terminal transmits in a superframe: those that it holds of the edition in force
+-- the bursts that the terminal transmits in a superframe: those that it holds of the edition named
 abbrev pub sent : State → Mark → List Burst
 sent s mark = bursts_named s.banks (in_force s.heard mark)

@@ -25,7 +25,7 @@ pub fn unheard_superframes_are_silent()
         → All (λ event. ¬ (TakesReference mark event)) events → sent (state_after (new_of number) events) mark ≡ [] }
 {}
 
-/// While the terminal holds bursts of the edition in force, no bursts that come for it change what it transmits in
+/// While the terminal holds bursts of the edition named, no bursts that come for it change what it transmits in
 /// this superframe.
 pub fn bursts_in_force_stay()
     ensures { (s : State) (mark : Mark) (named : EditionNo) (to : TermNo) (edition : EditionNo) (bursts : List Burst)

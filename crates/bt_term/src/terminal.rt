@@ -51,8 +51,8 @@ impl Terminal {
         self.heard = None;
     }
 
-    /// The bursts that the terminal transmits in this superframe: those of the edition in force that the reference
-    /// burst of this very superframe named, where the terminal took it and holds them, and else none.
+    /// The bursts that the terminal transmits in this superframe: those of the edition that the reference burst of this
+    /// very superframe names, where the terminal took it and holds them, and else none.
     pub fn sends(&self, mark: Mark) -> &[Burst]
         ensures bursts { result.now ≡ sent self.now mark }
         ensures in_order { AreBursts result.now }
@@ -119,7 +119,7 @@ impl Terminal {
         }
     }
 
-    // The edition in force in this superframe, where its reference burst was taken and names one.
+    // The edition named in this superframe: that of its reference burst, where this was taken and names one.
     fn in_force(&self, mark: Mark) -> Option<EditionNo>
         ensures { result ≡ in_force self.now.heard mark }
     {
@@ -139,7 +139,7 @@ impl Terminal {
         }
     }
 
-    // The bank in whose place bursts would be stored next is the one in force.
+    // The bank in whose place bursts would be stored next is of the edition named.
     fn is_in_use(&self, mark: Mark) -> bool
         ensures { result ≡ is_named (next_bank self.now.banks) (in_force self.now.heard mark) }
     {
