@@ -6,9 +6,9 @@ use Rattle.bt_script.specs.declared.script.Script.{Script}
 use Rattle.bt_centre.specs.Output.{Output}
 use Rattle.bt_centre.specs.Run.{RunsTo}
 use Rattle.bt_cli.specs.Kinds.{network_file, script_file}
-use Rattle.bt_cli.specs.Outcome.{Outcome, Input, HasFailed, IsLoaded, StopsAtLoad, PrintsOneOf}
+use Rattle.bt_cli.specs.Outcome.{Input, HasFailed, IsLoaded, StopsAtLoad, PrintsOneOf}
 use Rattle.bt_cli.specs.Request.{RunScript}
-use Rattle.bt_cli.specs.Run.{End, EndsRun, EndsScript, HasRun, PrintsRun, Runs, RunsNothing, RunsScript}
+use Rattle.bt_cli.specs.Run.{End, EndsRun, EndsScript, HasRun, PrintsRun, Runs, RunsScript}
 use Rattle.bt_cli.specs.Top.{Answered}
 use Rattle.bt_cli.proofs.Loads.{PrintsOneOf-among, StopsAtLoad-moved}
 

@@ -1,5 +1,5 @@
 -- The lines that a run prints, each as its words.
-use Rattle.std.specs.Prelude.{ℕ, ◌++◌, List, [], ◌∷◌, length, codes, decimal, Option, Some, None}
+use Rattle.std.specs.Prelude.{ℕ, List, [], ◌∷◌, length, codes, decimal, Option, Some, None}
 use Rattle.std.specs.List.{slice_index_or}
 use Rattle.bt_frame.specs.declared.numbers.BeamNo.{BeamNo}
 use Rattle.bt_net.specs.Network.{Net}

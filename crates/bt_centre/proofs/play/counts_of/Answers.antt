@@ -1,5 +1,5 @@
 -- one entry more
-use Rattle.std.proofs.Common.{◌≡◌, ◌∙◌, ◌+◌, true, ap, sym, arith}
+use Rattle.std.proofs.Common.{ap, arith}
 use Rattle.bt_journal.specs.Journal.{is_made}
 use Rattle.bt_centre.proofs.Totals.{done_more, not_made, refused_more}
 use Rattle.bt_centre.proofs.play.counts_of.Goals.{in-Done, in_default}

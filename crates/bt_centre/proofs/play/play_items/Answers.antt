@@ -1,5 +1,5 @@
 -- one round more
-use Rattle.std.proofs.Common.{◌∙◌, ◌+◌}
+use Rattle.std.proofs.Common.{◌∙◌}
 use Rattle.bt_centre.proofs.Rounds.{rounds_turn}
 use Rattle.bt_centre.proofs.play.play_items.Goals as goal
 

@@ -1,6 +1,5 @@
 -- one desk more
-use Rattle.std.proofs.Common.{rules, ◌≡◌, ◌<◌, List, [], length, get_or, refl, ◌∙◌, subst}
-use Rattle.bt_centre.specs.Progress.{DesksAsked}
+use Rattle.std.proofs.Common.{◌≡◌, ◌<◌, List, length, get_or, ◌∙◌, subst}
 use Rattle.bt_centre.proofs.Asking.{Desk, desks_turn}
 use Rattle.bt_centre.proofs.round.ask_desks.Goals as goal
 

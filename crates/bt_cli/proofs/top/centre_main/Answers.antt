@@ -1,5 +1,5 @@
 -- what the words ask for runs a script, or nothing
-use Rattle.std.proofs.Common.{map, subst}
+use Rattle.std.proofs.Common.{map}
 use Rattle.std.specs.String.{string_bytes}
 use Rattle.bt_cli.specs.Request.{request_of}
 use Rattle.bt_cli.proofs.Alone.{runs_none}
