@@ -10,3 +10,6 @@ mod Onboard
 mod Banks
 mod Ground
 mod Sends
+mod Counted
+mod Carried
+mod Ranges

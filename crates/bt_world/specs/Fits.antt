@@ -1,5 +1,5 @@
 -- What must hold of an opening and of each event.
-use Rattle.std.specs.Prelude.{◌≡◌, ◌<◌, ◌≤◌, true, false, List, [], ◌∷◌, length, All, IsSome}
+use Rattle.std.specs.Prelude.{◌≡◌, ◌<◌, ◌≤◌, true, false, List, [], ◌∷◌, length, All, AllPairs, IsSome}
 use Rattle.bt_frame.specs.declared.numbers.EditionNo.{EditionNo}
 use Rattle.bt_frame.specs.declared.schedule.Critical.TheVariants.{Row}
 use Rattle.bt_demand.specs.declared.plan.Plan.{Plan}
@@ -9,8 +9,10 @@ use Rattle.bt_air.specs.declared.sent.Place.{Place}
 use Rattle.bt_air.specs.declared.sent.Place.TheVariants.{Satellite, Centre, Terminal}
 use Rattle.bt_change.specs.Centre.{AreNumbered}
 use Rattle.bt_world.specs.Event.{Opening, Event, Tick, Turn, Ordered, Deliver, Frame, ResetTerminal, RestartCentre, Install, Happening}
-use Rattle.bt_world.specs.World.{mark, number, plans, plan_of, wanted, sent, log}
+use Rattle.bt_world.specs.World.{mark, number, plans, plan_of, wanted, orders, sent, log}
+use Rattle.bt_demand.specs.Burst.{IsNotAfter}
 use Rattle.bt_demand.specs.Flyable.{IsFlyable}
+use Rattle.bt_air.specs.Range.{IsWord}
 use Rattle.bt_net.specs.Terminals.{IsTerminal}
 
 -- the empty plan
@@ -74,3 +76,13 @@ Meets o past (Install plan) = ((newest_of (plans o past)).0 < plan.edition.0) ×
 abbrev pub IsWorld : Opening → List Event → Type 0
 IsWorld o [] = IsOpening o
 IsWorld o (event ∷ earlier) = Meets o (log o earlier) event × IsWorld o earlier
+
+-- the edition fits four bytes and the bursts stand in order, as in each plan that a program holds
+pub record IsStored (plan : Plan) : Type 0 where
+  pub edition : IsWord plan.edition.0
+  pub ordered : AllPairs IsNotAfter plan.bursts
+
+-- no number of a world is too great for its messages: the plans are stored ones, and the orders fit four bytes
+pub record AreStored (o : Opening) (past : List Happening) : Type 0 where
+  pub plans : All IsStored (plans o past)
+  pub orders : IsWord (length (orders o past))

@@ -1,22 +1,24 @@
 // What holds of every world, whatever is lost, repeated or late and whoever restarts.
 ghost use Rattle.std.specs.Prelude.{◌≡◌, ◌⊎◌, ℕ, List, [], ◌∷◌, ◌++◌, All};
 ghost use Rattle.bt_frame.specs.declared.numbers.TermNo.{TermNo};
+ghost use Rattle.bt_net.specs.Network.{IsSound};
 ghost use Rattle.bt_demand.specs.declared.burst.Burst.{Burst};
+ghost use Rattle.bt_air.specs.Range.{IsInRange};
 ghost use Rattle.bt_switch.specs.Orders.{StandsFor, telling};
 ghost use Rattle.bt_switch.specs.Satellite.{status_of};
 ghost use Rattle.bt_term.specs.Terminal.{sent as transmitted};
 ghost use Rattle.bt_world.specs.Air.{AreFlyable, IsAir, IsSafe, fore, transmits};
 ghost use Rattle.bt_world.specs.Event.{Event, Happening, Opening};
 ghost use Rattle.bt_world.specs.Example.{a, a_burst, b, b_burst, calm, calm_sent, late, late_sent, late_until, lossy, opened, reset};
-ghost use Rattle.bt_world.specs.Fits.{IsWorld};
+ghost use Rattle.bt_world.specs.Fits.{AreStored, IsWorld};
 ghost use Rattle.bt_term.specs.Said.{Agrees};
 ghost use Rattle.bt_world.specs.Ground.{terminal};
 ghost use Rattle.bt_world.specs.Laws.{AreAmong, Ascend, IsOrdered, IsRight, TellsFront};
 ghost use Rattle.bt_world.specs.Satellite.{BanksHold, satellite};
-ghost use Rattle.bt_world.specs.World.{accepted, bursts_for, heard, held, log, mark, modes_of, orders, plan_of, plans, sent};
+ghost use Rattle.bt_world.specs.World.{accepted, bursts_for, heard, held, log, mark, message_of, modes_of, orders, plan_of, plans, sent};
 
 use bt_air::Sent;
-use bt_demand::apart_bursts_spell_apart_triples;
+use bt_demand::{apart_bursts_spell_apart_triples, flyable_plans_are_small};
 use bt_switch::accepted_orders_are_said_by_events;
 
 /// Each Load and each Arm that is sent is one of the orders placed, and so is each order that the satellite accepted.
@@ -63,6 +65,15 @@ pub fn satellite_is_said()
 pub fn banks_hold_plans()
     ensures { (o : Opening) (events : List Event) → IsWorld o events → BanksHold (plans o (log o events)) (satellite o (log o events)) }
 {}
+
+/// Every message that a world sends has a spelling: with the modes and the bursts of its plan, each of its fields is in
+/// its range.
+pub fn messages_are_in_range()
+    ensures { (o : Opening) (events : List Event) → IsSound o.net → IsWorld o events → AreStored o (log o events)
+        → All (λ one. IsInRange (message_of (plans o (log o events)) one)) (sent o (log o events)) }
+{
+    flyable_plans_are_small();
+}
 
 /// Each terminal has heard and holds what the events say.
 pub fn terminals_are_said()
