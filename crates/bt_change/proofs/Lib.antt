@@ -1,3 +1,3 @@
 mod Some
-mod Unseen
+mod Behind
 mod Sets

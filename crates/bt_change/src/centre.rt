@@ -1,5 +1,5 @@
 // The centre, a machine that wants the orders by which a new edition comes to the front, and says what its turn calls for.
-ghost use Rattle.std.specs.Prelude.{◌≡◌, ◌<◌, ◌≤◌, length, reverse, slice_get, vec_len, IfOk, OnErr, IsSome, Some};
+ghost use Rattle.std.specs.Prelude.{◌≡◌, ◌<◌, ◌≤◌, drop, length, reverse, slice_get, vec_len, IfOk, OnErr, IsSome, Some};
 ghost use Rattle.bt_change.specs.Centre.{AreNumbered, act_at, after_turn, begins_with, having_confirmed, having_lost, having_noted, having_placed, is_missing, known_to, some_missing, turn_at};
 ghost use Rattle.bt_change.specs.Last.{last_order};
 ghost use Rattle.bt_change.specs.Terminals.{has};
@@ -9,7 +9,7 @@ use crate::last::{is_load, is_load_of};
 use crate::terminals::{has, with_terminal, without_terminal};
 use crate::turn::{Turn, act_of, waited_with, wanted_by};
 use bt_air::{Act, Order, Status};
-use bt_frame::{EditionNo, LAST_MARK, MOST_TERMINALS, Mark, OutOfMemory, TermNo, TermSet};
+use bt_frame::{Command, EditionNo, LAST_MARK, MOST_TERMINALS, Mark, OutOfMemory, TermNo, TermSet};
 use std::alloc::Global;
 use std::marker::Model;
 
@@ -62,7 +62,7 @@ impl Centre {
         ensures { result ≡ known_to self.now mark.0 }
     {
         match self.kept {
-            Some(status) => known_by(&status, mark, self.orders.as_slice()),
+            Some(status) => known_by(&status, mark, self.behind(status.last)),
             None => None,
         }
     }
@@ -170,6 +170,19 @@ impl Centre {
         self.waited = 0;
         self.wanted = None;
         Ok(order)
+    }
+
+    // The orders behind a command: all that a status with this last command may not know of.
+    fn behind(&self, last: Command) -> &[Order]
+        ensures { result.now ≡ drop last.0 (reverse self.now.orders) }
+    {
+        let orders = self.orders.as_slice();
+        let first = last.0 as usize;
+        if first < orders.len() {
+            &orders[first..]
+        } else {
+            &[]
+        }
     }
 
     // The last order that was placed.
