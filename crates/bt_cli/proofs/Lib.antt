@@ -7,3 +7,4 @@ pub mod Misspelt
 pub mod Named
 pub mod Runs
 pub mod Alone
+pub mod PrintedPlans

@@ -1,18 +1,27 @@
 // What holds of the program's answers, whatever it does.
 ghost use Rattle.std.specs.Prelude.{◌≡◌, ℕ, List, [], ◌∷◌, length, codes, Option, Ok};
 ghost use Rattle.bt_frame.specs.declared.schedule.Schedule.{Schedule};
+ghost use Rattle.bt_net.specs.Network.{Net, IsSound};
 ghost use Rattle.bt_matrix.specs.Good.{IsGood};
+ghost use Rattle.bt_demand.specs.declared.demand.Link.{Link};
+ghost use Rattle.bt_demand.specs.Demand.{IsDemand};
+ghost use Rattle.bt_demand.specs.Traffic.{AreOfNetwork};
 ghost use Rattle.bt_plan.specs.MatrixText.{matrix_of};
+ghost use Rattle.bt_plan.specs.PlanText.{plan_of};
 ghost use Rattle.bt_plan.specs.ScheduleSpelling.{schedule_spelling};
 ghost use Rattle.bt_plan.specs.ScheduleText.{schedule_of};
-ghost use Rattle.bt_cli.specs.Check.{Judges};
 ghost use Rattle.bt_timeline.specs.Lines.{line_of};
+ghost use Rattle.bt_cli.specs.Check.{Judges};
+ghost use Rattle.bt_cli.specs.CheckPlan.{JudgesPlan};
+ghost use Rattle.bt_cli.specs.Fitting.{Fits};
 ghost use Rattle.bt_cli.specs.Outcome.{Outcome, Says, text_alone};
+ghost use Rattle.bt_cli.specs.Plans.{PrintsPlan};
 ghost use Rattle.bt_cli.specs.Request.{Request};
 ghost use Rattle.bt_cli.specs.Top.{Answers, AreTold, IsOneAnswer};
 
+use bt_demand::good_plans_are_flyable;
 use bt_matrix::one_line_is_heaviest;
-use bt_plan::schedules_have_one_spelling;
+use bt_plan::{plans_have_one_spelling, schedules_have_one_spelling};
 use bt_verdict::{one_plan_verdict, one_verdict};
 
 /// Where the files that are asked for are told and none of them failed, what is asked has one answer: no two
@@ -38,4 +47,19 @@ pub fn printed_schedules_are_read_back()
 {
     one_verdict();
     schedules_have_one_spelling();
+}
+
+/// What `plan` prints for a demand that fits is read back by `check`, for that network, as the plan that was printed;
+/// and the line of its verdict is `good`, with status 0, and no other.
+pub fn printed_plans_are_read_back()
+    ensures read { (net : Net) (links : List Link) (outcome : Outcome) → IsSound net → AreOfNetwork net links → Fits net links
+        → (printed : PrintsPlan net links outcome) → plan_of net outcome.text ≡ Ok printed.plan }
+    ensures judged { (net : Net) (links : List Link) (outcome : Outcome) → IsDemand links
+        → (printed : PrintsPlan net links outcome) → JudgesPlan net links printed.plan (text_alone (line_of (codes "good" ∷ [])) 0) }
+    ensures alone { (net : Net) (links : List Link) (outcome judged : Outcome)
+        → (printed : PrintsPlan net links outcome) → JudgesPlan net links printed.plan judged → Says (codes "good" ∷ []) 0 judged }
+{
+    one_plan_verdict();
+    good_plans_are_flyable();
+    plans_have_one_spelling();
 }
