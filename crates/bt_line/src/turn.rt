@@ -35,7 +35,8 @@ fn take_turn<O: Object, R: Wait>(rt: &R, top: &Top<O>, place: &mut Place<O>)
 {
     let ticket = top.fetch_add::<Draw>(place, 0, 1);
     for _ in rt.forever() {
-        if top.load::<Look<O>>(place, 1) == ticket {
+        let served = top.load::<Look<O>>(place, 1);
+        if served == ticket {
             return;
         }
         yield_now();
