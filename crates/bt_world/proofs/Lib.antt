@@ -13,3 +13,5 @@ mod Sends
 mod Counted
 mod Carried
 mod Ranges
+mod Anys
+mod Centre

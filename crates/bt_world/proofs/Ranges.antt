@@ -318,7 +318,7 @@ restarted-fit : (taken : List Order) (all : List Sent) (status : Option Status) 
 restarted-fit taken all status fit = record { each = All-append Fits all [] fit.each (All-nil Fits); accepted = fit.accepted; keeps = tt }
 
 -- what was sent fits, wherever it is looked up
-found-fits : (all : List Sent) (number : ℕ) → All Fits all → IfSome (slice_get all number) Fits
+pub found-fits : (all : List Sent) (number : ℕ) → All Fits all → IfSome (slice_get all number) Fits
 found-fits [] number each = tt
 found-fits (first ∷ rest) zero each = All-head Fits first rest each
 found-fits (first ∷ rest) (suc number) each = found-fits rest number (All-tail Fits first rest each)
@@ -329,7 +329,7 @@ fewer None placed few = few
 fewer (Some order) placed few = let more : suc (length placed) ≤ 4294967295 = few in omega arith
 
 -- what was so before an event
-stored-before : (o : Opening) (past : List Happening) (event : Event) → AreStored o (comes_to o past event ∷ past) → AreStored o past
+pub stored-before : (o : Opening) (past : List Happening) (event : Event) → AreStored o (comes_to o past event ∷ past) → AreStored o past
 stored-before o past Tick stored = record { plans = stored.plans; orders = stored.orders }
 stored-before o past (Turn newest) stored = record { plans = stored.plans; orders = stored.orders }
 stored-before o past Ordered stored = record { plans = stored.plans; orders = (omega arith, fewer (wanted past) (orders o past) stored.orders.1) }

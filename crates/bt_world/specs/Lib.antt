@@ -5,4 +5,5 @@ pub mod Air
 pub mod Fits
 pub mod Satellite
 pub mod Ground
+pub mod Centre
 pub mod Example

@@ -7,6 +7,7 @@ ghost use Rattle.bt_air.specs.Range.{IsInRange};
 ghost use Rattle.bt_switch.specs.Orders.{StandsFor, telling};
 ghost use Rattle.bt_switch.specs.Satellite.{status_of};
 ghost use Rattle.bt_term.specs.Terminal.{sent as transmitted};
+ghost use Rattle.bt_world.specs.Centre.{IsSaid, centre};
 ghost use Rattle.bt_world.specs.Air.{AreFlyable, IsAir, IsSafe, fore, transmits};
 ghost use Rattle.bt_world.specs.Event.{Event, Happening, Opening};
 ghost use Rattle.bt_world.specs.Example.{a, a_burst, b, b_burst, calm, calm_sent, late, late_sent, late_until, lossy, opened, reset};
@@ -18,6 +19,7 @@ ghost use Rattle.bt_world.specs.Satellite.{BanksHold, satellite};
 ghost use Rattle.bt_world.specs.World.{accepted, bursts_for, heard, held, log, mark, message_of, modes_of, orders, plan_of, plans, sent};
 
 use bt_air::Sent;
+use bt_change::sets_hold_what_joined;
 use bt_demand::{apart_bursts_spell_apart_triples, flyable_plans_are_small};
 use bt_switch::accepted_orders_are_said_by_events;
 
@@ -73,6 +75,15 @@ pub fn messages_are_in_range()
         → All (λ one. IsInRange (message_of (plans o (log o events)) one)) (sent o (log o events)) }
 {
     flyable_plans_are_small();
+}
+
+/// The centre's orders, the status that it keeps, the order that it wants, the terminals that have confirmed, that ask
+/// and that it misses, and what it does in its turn are what the events say.
+pub fn centre_is_said()
+    ensures { (o : Opening) (events : List Event) → IsSound o.net → IsWorld o events → AreStored o (log o events)
+        → IsSaid o (log o events) (centre o (log o events)) }
+{
+    sets_hold_what_joined();
 }
 
 /// Each terminal has heard and holds what the events say.
