@@ -19,17 +19,21 @@ const WRITE_FAILED: u8 = 6;
 fn main(rt: HostRuntime) -> ExitCode {
     let alloc = rt.alloc();
     let mut out = StdSink::new(rt.stdout());
-    let Ok(words) = words(&rt, alloc) else {
-        return ExitCode::from(OUT_OF_MEMORY);
+    let status = match words(&rt, alloc) {
+        Ok(words) => match pages::page_of(&words) {
+            Some(page) => show(alloc, &mut out, page),
+            None => {
+                let mut files = DirFiles::new(&rt);
+                let store = SureKeeper::new(Vec::new(alloc));
+                centre_main(&rt, alloc, &words, &mut files, &mut out, store).status
+            }
+        },
+        Err(_) => OUT_OF_MEMORY,
     };
-    let status = match pages::page_of(&words) {
-        Some(page) => show(alloc, &mut out, page),
-        None => {
-            let mut files = DirFiles::new(&rt);
-            let store = SureKeeper::new(Vec::new(alloc));
-            centre_main(&rt, alloc, &words, &mut files, &mut out, store).status
-        }
-    };
+    if let Some(reason) = pages::reason_of(status) {
+        // where standard error cannot be written either, the status alone tells
+        let _told = eprintln!(rt; "nozgurt: {reason}");
+    }
     ExitCode::from(status)
 }
 

@@ -78,3 +78,22 @@ pub fn page_of(words: &[String]) -> Option<&'static str> {
         _ => None,
     }
 }
+
+/// What happened and where to look, in a sentence for the person at the terminal; nothing where the work was done, or
+/// the verdict says all.
+pub fn reason_of(status: u8) -> Option<&'static str> {
+    match status {
+        1 => Some("memory ran out; what stands on the output may be only a first part"),
+        2 => Some("these words are none of a command; try nozgurt --help"),
+        3 => Some(
+            "the network file is no network; the last line has the fault and its place in the file",
+        ),
+        4 => Some(
+            "a file leaves its grammar or its limits, or the traffic does not fit the frame; the last line has the fault",
+        ),
+        5 => Some("a file could not be read; the last line names it"),
+        6 => Some("the output could not be written; at most a first part of it stands there"),
+        10 => Some("a file is longer than 4194304 bytes; the last line names it"),
+        _ => None,
+    }
+}
