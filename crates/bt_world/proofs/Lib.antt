@@ -15,3 +15,4 @@ mod Carried
 mod Ranges
 mod Anys
 mod Centre
+mod Witness

@@ -114,3 +114,16 @@ pub fn some_worlds_change()
     ensures reset_sent { sent opened (log opened reset) ≡ calm_sent ++ Sent.Lost a ∷ Sent.Confirm a (record { 0 = 2 }) ∷ [] }
     ensures reset_first { transmits opened (log opened reset) a ≡ a_burst ∷ [] }
 {}
+
+/// Those worlds are worlds that the other laws speak of: their network is sound, what must hold of an opening and of each
+/// event does, their plans can be flown, and their numbers fit. After the calm change both bursts are on the air.
+pub fn examples_are_worlds()
+    ensures network { IsSound opened.net }
+    ensures lossy { IsWorld opened lossy }
+    ensures reset { IsWorld opened reset }
+    ensures late { IsWorld opened late }
+    ensures flyable { AreFlyable opened reset }
+    ensures stored { AreStored opened (log opened reset) }
+    ensures late_stored { AreStored opened (log opened late) }
+    ensures air { IsAir opened (log opened calm) (a_burst ∷ b_burst ∷ []) }
+{}

@@ -11,7 +11,7 @@
 mod laws;
 
 pub use laws::{
-    banks_hold_plans, centre_is_said, frames_are_safe, messages_are_in_range, orders_come_first,
-    references_are_right, satellite_is_said, some_worlds_change, statuses_stay_true,
-    terminals_are_said, transmissions_are_said,
+    banks_hold_plans, centre_is_said, examples_are_worlds, frames_are_safe, messages_are_in_range,
+    orders_come_first, references_are_right, satellite_is_said, some_worlds_change,
+    statuses_stay_true, terminals_are_said, transmissions_are_said,
 };
