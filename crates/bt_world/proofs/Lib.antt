@@ -16,3 +16,4 @@ mod Ranges
 mod Anys
 mod Centre
 mod Witness
+mod Answers

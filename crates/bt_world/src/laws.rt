@@ -1,5 +1,5 @@
 // What holds of every world, whatever is lost, repeated or late and whoever restarts.
-ghost use Rattle.std.specs.Prelude.{◌≡◌, ◌⊎◌, ℕ, List, [], ◌∷◌, ◌++◌, All};
+ghost use Rattle.std.specs.Prelude.{◌≡◌, ◌⊎◌, ℕ, List, [], ◌∷◌, ◌++◌, All, Some};
 ghost use Rattle.bt_frame.specs.declared.numbers.TermNo.{TermNo};
 ghost use Rattle.bt_net.specs.Network.{IsSound};
 ghost use Rattle.bt_demand.specs.declared.burst.Burst.{Burst};
@@ -7,6 +7,10 @@ ghost use Rattle.bt_air.specs.Range.{IsInRange};
 ghost use Rattle.bt_switch.specs.Orders.{StandsFor, telling};
 ghost use Rattle.bt_switch.specs.Satellite.{status_of};
 ghost use Rattle.bt_term.specs.Terminal.{sent as transmitted};
+ghost use Rattle.bt_air.specs.declared.sent.Sent.{Sent};
+ghost use Rattle.bt_switch.specs.Satellite.{step_of as take};
+ghost use Rattle.bt_term.specs.Terminal.{step_of as hear};
+ghost use Rattle.bt_world.specs.Answers.{confirmed_by, told_by};
 ghost use Rattle.bt_world.specs.Centre.{IsSaid, centre};
 ghost use Rattle.bt_world.specs.Air.{AreFlyable, IsAir, IsSafe, fore, transmits};
 ghost use Rattle.bt_world.specs.Event.{Event, Happening, Opening};
@@ -16,9 +20,9 @@ ghost use Rattle.bt_term.specs.Said.{Agrees};
 ghost use Rattle.bt_world.specs.Ground.{terminal};
 ghost use Rattle.bt_world.specs.Laws.{AreAmong, Ascend, IsOrdered, IsRight, TellsFront};
 ghost use Rattle.bt_world.specs.Satellite.{BanksHold, satellite};
-ghost use Rattle.bt_world.specs.World.{accepted, bursts_for, heard, held, log, mark, message_of, modes_of, orders, plan_of, plans, sent};
+ghost use Rattle.bt_world.specs.World.{accepted, bursts_for, heard, held, log, mark, message_of, modes_of, orders, plan_of, plans, sent, sent_by_hearing};
 
-use bt_air::Sent;
+use bt_air::{Place, Sent};
 use bt_change::sets_hold_what_joined;
 use bt_demand::{apart_bursts_spell_apart_triples, flyable_plans_are_small};
 use bt_switch::accepted_orders_are_said_by_events;
@@ -90,6 +94,18 @@ pub fn centre_is_said()
 pub fn terminals_are_said()
     ensures { (o : Opening) (past : List Happening) (number : TermNo) → Agrees number (mark o past) (heard o past number) (held o past number) (terminal o past number) }
 {}
+
+/// What the satellite and a terminal send when they hear a message is what their answers call for: the satellite tells its
+/// new status exactly where it carried the message out, and a terminal confirms exactly the bursts that it holds.
+pub fn answers_are_said()
+    ensures satellite { (o : Opening) (past : List Happening) (one : Sent)
+        → sent_by_hearing o past (Some one) Place.Satellite ≡ told_by (take (satellite o past) (message_of (plans o past) one)) }
+    ensures terminal { (o : Opening) (past : List Happening) (one : Sent) (to : TermNo)
+        → sent_by_hearing o past (Some one) (Place.Terminal to)
+        ≡ confirmed_by to one (hear (terminal o past to) (record { 0 = mark o past }) (message_of (plans o past) one)).0 }
+{
+    satellite_is_said();
+}
 
 /// Each terminal transmits what the events say.
 pub fn transmissions_are_said()
