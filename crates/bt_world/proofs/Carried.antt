@@ -15,6 +15,7 @@ use Rattle.bt_demand.specs.Apart.{bursts_from}
 use Rattle.bt_demand.specs.Burst.{IsNotAfter}
 use Rattle.bt_demand.specs.Flyable.{IsFlyable, IsSentBy}
 use Rattle.bt_air.specs.Range.{AreBurstsOf, AreModes, IsWord}
+use Rattle.bt_world.specs.Air.{AreFlyable}
 use Rattle.bt_world.specs.Event.{Opening, Event, Tick, Turn, Ordered, Deliver, Frame, ResetTerminal, RestartCentre, Install}
 use Rattle.bt_world.specs.Fits.{IsStored, IsWorld}
 use Rattle.bt_world.specs.World.{plans, first_or, plan_of, modes_of, bursts_for, log}
@@ -105,3 +106,15 @@ module _ (small_modes : (net : Net) (plan : Plan) → IsFlyable net plan → All
       → AreBurstsOf terminal (bursts_for terminal (plan_of all edition))
   bursts-carried net all edition terminal sound fit stored =
       plan-bursts net (plan_of all edition) terminal sound (plan-holds (IsFlyable net) all edition fit) (plan-holds IsStored all edition stored)
+
+-- so they can all be, one by one
+pub flies-each : (o : Opening) (events : List Event) → IsWorld o events → AreFlyable o events
+flies-each o [] opening = opening.fit
+flies-each o (Tick ∷ earlier) world = flies-each o earlier world.1
+flies-each o (Turn newest ∷ earlier) world = flies-each o earlier world.1
+flies-each o (Ordered ∷ earlier) world = flies-each o earlier world.1
+flies-each o (Deliver number place ∷ earlier) world = flies-each o earlier world.1
+flies-each o (Frame ∷ earlier) world = flies-each o earlier world.1
+flies-each o (ResetTerminal terminal ∷ earlier) world = flies-each o earlier world.1
+flies-each o (RestartCentre kept ∷ earlier) world = flies-each o earlier world.1
+flies-each o (Install plan ∷ earlier) world = (world.0.1, flies-each o earlier world.1)

@@ -25,7 +25,7 @@ use Rattle.bt_change.specs.Known.{known, later_of}
 use Rattle.bt_change.specs.Last.{last_order, is_load, is_load_of}
 use Rattle.bt_change.specs.Terminals.{has, no_terminal, with_terminal, without_terminal}
 use Rattle.bt_change.specs.Turn.{act_of, one_more, waited_with, wanted_by}
-use Rattle.bt_world.specs.Centre.{IsSaid, after_message, after_order, beginning, centre, needed_by}
+use Rattle.bt_world.specs.Centre.{IsCentreSaid, once_heard, once_placed, beginning, centre, needed_by}
 use Rattle.bt_world.specs.Event.{Opening, Event, Tick, Turn, Ordered, Deliver, Frame, ResetTerminal, RestartCentre, Install, Happening, Turns, Hears}
 use Rattle.bt_world.specs.Fits.{HasPlan, AreStored, IsWorld}
 use Rattle.bt_world.specs.World.{mark, plans, plan_of, has_burst, with_wanted, wanted, orders, kept, noting, known_now, confirming_by, is_confirmed, asks_by, is_asking, waited, waited_more, terminals, is_missing, is_missing_of, act, sent, log}
@@ -128,7 +128,7 @@ module _ (none : (terminal : TermNo) → has no_terminal terminal ≡ false)
 
     -- an order is placed
     placed-agrees : (placed : List Order) (status : Option Status) (next : Option Order) (turns : ℕ) (confirms asks : TermNo → Bool) (n : ℕ) (all : List Plan) (s : State) → n ≤ 64 → IsSome next
-        → Agrees placed status next turns confirms asks n all s → Agrees (with_wanted next placed) status None 0 (λ terminal. false) asks n all (after_order s (first_ones n) all s.wanted)
+        → Agrees placed status next turns confirms asks n all s → Agrees (with_wanted next placed) status None 0 (λ terminal. false) asks n all (once_placed s (first_ones n) all s.wanted)
     placed-agrees placed status None turns confirms asks n all s few some agrees = cc
     placed-agrees placed status (Some order) turns confirms asks n all s few some agrees = rw agrees.wanted (record {
       orders = ap (λ (list : List Order). order ∷ list) agrees.orders;
@@ -144,7 +144,7 @@ module _ (none : (terminal : TermNo) → has no_terminal terminal ≡ false)
     heard-agrees : (placed : List Order) (status : Option Status) (next : Option Order) (turns : ℕ) (confirms asks : TermNo → Bool) (n : ℕ) (all : List Plan) (s : State) (now : ℕ) (one : Option Sent)
         → IfSome one Fits → Agrees placed status next turns confirms asks n all s
         → Agrees placed (noting status one) next turns (λ terminal. confirming_by (confirms terminal) placed terminal one)
-        (λ terminal. asks_by (asks terminal) (known status placed now) terminal one) n all (after_message s now one)
+        (λ terminal. asks_by (asks terminal) (known status placed now) terminal one) n all (once_heard s now one)
     heard-agrees placed status next turns confirms asks n all s now None fits agrees = agrees
     heard-agrees placed status next turns confirms asks n all s now (Some (sends.Status told)) fits agrees = record {
       orders = agrees.orders;
@@ -266,7 +266,7 @@ module _ (none : (terminal : TermNo) → has no_terminal terminal ≡ false)
         }
 
     -- what a network's terminals are, and what the centre does
-    pub centre-said : (o : Opening) (events : List Event) → IsSound o.net → IsWorld o events → AreStored o (log o events) → IsSaid o (log o events) (centre o (log o events))
+    pub centre-said : (o : Opening) (events : List Event) → IsSound o.net → IsWorld o events → AreStored o (log o events) → IsCentreSaid o (log o events) (centre o (log o events))
     centre-said o events sound world stored =
         let past = log o events in
         let says = world-says o events sound world stored in

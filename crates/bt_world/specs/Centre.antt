@@ -27,22 +27,22 @@ abbrev pub needed_by : List TermNo → List Plan → Option Order → TermSet
 needed_by everyone all (Some (Load command edition)) = set_of (filter (has_burst (plan_of all edition)) everyone)
 needed_by everyone all _ = no_terminal
 
--- the state with an order placed, if there is one
-abbrev pub after_order : State → List TermNo → List Plan → Option Order → State
-after_order s everyone all None = s
-after_order s everyone all (Some order) = having_placed s order (needed_by everyone all (Some order))
+-- the state once an order is placed, if there is one
+abbrev pub once_placed : State → List TermNo → List Plan → Option Order → State
+once_placed s everyone all None = s
+once_placed s everyone all (Some order) = having_placed s order (needed_by everyone all (Some order))
 
--- the state after a message that was heard
-abbrev pub after_message : State → ℕ → Option Sent → State
-after_message s now (Some (sends.Status status)) = having_noted s status
-after_message s now (Some (sends.Confirm from edition)) = having_confirmed s now from edition
-after_message s now (Some (sends.Lost from)) = having_lost s from
-after_message s now _ = s
+-- the state once a message is heard
+abbrev pub once_heard : State → ℕ → Option Sent → State
+once_heard s now (Some (sends.Status status)) = having_noted s status
+once_heard s now (Some (sends.Confirm from edition)) = having_confirmed s now from edition
+once_heard s now (Some (sends.Lost from)) = having_lost s from
+once_heard s now _ = s
 
--- the state after a delivery
-abbrev pub after_delivery : State → ℕ → Option Sent → Place → State
-after_delivery s now sent Centre = after_message s now sent
-after_delivery s now sent _ = s
+-- the state once a message is delivered somewhere
+abbrev pub once_delivered : State → ℕ → Option Sent → Place → State
+once_delivered s now sent Centre = once_heard s now sent
+once_delivered s now sent _ = s
 
 -- the state once the centre begins with these orders
 abbrev pub beginning : List TermNo → List Plan → List Order → State
@@ -52,14 +52,14 @@ beginning everyone all placed = begins_with placed (needed_by everyone all (last
 abbrev pub centre : Opening → List Happening → State
 centre o [] = beginning (terminals o) o.plans o.orders
 centre o (Turns newest act ∷ past) = after_turn (centre o past) (record { 0 = mark o past }) newest o.net.lead o.net.patience
-centre o (Orders ∷ past) = after_order (centre o past) (terminals o) (plans o past) (centre o past).wanted
-centre o (Hears sent place ∷ past) = after_delivery (centre o past) (mark o past) sent place
+centre o (Orders ∷ past) = once_placed (centre o past) (terminals o) (plans o past) (centre o past).wanted
+centre o (Hears sent place ∷ past) = once_delivered (centre o past) (mark o past) sent place
 centre o (Restarts true ∷ past) = beginning (terminals o) (plans o past) (with_wanted (centre o past).wanted (centre o past).orders)
 centre o (Restarts false ∷ past) = beginning (terminals o) (plans o past) (centre o past).orders
 centre o (_ ∷ past) = centre o past
 
 -- the centre is what the events say, and does in a turn what they say
-pub record IsSaid (o : Opening) (past : List Happening) (s : State) : Type 0 where
+pub record IsCentreSaid (o : Opening) (past : List Happening) (s : State) : Type 0 where
   pub orders : s.orders ≡ orders o past
   pub kept : s.kept ≡ kept past
   pub wanted : s.wanted ≡ wanted past

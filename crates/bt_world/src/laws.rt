@@ -11,7 +11,7 @@ ghost use Rattle.bt_air.specs.declared.sent.Sent.{Sent};
 ghost use Rattle.bt_switch.specs.Satellite.{step_of as take};
 ghost use Rattle.bt_term.specs.Terminal.{step_of as hear};
 ghost use Rattle.bt_world.specs.Answers.{confirmed_by, told_by};
-ghost use Rattle.bt_world.specs.Centre.{IsSaid, centre};
+ghost use Rattle.bt_world.specs.Centre.{IsCentreSaid, centre};
 ghost use Rattle.bt_world.specs.Air.{AreFlyable, IsAir, IsSafe, fore, transmits};
 ghost use Rattle.bt_world.specs.Event.{Event, Happening, Opening};
 ghost use Rattle.bt_world.specs.Example.{a, a_burst, b, b_burst, calm, calm_sent, late, late_sent, late_until, lossy, opened, reset};
@@ -47,12 +47,14 @@ pub fn references_are_right()
     ensures { (o : Opening) (events : List Event) → All (IsRight (accepted o (log o events))) (sent o (log o events)) }
 {}
 
-/// Every frame is safe, and each terminal that transmits sends exactly its bursts of the plan in front.
+/// Every frame is safe where each plan can be flown, as in every world it can, and each terminal that transmits sends
+/// exactly its bursts of the plan in front.
 pub fn frames_are_safe()
     ensures own { (o : Opening) (events : List Event) (number : TermNo) → (transmits o (log o events) number ≡ [])
         ⊎ (transmits o (log o events) number ≡ bursts_for number (plan_of (plans o (log o events)) (fore o (log o events)))) }
     ensures safe { (o : Opening) (events : List Event) (bursts : List Burst) → AreFlyable o events → IsAir o (log o events) bursts
         → IsSafe o.net (modes_of (plan_of (plans o (log o events)) (fore o (log o events)))) bursts }
+    ensures flyable { (o : Opening) (events : List Event) → IsWorld o events → AreFlyable o events }
 {
     apart_bursts_spell_apart_triples();
 }
@@ -85,7 +87,7 @@ pub fn messages_are_in_range()
 /// and that it misses, and what it does in its turn are what the events say.
 pub fn centre_is_said()
     ensures { (o : Opening) (events : List Event) → IsSound o.net → IsWorld o events → AreStored o (log o events)
-        → IsSaid o (log o events) (centre o (log o events)) }
+        → IsCentreSaid o (log o events) (centre o (log o events)) }
 {
     sets_hold_what_joined();
 }

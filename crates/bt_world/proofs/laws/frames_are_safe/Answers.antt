@@ -1,3 +1,4 @@
+use Rattle.bt_world.proofs.Carried.{flies-each}
 use Rattle.bt_world.proofs.Frames.{frame-safe, transmits-front}
 use Rattle.bt_world.proofs.laws.frames_are_safe.Goals as goal
 
@@ -6,3 +7,6 @@ returns-clause-own c = transmits-front
 
 pub returns-clause-safe : goal.returns-clause-safe
 returns-clause-safe c = frame-safe c.apart_bursts_spell_apart_triples.ensures.triples
+
+pub returns-clause-flyable : goal.returns-clause-flyable
+returns-clause-flyable c = flies-each
