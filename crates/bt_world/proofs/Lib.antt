@@ -17,3 +17,4 @@ mod Anys
 mod Centre
 mod Witness
 mod Answers
+mod Board

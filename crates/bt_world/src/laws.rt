@@ -48,15 +48,19 @@ pub fn references_are_right()
 {}
 
 /// Every frame is safe where each plan can be flown, as in every world it can, and each terminal that transmits sends
-/// exactly its bursts of the plan in front.
+/// exactly its bursts of the plan in front. In a world the frame is safe through the modes that the satellite has in
+/// front.
 pub fn frames_are_safe()
     ensures own { (o : Opening) (events : List Event) (number : TermNo) → (transmits o (log o events) number ≡ [])
         ⊎ (transmits o (log o events) number ≡ bursts_for number (plan_of (plans o (log o events)) (fore o (log o events)))) }
     ensures safe { (o : Opening) (events : List Event) (bursts : List Burst) → AreFlyable o events → IsAir o (log o events) bursts
         → IsSafe o.net (modes_of (plan_of (plans o (log o events)) (fore o (log o events)))) bursts }
     ensures flyable { (o : Opening) (events : List Event) → IsWorld o events → AreFlyable o events }
+    ensures on_board { (o : Opening) (events : List Event) (bursts : List Burst) → IsWorld o events → IsAir o (log o events) bursts
+        → IsSafe o.net (satellite o (log o events)).fore.modes bursts }
 {
     apart_bursts_spell_apart_triples();
+    satellite_is_said();
 }
 
 /// The satellite is what the accepted orders say, and says so.

@@ -1,3 +1,4 @@
+use Rattle.bt_world.proofs.Board.{safe-on-board}
 use Rattle.bt_world.proofs.Carried.{flies-each}
 use Rattle.bt_world.proofs.Frames.{frame-safe, transmits-front}
 use Rattle.bt_world.proofs.laws.frames_are_safe.Goals as goal
@@ -10,3 +11,6 @@ returns-clause-safe c = frame-safe c.apart_bursts_spell_apart_triples.ensures.tr
 
 pub returns-clause-flyable : goal.returns-clause-flyable
 returns-clause-flyable c = flies-each
+
+pub returns-clause-on_board : goal.returns-clause-on_board
+returns-clause-on_board c = safe-on-board c.apart_bursts_spell_apart_triples.ensures.triples c.satellite_is_said.ensures.stands c.satellite_is_said.ensures.mark
