@@ -24,10 +24,11 @@ use Rattle.bt_switch.specs.Run.{Hears as Takes, is_accepted, oldest_first}
 use Rattle.bt_switch.specs.Satellite.{State as Onboard, new_at, status_of, is_stale, is_armed, is_not_loaded, is_too_late, loaded, with_armed}
 use Rattle.bt_switch.specs.Satellite.{step_of as take}
 use Rattle.bt_switch.proofs.ByEvents.{state_more}
+use Rattle.bt_term.proofs.Ground.{own, named-same}
 use Rattle.bt_term.specs.declared.bank.Bank.{Bank}
 use Rattle.bt_term.specs.declared.reference.Reference.{Reference}
 use Rattle.bt_term.specs.Said.{Agrees, IsFilledInOrder, editions_in, holds, taking}
-use Rattle.bt_term.specs.Terminal.{State, step_of, in_force, is_for_another, is_named}
+use Rattle.bt_term.specs.Terminal.{State, step_of, in_force, is_for_another}
 use Rattle.bt_world.specs.Answers.{told_by, is_confirming, confirmed_by}
 use Rattle.bt_world.specs.Event.{Opening, Happening, Hears}
 use Rattle.bt_world.specs.Ground.{terminal}
@@ -100,13 +101,6 @@ module _
 abbrev state_of : TermNo → Option Reference → Option Bank → Option Bank → State
 state_of number told first second = record { number = number; banks = record { first = first; second = second }; heard = told }
 
-own : (n : ℕ) → (n == n) ≡ true
-own n = grind (arith, nat_tests)
-
-named-same : (bank : Bank) (named : Option EditionNo) → names named bank.edition ≡ is_named (Some bank) named
-named-same bank None = refl
-named-same bank (Some edition) = refl
-
 none-confirms : (number : TermNo) (told : Option Reference) (now : Mark) (edition : EditionNo) (bursts : List Burst)
     → holds (taking [] (in_force told now) edition) edition ≡ is_confirming (step_of (state_of number told None None) now (message.PlanFor number edition bursts)).0
 none-confirms number told now edition bursts = rw (own number.0, own edition.0) refl
@@ -123,11 +117,11 @@ two-confirm : (number : TermNo) (told : Option Reference) (a b : Bank) (now : Ma
 two-confirm number told a b now edition bursts true second lower p q r older used t u = rw (own number.0, p, p) refl
 two-confirm number told a b now edition bursts false true lower p q r older used t u = rw (own number.0, p, q, p, q) refl
 two-confirm number told a b now edition bursts false false true p q r true used t u = rw (own number.0, p, q, r, t, p, q) refl
-two-confirm number told a b now edition bursts false false true p q r false true t u = rw (own number.0, p, q, r, t, sym (named-same b (in_force told now)), u, p, q) refl
-two-confirm number told a b now edition bursts false false true p q r false false t u = rw (own number.0, p, q, r, t, sym (named-same b (in_force told now)), u, p, own edition.0) refl
+two-confirm number told a b now edition bursts false false true p q r false true t u = rw (own number.0, p, q, r, t, named-same b (in_force told now), u, p, q) refl
+two-confirm number told a b now edition bursts false false true p q r false false t u = rw (own number.0, p, q, r, t, named-same b (in_force told now), u, p, own edition.0) refl
 two-confirm number told a b now edition bursts false false false p q r true used t u = rw (own number.0, p, q, r, t, p, q) refl
-two-confirm number told a b now edition bursts false false false p q r false true t u = rw (own number.0, p, q, r, t, sym (named-same a (in_force told now)), u, p, q) refl
-two-confirm number told a b now edition bursts false false false p q r false false t u = rw (own number.0, p, q, r, t, sym (named-same a (in_force told now)), u, own edition.0) refl
+two-confirm number told a b now edition bursts false false false p q r false true t u = rw (own number.0, p, q, r, t, named-same a (in_force told now), u, p, q) refl
+two-confirm number told a b now edition bursts false false false p q r false false t u = rw (own number.0, p, q, r, t, named-same a (in_force told now), u, own edition.0) refl
 
 confirms : (number : TermNo) (told : Option Reference) (first second : Option Bank) (now : Mark) (edition : EditionNo) (bursts : List Burst) → IsFilledInOrder first second
     → holds (taking (editions_in first second) (in_force told now) edition) edition ≡ is_confirming (step_of (state_of number told first second) now (message.PlanFor number edition bursts)).0

@@ -8,6 +8,7 @@ use Rattle.std.proofs.lemmas.List.FromFn.{length-range_with_len, get_or-range_wi
 use Rattle.bt_frame.specs.declared.numbers.TermNo.{TermNo}
 use Rattle.bt_frame.specs.declared.numbers.TermSet.{TermSet}
 use Rattle.bt_change.specs.Terminals.{has, no_terminal, with_terminal, without_terminal}
+use Rattle.bt_term.proofs.Ground.{own}
 use Rattle.bt_world.specs.Centre.{set_of}
 
 -- the terminal of a number
@@ -117,9 +118,6 @@ any-filtered Q terminal [] = refl
 any-filtered Q terminal (first ∷ rest) = any-filter-by Q terminal first rest _ refl (any-filtered Q terminal rest)
 
 -- the test of one terminal among the first
-own-test : (n : ℕ) → (n == n) ≡ true
-own-test n = grind (arith, nat_tests)
-
 other-fails : (Q : TermNo → Bool) (a k : ℕ) (same : Bool) → (a == k) ≡ same → (a ≡ k → Q (numbered k) ≡ false) → (a == k && Q (numbered k)) ≡ false
 other-fails Q a k true e fails = let s : a ≡ k = grind (arith, nat_tests) in rw e (fails s)
 other-fails Q a k false e fails = rw e refl
@@ -128,7 +126,7 @@ one-of : (Q : TermNo → Bool) (n : ℕ) (terminal : TermNo) (below passes : Boo
     → list_any (λ (t : TermNo). terminal.0 == t.0 && Q t) (first_ones n) ≡ (below && passes)
 one-of Q n terminal true true p q =
     let within : terminal.0 < n = grind (arith, nat_tests) in
-    any-passes (λ (t : TermNo). terminal.0 == t.0 && Q t) n terminal.0 within (rw (own-test terminal.0, q) refl)
+    any-passes (λ (t : TermNo). terminal.0 == t.0 && Q t) n terminal.0 within (rw (own terminal.0, q) refl)
 one-of Q n terminal true false p q =
     any-fails (λ (t : TermNo). terminal.0 == t.0 && Q t) n (λ k within. other-fails Q terminal.0 k _ refl (λ same. ap (λ (m : ℕ). Q (numbered m)) (sym same) ∙ q))
 one-of Q n terminal false passes p q =

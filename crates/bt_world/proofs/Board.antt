@@ -14,8 +14,8 @@ use Rattle.bt_world.specs.Fits.{IsWorld}
 use Rattle.bt_world.specs.Satellite.{satellite}
 use Rattle.bt_world.specs.World.{mark, plans, accepted, plan_of, modes_of, log}
 use Rattle.bt_world.proofs.Banks.{banks-hold}
-use Rattle.bt_world.proofs.Carried.{flies-each}
 use Rattle.bt_world.proofs.Frames.{frame-safe}
+use Rattle.bt_world.proofs.Plans.{flies-each}
 
 module _
     (triples : (net : Net) (bursts : List Burst) → AreApart net bursts → AllPairs (λ a b. ¬ (Meet net a b)) (all_triples bursts))

@@ -2,7 +2,7 @@
 use Rattle.std.proofs.Common.{◌≡◌, ℕ, ◌≤◌, ◌==◌, Bool, true, false, List, [], ◌∷◌, length, All, AllPairs, Option, Some, None, IfSome, refl, sym, ◌∙◌, arith}
 use Rattle.std.specs.Prelude.{IsSome}
 use Rattle.std.proofs.lemmas.Bool.Decides.{nat_tests}
-use Rattle.std.proofs.lemmas.List.Elements.{All-cons, All-head, All-tail}
+use Rattle.std.proofs.lemmas.List.Elements.{All-head, All-tail}
 use Rattle.bt_frame.specs.declared.mode.Mode.{Mode}
 use Rattle.bt_frame.specs.declared.numbers.EditionNo.{EditionNo}
 use Rattle.bt_frame.specs.declared.numbers.TermNo.{TermNo}
@@ -15,10 +15,9 @@ use Rattle.bt_demand.specs.Apart.{bursts_from}
 use Rattle.bt_demand.specs.Burst.{IsNotAfter}
 use Rattle.bt_demand.specs.Flyable.{IsFlyable, IsSentBy}
 use Rattle.bt_air.specs.Range.{AreBurstsOf, AreModes, IsWord}
-use Rattle.bt_world.specs.Air.{AreFlyable}
-use Rattle.bt_world.specs.Event.{Opening, Event, Tick, Turn, Ordered, Deliver, Frame, ResetTerminal, RestartCentre, Install}
-use Rattle.bt_world.specs.Fits.{IsStored, IsWorld}
-use Rattle.bt_world.specs.World.{plans, first_or, plan_of, modes_of, bursts_for, log}
+use Rattle.bt_world.specs.Fits.{IsStored}
+use Rattle.bt_world.specs.World.{first_or, plan_of, modes_of, bursts_for}
+use Rattle.bt_world.proofs.Plans.{plan-holds}
 
 -- modes of so many beams each, few and short enough
 modes-in-range : (beams : ℕ) (modes : List Mode) → IsWithin 1 16 beams → All (λ (mode : Mode). IsPermutation beams mode.perm) modes
@@ -37,18 +36,6 @@ modes-in-range beams (mode ∷ rest) width perms last few =
       };
     }
 
--- what holds of all plans holds of the one of an edition, if there is one
-first-holds : (P : Plan → Type 0) (first : Option Plan) (edition : EditionNo) (plan : Plan) (test : Bool) → (plan.edition.0 == edition.0) ≡ test → IfSome first P → P plan
-    → IfSome (first_or first edition plan) P
-first-holds P (Some first) edition plan test e one holds = one
-first-holds P None edition plan true e one holds = rw e holds
-first-holds P None edition plan false e one holds = rw e tt
-
-pub plan-holds : (P : Plan → Type 0) (all : List Plan) (edition : EditionNo) → All P all → IfSome (plan_of all edition) P
-plan-holds P [] edition holds = tt
-plan-holds P (plan ∷ earlier) edition holds =
-    first-holds P (plan_of earlier edition) edition plan _ refl (plan-holds P earlier edition (All-tail P plan earlier holds)) (All-head P plan earlier holds)
-
 -- an edition that has a plan fits four bytes
 no-plan : (found : Option Plan) → found ≡ None → IsSome found → ⊥
 no-plan None none some = cc
@@ -65,18 +52,6 @@ pub planned-word : (all : List Plan) (edition : EditionNo) → All IsStored all 
 planned-word [] edition stored some = cc
 planned-word (plan ∷ earlier) edition stored some =
     first-word (plan_of earlier edition) edition plan _ refl (planned-word earlier edition (All-tail IsStored plan earlier stored)) (All-head IsStored plan earlier stored) some
-
--- every plan of a world can be flown
-pub world-flyable : (o : Opening) (events : List Event) → IsWorld o events → All (IsFlyable o.net) (plans o (log o events))
-world-flyable o [] opening = opening.fit
-world-flyable o (Tick ∷ earlier) world = world-flyable o earlier world.1
-world-flyable o (Turn newest ∷ earlier) world = world-flyable o earlier world.1
-world-flyable o (Ordered ∷ earlier) world = world-flyable o earlier world.1
-world-flyable o (Deliver number place ∷ earlier) world = world-flyable o earlier world.1
-world-flyable o (Frame ∷ earlier) world = world-flyable o earlier world.1
-world-flyable o (ResetTerminal terminal ∷ earlier) world = world-flyable o earlier world.1
-world-flyable o (RestartCentre kept ∷ earlier) world = world-flyable o earlier world.1
-world-flyable o (Install plan ∷ earlier) world = All-cons (IsFlyable o.net) plan (plans o (log o earlier)) world.0.1 (world-flyable o earlier world.1)
 
 -- the modes and bursts of the plan of an edition, by what is known of small plans
 module _ (small_modes : (net : Net) (plan : Plan) → IsFlyable net plan → All (λ mode. IsWithin 1 4096 mode.duration) plan.schedule.modes)
@@ -106,15 +81,3 @@ module _ (small_modes : (net : Net) (plan : Plan) → IsFlyable net plan → All
       → AreBurstsOf terminal (bursts_for terminal (plan_of all edition))
   bursts-carried net all edition terminal sound fit stored =
       plan-bursts net (plan_of all edition) terminal sound (plan-holds (IsFlyable net) all edition fit) (plan-holds IsStored all edition stored)
-
--- so they can all be, one by one
-pub flies-each : (o : Opening) (events : List Event) → IsWorld o events → AreFlyable o events
-flies-each o [] opening = opening.fit
-flies-each o (Tick ∷ earlier) world = flies-each o earlier world.1
-flies-each o (Turn newest ∷ earlier) world = flies-each o earlier world.1
-flies-each o (Ordered ∷ earlier) world = flies-each o earlier world.1
-flies-each o (Deliver number place ∷ earlier) world = flies-each o earlier world.1
-flies-each o (Frame ∷ earlier) world = flies-each o earlier world.1
-flies-each o (ResetTerminal terminal ∷ earlier) world = flies-each o earlier world.1
-flies-each o (RestartCentre kept ∷ earlier) world = flies-each o earlier world.1
-flies-each o (Install plan ∷ earlier) world = (world.0.1, flies-each o earlier world.1)

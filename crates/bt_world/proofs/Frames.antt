@@ -12,8 +12,8 @@ use Rattle.bt_demand.specs.declared.burst.Burst.{Burst}
 use Rattle.bt_demand.specs.declared.plan.Plan.{Plan}
 use Rattle.bt_demand.specs.Plan.{IsHeld, ShareABeam, Meet, all_triples}
 use Rattle.bt_demand.specs.Apart.{Collide, AreApart}
-use Rattle.bt_world.specs.Event.{Opening, Event, Tick, Turn, Ordered, Deliver, Frame, ResetTerminal, RestartCentre, Install}
-use Rattle.bt_world.specs.World.{plans, first_or, plan_of, modes_of, bursts_for, heard, held, terminals, log}
+use Rattle.bt_world.specs.Event.{Opening, Event}
+use Rattle.bt_world.specs.World.{plans, plan_of, modes_of, bursts_for, heard, held, terminals, log}
 use Rattle.bt_term.specs.Said.{holds}
 use Rattle.bt_world.specs.Air.{fore, where_held, bursts_under, transmits, IsAir, IsSafe, AreFlyable}
 use Rattle.bt_demand.specs.Flyable.{IsFlyable}
@@ -21,32 +21,7 @@ use Rattle.bt_world.specs.Laws.{IsNoneOr}
 use Rattle.bt_world.proofs.Heard.{heard-right}
 use Rattle.bt_world.proofs.Pairs.{AllPairs-append, of_members, AllPairs-permutation}
 use Rattle.bt_world.proofs.Triples.{all_switched}
-
--- each plan can be flown
-pub plans-flyable : (o : Opening) (events : List Event) → AreFlyable o events → All (IsFlyable o.net) (plans o (log o events))
-plans-flyable o [] flyable = flyable
-plans-flyable o (Tick ∷ earlier) flyable = plans-flyable o earlier flyable
-plans-flyable o (Turn newest ∷ earlier) flyable = plans-flyable o earlier flyable
-plans-flyable o (Ordered ∷ earlier) flyable = plans-flyable o earlier flyable
-plans-flyable o (Deliver number place ∷ earlier) flyable = plans-flyable o earlier flyable
-plans-flyable o (Frame ∷ earlier) flyable = plans-flyable o earlier flyable
-plans-flyable o (ResetTerminal terminal ∷ earlier) flyable = plans-flyable o earlier flyable
-plans-flyable o (RestartCentre kept ∷ earlier) flyable = plans-flyable o earlier flyable
-plans-flyable o (Install plan ∷ earlier) flyable = All-cons (IsFlyable o.net) plan (plans o (log o earlier)) flyable.0 (plans-flyable o earlier flyable.1)
-
--- so the plan of an edition can, if there is one
-if-flyable : (net : Net) (plan : Plan) (test : Bool) → IsFlyable net plan → IfSome (if test then Some plan else None) (IsFlyable net)
-if-flyable net plan true flyable = flyable
-if-flyable net plan false flyable = tt
-
-first-flyable : (net : Net) (first : Option Plan) (edition : EditionNo) (plan : Plan) → IfSome first (IsFlyable net) → IsFlyable net plan → IfSome (first_or first edition plan) (IsFlyable net)
-first-flyable net None edition plan old flyable = if-flyable net plan (plan.edition.0 == edition.0) flyable
-first-flyable net (Some first) edition plan old flyable = old
-
-plan_of-flyable : (net : Net) (all : List Plan) (edition : EditionNo) → All (IsFlyable net) all → IfSome (plan_of all edition) (IsFlyable net)
-plan_of-flyable net [] edition flyable = tt
-plan_of-flyable net (plan ∷ earlier) edition flyable =
-    first-flyable net (plan_of earlier edition) edition plan (plan_of-flyable net earlier edition (All-tail (IsFlyable net) plan earlier flyable)) (All-head (IsFlyable net) plan earlier flyable)
+use Rattle.bt_world.proofs.Plans.{plan-holds, plans-flyable}
 
 -- a terminal transmits nothing, or its bursts of the plan in front
 held-one : (all : List Plan) (terminal : TermNo) (front : EditionNo) (test : Bool)
@@ -178,7 +153,7 @@ pub frame-safe : ((net : Net) (list : List Burst) → AreApart net list → AllP
 frame-safe spell o events bursts flyable air =
     let past = log o events in
     let front = plan_of (plans o past) (fore o past) in
-    let flies = plan_of-flyable o.net (plans o past) (fore o past) (plans-flyable o events flyable) in
+    let flies = plan-holds (IsFlyable o.net) (plans o past) (fore o past) (plans-flyable o events flyable) in
     let each : (terminal : TermNo) → (transmits o past terminal ≡ []) ⊎ (transmits o past terminal ≡ of_terminal (bursts_of front) terminal)
     = λ terminal. own-or-none (transmits o past terminal) terminal front (transmits-front o events terminal) in
     let all = flat_map (transmits o past) (terminals o) in

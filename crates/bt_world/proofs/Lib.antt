@@ -5,6 +5,7 @@ mod Standing
 mod Heard
 mod Pairs
 mod Triples
+mod Plans
 mod Frames
 mod Onboard
 mod Banks

@@ -38,7 +38,8 @@ use Rattle.bt_world.specs.Event.{Opening, Event, Tick, Turn, Ordered, Deliver, F
 use Rattle.bt_world.specs.Fits.{edition_in, HasPlan, IsInTime, IsStored, AreStored, IsPlace, IsWorld}
 use Rattle.bt_world.specs.World.{mark, plans, has_burst, plan_of, modes_of, bursts_for, message_of, with_wanted, accepted, wanted, orders, kept, noting, known_now, terminals, is_missing, is_asking, plans_for, order_again, last_plans, sent_by_act, sent_to_asking, sent_by_order, sent_by_satellite, sent_by_terminal, sent_with, sent, joining_with, held, held_by, heard, sight, act, comes_to, log}
 use Rattle.bt_world.proofs.Banks.{world-planned}
-use Rattle.bt_world.proofs.Carried.{planned-word, world-flyable, modes-carried, bursts-carried}
+use Rattle.bt_world.proofs.Carried.{planned-word, modes-carried, bursts-carried}
+use Rattle.bt_world.proofs.Plans.{flies-each, plans-flyable}
 use Rattle.bt_world.proofs.Counted.{IsNumbered, world-counted}
 
 -- each field of the message, but for its modes and bursts, is in its range
@@ -437,7 +438,7 @@ module _ (small_modes : (net : Net) (plan : Plan) → IsFlyable net plan → All
   messages-in-range o events sound world stored =
       let past = log o events in
       let all = plans o past in
-      let flyable = world-flyable o events world in
+      let flyable = plans-flyable o events (flies-each o events world) in
       All-weaker Fits (λ (one : Sent). IsInRange (message_of all one))
       (in-range all (λ edition. modes-carried small_modes few_modes small_bursts few_bursts in_order o.net all edition sound flyable)
       (λ edition terminal. bursts-carried small_modes few_modes small_bursts few_bursts in_order o.net all edition terminal sound flyable stored.plans))

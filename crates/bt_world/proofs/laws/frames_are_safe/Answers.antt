@@ -1,6 +1,6 @@
 use Rattle.bt_world.proofs.Board.{safe-on-board}
-use Rattle.bt_world.proofs.Carried.{flies-each}
 use Rattle.bt_world.proofs.Frames.{frame-safe, transmits-front}
+use Rattle.bt_world.proofs.Plans.{flies-each}
 use Rattle.bt_world.proofs.laws.frames_are_safe.Goals as goal
 
 pub returns-clause-own : goal.returns-clause-own
