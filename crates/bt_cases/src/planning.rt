@@ -2,13 +2,12 @@
 ghost use Rattle.std.specs.Prelude.{◌≡◌, length, OnOk};
 ghost use Rattle.std.specs.Bool.{OnTrue};
 ghost use Rattle.bt_demand.specs.Traffic.{matrix_of, AreOfNetwork, HasSumsTo};
-ghost use Rattle.bt_frame.specs.Critical.{IsOfBeams};
 ghost use Rattle.bt_match.specs.Matching.{HasEqualLineSums};
 ghost use Rattle.bt_matrix.specs.Good.{IsGood};
 
 use crate::answers::{Part, put_lines};
 use crate::files::Shelf;
-use crate::texts::{demand_from, matrix_from, network_from, put_verdict, schedule_from};
+use crate::texts::{demand_from, is_line, matrix_from, network_from, put_verdict, schedule_from};
 use crate::words::{byte_of, number_of};
 use anyhow::{Context, Result, bail, ensure};
 use bt_cut::cut;
@@ -73,13 +72,12 @@ fn see_fit(alloc: Global, net: &Network, demand: &Demand) -> Result<()>
 fn see_good(alloc: Global, net: &Network, demand: &Demand, schedule: &Schedule) -> Result<()>
     requires terminals { AreOfNetwork net.now demand.now }
     requires sums { HasSumsTo 4096 (matrix_of net.now demand.now) }
-    requires critical { IsOfBeams (length net.now.beams) schedule.now.critical }
     ensures { OnOk result (IsGood (matrix_of net.now demand.now) schedule.now) }
 {
     let Ok(matrix) = traffic_of(alloc, net, demand) else {
         bail!("out of memory");
     };
-    let _beams = matrix.size();
+    ensure!(is_line(&matrix, schedule.critical), "a line of no beam");
     match check_modes(&matrix, schedule) {
         Verdict::Good => Ok(()),
         _ => bail!("no good schedule"),

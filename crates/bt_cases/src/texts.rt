@@ -204,7 +204,8 @@ pub fn put_verdict(
     Ok(())
 }
 
-fn is_line(matrix: &Dense, line: Critical) -> bool
+/// The line is one of the matrix.
+pub fn is_line(matrix: &Dense, line: Critical) -> bool
     ensures { OnTrue result (IsLine matrix.now line) }
 {
     match line {
