@@ -1,8 +1,9 @@
 // A network, as the rest of the centre asks it.
-ghost use Rattle.std.specs.Prelude.{◌≡◌, ◌<◌, Some, IfSome, IfOk, IsTrue, length, slice_get};
+ghost use Rattle.std.specs.Prelude.{◌≡◌, ◌<◌, Some, IfSome, IfNone, IfOk, IsTrue, length, map, position, slice_get, Contains};
 ghost use Rattle.std.specs.Option.{option_map};
 ghost use Rattle.bt_net.specs.Name.{is_name as is_name_of, is_terminal_name};
-ghost use Rattle.bt_net.specs.Network.{IsSound};
+ghost use Rattle.std.specs.Str.{bytes_eq};
+ghost use Rattle.bt_net.specs.Network.{IsSound, names_of};
 ghost use Rattle.bt_net.specs.Terminals.{terminal_of, IsTerminal};
 ghost use Rattle.bt_frame.specs.Range.{IsWithin};
 
@@ -136,6 +137,17 @@ impl Network {
         // A name is ASCII.
         let name = unsafe { str::from_utf8_unchecked(word) };
         let number = terminals.find(name)?;
+        Some(TermNo(number as u8))
+    }
+
+    /// The terminal of a name.
+    pub fn find(&self, name: &str) -> Option<TermNo>
+        ensures number { option_map (λ t. t.0) result ≡ position (bytes_eq name.now) (names_of self.now.terminals) }
+        ensures none { IfNone result (¬ (Contains (names_of self.now.terminals) name.now)) }
+        ensures some { IfSome result (λ t. option_map (λ p. p.0) (slice_get self.now.terminals t.0) ≡ Some name.now) }
+        ensures in_range { IfSome result (IsTerminal self.now) }
+    {
+        let number = self.terminals.find(name)?;
         Some(TermNo(number as u8))
     }
 
