@@ -1,15 +1,16 @@
 -- Bursts are read as they were written.
-use Rattle.std.proofs.Common.{◌≡◌, ℕ, zero, suc, ◌≤◌, false, List, [], ◌∷◌, ◌++◌, length, All, AllPairs, Option, Some, None, Ok, refl, sym, ap, subst, ◌∙◌, append_assoc, arith}
+use Rattle.std.proofs.Common.{◌≡◌, ℕ, zero, suc, true, false, List, [], ◌∷◌, ◌++◌, length, All, AllPairs, Option, Some, None, Ok, refl, ap, subst, ◌∙◌, append_assoc, arith}
 use Rattle.std.specs.List.{flat_map}
-use Rattle.std.proofs.lemmas.Bool.Decides.{nat_tests}
+use Rattle.std.proofs.lemmas.Bool.{not_from_true}
 use Rattle.std.proofs.lemmas.List.Elements.{All-cons, All-nil, All-head, All-tail}
 use Rattle.bt_text.specs.Reading.{◌>>=◌}
 use Rattle.bt_frame.specs.declared.numbers.TermNo.{TermNo}
 use Rattle.bt_demand.specs.declared.burst.Burst.{Burst}
-use Rattle.bt_demand.specs.Burst.{IsNotAfter}
+use Rattle.bt_demand.specs.Burst.{is_not_after, IsNotAfter}
+use Rattle.bt_demand.proofs.BurstOrder.{tested-IsNotAfter}
 use Rattle.bt_air.specs.declared.fault.AirFault.TheVariants.{A3}
 use Rattle.bt_air.specs.Field.{Left, burst_length_in}
-use Rattle.bt_air.specs.MessageText.{is_less_than, burst_in, bursts_in}
+use Rattle.bt_air.specs.MessageText.{is_less_than, starting, burst_in, bursts_in}
 use Rattle.bt_air.specs.Range.{IsBurstOf}
 use Rattle.bt_air.specs.Spelling.{short, burst_bytes}
 use Rattle.bt_air.proofs.Codec.{IsBytes, behind, IsTaken}
@@ -17,7 +18,7 @@ use Rattle.bt_air.proofs.Fields.{field, terminal_codec, start_codec, burst_lengt
 use Rattle.bt_air.proofs.Steps.{step, same, unmet}
 
 module _ (from : TermNo) where
-  burst_again : (before : Option Burst) (burst : Burst) (rest : List ℕ) (place : ℕ) → IsBurstOf from burst → is_less_than before burst.start burst.to ≡ false → (next : ℕ) × (burst_in from before (record { bytes = burst_bytes burst ++ rest; place = place }) ≡ Ok (burst, record { bytes = rest; place = next }))
+  burst_again : (before : Option Burst) (burst : Burst) (rest : List ℕ) (place : ℕ) → IsBurstOf from burst → is_less_than before (starting from burst.to burst.start) ≡ false → (next : ℕ) × (burst_in from before (record { bytes = burst_bytes burst ++ rest; place = place }) ≡ Ok (burst, record { bytes = rest; place = next }))
   burst_again before burst rest place is ordered =
       let to = terminal_codec.again burst.to (short burst.start ++ short burst.length ++ rest) place is.receiver in
       let start = start_codec.again burst.start (short burst.length ++ rest) to.0 is.start in
@@ -28,7 +29,7 @@ module _ (from : TermNo) where
   burst_taken before left burst rest fits is =
       let to = field terminal_codec left _ (burst, rest) fits is in
       let start = field start_codec to.rest _ (burst, rest) to.taken.fits to.goes_on in
-      let test = unmet (is_less_than before start.value to.value) (burst_length_in start.rest >>= λ slots. Ok (record { from = from; to = to.value; start = start.value; length = slots.0 }, slots.1)) (A3 left.place) (burst, rest) start.goes_on in
+      let test = unmet (is_less_than before (starting from to.value start.value)) (burst_length_in start.rest >>= λ slots. Ok (record { from = from; to = to.value; start = start.value; length = slots.0 }, slots.1)) (A3 left.place) (burst, rest) start.goes_on in
       let slots = field burst_length_codec start.rest _ (burst, rest) start.taken.fits test.1 in
       let found = same (record { from = from; to = to.value; start = start.value; length = slots.value }, slots.rest) (burst, rest) slots.goes_on in
       subst (λ (p : Burst × Left). IsTaken left.bytes (burst_bytes p.0) p.1.bytes (IsBurstOf from p.0)) found (record {
@@ -41,14 +42,12 @@ module _ (from : TermNo) where
   record AreBehind (before : Option Burst) (bursts : List Burst) : Type 0 where
     each : All (IsBurstOf from) bursts
     ordered : AllPairs IsNotAfter bursts
-    first : (burst : Burst) (others : List Burst) → bursts ≡ burst ∷ others → is_less_than before burst.start burst.to ≡ false
+    first : (burst : Burst) (others : List Burst) → bursts ≡ burst ∷ others → is_less_than before (starting from burst.to burst.start) ≡ false
 
-  not_less : (a b : Burst) → IsBurstOf from a → IsBurstOf from b → IsNotAfter a b → is_less_than (Some a) b.start b.to ≡ false
+  not_less : (a b : Burst) → IsBurstOf from a → IsBurstOf from b → IsNotAfter a b → is_less_than (Some a) (starting from b.to b.start) ≡ false
   not_less a b is_a is_b order =
-      let senders : a.from.0 ≡ b.from.0 = ap (λ (t : TermNo). t.0) (is_a.sender ∙ sym is_b.sender) in
-      let start = order.start in
-      let to : a.start ≡ b.start → a.to.0 ≤ b.to.0 = λ e. order.to e senders in
-      grind (arith, nat_tests)
+      let passes = subst (λ (t : TermNo). is_not_after a (starting t b.to b.start) ≡ true) is_b.sender (tested-IsNotAfter a b order) in
+      not_from_true (is_not_after a (starting from b.to b.start)) passes
 
   others_behind : (before : Option Burst) (burst : Burst) (others : List Burst) → AreBehind before (burst ∷ others) → AreBehind (Some burst) others
   others_behind before burst others are =

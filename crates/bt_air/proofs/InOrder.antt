@@ -1,45 +1,39 @@
 -- Bursts that were read stand in order.
-use Rattle.std.proofs.Common.{◌≡◌, ℕ, zero, suc, false, cond, ltb, eqb, ◌&&◌, ◌||◌, List, [], ◌∷◌, All, AllPairs, Option, Some, Ok, Err, refl, sym, ap, subst, ◌∙◌, arith}
-use Rattle.std.proofs.lemmas.Bool.Decides.{nat_tests}
+use Rattle.std.proofs.Common.{◌≡◌, ℕ, zero, suc, false, cond, List, [], ◌∷◌, All, AllPairs, Option, Some, Ok, Err, refl, ap, subst, ◌∙◌, arith}
+use Rattle.std.proofs.lemmas.Bool.{not-false}
 use Rattle.std.proofs.lemmas.List.Elements.{All-cons, All-nil, All-weaker}
 use Rattle.std.proofs.lemmas.List.Kept.{AllPairs-cons}
 use Rattle.bt_frame.specs.declared.numbers.TermNo.{TermNo}
 use Rattle.bt_text.specs.Reading.{◌>>=◌}
 use Rattle.bt_demand.specs.declared.burst.Burst.{Burst}
-use Rattle.bt_demand.specs.Burst.{IsNotAfter}
+use Rattle.bt_demand.specs.Burst.{is_not_after, IsNotAfter}
+use Rattle.bt_demand.proofs.BurstOrder.{IsNotAfter-tested, IsNotAfter-then}
 use Rattle.bt_air.specs.declared.fault.AirFault.TheVariants.{A3}
 use Rattle.bt_air.specs.Field.{Left, terminal_in, start_in, burst_length_in}
-use Rattle.bt_air.specs.MessageText.{burst_in, bursts_in, is_less_than}
+use Rattle.bt_air.specs.MessageText.{burst_in, bursts_in, is_less_than, starting}
 use Rattle.bt_air.proofs.Steps.{step, same, unmet}
 
 -- a burst of this sender that may stand behind the one before
 pub record Follows (from : TermNo) (before : Option Burst) (burst : Burst) : Type 0 where
   pub sender : burst.from ≡ from
-  pub in_order : is_less_than before burst.start burst.to ≡ false
+  pub in_order : is_less_than before (starting from burst.to burst.start) ≡ false
 
 not_after : (from : TermNo) (a b : Burst) → a.from ≡ from → Follows from (Some a) b → IsNotAfter a b
 not_after from a b sender follows =
-    let senders : a.from.0 ≡ b.from.0 = ap (λ (t : TermNo). t.0) (sender ∙ sym follows.sender) in
-    let tests : (ltb b.start a.start || eqb b.start a.start && ltb b.to.0 a.to.0) ≡ false = follows.in_order in
+    let senders : b.from.0 ≡ from.0 = ap (λ (t : TermNo). t.0) follows.sender in
+    let order = IsNotAfter-tested a (starting from b.to b.start) (not-false (is_not_after a (starting from b.to b.start)) follows.in_order) in
     record {
-      start = grind (arith, nat_tests);
-      from = λ e. omega (arith, senders);
-      to = λ e f. grind (arith, nat_tests);
+      start = order.start;
+      from = λ same. omega (arith, order.from same, senders);
+      to = λ same same_from. order.to same (same_from ∙ senders);
     }
-
-not_after-then : (a b c : Burst) → IsNotAfter a b → IsNotAfter b c → IsNotAfter a c
-not_after-then a b c p q = record {
-  start = omega (arith, p.start, q.start);
-  from = λ e. omega (arith, p.start, q.start, p.from, q.from);
-  to = λ e f. omega (arith, p.start, q.start, p.from, q.from, p.to, q.to);
-}
 
 pub burst_follows : (from : TermNo) (before : Option Burst) (left : Left) (read : Burst × Left) → burst_in from before left ≡ Ok read → Follows from before read.0
 burst_follows from before left read is =
     let made : TermNo → ℕ → ℕ → Burst = λ to start slots. record { from = from; to = to; start = start; length = slots } in
-    let to = step (terminal_in left) (λ to. start_in to.1 >>= λ start. cond (is_less_than before start.0 to.0) (Err (A3 left.place)) (burst_length_in start.1 >>= λ slots. Ok (made to.0 start.0 slots.0, slots.1))) read is in
-    let start = step (start_in to.0.1) (λ start. cond (is_less_than before start.0 to.0.0) (Err (A3 left.place)) (burst_length_in start.1 >>= λ slots. Ok (made to.0.0 start.0 slots.0, slots.1))) read to.2 in
-    let test = unmet (is_less_than before start.0.0 to.0.0) (burst_length_in start.0.1 >>= λ slots. Ok (made to.0.0 start.0.0 slots.0, slots.1)) (A3 left.place) read start.2 in
+    let to = step (terminal_in left) (λ to. start_in to.1 >>= λ start. cond (is_less_than before (starting from to.0 start.0)) (Err (A3 left.place)) (burst_length_in start.1 >>= λ slots. Ok (made to.0 start.0 slots.0, slots.1))) read is in
+    let start = step (start_in to.0.1) (λ start. cond (is_less_than before (starting from to.0.0 start.0)) (Err (A3 left.place)) (burst_length_in start.1 >>= λ slots. Ok (made to.0.0 start.0 slots.0, slots.1))) read to.2 in
+    let test = unmet (is_less_than before (starting from to.0.0 start.0.0)) (burst_length_in start.0.1 >>= λ slots. Ok (made to.0.0 start.0.0 slots.0, slots.1)) (A3 left.place) read start.2 in
     let slots = step (burst_length_in start.0.1) (λ slots. Ok (made to.0.0 start.0.0 slots.0, slots.1)) read test.1 in
     subst (λ (r : Burst × Left). Follows from before r.0) (same (made to.0.0 start.0.0 slots.0.0, slots.0.1) read slots.2) (record { sender = refl; in_order = test.0 })
 
@@ -57,7 +51,7 @@ one_more from before first others follows rest =
     record {
       behind = λ b is sender.
           let next = not_after from b first sender (subst (λ o. Follows from o first) is follows) in
-          All-cons (IsNotAfter b) first others next (All-weaker (IsNotAfter first) (IsNotAfter b) (λ c later. not_after-then b first c next later) others behind_first);
+          All-cons (IsNotAfter b) first others next (All-weaker (IsNotAfter first) (IsNotAfter b) (λ c later. IsNotAfter-then b first c next later) others behind_first);
       pairs = AllPairs-cons IsNotAfter first others behind_first rest.pairs;
     }
 

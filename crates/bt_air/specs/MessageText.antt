@@ -1,10 +1,11 @@
 -- Each kind of message as its fields, one behind the other.
-use Rattle.std.specs.Prelude.{ℕ, zero, suc, ◌==◌, ◌&&◌, ◌||◌, if◌then◌else◌, nat_lt, Bool, false, length, List, [], ◌∷◌, Option, Some, None, Ok, Err}
+use Rattle.std.specs.Prelude.{ℕ, zero, suc, ◌==◌, if◌then◌else◌, Bool, not, false, length, List, [], ◌∷◌, Option, Some, None, Ok, Err}
 use Rattle.std.specs.Int.{w8}
 use Rattle.bt_frame.specs.declared.mode.Mode.{Mode}
 use Rattle.bt_frame.specs.declared.numbers.TermNo.{TermNo}
 use Rattle.bt_text.specs.Reading.{◌>>=◌}
 use Rattle.bt_demand.specs.declared.burst.Burst.{Burst}
+use Rattle.bt_demand.specs.Burst.{is_not_after}
 use Rattle.bt_air.specs.declared.fault.AirFault.TheVariants.{A2, A3, A4}
 use Rattle.bt_air.specs.declared.message.Message.{Message}
 use Rattle.bt_air.specs.declared.message.Message.TheVariants as messages
@@ -73,17 +74,21 @@ status_in left = do
   last ← last_command_in armed.1
   Ok (messages.Status (record { mark = mark.0; fore = fore.0; back = back.0; armed = armed.0; last = last.0 }), last.1)
 
--- A burst with this start and this receiver is less than the one before, where there is one. Both have one sender.
-abbrev pub is_less_than : Option Burst → ℕ → TermNo → Bool
-is_less_than None start to = false
-is_less_than (Some before) start to = nat_lt start before.start || start == before.start && nat_lt to.0 before.to.0
+-- a burst belongs before the one that stands before it, where there is one
+abbrev pub is_less_than : Option Burst → Burst → Bool
+is_less_than None burst = false
+is_less_than (Some before) burst = not (is_not_after before burst)
+
+-- the burst between two terminals that starts in a slot, before its slots are known
+abbrev pub starting : TermNo → TermNo → ℕ → Burst
+starting from to start = record { from = from; to = to; start = start; length = 0 }
 
 -- a burst that the terminal sends: its receiver, its first slot and its slots, and its order is known before its slots are
 abbrev pub burst_in : TermNo → Option Burst → Left → Read Burst
 burst_in from before left = do
   to ← terminal_in left
   start ← start_in to.1
-  if is_less_than before start.0 to.0 then Err (A3 left.place) else do
+  if is_less_than before (starting from to.0 start.0) then Err (A3 left.place) else do
     slots ← burst_length_in start.1
     Ok (record { from = from; to = to.0; start = start.0; length = slots.0 }, slots.1)
 

@@ -196,24 +196,25 @@ fn burst(from: TermNo, before: Option<Burst>, bytes: &mut Unread<'_>) -> Result<
     let place = bytes.place();
     let to = bytes.terminal()?;
     let start = u32::from(bytes.start()?);
-    if is_less_than(before, start, to) {
-        return Err(AirFault::A3 { place });
-    }
-    let length = u32::from(bytes.burst_length()?);
-    Ok(Burst {
+    let mut burst = Burst {
         from,
         to,
         start,
-        length,
-    })
+        length: 0,
+    };
+    if is_less_than(before, burst) {
+        return Err(AirFault::A3 { place });
+    }
+    burst.length = u32::from(bytes.burst_length()?);
+    Ok(burst)
 }
 
-// A burst with this start and this receiver belongs before the one before. Both have one sender.
-fn is_less_than(before: Option<Burst>, start: u32, to: TermNo) -> bool
-    ensures { result ≡ is_less_than before start to }
+// The burst belongs before the one that stands before it.
+fn is_less_than(before: Option<Burst>, burst: Burst) -> bool
+    ensures { result ≡ is_less_than before burst }
 {
     match before {
-        Some(before) => start < before.start || (start == before.start && to.0 < before.to.0),
+        Some(before) => !before.is_not_after(burst),
         None => false,
     }
 }

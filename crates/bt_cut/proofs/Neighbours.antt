@@ -7,6 +7,7 @@ use Rattle.std.proofs.lemmas.Bool.{cases_eq}
 use Rattle.std.proofs.lemmas.Cmp.{ranked}
 use Rattle.bt_demand.specs.declared.burst.Burst.{Burst}
 use Rattle.bt_demand.specs.Burst.{IsNotAfter}
+use Rattle.bt_demand.proofs.BurstOrder.{IsNotAfter-then}
 
 -- the order as the code compares it
 abbrev pub burst_cmp : Burst → Burst → Ordering
@@ -39,22 +40,6 @@ not_after_by a b Equal Equal Greater start from to not_less =
 pub not_after : (a b : Burst) → is_lt (burst_cmp b a) ≡ false → IsNotAfter a b
 not_after a b not_less = not_after_by a b _ _ _ refl refl refl not_less
 
--- the order goes on
-not_after_trans : (a b c : Burst) → IsNotAfter a b → IsNotAfter b c → IsNotAfter a c
-not_after_trans a b c ab bc = record {
-  start = omega (arith, ab.start, bc.start);
-  from = λ same.
-      let first : a.start ≡ b.start = omega (arith, ab.start, bc.start) in
-      let second : b.start ≡ c.start = omega (arith, ab.start, bc.start) in
-      omega (arith, ab.from first, bc.from second);
-  to = λ same from.
-      let first : a.start ≡ b.start = omega (arith, ab.start, bc.start) in
-      let second : b.start ≡ c.start = omega (arith, ab.start, bc.start) in
-      let first_from : a.from.0 ≡ b.from.0 = omega (arith, ab.from first, bc.from second) in
-      let second_from : b.from.0 ≡ c.from.0 = omega (arith, ab.from first, bc.from second) in
-      omega (arith, ab.to first first_from, bc.to second second_from);
-}
-
 -- so where neighbours are in order all bursts are
 pub all_in_order : (bursts : List Burst) → ((k : ℕ) (d : Burst) → k + 1 < length bursts → IsNotAfter (get_or bursts k d) (get_or bursts (k + 1) d)) → AllPairs IsNotAfter bursts
 all_in_order bursts next i zero d less within = absurd (omega arith)
@@ -64,5 +49,5 @@ all_in_order bursts next i (suc j) d less within =
     let last = rw add-one at step in
     elim (cases_eq i j) [
       | inl same ↦ rw same last
-      | inr other ↦ not_after_trans (get_or bursts i d) (get_or bursts j d) (get_or bursts (suc j) d) (all_in_order bursts next i j d (omega arith) (omega arith)) last
+      | inr other ↦ IsNotAfter-then (get_or bursts i d) (get_or bursts j d) (get_or bursts (suc j) d) (all_in_order bursts next i j d (omega arith) (omega arith)) last
     ]

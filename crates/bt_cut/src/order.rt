@@ -66,6 +66,6 @@ fn sorted(alloc: Global, bursts: &[Burst]) -> Result<Vec<Burst>, OutOfMemory>
     ensures ordered { IfOk result (λ sorted. AllPairs IsNotAfter sorted.items) }
 {
     let mut sorted = Vec::from_slice(alloc, bursts)?;
-    sorted.sort_unstable_by_key(|burst| (burst.start, burst.from, burst.to));
+    sorted.sort_unstable_by_key(|burst| burst.key());
     Ok(sorted)
 }

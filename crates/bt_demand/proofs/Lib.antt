@@ -1,3 +1,4 @@
+pub mod BurstOrder
 pub mod BurstTriples
 pub mod FewLinks
 pub mod Flyable

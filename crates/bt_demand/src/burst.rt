@@ -1,6 +1,6 @@
 // Bursts: what a terminal sends to another in slots of the frame that follow each other.
-ghost use Rattle.std.specs.Prelude.{◌≡◌, ◌+◌, ◌≤◌, length, vec_len, AllPairs, IfOk};
-ghost use Rattle.bt_demand.specs.Burst.{AreBursts, IsNotAfter};
+ghost use Rattle.std.specs.Prelude.{◌≡◌, ◌↔◌, ◌+◌, ◌≤◌, true, length, vec_len, AllPairs, IfOk};
+ghost use Rattle.bt_demand.specs.Burst.{is_not_after, AreBursts, IsNotAfter};
 
 use bt_frame::{OutOfMemory, TermNo};
 use std::alloc::Global;
@@ -30,6 +30,21 @@ impl Burst {
         ensures { result ≡ self.start + self.length }
     {
         u64::from(self.start) + u64::from(self.length)
+    }
+
+    /// What bursts are put in order by: the start, then the terminal that sends, then the one that receives.
+    pub fn key(self) -> (u32, TermNo, TermNo)
+        ensures { result ≡ (self.start, self.from, self.to) }
+    {
+        (self.start, self.from, self.to)
+    }
+
+    /// The burst does not belong behind the other.
+    pub fn is_not_after(self, other: Burst) -> bool
+        ensures test { result ≡ is_not_after self other }
+        ensures order { (result ≡ true) ↔ IsNotAfter self other }
+    {
+        self.key() <= other.key()
     }
 }
 

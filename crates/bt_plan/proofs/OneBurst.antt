@@ -13,6 +13,7 @@ use Rattle.bt_net.specs.Network.{Net}
 use Rattle.bt_demand.specs.declared.burst.Burst.{Burst}
 use Rattle.bt_plan.specs.declared.text_fault.TextCode.TheVariants.{P1, P2}
 use Rattle.bt_demand.specs.Burst.{IsNotAfter}
+use Rattle.bt_demand.proofs.BurstOrder.{IsNotAfter-then}
 use Rattle.bt_demand.specs.Demand.{Ends}
 use Rattle.bt_plan.specs.PlanSpelling.{edition_line, burst_line, IsBurstInRange}
 use Rattle.bt_plan.specs.PlanText.{edition_in, span_of, span_in, burst_with, burst_between, burst_behind, burst_in, burst_below, plan_end, bursts_in}
@@ -22,7 +23,7 @@ use Rattle.bt_plan.specs.TerminalNames.{ends_in}
 use Rattle.bt_net.specs.Terminals.{name_at, are_names, terminal_of}
 use Rattle.bt_plan.proofs.NamedTerminals.{IsNamed, terminal_named}
 use Rattle.bt_plan.proofs.OneText.{let_through, or_fault_ok, is_word-same, number_to-spelled}
-use Rattle.bt_plan.proofs.PlanLines.{Follows, IsNotAfter-then, burst_below-ok}
+use Rattle.bt_plan.proofs.PlanLines.{Follows, burst_below-ok}
 use Rattle.bt_plan.proofs.Spelled.{bind_ok, ok_is, guard_ok-then}
 
 -- the edition

@@ -1,7 +1,6 @@
 -- Reading the lines of a plan one after the other, as loops do, up to the end.
 use Rattle.std.proofs.Common.{◌≡◌, ℕ, suc, ◌+◌, ◌≤◌, Bool, true, false, cond, eqb, codes, List, [], ◌∷◌, ◌++◌, length, get_or, All, AllPairs, drop, Option, Some, None, option_and_then, Ok, Err, refl, sym, ap, subst, ◌∙◌, append_assoc, arith, inl, inr}
 use Rattle.std.proofs.lemmas.Bool.{eqb-true, le-leb}
-use Rattle.std.proofs.lemmas.Bool.Decides.{nat_tests}
 use Rattle.std.proofs.lemmas.List.{append-nil}
 use Rattle.std.proofs.lemmas.List.Elements.{All-nil, All-cons, All-append}
 use Rattle.std.proofs.lemmas.List.Quantifiers.{all_pairs_push}
@@ -16,8 +15,9 @@ use Rattle.bt_plan.specs.declared.text_fault.TextCode.TheVariants.{P1, P3}
 use Rattle.bt_plan.specs.declared.text_fault.TextCode.{TextCode}
 use Rattle.bt_text.specs.declared.fault.LineFault.{LineFault}
 use Rattle.bt_text.specs.declared.fault.LineFault.TheVariants.{At, OutOfMemory}
-use Rattle.bt_demand.specs.Burst.{IsNotAfter}
-use Rattle.bt_plan.specs.PlanText.{is_not_after, in_order, span_of, span_in, burst_between, burst_in, burst_behind, burst_below, plan_end, bursts_in, is_mode, modes_and_bursts, first_says}
+use Rattle.bt_demand.specs.Burst.{is_not_after, IsNotAfter}
+use Rattle.bt_demand.proofs.BurstOrder.{IsNotAfter-tested, IsNotAfter-itself, IsNotAfter-then}
+use Rattle.bt_plan.specs.PlanText.{in_order, span_of, span_in, burst_between, burst_in, burst_behind, burst_below, plan_end, bursts_in, is_mode, modes_and_bursts, first_says}
 use Rattle.bt_plan.specs.Reading.{Fault, Reading}
 use Rattle.bt_plan.specs.ScheduleText.{mode_in}
 use Rattle.bt_text.specs.WordReader.{number_to, first_word}
@@ -39,29 +39,6 @@ pub burst_read : (net : Net) (at start count : ℕ) (ws behind ends : List (List
     → burst_behind net at ws ≡ burst_between net at (start, count) ends
 burst_read net at start count ws behind ends first is second last some =
     numbers_read net at start count ws first (rw is at second) some ∙ ap (burst_between net at (start, count)) (sym (last ∙ ap (drop 1) is))
-
--- the order that is tested
-pub IsNotAfter-tested : (a b : Burst) → is_not_after a b ≡ true → IsNotAfter a b
-IsNotAfter-tested a b is = record {
-  start = grind (arith, nat_tests);
-  from = λ same. grind (arith, nat_tests);
-  to = λ same same_from. grind (arith, nat_tests);
-}
-
-pub IsNotAfter-then : (a b c : Burst) → IsNotAfter a b → IsNotAfter b c → IsNotAfter a c
-IsNotAfter-then a b c ab bc = record {
-  start = omega (arith, ab.start, bc.start);
-  from = λ same.
-      let first : a.start ≡ b.start = omega (arith, ab.start, bc.start) in
-      let second : b.start ≡ c.start = omega (arith, ab.start, bc.start) in
-      omega (arith, ab.from first, bc.from second);
-  to = λ same same_from.
-      let first : a.start ≡ b.start = omega (arith, ab.start, bc.start) in
-      let second : b.start ≡ c.start = omega (arith, ab.start, bc.start) in
-      let first_from : a.from.0 ≡ b.from.0 = omega (arith, ab.from first, bc.from second) in
-      let second_from : b.from.0 ≡ c.from.0 = omega (arith, ab.from first, bc.from second) in
-      omega (arith, ab.to first first_from, bc.to second second_from);
-}
 
 -- what a burst that was taken has to do with the burst above
 abbrev pub Follows : Option Burst → Burst → Type 0
@@ -99,7 +76,7 @@ pub in_order_more : (net : Net) (at : ℕ) (above : Option Burst) (ws : List (Li
     → AreInOrder above bursts → AreInOrder (Some burst) (bursts ++ burst ∷ [])
 in_order_more net at above ws burst bursts is so_far =
     let before = all_before above burst bursts so_far.last (burst_below-ok net at above ws burst is).1 in
-    let itself : IsNotAfter burst burst = record { start = omega arith; from = λ same. omega arith; to = λ same same_from. omega arith } in
+    let itself = IsNotAfter-itself burst in
     record {
       ordered = all_pairs_push IsNotAfter bursts burst so_far.ordered (λ k d within. before k d within);
       last = All-append (λ b. IsNotAfter b burst) bursts (burst ∷ []) before (All-cons (λ b. IsNotAfter b burst) burst [] itself (All-nil (λ b. IsNotAfter b burst)));

@@ -3,7 +3,6 @@ use Rattle.std.proofs.Common.{◌≡◌, ℕ, suc, ◌+◌, ◌<◌, ◌≤◌, 
 use Rattle.std.specs.List.{list_all}
 use Rattle.std.specs.Char.{is_ascii_digit}
 use Rattle.std.proofs.lemmas.Bool.{le-leb}
-use Rattle.std.proofs.lemmas.Bool.Decides.{nat_tests}
 use Rattle.std.proofs.lemmas.List.Elements.{All-head, All-tail}
 use Rattle.bt_text.specs.Reading.{◌>>=◌, or_fault}
 use Rattle.bt_text.specs.Text.{words, lacks, is_word}
@@ -17,9 +16,10 @@ use Rattle.bt_demand.specs.declared.burst.Burst.{Burst}
 use Rattle.bt_demand.specs.declared.plan.Plan.{Plan}
 use Rattle.bt_plan.specs.declared.text_fault.TextCode.TheVariants.{P1, P2}
 use Rattle.bt_demand.specs.Burst.{IsNotAfter}
+use Rattle.bt_demand.proofs.BurstOrder.{tested-IsNotAfter}
 use Rattle.bt_demand.specs.Demand.{Ends}
 use Rattle.bt_plan.specs.PlanSpelling.{edition_line, burst_line, plan_lines, plan_spelling, IsBurstInRange, IsPlanInRange}
-use Rattle.bt_plan.specs.PlanText.{edition_in, span_of, span_in, burst_between, burst_in, is_not_after, burst_below, plan_end, bursts_in, is_mode, modes_and_bursts, first_says, parts_behind, critical_behind, length_behind, plan_in, plan_of}
+use Rattle.bt_plan.specs.PlanText.{edition_in, span_of, span_in, burst_between, burst_in, burst_below, plan_end, bursts_in, is_mode, modes_and_bursts, first_says, parts_behind, critical_behind, length_behind, plan_in, plan_of}
 use Rattle.bt_plan.specs.Reading.{Fault, Reading}
 use Rattle.bt_plan.specs.ScheduleSpelling.{length_line, critical_line, mode_line, IsModeInRange}
 use Rattle.bt_plan.specs.ScheduleText.{critical_in, mode_in}
@@ -84,13 +84,9 @@ module _ (net : Net) (sound : IsSound net) where
       ∙ (ap (λ (o : Option (ℕ × ℕ)). or_fault {Fault = Fault} (P1, at) o >>= λ span. burst_between net at span (name_at net burst.from ∷ name_at net burst.to ∷ [])) (span_read burst range)
       ∙ between_read at burst range)
 
-  -- the order is tested
-  tested : (a b : Burst) → IsNotAfter a b → is_not_after a b ≡ true
-  tested a b order = grind (arith, nat_tests, order.start, order.from, order.to)
-
   below_read : (at : ℕ) (above : Option Burst) (burst : Burst) → IsBurstInRange net burst → Follows above burst → burst_below net at above (words (burst_line net burst)) ≡ Ok burst
   below_read at None burst range follows = rw (burst_read at burst range) refl
-  below_read at (Some above) burst range follows = rw (burst_read at burst range, tested above burst follows) refl
+  below_read at (Some above) burst range follows = rw (burst_read at burst range, tested-IsNotAfter above burst follows) refl
 
   -- a burst's line is no end, and no mode
   no_end : (burst : Burst) → is_word (codes "end") (burst_line net burst) ≡ false

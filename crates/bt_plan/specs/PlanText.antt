@@ -1,5 +1,5 @@
 -- The text of a burst time plan for a network: its edition, its length, its critical line, its modes, its bursts, and `end`.
-use Rattle.std.specs.Prelude.{ℕ, ◌+◌, ◌==◌, ◌&&◌, ◌||◌, if◌then◌else◌, nat_le, nat_lt, codes, Bool, false, length, List, [], ◌∷◌, Option, Some, None, Ok, Err, option_map, option_and_then}
+use Rattle.std.specs.Prelude.{ℕ, ◌+◌, if◌then◌else◌, nat_le, codes, Bool, false, length, List, [], ◌∷◌, Option, Some, None, Ok, Err, option_map, option_and_then}
 use Rattle.bt_text.specs.Text.{words, lines, is_word}
 use Rattle.bt_frame.specs.declared.mode.Mode.{Mode}
 use Rattle.bt_frame.specs.declared.numbers.EditionNo.{EditionNo}
@@ -8,6 +8,7 @@ use Rattle.bt_text.specs.Reading.{◌>>=◌, or_fault}
 use Rattle.bt_net.specs.Network.{Net}
 use Rattle.bt_demand.specs.declared.burst.Burst.{Burst}
 use Rattle.bt_demand.specs.declared.plan.Plan.{Plan}
+use Rattle.bt_demand.specs.Burst.{is_not_after}
 use Rattle.bt_plan.specs.declared.text_fault.TextCode.TheVariants.{P1, P2, P3}
 use Rattle.bt_plan.specs.Reading.{Reading}
 use Rattle.bt_plan.specs.ScheduleText.{length_in, critical_in, mode_in}
@@ -46,11 +47,6 @@ burst_behind net at _ = Err (P1, at)
 abbrev pub burst_in : Net → ℕ → List (List ℕ) → Reading Burst
 burst_in net at (name ∷ rest) = if is_word (codes "burst") name then burst_behind net at rest else Err (P1, at)
 burst_in net at [] = Err (P1, at)
-
--- the burst does not belong behind the other: by its start, then by the terminal that sends, then by the one that
--- receives
-abbrev pub is_not_after : Burst → Burst → Bool
-is_not_after a b = nat_lt a.start b.start || (a.start == b.start && (nat_lt a.from.0 b.from.0 || (a.from.0 == b.from.0 && nat_le a.to.0 b.to.0)))
 
 -- the burst of line `at`, where it does not belong before the burst of the line above, if that has one
 abbrev pub in_order : ℕ → Option Burst → Burst → Reading Burst

@@ -7,7 +7,7 @@ ghost use Rattle.bt_text.specs.Reading.{or_fault, Gives};
 ghost use Rattle.bt_plan.specs.declared.text_fault.TextCode.TheVariants.{P1};
 ghost use Rattle.bt_demand.specs.Burst.{IsNotAfter};
 ghost use Rattle.bt_frame.specs.Critical.{IsOfBeams};
-ghost use Rattle.bt_plan.specs.PlanText.{edition_in, burst_with, burst_between, burst_behind, burst_in, is_not_after, in_order, burst_below, bursts_in, is_mode, modes_and_bursts, critical_behind, length_behind, plan_of};
+ghost use Rattle.bt_plan.specs.PlanText.{edition_in, burst_with, burst_between, burst_behind, burst_in, in_order, burst_below, bursts_in, is_mode, modes_and_bursts, critical_behind, length_behind, plan_of};
 ghost use Rattle.bt_verdict.specs.PlanVerdict.{AreBetweenTerminals};
 ghost use Rattle.bt_plan.specs.ScheduleText.{mode_in};
 ghost use Rattle.bt_net.specs.Terminals.{are_names};
@@ -211,18 +211,9 @@ fn in_order(at: u32, above: Option<Burst>, burst: Burst) -> Result<Burst, TextFa
     ensures { Gives (λ burst. burst) result (in_order at above burst) }
 {
     match above {
-        Some(above) if !is_not_after(above, burst) => Err(fault_at(TextCode::P3, at)),
+        Some(above) if !above.is_not_after(burst) => Err(fault_at(TextCode::P3, at)),
         _ => Ok(burst),
     }
-}
-
-// The first burst does not belong behind the second.
-fn is_not_after(a: Burst, b: Burst) -> bool
-    ensures { result ≡ is_not_after a b }
-{
-    a.start < b.start
-        || (a.start == b.start
-            && (a.from.0 < b.from.0 || (a.from.0 == b.from.0 && a.to.0 <= b.to.0)))
 }
 
 // The burst that the words of line `at` say.
