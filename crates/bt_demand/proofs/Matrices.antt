@@ -1,9 +1,7 @@
 -- The traffic matrix of a demand: of no link, after a link gained, and as a walk along the links makes it.
-use Rattle.std.proofs.Common.{◌≡◌, ℕ, ◌+◌, ◌<◌, ◌≤◌, ◌&&◌, if◌then◌else◌, true, false, Bool, List, [], Some, length, map, replicate, take, get_or, slice_get, sum, sum_by, slice_index, option_map, sym, ap, ◌∙◌, arith}
-use Rattle.std.proofs.lemmas.List.FromFn.{length-range_with_len}
-use Rattle.std.proofs.lemmas.List.Sums.{sum-map, sum_by-le, sum_by-le-sum_by, sum_by-take-le, sum_by_more}
-use Rattle.bt_lists.proofs.Counts.{sum_by-map}
-use Rattle.bt_lists.proofs.Images.{numbers_below, image_at, images-replicate}
+use Rattle.std.proofs.Common.{◌≡◌, ℕ, ◌+◌, ◌<◌, ◌≤◌, ◌&&◌, if◌then◌else◌, List, [], Some, length, map, replicate, take, get_or, slice_get, option_map, sym, ap, ◌∙◌, arith}
+use Rattle.std.proofs.lemmas.List.Sums.{sum_by-take-le, sum_by_more}
+use Rattle.bt_lists.proofs.Images.{numbers_below, images-replicate}
 use Rattle.bt_frame.specs.declared.limits.TheConstants.{SUM_LAST}
 use Rattle.bt_frame.specs.declared.numbers.BeamNo.{BeamNo}
 use Rattle.bt_frame.specs.declared.numbers.TermNo.{TermNo}
@@ -12,10 +10,10 @@ use Rattle.bt_net.specs.Network.{Net}
 use Rattle.bt_net.specs.Terminals.{is_in_beam, IsInBeam}
 use Rattle.bt_matrix.specs.Traffic.{row_of, entry, row_sum, column_sum, with_entry}
 use Rattle.bt_demand.specs.declared.demand.Link.{Link}
-use Rattle.bt_demand.specs.Demand.{units_where, Gains}
+use Rattle.bt_demand.specs.Demand.{Gains}
 use Rattle.bt_demand.specs.Traffic.{units_between, matrix_of, HasSumsTo}
 pub use Rattle.bt_demand.proofs.Tables.{row_sum-gained, column_sum-gained}
-use Rattle.bt_demand.proofs.Tables.{row_of-table, length-table, length-row-table, table-Exceeds, row_sum-le, column_sum-le}
+use Rattle.bt_demand.proofs.Tables.{length-table, length-row-table, table-Exceeds, row_sum-le, column_sum-le}
 
 -- a row for each beam
 pub length-matrix_of : (net : Net) (links : List Link) → length (matrix_of net links) ≡ length net.beams
@@ -75,37 +73,3 @@ pub added : (matrix new before after : List (List ℕ)) (up down units : ℕ) �
     → new ≡ with_entry matrix up down (entry matrix up down + units) → after ≡ with_entry before up down (entry before up down + units) → new ≡ after
 added matrix new before after up down units was gives next =
     gives ∙ (ap (λ (rows : List (List ℕ)). with_entry rows up down (entry rows up down + units)) was ∙ sym next)
-
--- each entry is within the slots of all links
-units_between-le : (net : Net) (links : List Link) (up down : ℕ) → units_between net links up down ≤ units_where (λ from to. true) links
-units_between-le net links up down = sum_by-le-sum_by
-    (λ (link : Link). if is_in_beam net up link.from && is_in_beam net down link.to then link.units else 0) (λ (link : Link). link.units) links
-    (λ link. share-le (is_in_beam net up link.from && is_in_beam net down link.to) link.units)
-  where
-    share-le : (passes : Bool) (units : ℕ) → (if passes then units else 0) ≤ units
-    share-le true units = omega arith
-    share-le false units = omega arith
-
--- so many numbers of at most 65,536 each
-sixteen : (f : ℕ → ℕ) (n : ℕ) → n ≤ 16 → ((i : ℕ) → f i ≤ 65536) → sum_by f (numbers_below n) ≤ SUM_LAST
-sixteen f n few small =
-    let bound = sum_by-le f 65536 (numbers_below n) (λ k d within. small (get_or (numbers_below n) k d)) in
-    omega (arith, bound, length-range_with_len 0 n)
-
--- A demand of few slots in all has small entries, so that no line passes the limit.
-pub HasSumsTo-small : (net : Net) (links : List Link) → length net.beams ≤ 16 → units_where (λ from to. true) links ≤ 65536
-    → HasSumsTo SUM_LAST (matrix_of net links)
-HasSumsTo-small net links few small (Row up) on_matrix =
-    let n = length net.beams in
-    let f = units_between net links in
-    let below : up.0 < n = omega (arith, length-matrix_of net links) in
-    let is = ap sum (row_of-table n f up.0 below) ∙ sum-map (f up.0) (numbers_below n) in
-    omega (arith, is, sixteen (f up.0) n few (λ j. omega (arith, units_between-le net links up.0 j)))
-HasSumsTo-small net links few small (Column down) on_matrix =
-    let n = length net.beams in
-    let f = units_between net links in
-    let below : down.0 < n = omega (arith, length-matrix_of net links) in
-    let is = sum_by-map (λ (row : List ℕ). slice_index row down.0) (λ (i : ℕ). map (f i) (numbers_below n)) (numbers_below n) in
-    let each = λ (i : ℕ). let at = image_at (f i) n down.0 0 below in
-    let le : slice_index (map (f i) (numbers_below n)) down.0 ≤ 65536 = omega (arith, at, units_between-le net links i down.0) in le in
-    omega (arith, is, sixteen (λ (i : ℕ). slice_index (map (f i) (numbers_below n)) down.0) n few each)

@@ -48,6 +48,14 @@ impl Demand {
         }
     }
 
+    /// The demand of these links, which stand in order, each once.
+    pub fn of(links: Vec<Link>) -> Demand
+        requires { IsDemand links.items }
+        ensures { result ≡ links.items }
+    {
+        Demand { links }
+    }
+
     /// The links in order.
     pub fn as_slice(&self) -> &[Link]
         ensures same { result.now ≡ self.now }

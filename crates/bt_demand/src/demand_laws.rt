@@ -1,12 +1,12 @@
 // Laws of demands. Each holds of all of them, so that nothing runs.
-ghost use Rattle.std.specs.Prelude.{◌≡◌, ◌≢◌, ◌⊎◌, ℕ, ◌+◌, ◌<◌, ◌≤◌, true, List, length};
+ghost use Rattle.std.specs.Prelude.{◌≡◌, ◌≢◌, ◌⊎◌, ℕ, ◌+◌, ◌<◌, List, length};
 ghost use Rattle.bt_frame.specs.declared.numbers.BeamNo.{BeamNo};
 ghost use Rattle.bt_frame.specs.declared.numbers.TermNo.{TermNo};
 ghost use Rattle.bt_matrix.specs.Traffic.{entry, with_entry};
 ghost use Rattle.bt_net.specs.Network.{Net};
 ghost use Rattle.bt_demand.specs.declared.demand.Link.{Link};
-ghost use Rattle.bt_demand.specs.Demand.{units_of, units_where, Gains, IsDemand};
-ghost use Rattle.bt_demand.specs.Traffic.{matrix_of, HasSumsTo};
+ghost use Rattle.bt_demand.specs.Demand.{units_of, Gains, IsDemand};
+ghost use Rattle.bt_demand.specs.Traffic.{matrix_of};
 ghost use Rattle.bt_net.specs.Terminals.{IsInBeam};
 
 /// Demands that give each link the same slots are the same.
@@ -30,10 +30,4 @@ pub fn gain_adds_to_one_entry()
         → up.0 < length net.beams → down.0 < length net.beams
         → matrix_of net new
         ≡ with_entry (matrix_of net old) up.0 down.0 (entry (matrix_of net old) up.0 down.0 + units) }
-{}
-
-/// A demand of at most 65,536 slots in all has a traffic matrix that memory takes.
-pub fn small_demands_have_a_matrix()
-    ensures { (net : Net) (links : List Link) → length net.beams ≤ 16
-        → units_where (λ from to. true) links ≤ 65536 → HasSumsTo 1048576 (matrix_of net links) }
 {}
