@@ -130,17 +130,27 @@ impl Network {
         ensures terminal { result ≡ terminal_of self.now word.now }
         ensures in_range { IfSome result (IsTerminal self.now) }
     {
-        let terminals = &self.terminals;
+        // No terminal has another word as its name.
+        let _terminals = &self.terminals;
         if !is_name(word) {
             return None;
         }
+        self.terminal_of(word)
+    }
+
+    /// The terminal of a name, for callers that know the word's shape.
+    pub fn terminal_of(&self, name: &[u8]) -> Option<TermNo>
+        requires shape { IsTrue (is_name_of name.now) }
+        ensures terminal { result ≡ terminal_of self.now name.now }
+        ensures in_range { IfSome result (IsTerminal self.now) }
+    {
         // A name is ASCII.
-        let name = unsafe { str::from_utf8_unchecked(word) };
-        let number = terminals.find(name)?;
+        let text = unsafe { str::from_utf8_unchecked(name) };
+        let number = self.terminals.find(text)?;
         Some(TermNo(number as u8))
     }
 
-    /// The terminal of a name.
+    /// The terminal of a text.
     pub fn find(&self, name: &str) -> Option<TermNo>
         ensures number { option_map (λ t. t.0) result ≡ position (bytes_eq name.now) (names_of self.now.terminals) }
         ensures none { IfNone result (¬ (Contains (names_of self.now.terminals) name.now)) }

@@ -1,13 +1,9 @@
--- a name is text, and no other word names a terminal
+-- no word but a name names a terminal
 use Rattle.std.proofs.Common.{◌≡◌, None, sym, ◌∙◌, subst}
 use Rattle.bt_net.specs.Network.{Net}
 use Rattle.bt_net.specs.Terminals.{terminal_of}
 use Rattle.bt_net.proofs.Names.{names_none}
-use Rattle.bt_net.proofs.NameBytes.{utf8_from_name}
 use Rattle.bt_net.proofs.network.Network.terminal_named.Goals as goal
-
-pub from_utf8_unchecked-name-requires : goal.from_utf8_unchecked-name-requires
-from_utf8_unchecked-name-requires c = utf8_from_name c.args.word.now (sym c.is_name.ensures ∙ c.if-not-is_name.false)
 
 pub returns-then-not-is_name-clause-terminal : goal.returns-then-not-is_name-clause-terminal
 returns-then-not-is_name-clause-terminal c =
