@@ -1,6 +1,7 @@
 -- Bursts that meet, as the checker looks for them: by the end of the latest burst in each beam.
 use Rattle.std.specs.Prelude.{◌≡◌, ℕ, ◌+◌, ◌<◌, ◌≤◌, List, length, take, slice_index, Option, Some, All}
 use Rattle.std.specs.List.{HoldsAt, Any}
+use Rattle.bt_frame.specs.declared.limits.TheConstants.{MOST_BEAMS}
 use Rattle.bt_frame.specs.declared.numbers.BeamNo.{BeamNo}
 use Rattle.bt_net.specs.Network.{Net}
 use Rattle.bt_demand.specs.declared.burst.Burst.{Burst}
@@ -33,9 +34,9 @@ pub record IsOfBeam (beam_of : Burst → Option BeamNo) (beam : BeamNo) (burst :
 
 -- The latest end of these bursts in each beam, at the one end of each that is looked at; 0 where the beam has none.
 pub record AreEnds (beam_of : Burst → Option BeamNo) (bursts : List Burst) (ends : List ℕ) : Type 0 where
-  pub wide : length ends ≡ 16
-  pub none_later : (beam : BeamNo) → beam.0 < 16 → All (λ a. IsOfBeam beam_of beam a → a.start + a.length ≤ slice_index ends beam.0) bursts
-  pub reached : (beam : BeamNo) → beam.0 < 16 → 0 < slice_index ends beam.0 → Any (λ a. IsOfBeam beam_of beam a × (a.start + a.length ≡ slice_index ends beam.0)) bursts
+  pub wide : length ends ≡ MOST_BEAMS
+  pub none_later : (beam : BeamNo) → beam.0 < MOST_BEAMS → All (λ a. IsOfBeam beam_of beam a → a.start + a.length ≤ slice_index ends beam.0) bursts
+  pub reached : (beam : BeamNo) → beam.0 < MOST_BEAMS → 0 < slice_index ends beam.0 → Any (λ a. IsOfBeam beam_of beam a × (a.start + a.length ≡ slice_index ends beam.0)) bursts
 
 -- the beam in which a burst goes up, and the one in which it comes down
 abbrev pub uplink_of : Net → Burst → Option BeamNo

@@ -1,5 +1,6 @@
 -- Connections that get fewer slots than they want, as the checker looks for them.
 use Rattle.std.specs.Prelude.{◌≡◌, ℕ, ◌<◌, ◌≤◌, List, length, All}
+use Rattle.bt_frame.specs.declared.limits.TheConstants.{MOST_BEAMS}
 use Rattle.bt_frame.specs.declared.mode.Mode.{Mode}
 use Rattle.bt_frame.specs.declared.schedule.Schedule.{Schedule}
 use Rattle.bt_matrix.specs.Traffic.{entry}
@@ -18,7 +19,7 @@ pub record IsShort (rows : List (List ℕ)) (schedule : Schedule) (short : Short
 abbrev pub CarriesBelow : List (List ℕ) → Schedule → ℕ → ℕ → Type 0
 CarriesBelow rows schedule up end = (down : ℕ) → down < end → entry rows up down ≤ slots_of schedule.modes up down
 
--- the mode's beams are on a table of 16 by 16
+-- the mode's beams are on a table with a place for any two beams
 pub record IsOfTable (mode : Mode) : Type 0 where
-  pub up : length mode.perm ≤ 16
-  pub down : All (λ beam. beam < 16) mode.perm
+  pub up : length mode.perm ≤ MOST_BEAMS
+  pub down : All (λ beam. beam < MOST_BEAMS) mode.perm

@@ -1,6 +1,7 @@
 // Is a schedule as long as the heaviest line of a matrix, and no longer? The matrix is at hand, or it is that of a
 // demand, of which the line sums are enough.
 ghost use Rattle.std.specs.Prelude.{◌≡◌, ◌≤◌, ℕ, List, length, MatchOption};
+ghost use Rattle.bt_frame.specs.declared.limits.TheConstants.{MOST_BEAMS};
 ghost use Rattle.bt_matrix.specs.Dense.{KeepsSums};
 ghost use Rattle.bt_matrix.specs.Good.{IsLeast};
 ghost use Rattle.bt_matrix.specs.Traffic.{line_sum, IsLine, IsHeaviest};
@@ -79,7 +80,7 @@ pub(crate) fn heavier_in_demand(
 
 /// The slots that each line asks for.
 fn line_sums(net: &Network, links: &[Link]) -> LineSums
-    requires beams { IsWithin 1 16 (length net.now.beams) }
+    requires beams { IsWithin 1 MOST_BEAMS (length net.now.beams) }
     requires of_network { AreOfNetwork net.now links.now }
     requires sums { HasSumsTo SUM_LAST (matrix_of net.now links.now) }
     ensures { KeepsSums (matrix_of net.now links.now) result.rows result.columns }
@@ -97,7 +98,7 @@ fn line_sums(net: &Network, links: &[Link]) -> LineSums
 
 /// The slots that one line asks for, of the sums that were kept.
 fn kept_sum_of(sums: &LineSums, line: Critical) -> u32
-    requires { IsOfBeams 16 line }
+    requires { IsOfBeams MOST_BEAMS line }
     ensures { (rows : List (List ℕ)) → KeepsSums rows sums.now.rows sums.now.columns → IsLine rows line
         → result ≡ line_sum rows line }
 {

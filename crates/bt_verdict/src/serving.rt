@@ -1,5 +1,6 @@
 // Does each link of a demand have the slots that it asks for?
-ghost use Rattle.std.specs.Prelude.{◌≡◌, ◌<◌, ◌≤◌, length, MatchOption, All};
+ghost use Rattle.std.specs.Prelude.{◌*◌, ◌≡◌, ◌<◌, ◌≤◌, length, MatchOption, All};
+ghost use Rattle.bt_frame.specs.declared.limits.TheConstants.{MOST_TERMINALS};
 ghost use Rattle.bt_demand.specs.Apart.{AreBetweenTerminals};
 ghost use Rattle.bt_verdict.specs.PlanVerdict.{IsFirstUnserved};
 ghost use Rattle.bt_demand.specs.Traffic.{AreOfNetwork};
@@ -69,8 +70,8 @@ pub(crate) fn first_unserved(net: &Network, links: &[Link], bursts: &[Burst]) ->
 
 /// The slots that each link asks for, a row for each terminal that sends.
 fn units_by_link(links: &[Link]) -> [[u64; MOST_TERMINALS]; MOST_TERMINALS]
-    requires few { length links.now ≤ 4096 }
-    requires between { All (λ l. (l.from.0 < 64) × (l.to.0 < 64)) links.now }
+    requires few { length links.now ≤ MOST_TERMINALS * MOST_TERMINALS }
+    requires between { All (λ l. (l.from.0 < MOST_TERMINALS) × (l.to.0 < MOST_TERMINALS)) links.now }
     ensures { AreUnitsAsked links.now result }
 {
     let mut units = [[0; MOST_TERMINALS]; MOST_TERMINALS];
@@ -83,7 +84,7 @@ fn units_by_link(links: &[Link]) -> [[u64; MOST_TERMINALS]; MOST_TERMINALS]
 /// The slots of the bursts from each terminal to each, a row for each terminal that sends.
 fn slots_by_link(bursts: &[Burst]) -> [[u64; MOST_TERMINALS]; MOST_TERMINALS]
     requires few { length bursts.now ≤ MOST_BURSTS }
-    requires between { All (λ b. (b.from.0 < 64) × (b.to.0 < 64)) bursts.now }
+    requires between { All (λ b. (b.from.0 < MOST_TERMINALS) × (b.to.0 < MOST_TERMINALS)) bursts.now }
     ensures { AreSlotsSent bursts.now result }
 {
     let mut slots = [[0; MOST_TERMINALS]; MOST_TERMINALS];

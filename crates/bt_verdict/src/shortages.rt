@@ -1,5 +1,6 @@
 // Do the modes give each connection the slots that a matrix asks for?
 ghost use Rattle.std.specs.Prelude.{◌≡◌, ℕ, ◌+◌, ◌*◌, ◌<◌, ◌≤◌, length, MatchOption, All, slice_index};
+ghost use Rattle.bt_frame.specs.declared.limits.TheConstants.{MOST_BEAMS};
 ghost use Rattle.bt_matrix.specs.Good.{HasPermutations, CarriesAll, slots_in, slots_of};
 ghost use Rattle.bt_verdict.specs.Verdict.{IsFirstShort};
 ghost use Rattle.bt_verdict.specs.Short.{IsShort, IsOfTable};
@@ -67,8 +68,8 @@ pub(crate) fn first_short<M: Traffic>(matrix: &M, schedule: &Schedule) -> Option
 /// and the second.
 fn slots_by_connection(modes: &Modes) -> [u64; CONNECTIONS]
     requires { All IsOfTable modes.now }
-    ensures { (up down : ℕ) → down < 16 → All (λ m. up < length m.perm) modes.now
-        → slice_index result (up * 16 + down) ≡ slots_of modes.now up down }
+    ensures { (up down : ℕ) → down < MOST_BEAMS → All (λ m. up < length m.perm) modes.now
+        → slice_index result (up * MOST_BEAMS + down) ≡ slots_of modes.now up down }
 {
     let mut slots = [0; CONNECTIONS];
     for mode in modes.as_slice() {
@@ -81,8 +82,8 @@ fn slots_by_connection(modes: &Modes) -> [u64; CONNECTIONS]
 fn add_mode(slots: &mut [u64; CONNECTIONS], mode: &Mode)
     requires mode { IsOfTable mode.now }
     requires room { (k : ℕ) → slice_index slots.old k ≤ 18446744069414584320 }
-    ensures added { (up down : ℕ) → up < length mode.now.perm → down < 16
-        → slice_index slots.new (up * 16 + down) ≡ slice_index slots.old (up * 16 + down) + slots_in up down mode.now }
+    ensures added { (up down : ℕ) → up < length mode.now.perm → down < MOST_BEAMS
+        → slice_index slots.new (up * MOST_BEAMS + down) ≡ slice_index slots.old (up * MOST_BEAMS + down) + slots_in up down mode.now }
     ensures small { (k : ℕ) → slice_index slots.new k ≤ slice_index slots.old k + 4294967295 }
 {
     let duration = u64::from(mode.duration);
