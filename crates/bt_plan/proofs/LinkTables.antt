@@ -5,11 +5,9 @@ use Rattle.std.proofs.lemmas.List.{length-replicate, length-set, length-take, ta
 use Rattle.std.proofs.lemmas.List.Elements.{All-nil, All-cons}
 use Rattle.std.proofs.lemmas.List.Kept.{AllPairs-cons}
 use Rattle.std.proofs.lemmas.List.Sums.{sum_by-cons}
-use Rattle.bt_frame.specs.declared.limits.TheConstants.{SUM_LAST}
 use Rattle.bt_frame.specs.declared.numbers.TermNo.{TermNo}
 use Rattle.bt_demand.specs.declared.demand.Link.{Link}
 use Rattle.bt_demand.specs.Demand.{ends_of, IsBefore, IsLink, IsDemand, units_where, units_of, Gains}
-use Rattle.bt_demand.proofs.SameDemand.{same_demands}
 use Rattle.bt_plan.specs.LinkTable.{sender, receiver, link_at, with_place, links_from, IsPlace, ArePlaces, IsTable}
 
 -- what a place gives to the links that pass a test
@@ -42,15 +40,6 @@ sum-set test place zero at units (u ∷ us) is within none =
     omega (arith, sum-place test place units us, sum-place test place u us, ap (λ (n : ℕ). share test place n) none, nothing (test (sender place) (receiver place)), ap (λ (n : ℕ). share test n units) here)
 sum-set test place (suc j) at units (u ∷ us) is within none =
     omega (arith, sum-place test place u (set us j units), sum-place test place u us, sum-set test (place + 1) j at units us (omega arith) (omega arith) none)
-
--- one place more
-pub sum-push : (test : TermNo → TermNo → Bool) (place at units : ℕ) (us : List ℕ) → at ≡ place + length us
-    → units_where test (links_from place (us ++ units ∷ [])) ≡ units_where test (links_from place us) + share test at units
-sum-push test place at units [] is =
-    let here : at ≡ place = omega arith in
-    omega (arith, sum-place test place units [], sum-none test place, sum-none test (place + 1), ap (λ (n : ℕ). share test n units) here)
-sum-push test place at units (u ∷ us) is =
-    omega (arith, sum-place test place u (us ++ units ∷ []), sum-place test place u us, sum-push test (place + 1) at units us (omega arith))
 
 -- the test of a link's ends
 abbrev pub has_ends : TermNo → TermNo → TermNo → TermNo → Bool
@@ -146,13 +135,6 @@ pub gains-set : (places : List ℕ) (place units : ℕ) (from to : TermNo) → p
 gains-set places place units from to is small within none test =
     omega (arith, sum-set test 0 place place units places (omega arith) within none, own_share test from to place units is small)
 
--- the first places
-pub take-ArePlaces : (place n : ℕ) (us : List ℕ) → ArePlaces place us → ArePlaces place (take n us)
-unfolding ArePlaces
-take-ArePlaces place zero us are = tt
-take-ArePlaces place (suc n) [] are = tt
-take-ArePlaces place (suc n) (u ∷ us) are = (are.0, take-ArePlaces (place + 1) n us are.1)
-
 -- places that ask for nothing
 pub empty-ArePlaces : (place n : ℕ) → ArePlaces place (replicate n 0)
 unfolding ArePlaces
@@ -171,58 +153,44 @@ unfolding links_from with_place
 empty-links place zero = refl
 empty-links place (suc n) = empty-links (place + 1) n
 
--- a place of a table, and the links of the places before it
-place_is : (place i at : ℕ) (us : List ℕ) → at ≡ place + i → i < length us → ArePlaces place us → IsPlace at (get_or us i 0)
-unfolding ArePlaces
-place_is place i at [] is within are = absurd (omega arith)
-place_is place zero at (u ∷ us) is within are =
-    let here : place ≡ at = omega arith in
-    subst (λ n. IsPlace n u) here are.0
-place_is place (suc j) at (u ∷ us) is within are = place_is (place + 1) j at us (omega arith) (omega arith) are.1
-
-past_end : (us : List ℕ) (i : ℕ) → length us ≤ i → get_or us i 0 ≡ 0
-past_end [] i past = refl
-past_end (u ∷ us) zero past = absurd (omega arith)
-past_end (u ∷ us) (suc j) past = past_end us j (omega arith)
-
 -- so many of a table's places
 abbrev pub links_to : List ℕ → ℕ → List Link
 links_to places place = links_from 0 (take place places)
 
-to-IsDemand : (places : List ℕ) (place : ℕ) → IsTable places → IsDemand (links_to places place)
-to-IsDemand places place table = places-IsDemand 0 (take place places) (take-ArePlaces 0 place places table.each)
+-- one place more, which asks for slots
+push-link : (place at n : ℕ) (us : List ℕ) → at ≡ place + length us → links_from place (us ++ suc n ∷ []) ≡ links_from place us ++ link_at at (suc n) ∷ []
+unfolding links_from with_place
+push-link place at n [] is =
+    let here : at ≡ place = omega arith in
+    ap (λ (k : ℕ). link_at k (suc n) ∷ []) (sym here)
+push-link place at n (zero ∷ us) is = push-link (place + 1) at n us (omega arith)
+push-link place at n (suc m ∷ us) is = ap (λ (links : List Link). link_at place (suc m) ∷ links) (push-link (place + 1) at n us (omega arith))
 
-sum-next : (test : TermNo → TermNo → Bool) (places : List ℕ) (place : ℕ) → place < length places
-    → units_where test (links_to places (place + 1)) ≡ units_where test (links_to places place) + share test place (get_or places place 0)
-sum-next test places place within =
-    let long : length (take place places) ≡ place = omega (arith, length-take place places) in
-    ap (λ (us : List ℕ). units_where test (links_from 0 us)) (take_more places place 0 within) ∙ sum-push test 0 place (get_or places place 0) (take place places) (omega arith)
+-- one place more, which asks for nothing
+push-none : (place : ℕ) (us : List ℕ) → links_from place (us ++ zero ∷ []) ≡ links_from place us
+unfolding links_from with_place
+push-none place [] = refl
+push-none place (zero ∷ us) = push-none (place + 1) us
+push-none place (suc m ∷ us) = ap (λ (links : List Link). link_at place (suc m) ∷ links) (push-none (place + 1) us)
 
--- a place that asks for slots
-pub place_ends : (places : List ℕ) (place units : ℕ) → IsTable places → place < 4096 → 0 < units → units ≡ get_or places place 0 → place / 64 ≢ place % 64
-place_ends places place units table within some is =
-    (place_is 0 place place places (omega arith) (omega (arith, table.size)) table.each).differ (omega arith)
+next : (places : List ℕ) (place units : ℕ) → IsTable places → place < 4096 → units ≡ get_or places place 0 → links_to places (place + 1) ≡ links_from 0 (take place places ++ units ∷ [])
+next places place units table within is =
+    ap (links_from 0) (take_more places place 0 (omega (arith, table.size)) ∙ ap (λ (n : ℕ). take place places ++ n ∷ []) (sym is))
 
-pub place_fits : (places : List ℕ) (place units : ℕ) → IsTable places → place < 4096 → units ≡ get_or places place 0 → units_of (links_to places place) (sender place) (receiver place) + units ≤ SUM_LAST
-place_fits places place units table within is =
-    let few = (place_is 0 place place places (omega arith) (omega (arith, table.size)) table.each).few in
-    let none = units-at (sender place) (receiver place) 0 place (take place places) (omega arith) (omega arith) ∙ past_end (take place places) place (omega (arith, length-take place places)) in
-    omega (arith, few, none)
-
--- the demand with the link of one more place
-pub next_place : (places : List ℕ) (place units : ℕ) (old new : List Link) → IsTable places → place < 4096 → units ≡ get_or places place 0 → old ≡ links_to places place
-    → IsDemand new → Gains old new (sender place) (receiver place) units → new ≡ links_to places (place + 1)
-next_place places place units old new table within is so_far is_new gains =
-    same_demands new (links_to places (place + 1)) is_new (to-IsDemand places (place + 1) table) (λ e.
-    let test = has_ends e.0 e.1 in
-    omega (arith, gains test, ap (λ (links : List Link). units_where test links) so_far, ap (λ (n : ℕ). share test place n) is, sum-next test places place (omega (arith, table.size))))
+-- the links with the link of one more place
+pub next_place : (places : List ℕ) (place units : ℕ) (links : List Link) → IsTable places → place < 4096 → 0 < units → units ≡ get_or places place 0 → links ≡ links_to places place
+    → links ++ link_at place units ∷ [] ≡ links_to places (place + 1)
+next_place places place zero links table within some is so_far = absurd (omega arith)
+next_place places place (suc n) links table within some is so_far =
+    let long : length (take place places) ≡ place = omega (arith, length-take place places, table.size) in
+    ap (λ (before : List Link). before ++ link_at place (suc n) ∷ []) so_far
+    ∙ sym (next places place (suc n) table within is ∙ push-link 0 place n (take place places) (omega arith))
 
 -- and without one, where it asks for nothing
-pub same_place : (places : List ℕ) (place units : ℕ) (old : List Link) → IsTable places → place < 4096 → units ≡ get_or places place 0 → units ≡ 0 → old ≡ links_to places place → old ≡ links_to places (place + 1)
-same_place places place units old table within is none so_far =
-    so_far ∙ same_demands (links_to places place) (links_to places (place + 1)) (to-IsDemand places place table) (to-IsDemand places (place + 1) table) (λ e.
-    let test = has_ends e.0 e.1 in
-    omega (arith, ap (λ (n : ℕ). share test place n) (sym is ∙ none), nothing (test (sender place) (receiver place)), sum-next test places place (omega (arith, table.size))))
+pub same_place : (places : List ℕ) (place units : ℕ) (links : List Link) → IsTable places → place < 4096 → units ≡ get_or places place 0 → units ≡ 0 → links ≡ links_to places place → links ≡ links_to places (place + 1)
+same_place places place zero links table within is none so_far =
+    so_far ∙ sym (next places place zero table within is ∙ push-none 0 (take place places))
+same_place places place (suc n) links table within is none so_far = absurd (omega arith)
 
 pub no_place : (places : List ℕ) → links_to places 0 ≡ []
 no_place places = no_links 0

@@ -1,16 +1,16 @@
 -- Links kept in a table with a place for each pair of terminals. Only bodies use it.
-use Rattle.std.specs.Prelude.{ℕ, zero, suc, ◌≡◌, ◌≢◌, ◌+◌, ◌/◌, ◌%◌, ◌<◌, ◌≤◌, List, [], ◌∷◌, length}
-use Rattle.bt_frame.specs.declared.limits.TheConstants.{SUM_LAST}
+use Rattle.std.specs.Prelude.{ℕ, zero, suc, ◌≡◌, ◌≢◌, ◌+◌, ◌*◌, ◌/◌, ◌%◌, ◌<◌, ◌≤◌, List, [], ◌∷◌, length}
+use Rattle.bt_frame.specs.declared.limits.TheConstants.{MOST_TERMINALS, SUM_LAST}
 use Rattle.bt_frame.specs.declared.numbers.TermNo.{TermNo}
 use Rattle.bt_demand.specs.declared.demand.Link.{Link}
 
--- the terminal that sends on the link of a place: each has 64 places
+-- the terminal that sends on the link of a place: each has one for each that receives
 abbrev pub sender : ℕ → TermNo
-sender place = record { 0 = place / 64 }
+sender place = record { 0 = place / MOST_TERMINALS }
 
 -- the terminal that receives
 abbrev pub receiver : ℕ → TermNo
-receiver place = record { 0 = place % 64 }
+receiver place = record { 0 = place % MOST_TERMINALS }
 
 -- the link of a place
 abbrev pub link_at : ℕ → ℕ → Link
@@ -28,7 +28,7 @@ links_from place (units ∷ rest) = with_place place units (links_from (place + 
 
 -- what a place may ask for: nothing between a terminal and itself, and no more than a line may have
 pub record IsPlace (place units : ℕ) : Type 0 where
-  pub differ : 0 < units → place / 64 ≢ place % 64
+  pub differ : 0 < units → place / MOST_TERMINALS ≢ place % MOST_TERMINALS
   pub few : units ≤ SUM_LAST
 
 -- places that follow each other, the first of which is this one
@@ -36,7 +36,7 @@ unfoldable pub ArePlaces : ℕ → List ℕ → Type 0
 ArePlaces place [] = Unit {0}
 ArePlaces place (units ∷ rest) = IsPlace place units × ArePlaces (place + 1) rest
 
--- the table of all pairs of 64 terminals
+-- the table of all pairs of terminals
 pub record IsTable (places : List ℕ) : Type 0 where
-  pub size : length places ≡ 4096
+  pub size : length places ≡ MOST_TERMINALS * MOST_TERMINALS
   pub each : ArePlaces 0 places

@@ -1,6 +1,7 @@
 -- The text of a traffic matrix: its size in a line, then that many lines of that many entries.
 use Rattle.std.specs.Prelude.{ℕ, zero, suc, ◌+◌, ◌==◌, ◌&&◌, if◌then◌else◌, nat_le, length, List, [], ◌∷◌, Option, Some, None, Ok, Err}
 use Rattle.std.specs.List.{list_all}
+use Rattle.bt_frame.specs.declared.limits.TheConstants.{MOST_BEAMS}
 use Rattle.bt_text.specs.Text.{words, lines, numbers_of}
 use Rattle.bt_plan.specs.declared.text_fault.TextCode.TheVariants.{X1, X2}
 use Rattle.bt_text.specs.Reading.{◌>>=◌}
@@ -8,7 +9,7 @@ use Rattle.bt_plan.specs.Reading.{Reading}
 
 -- the size, 1 to 16, that the numbers of the first line say
 abbrev pub size_in : Option (List ℕ) → Reading ℕ
-size_in (Some (size ∷ [])) = if nat_le 1 size && nat_le size 16 then Ok size else Err (X2, 1)
+size_in (Some (size ∷ [])) = if nat_le 1 size && nat_le size MOST_BEAMS then Ok size else Err (X2, 1)
 size_in _ = Err (X1, 1)
 
 -- the row that the numbers of a line say: as many entries as the size, each at most 4096

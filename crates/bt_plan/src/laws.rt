@@ -1,5 +1,6 @@
 // What holds of texts whatever the program does.
 ghost use Rattle.std.specs.Prelude.{◌≡◌, ◌≤◌, ℕ, List, Ok};
+ghost use Rattle.bt_frame.specs.declared.limits.TheConstants.{MOST_BEAMS};
 ghost use Rattle.bt_frame.specs.declared.schedule.Schedule.{Schedule};
 ghost use Rattle.bt_net.specs.Network.{Net, IsSound};
 ghost use Rattle.bt_demand.specs.declared.plan.Plan.{Plan};
@@ -10,11 +11,11 @@ ghost use Rattle.bt_plan.specs.ScheduleText.{schedule_of};
 
 /// A schedule in range is read back from its text, and no other text is read as that schedule.
 pub fn schedules_have_one_spelling()
-    ensures read { (size : ℕ) (schedule : Schedule) → size ≤ 16 → IsInRange size schedule
+    ensures read { (size : ℕ) (schedule : Schedule) → size ≤ MOST_BEAMS → IsInRange size schedule
         → schedule_of size (schedule_spelling schedule) ≡ Ok schedule }
-    ensures spelled { (size : ℕ) (schedule : Schedule) (text : List ℕ) → size ≤ 16
+    ensures spelled { (size : ℕ) (schedule : Schedule) (text : List ℕ) → size ≤ MOST_BEAMS
         → schedule_of size text ≡ Ok schedule → text ≡ schedule_spelling schedule }
-    ensures in_range { (size : ℕ) (schedule : Schedule) (text : List ℕ) → size ≤ 16
+    ensures in_range { (size : ℕ) (schedule : Schedule) (text : List ℕ) → size ≤ MOST_BEAMS
         → schedule_of size text ≡ Ok schedule → IsInRange size schedule }
 {}
 

@@ -1,18 +1,16 @@
 // The links of a text as they are read: a place for each pair of terminals, since lines come in any order.
 ghost use Rattle.std.specs.Prelude.{◌≡◌, ◌≢◌, ◌+◌, ◌*◌, ◌<◌, ◌≤◌, [], IfOk, replicate};
+ghost use Rattle.bt_frame.specs.declared.limits.TheConstants.{MOST_TERMINALS, MOST_UNITS};
 ghost use Rattle.bt_demand.specs.Demand.{units_of, Gains, IsDemand};
-ghost use Rattle.bt_plan.specs.LinkTable.{sender, receiver};
+ghost use Rattle.bt_plan.specs.LinkTable.{link_at};
 
-use bt_demand::Demand;
-use bt_frame::{OutOfMemory, TermNo};
+use bt_demand::{Demand, Link};
+use bt_frame::{MOST_TERMINALS, OutOfMemory, TermNo};
 use std::alloc::Global;
 use std::marker::Model;
 
-/// The places of each terminal that sends: one for each that receives.
-const RECEIVERS: usize = 64;
-
-/// The places of the table.
-const PLACES: usize = 4096;
+/// The places of the table: one for each terminal that sends and each that receives.
+const PLACES: usize = MOST_TERMINALS * MOST_TERMINALS;
 
 /// Links kept by their ends. It is seen as the links in order.
 #[derive(Drop)]
@@ -43,8 +41,8 @@ impl LinkTable {
 
     /// The slots of a link, 0 where it is not in the table.
     pub(crate) fn units(&self, from: TermNo, to: TermNo) -> u32
-        requires sends { from.0 < 64 }
-        requires receives { to.0 < 64 }
+        requires sends { from.0 < MOST_TERMINALS }
+        requires receives { to.0 < MOST_TERMINALS }
         ensures { result ≡ units_of self.now from to }
     {
         self.places[place_of(from, to)]
@@ -52,10 +50,10 @@ impl LinkTable {
 
     /// Adds a link that asked for nothing so far.
     pub(crate) fn add(&mut self, from: TermNo, to: TermNo, units: u32)
-        requires sends { from.0 < 64 }
-        requires receives { to.0 < 64 }
+        requires sends { from.0 < MOST_TERMINALS }
+        requires receives { to.0 < MOST_TERMINALS }
         requires differ { from.0 ≢ to.0 }
-        requires few { units ≤ 4096 }
+        requires few { units ≤ MOST_UNITS }
         requires new { units_of self.old from to ≡ 0 }
         ensures gains { Gains self.old self.new from to units }
         ensures demand { IsDemand self.new }
@@ -67,14 +65,14 @@ impl LinkTable {
     pub(crate) fn demand(&self, alloc: Global) -> Result<Demand, OutOfMemory>
         ensures { IfOk result (λ demand. demand ≡ self.now) }
     {
-        let mut demand = Demand::empty(alloc);
+        let mut links = Vec::new(alloc);
         for place in 0..PLACES {
             let units = self.places[place];
             if units > 0 {
-                demand.add(alloc, sender(place), receiver(place), units)?;
+                links.push(link_at(place, units))?;
             }
         }
-        Ok(demand)
+        Ok(Demand::of(links))
     }
 }
 
@@ -87,26 +85,22 @@ fn nothing_asked(alloc: Global, places: usize) -> Result<Vec<u32>, OutOfMemory>
 
 // The place of a link.
 fn place_of(from: TermNo, to: TermNo) -> usize
-    requires sends { from.0 < 64 }
-    requires receives { to.0 < 64 }
-    ensures place { result ≡ from.0 * 64 + to.0 }
-    ensures in_range { result < 4096 }
+    requires sends { from.0 < MOST_TERMINALS }
+    requires receives { to.0 < MOST_TERMINALS }
+    ensures place { result ≡ from.0 * MOST_TERMINALS + to.0 }
+    ensures in_range { result < PLACES }
 {
-    from.0 as usize * RECEIVERS + to.0 as usize
+    from.0 as usize * MOST_TERMINALS + to.0 as usize
 }
 
-// The terminal that sends on the link of a place.
-fn sender(place: usize) -> TermNo
-    requires { place < 4096 }
-    ensures { result ≡ sender place }
+// The link of a place.
+fn link_at(place: usize, units: u32) -> Link
+    requires { place < PLACES }
+    ensures { result ≡ link_at place units }
 {
-    TermNo((place / RECEIVERS) as u8)
-}
-
-// The terminal that receives on it.
-fn receiver(place: usize) -> TermNo
-    requires { place < 4096 }
-    ensures { result ≡ receiver place }
-{
-    TermNo((place % RECEIVERS) as u8)
+    Link {
+        from: TermNo((place / MOST_TERMINALS) as u8),
+        to: TermNo((place % MOST_TERMINALS) as u8),
+        units,
+    }
 }

@@ -1,6 +1,7 @@
 // The text of a traffic matrix: its size in a line, then a line for each row.
 ghost use Rattle.std.specs.Prelude.{◌≡◌, ◌≤◌, ◌∷◌, [], map, IfOk};
 ghost use Rattle.std.specs.Option.{option_map};
+ghost use Rattle.bt_frame.specs.declared.limits.TheConstants.{MOST_BEAMS};
 ghost use Rattle.bt_text.specs.Text.{words, lines, number_of, numbers_of};
 ghost use Rattle.bt_text.specs.Reading.{or_fault, Gives};
 ghost use Rattle.bt_plan.specs.declared.text_fault.TextCode.TheVariants.{X2};
@@ -69,7 +70,7 @@ fn size_of_word(word: &[u8]) -> Result<u32, TextFault>
 
 // So many rows, a line for each from line 2 on, and nothing behind them.
 fn read_rows(alloc: Global, size: u32, text: &[u8]) -> Result<Vec<Vec<u32>>, TextFault>
-    requires { size ≤ 16 }
+    requires { size ≤ MOST_BEAMS }
     ensures { Gives (λ rows. map (λ row. row.items) rows.items) result
         (rows_in size size 2 (lines text.now)) }
 {
@@ -90,7 +91,7 @@ fn read_rows(alloc: Global, size: u32, text: &[u8]) -> Result<Vec<Vec<u32>>, Tex
 
 // The row in line `at`.
 fn read_row(alloc: Global, size: u32, at: u32, line: &[u8]) -> Result<Vec<u32>, TextFault>
-    requires { size ≤ 16 }
+    requires { size ≤ MOST_BEAMS }
     ensures { Gives (λ row. row.items) result (row_in size at (numbers_of (words line.now))) }
 {
     if !are_numbers(size, WordReader::of(line)) {
@@ -101,7 +102,7 @@ fn read_row(alloc: Global, size: u32, at: u32, line: &[u8]) -> Result<Vec<u32>, 
 
 // The row in line `at`, whose words are numbers.
 fn row_of_numbers(alloc: Global, size: u32, at: u32, line: &[u8]) -> Result<Vec<u32>, TextFault>
-    requires { size ≤ 16 }
+    requires { size ≤ MOST_BEAMS }
     ensures { Gives (λ row. row.items) result
         (or_fault (X2, at) (numbers_to 4096 size (words line.now))) }
 {
@@ -129,7 +130,7 @@ fn read_entries(
     size: u32,
     mut words: WordReader<'_>,
 ) -> Result<Option<Vec<u32>>, OutOfMemory>
-    requires { size ≤ 16 }
+    requires { size ≤ MOST_BEAMS }
     ensures { IfOk result (λ found. option_map (λ v. v.items) found ≡ numbers_to 4096 size words.entry) }
 {
     let mut entries = Vec::with_capacity(alloc, size as usize)?;

@@ -1,8 +1,8 @@
 // Terminals by their names.
-ghost use Rattle.std.specs.Prelude.{IfOk};
+ghost use Rattle.std.specs.Prelude.{IfOk, IsTrue};
 ghost use Rattle.bt_text.specs.Reading.{Gives};
 ghost use Rattle.bt_plan.specs.TerminalNames.{ends_in};
-ghost use Rattle.bt_net.specs.Terminals.{IsBetweenTerminals};
+ghost use Rattle.bt_net.specs.Terminals.{are_names, IsBetweenTerminals};
 
 use crate::{TextCode, TextFault};
 use bt_frame::TermNo;
@@ -17,13 +17,14 @@ pub(crate) fn ends_of(
     from: &[u8],
     to: &[u8],
 ) -> Result<(TermNo, TermNo), TextFault>
+    requires names { IsTrue (are_names from.now to.now) }
     ensures reading { Gives (λ ends. ends) result (ends_in net.now (code, at) from.now to.now) }
     ensures terminals { IfOk result (λ ends. IsBetweenTerminals net.now ends.0 ends.1) }
 {
-    let Some(from) = net.terminal_named(from) else {
+    let Some(from) = net.terminal_of(from) else {
         return Err(fault_at(code, at));
     };
-    let Some(to) = net.terminal_named(to) else {
+    let Some(to) = net.terminal_of(to) else {
         return Err(fault_at(code, at));
     };
     Ok((from, to))

@@ -1,6 +1,6 @@
 // The text of a burst time plan: its edition, its length, its critical line, its modes and its bursts in a line
 // each, and `end`.
-ghost use Rattle.std.specs.Prelude.{◌≡◌, ◌<◌, ◌≤◌, ◌+◌, ◌==◌, ◌^◌, ◌-◌, None, Some, Ok, Err, length, IfOk, AllPairs, if◌then◌else◌};
+ghost use Rattle.std.specs.Prelude.{◌≡◌, ◌<◌, ◌≤◌, ◌+◌, ◌==◌, ◌^◌, ◌-◌, None, Some, Ok, Err, length, IfOk, IsTrue, AllPairs, if◌then◌else◌};
 ghost use Rattle.bt_text.specs.Text.{words, lines};
 ghost use Rattle.bt_text.specs.declared.fault.LineFault.TheVariants.{At};
 ghost use Rattle.bt_text.specs.Reading.{or_fault, Gives};
@@ -272,6 +272,7 @@ fn burst_of(
     from: &[u8],
     to: &[u8],
 ) -> Result<Burst, TextFault>
+    requires names { IsTrue (are_names from.now to.now) }
     ensures { Gives (λ burst. burst) result (burst_with net.now at span from.now to.now) }
 {
     let (from, to) = ends_of(net, TextCode::P2, at, from, to)?;

@@ -1,5 +1,6 @@
 // The text of a switching schedule: its length, its critical line, its modes in a line each, and `end`.
 ghost use Rattle.std.specs.Prelude.{◌≡◌, ◌≤◌, ◌<◌, ◌-◌, ◌^◌, ◌==◌, length, Some, Ok, Err, IfOk, if◌then◌else◌};
+ghost use Rattle.bt_frame.specs.declared.limits.TheConstants.{MOST_BEAMS};
 ghost use Rattle.bt_text.specs.Text.{words, lines};
 ghost use Rattle.bt_plan.specs.declared.text_fault.TextCode.TheVariants.{M1};
 ghost use Rattle.bt_frame.specs.Critical.{IsOfBeams};
@@ -21,7 +22,7 @@ const BEAM_LAST: u32 = 15;
 
 /// The schedule for so many beams that a text spells, or the first line with a fault.
 pub fn read_schedule(alloc: Global, size: u32, bytes: &[u8]) -> Result<Schedule, TextFault>
-    requires few { size ≤ 16 }
+    requires few { size ≤ MOST_BEAMS }
     requires short { length bytes.now ≤ 67108864 }
     ensures reading { Gives (λ schedule. schedule) result (schedule_of size bytes.now) }
     ensures critical { IfOk result (λ schedule. IsOfBeams size schedule.critical) }
@@ -64,7 +65,7 @@ fn read_critical_and_modes(
     slots: u32,
     text: &[u8],
 ) -> Result<Schedule, TextFault>
-    requires few { size ≤ 16 }
+    requires few { size ≤ MOST_BEAMS }
     requires short { length text.now ≤ 67108864 }
     ensures { Gives (λ schedule. schedule) result (critical_and_modes size slots (lines text.now)) }
 {
@@ -87,7 +88,7 @@ pub(crate) fn read_critical(
     size: u32,
     line: &[u8],
 ) -> Result<Critical, TextFault>
-    requires { size ≤ 16 }
+    requires { size ≤ MOST_BEAMS }
     ensures { Gives (λ critical. critical) result
         (or_fault (code, at) (critical_in size (words line.now))) }
 {
@@ -95,7 +96,7 @@ pub(crate) fn read_critical(
 }
 
 fn critical_of_words(size: u32, mut words: WordReader<'_>) -> Option<Critical>
-    requires { size ≤ 16 }
+    requires { size ≤ MOST_BEAMS }
     ensures { result ≡ critical_in size words.entry }
 {
     if !words.next_is(b"critical") {
@@ -112,7 +113,7 @@ fn critical_of_words(size: u32, mut words: WordReader<'_>) -> Option<Critical>
 
 // The row or the column of that beam.
 fn matrix_line(size: u32, kind: &[u8], beam: u32) -> Option<Critical>
-    requires { size ≤ 16 }
+    requires { size ≤ MOST_BEAMS }
     ensures { result ≡ line_in size kind.now beam }
 {
     if beam >= size {
@@ -130,7 +131,7 @@ fn matrix_line(size: u32, kind: &[u8], beam: u32) -> Option<Critical>
 
 // The modes, the first of them in line 3, then `end` and nothing behind it.
 fn read_modes(alloc: Global, size: u32, text: &[u8]) -> Result<Modes, TextFault>
-    requires few { size ≤ 16 }
+    requires few { size ≤ MOST_BEAMS }
     requires short { length text.now ≤ 67108864 }
     ensures { Gives (λ modes. modes) result (modes_in size 3 (lines text.now)) }
 {
@@ -169,7 +170,7 @@ pub(crate) fn read_mode(
     at: u32,
     line: &[u8],
 ) -> Result<Mode, TextFault>
-    requires { size ≤ 16 }
+    requires { size ≤ MOST_BEAMS }
     ensures { Gives (λ mode. mode) result (or_fault (code, at) (mode_in size (words line.now))) }
 {
     mode_of_words(alloc, size, WordReader::of(line))?.ok_or(fault_at(code, at))
@@ -181,7 +182,7 @@ fn mode_of_words(
     size: u32,
     mut words: WordReader<'_>,
 ) -> Result<Option<Mode>, OutOfMemory>
-    requires { size ≤ 16 }
+    requires { size ≤ MOST_BEAMS }
     ensures { IfOk result (λ found. found ≡ mode_in size words.entry) }
 {
     if !words.next_is(b"mode") {
@@ -202,7 +203,7 @@ fn read_columns(
     size: u32,
     mut words: WordReader<'_>,
 ) -> Result<Option<Columns>, OutOfMemory>
-    requires { size ≤ 16 }
+    requires { size ≤ MOST_BEAMS }
     ensures { IfOk result (λ found. found ≡ numbers_to 255 size words.entry) }
 {
     let mut columns = Vec::with_capacity(alloc, size as usize)?;

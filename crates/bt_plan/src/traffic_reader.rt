@@ -1,10 +1,10 @@
 // The text of a demand: a line for each link, in any order.
-ghost use Rattle.std.specs.Prelude.{◌≡◌, ◌+◌, ◌<◌, ◌≤◌, ◌≢◌, length, IfOk, OnOk};
+ghost use Rattle.std.specs.Prelude.{◌≡◌, ◌+◌, ◌<◌, ◌≤◌, ◌≢◌, length, IfOk, IsTrue, OnOk};
 ghost use Rattle.bt_text.specs.Text.{words, lines};
 ghost use Rattle.bt_text.specs.Reading.{Gives};
 ghost use Rattle.bt_net.specs.Terminals.{are_names};
 ghost use Rattle.bt_demand.specs.Traffic.{matrix_of, AreOfNetwork, HasSumsTo};
-ghost use Rattle.bt_frame.specs.declared.limits.TheConstants.{MOST_TERMINALS};
+ghost use Rattle.bt_frame.specs.declared.limits.TheConstants.{MOST_TERMINALS, MOST_UNITS};
 ghost use Rattle.bt_plan.specs.TrafficText.{units_in, link_between, link_with, named_link, link_behind, link_in, links_with, line_with, demand_of, AreRead, IsSpelled};
 
 use crate::link_table::LinkTable;
@@ -151,6 +151,7 @@ fn named_link(
 
 // The link of two names and a number.
 fn link_of(net: &Network, at: u32, from: &[u8], to: &[u8], number: u64) -> Result<Link, TextFault>
+    requires names { IsTrue (are_names from.now to.now) }
     ensures reading { Gives (λ link. link) result (link_with net.now at from.now to.now number) }
     ensures link { IfOk result (IsSpelled net.now) }
 {
@@ -164,7 +165,7 @@ fn link_of(net: &Network, at: u32, from: &[u8], to: &[u8], number: u64) -> Resul
 fn units(at: u32, number: u64) -> Result<u32, TextFault>
     ensures reading { Gives (λ units. units) result (units_in at number) }
     ensures some { IfOk result (λ units. 0 < units) }
-    ensures few { IfOk result (λ units. units ≤ 4096) }
+    ensures few { IfOk result (λ units. units ≤ MOST_UNITS) }
 {
     if 1 <= number && number <= u64::from(MOST_UNITS) {
         Ok(number as u32)
