@@ -1,6 +1,7 @@
 -- How the slots of a connection are told apart by their numbers. The slots of a connection that modes give are
 -- numbered in ascending order, and so are the units of its links.
 use Rattle.std.specs.Prelude.{◌≡◌, ◌⊎◌, ℕ, ◌+◌, ◌*◌, ◌<◌, ◌≤◌, min, max, List, ◌++◌, length, take, sum_by, slice_index_or, All, AllPairs, Contains}
+use Rattle.bt_frame.specs.declared.limits.TheConstants.{MOST_BEAMS, MOST_SLOTS}
 use Rattle.bt_frame.specs.declared.numbers.TermNo.{TermNo}
 use Rattle.bt_frame.specs.declared.mode.Mode.{Mode}
 use Rattle.bt_matrix.specs.Good.{slots_of}
@@ -54,7 +55,7 @@ pub record IsReady (connection : Connection) : Type 0 where
   pub within : connection.next ≤ length connection.spans.items
   pub fits : (other : Span) → connection.next < length connection.spans.items → connection.used < (slice_index_or connection.spans.items connection.next other).length
   pub none : length connection.spans.items ≤ connection.next → connection.used ≡ 0
-  pub spans : All (λ span. (0 < span.length) × (span.start + span.length ≤ 4096)) connection.spans.items
+  pub spans : All (λ span. (0 < span.length) × (span.start + span.length ≤ MOST_SLOTS)) connection.spans.items
 
 -- the connection has given up so many more slots, and stays as it is
 pub record HasGiven (old new : Connection) (units : ℕ) : Type 0 where
@@ -83,7 +84,7 @@ pub record IsServedBy (spans : List Span) (from to : TermNo) (first units : ℕ)
 pub record IsGivenBy (modes : List Mode) (up down place : ℕ) (span : Span) : Type 0 where
   pub in_range : place < length modes
   pub some : 0 < span.length
-  pub small : span.start + span.length ≤ 4096
+  pub small : span.start + span.length ≤ MOST_SLOTS
   pub begins : span.start ≡ begin_of modes place
   pub behind : number_at modes up down (place + 1) ≡ number_at modes up down place + span.length
 
@@ -97,4 +98,4 @@ pub record HasSlots (modes : List Mode) (up down place taken : ℕ) (connection 
 -- The table has each connection between so many beams at its place, with the slots of the modes before a place.
 pub record IsTable (modes : List Mode) (beams place : ℕ) (taken : ℕ → ℕ → ℕ) (table : List Connection) : Type 0 where
   pub count : length table ≡ 256
-  pub each : (up down : ℕ) (other : Connection) → up < beams → down < beams → HasSlots modes up down place (taken up down) (slice_index_or table (up * 16 + down) other)
+  pub each : (up down : ℕ) (other : Connection) → up < beams → down < beams → HasSlots modes up down place (taken up down) (slice_index_or table (up * MOST_BEAMS + down) other)

@@ -1,5 +1,6 @@
 // The bursts of a demand, before they are put in order.
 ghost use Rattle.std.specs.Prelude.{◌≡◌, ℕ, ◌<◌, ◌≤◌, length, vec_len, All, IfOk};
+ghost use Rattle.bt_frame.specs.declared.limits.TheConstants.{MOST_SLOTS};
 ghost use Rattle.bt_matrix.specs.Good.{IsPermutation, slots_of, total_duration};
 ghost use Rattle.bt_net.specs.Network.{IsSound};
 ghost use Rattle.bt_demand.specs.Demand.{IsDemand};
@@ -22,7 +23,7 @@ pub(crate) fn bursts_of(
     requires terminals { AreOfNetwork net.now demand.now }
     requires permutations { All (λ mode. IsPermutation (length net.now.beams) mode.perm) modes.now }
     requires durations { All (λ mode. 0 < mode.duration) modes.now }
-    requires short { total_duration modes.now ≤ 4096 }
+    requires short { total_duration modes.now ≤ MOST_SLOTS }
     requires carried { (up down : ℕ) → up < length net.now.beams → down < length net.now.beams
         → units_between net.now demand.now up down ≤ slots_of modes.now up down }
     ensures network { IfOk result (λ _. IsSound net.now) }

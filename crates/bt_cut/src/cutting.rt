@@ -1,5 +1,6 @@
 // The cutting of a schedule's modes into the bursts of a demand.
 ghost use Rattle.std.specs.Prelude.{◌≡◌, IfOk};
+ghost use Rattle.bt_frame.specs.declared.limits.TheConstants.{MOST_SLOTS};
 ghost use Rattle.bt_matrix.specs.Good.{IsGood};
 ghost use Rattle.bt_demand.specs.Plan.{IsGoodPlan};
 ghost use Rattle.bt_demand.specs.Apart.{AreBetweenTerminals};
@@ -25,7 +26,7 @@ pub fn cut(
     schedule: Schedule,
 ) -> Result<Plan, OutOfMemory>
     requires terminals { AreOfNetwork net.now demand.now }
-    requires fits { HasSumsTo 4096 (matrix_of net.now demand.now) }
+    requires fits { HasSumsTo MOST_SLOTS (matrix_of net.now demand.now) }
     requires good { IsGood (matrix_of net.now demand.now) schedule }
     ensures edition { IfOk result (λ plan. plan.edition ≡ edition) }
     ensures schedule { IfOk result (λ plan. plan.schedule ≡ schedule) }

@@ -1,5 +1,6 @@
 // The plan of a demand.
 ghost use Rattle.std.specs.Prelude.{◌≡◌, IfOk};
+ghost use Rattle.bt_frame.specs.declared.limits.TheConstants.{MOST_SLOTS};
 ghost use Rattle.bt_matrix.specs.Traffic.{IsHeaviest};
 ghost use Rattle.bt_demand.specs.Plan.{IsGoodPlan};
 ghost use Rattle.bt_demand.specs.Apart.{AreBetweenTerminals};
@@ -21,7 +22,7 @@ pub fn make_plan(
     edition: EditionNo,
 ) -> Result<Plan, OutOfMemory>
     requires terminals { AreOfNetwork net.now demand.now }
-    requires fits { HasSumsTo 4096 (matrix_of net.now demand.now) }
+    requires fits { HasSumsTo MOST_SLOTS (matrix_of net.now demand.now) }
     ensures edition { IfOk result (λ plan. plan.edition ≡ edition) }
     ensures terminals { IfOk result (λ plan. AreBetweenTerminals net.now plan.bursts) }
     ensures good { IfOk result (λ plan. IsGoodPlan net.now demand.now plan) }
@@ -40,7 +41,7 @@ pub fn make_plan_for(
     edition: EditionNo,
 ) -> Result<Plan, OutOfMemory>
     requires terminals { AreOfNetwork net.now demand.now }
-    requires fits { HasSumsTo 4096 (matrix_of net.now demand.now) }
+    requires fits { HasSumsTo MOST_SLOTS (matrix_of net.now demand.now) }
     requires matrix { matrix.now ≡ matrix_of net.now demand.now }
     ensures edition { IfOk result (λ plan. plan.edition ≡ edition) }
     ensures terminals { IfOk result (λ plan. AreBetweenTerminals net.now plan.bursts) }

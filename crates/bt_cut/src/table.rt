@@ -1,13 +1,14 @@
 // The table of connections, with the slots that the modes give to each.
 ghost use Rattle.std.specs.Prelude.{◌≡◌, ℕ, ◌+◌, ◌*◌, ◌<◌, ◌≤◌, List, length, vec_len, All, IfOk, OnOk};
 ghost use Rattle.std.specs.List.{HoldsAt};
+ghost use Rattle.bt_frame.specs.declared.limits.TheConstants.{MOST_BEAMS, MOST_SLOTS};
 ghost use Rattle.bt_frame.specs.declared.mode.Mode.{Mode};
 ghost use Rattle.bt_matrix.specs.Good.{IsPermutation, total_duration};
 ghost use Rattle.bt_demand.specs.Plan.{begin_of};
 ghost use Rattle.bt_cut.specs.Serving.{IsTable};
 
 use crate::connection::{Connection, Span};
-use bt_frame::{BeamNo, Mode, OutOfMemory};
+use bt_frame::{BeamNo, MOST_BEAMS, Mode, OutOfMemory};
 use std::alloc::Global;
 
 /// Places of a table: 16 uplink beams by 16 downlink beams.
@@ -15,11 +16,11 @@ const CONNECTIONS: u32 = 256;
 
 /// The place of a connection in the table: the row of the uplink beam, the column of the downlink beam.
 pub(crate) fn place_of(up: BeamNo, down: BeamNo) -> usize
-    requires up { up.0 < 16 }
-    requires down { down.0 < 16 }
-    ensures { result ≡ up.0 * 16 + down.0 }
+    requires up { up.0 < MOST_BEAMS }
+    requires down { down.0 < MOST_BEAMS }
+    ensures { result ≡ up.0 * MOST_BEAMS + down.0 }
 {
-    up.0 as usize * 16 + down.0 as usize
+    up.0 as usize * MOST_BEAMS + down.0 as usize
 }
 
 /// The connections between so many beams, with the slots that the modes give to each.
@@ -28,10 +29,10 @@ pub(crate) fn connections_of(
     beams: u32,
     modes: &[Mode],
 ) -> Result<Vec<Connection>, OutOfMemory>
-    requires few { beams ≤ 16 }
+    requires few { beams ≤ MOST_BEAMS }
     requires permutations { All (λ mode. IsPermutation beams mode.perm) modes.now }
     requires durations { All (λ mode. 0 < mode.duration) modes.now }
-    requires short { total_duration modes.now ≤ 4096 }
+    requires short { total_duration modes.now ≤ MOST_SLOTS }
     ensures { IfOk result (λ table. IsTable modes.now beams (length modes.now) (λ _ _. 0) table.items) }
 {
     let mut table = empty_table(alloc)?;
@@ -50,10 +51,10 @@ fn add_mode(
     mode: &Mode,
     start: u32,
 ) -> Result<(), OutOfMemory>
-    requires few { beams ≤ 16 }
+    requires few { beams ≤ MOST_BEAMS }
     requires permutation { IsPermutation beams mode.now.perm }
     requires lasts { 0 < mode.now.duration }
-    requires short { start + mode.now.duration ≤ 4096 }
+    requires short { start + mode.now.duration ≤ MOST_SLOTS }
     requires count { vec_len table.old ≡ CONNECTIONS }
     ensures count { vec_len table.new ≡ CONNECTIONS }
     ensures added { OnOk result ((modes : List Mode) (place : ℕ) → place < length modes → HoldsAt (λ m. m ≡ mode.now) modes place
@@ -73,7 +74,7 @@ fn add_mode(
 
 /// A table in which no connection has slots.
 fn empty_table(alloc: Global) -> Result<Vec<Connection>, OutOfMemory>
-    ensures { IfOk result (λ table. (modes : List Mode) (beams : ℕ) → beams ≤ 16 → IsTable modes beams 0 (λ _ _. 0) table.items) }
+    ensures { IfOk result (λ table. (modes : List Mode) (beams : ℕ) → beams ≤ MOST_BEAMS → IsTable modes beams 0 (λ _ _. 0) table.items) }
 {
     let mut table = Vec::new(alloc);
     for _ in 0..CONNECTIONS {
