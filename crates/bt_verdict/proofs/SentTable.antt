@@ -1,5 +1,5 @@
 -- Tables of what items amount to at each two numbers, and the first link in which two of them differ.
-use Rattle.std.proofs.Common.{◌≡◌, ◌≢◌, ℕ, ◌+◌, ◌<◌, ◌≤◌, ◌==◌, ◌&&◌, if◌then◌else◌, List, [], length, replicate, take, get_or, slice_index, slice_set, refl, inl, inr, sym, ap, ◌∙◌, subst, arith}
+use Rattle.std.proofs.Common.{◌≡◌, ◌≢◌, ℕ, ◌+◌, ◌*◌, ◌<◌, ◌≤◌, ◌==◌, ◌&&◌, if◌then◌else◌, List, [], length, replicate, take, get_or, slice_index, slice_set, refl, inl, inr, sym, ap, ◌∙◌, subst, arith}
 use Rattle.std.proofs.lemmas.Bool.{cases_eq, cases_lt}
 use Rattle.std.proofs.lemmas.Bool.Decides.{nat_tests}
 use Rattle.std.proofs.lemmas.List.{length-set, get_or-set_same, get_or-set_other, length-replicate, get_or-replicate}
@@ -57,7 +57,7 @@ abbrev pub no_link : Link
 no_link = record { from = record { 0 = 0 }; to = record { 0 = 0 }; units = 0 }
 
 -- one more item
-pub one_more : {X : Type 0} (from to amount : X → ℕ) (xs : List X) (k : ℕ) (d : X) (table : List (List ℕ)) (n : ℕ) → k < length xs
+one_more : {X : Type 0} (from to amount : X → ℕ) (xs : List X) (k : ℕ) (d : X) (table : List (List ℕ)) (n : ℕ) → k < length xs
     → AreSumsAt from to amount (take k xs) table → from (get_or xs k d) < 64 → to (get_or xs k d) < 64
     → n ≡ entry table (from (get_or xs k d)) (to (get_or xs k d)) + amount (get_or xs k d)
     → AreSumsAt from to amount (take (k + 1) xs) (with_entry table (from (get_or xs k d)) (to (get_or xs k d)) n)
@@ -86,7 +86,7 @@ one_more from to amount xs k d table n within so_far from_small to_small is =
     }
 
 -- the entries stay small
-pub one_more_small : (table : List (List ℕ)) (from to n most more : ℕ) → IsForTerminals table → from < 64 → to < 64
+one_more_small : (table : List (List ℕ)) (from to n most more : ℕ) → IsForTerminals table → from < 64 → to < 64
     → ((i j : ℕ) → i < 64 → j < 64 → entry table i j ≤ most) → n ≡ entry table from to + more
     → (i j : ℕ) → i < 64 → j < 64 → entry (with_entry table from to n) i j ≤ most + more
 one_more_small table from to n most more shape from_small to_small small is i j i_small j_small =
@@ -104,11 +104,11 @@ one_more_small table from to n most more shape from_small to_small small is i j 
     ]
 
 -- a table of zeros, for no burst
-pub no_entry : (i j : ℕ) → i < 64 → j < 64 → entry (replicate 64 (replicate 64 0)) i j ≡ 0
+no_entry : (i j : ℕ) → i < 64 → j < 64 → entry (replicate 64 (replicate 64 0)) i j ≡ 0
 no_entry i j i_small j_small =
     ap (λ (row : List ℕ). slice_index row j) (get_or-replicate {A = List ℕ} 64 i (replicate 64 0) [] i_small) ∙ get_or-replicate {A = ℕ} 64 j 0 0 j_small
 
-pub no_items : {X : Type 0} (from to amount : X → ℕ) → AreSumsAt from to amount [] (replicate 64 (replicate 64 0))
+no_items : {X : Type 0} (from to amount : X → ℕ) → AreSumsAt from to amount [] (replicate 64 (replicate 64 0))
 no_items from to amount = record {
   shape = record {
     rows = length-replicate {A = List ℕ} 64 (replicate 64 0);
@@ -116,6 +116,32 @@ no_items from to amount = record {
   };
   each = λ i j i_small j_small. no_entry i j i_small j_small;
 }
+
+-- the table of so many of the items, each of which amounts to less than 2 ^ 32
+pub record AreAdded {X : Type 0} (from to amount : X → ℕ) (items : List X) (k : ℕ) (table : List (List ℕ)) : Type 0 where
+  pub so_far : AreSumsAt from to amount (take k items) table
+  pub small : (i j : ℕ) → i < 64 → j < 64 → entry table i j ≤ 4294967295 * k
+
+-- no item was looked at yet
+pub none_added : {X : Type 0} (from to amount : X → ℕ) (items : List X) → AreAdded from to amount items 0 (replicate 64 (replicate 64 0))
+none_added from to amount items = record {
+  so_far = no_items from to amount;
+  small = λ i j i_small j_small. omega (arith, no_entry i j i_small j_small);
+}
+
+-- one more item was added
+pub one_added : {X : Type 0} (from to amount : X → ℕ) (items : List X) (k : ℕ) (d : X) (table : List (List ℕ)) (units : ℕ) → k < length items
+    → AreAdded from to amount items k table → from (get_or items k d) < 64 → to (get_or items k d) < 64 → units ≡ amount (get_or items k d) → units ≤ 4294967295
+    → AreAdded from to amount items (k + 1) (with_entry table (from (get_or items k d)) (to (get_or items k d)) (entry table (from (get_or items k d)) (to (get_or items k d)) + units))
+one_added from to amount items k d table units within before from_small to_small is few =
+    let a = from (get_or items k d) in
+    let b = to (get_or items k d) in
+    record {
+      so_far = one_more from to amount items k d table (entry table a b + units) within before.so_far from_small to_small (ap (λ (n : ℕ). entry table a b + n) is);
+      small = λ i j i_small j_small.
+          let one = one_more_small table a b (entry table a b + units) (4294967295 * k) units before.so_far.shape from_small to_small before.small refl i j i_small j_small in
+          omega (arith, one, few);
+    }
 
 -- a link that asks for what its bursts have is served
 pub served : (links : List Link) (bursts : List Burst) (asked sent : List (List ℕ)) (from to : TermNo) → AreUnitsAsked links asked → AreSlotsSent bursts sent

@@ -1,11 +1,7 @@
-use Rattle.std.proofs.Common.{ℕ, ◌*◌, ◌<◌, ◌≤◌, take}
-use Rattle.bt_matrix.specs.Traffic.{entry}
-use Rattle.bt_verdict.specs.Unserved.{AreUnitsAsked}
+use Rattle.bt_demand.specs.declared.demand.Link.{Link}
+use Rattle.bt_verdict.proofs.SentTable.{AreAdded}
 use Rattle.bt_verdict.proofs.serving.units_by_link.Given as goal
 
--- the slots that the links so far ask for, each of fewer than 2 ^ 32
+-- the slots that the links so far ask for
 abbrev pub invariant-loop-link : goal.invariant-loop-link
-invariant-loop-link l = record {
-  so_far : AreUnitsAsked (take l.link-index l.links) l.units;
-  small : (from to : ℕ) → from < 64 → to < 64 → entry l.units from to ≤ 4294967295 * l.link-index;
-}
+invariant-loop-link l = AreAdded (λ (l : Link). l.from.0) (λ (l : Link). l.to.0) (λ (l : Link). l.units) l.links l.link-index l.units
