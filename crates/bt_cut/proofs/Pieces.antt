@@ -62,11 +62,11 @@ none_later : (modes : List Mode) (up down : ℕ) (from to : TermNo) (first done 
 none_later modes up down from to first done extra place later burst old goes less few piece =
     omega (arith, goes.within, piece.ends, piece.some, numbers_grow modes up down (place + 1) later (omega arith))
 
--- the piece of an earlier mode is the same before and after
-piece_kept : (modes : List Mode) (up down : ℕ) (from to : TermNo) (first done place earlier : ℕ) (burst old : Burst)
-    → GoesOn modes up down from to first done place burst → earlier < place → IsPiece modes up down from to first done earlier old
-    → IsPiece modes up down from to first (done + burst.length) earlier old
-piece_kept modes up down from to first done place earlier burst old goes less piece = record {
+-- the piece of an earlier mode is the same, however many units there are from those done on
+same_piece : (modes : List Mode) (up down : ℕ) (from to : TermNo) (first done before after place earlier : ℕ) (burst old : Burst)
+    → GoesOn modes up down from to first done place burst → earlier < place → done ≤ before → done ≤ after
+    → IsPiece modes up down from to first before earlier old → IsPiece modes up down from to first after earlier old
+same_piece modes up down from to first done before after place earlier burst old goes less lower upper piece = record {
   in_range = piece.in_range;
   sends = piece.sends;
   receives = piece.receives;
@@ -75,17 +75,18 @@ piece_kept modes up down from to first done place earlier burst old goes less pi
   ends = omega (arith, piece.ends, goes.starts, numbers_grow modes up down (earlier + 1) place (omega arith));
 }
 
+-- so it is the same before and after
+piece_kept : (modes : List Mode) (up down : ℕ) (from to : TermNo) (first done place earlier : ℕ) (burst old : Burst)
+    → GoesOn modes up down from to first done place burst → earlier < place → IsPiece modes up down from to first done earlier old
+    → IsPiece modes up down from to first (done + burst.length) earlier old
+piece_kept modes up down from to first done place earlier burst old goes less =
+    same_piece modes up down from to first done done (done + burst.length) place earlier burst old goes less (omega arith) (omega arith)
+
 piece_was : (modes : List Mode) (up down : ℕ) (from to : TermNo) (first done place earlier : ℕ) (burst old : Burst)
     → GoesOn modes up down from to first done place burst → earlier < place → IsPiece modes up down from to first (done + burst.length) earlier old
     → IsPiece modes up down from to first done earlier old
-piece_was modes up down from to first done place earlier burst old goes less piece = record {
-  in_range = piece.in_range;
-  sends = piece.sends;
-  receives = piece.receives;
-  some = piece.some;
-  begins = piece.begins;
-  ends = omega (arith, piece.ends, goes.starts, numbers_grow modes up down (earlier + 1) place (omega arith));
-}
+piece_was modes up down from to first done place earlier burst old goes less =
+    same_piece modes up down from to first done (done + burst.length) done place earlier burst old goes less (omega arith) (omega arith)
 
 -- a piece of the units before is in an earlier mode
 piece_before : (modes : List Mode) (up down : ℕ) (from to : TermNo) (first done place at : ℕ) (burst old : Burst)
