@@ -1,5 +1,10 @@
 // What is asked of the book of changes.
-use bt_frame::{TermNo, Units};
+ghost use Rattle.std.specs.Prelude.{◌≡◌, IfOk};
+
+use bt_air::Order;
+use bt_demand::Plan;
+use bt_frame::{EditionNo, OutOfMemory, TermNo, Units};
+use std::alloc::Global;
 
 /// An edit of the demand, in units of slots per frame.
 #[derive(Clone, Copy, Debug, PartialEq, Eq)]
@@ -27,15 +32,42 @@ pub enum Edit {
 }
 
 /// A call on the book of changes.
-#[derive(Debug, PartialEq, Eq, Drop)]
+#[derive(Debug, Drop)]
 pub enum Call {
     /// Edit the demand.
     Edit(Edit),
+    /// Tell the demand as it is.
+    Snapshot,
+    /// Install a plan, for an edition that has none yet and that is newer than those that have one.
+    Install(Plan),
+    /// Lend the newest plan, where its edition is greater than this one.
+    Newest { after: EditionNo },
+    /// Place an order to the satellite, before any message carries it.
+    Place(Order),
+}
+
+impl Call {
+    /// An equal call.
+    pub fn copy(&self, alloc: Global) -> Result<Call, OutOfMemory>
+        ensures { IfOk result (λ copy. copy ≡ self.now) }
+    {
+        match self {
+            Call::Edit(edit) => Ok(Call::Edit(*edit)),
+            Call::Snapshot => Ok(Call::Snapshot),
+            Call::Install(plan) => Ok(Call::Install(plan.copy(alloc)?)),
+            Call::Newest { after } => Ok(Call::Newest { after: *after }),
+            Call::Place(order) => Ok(Call::Place(*order)),
+        }
+    }
 }
 
 /// A change that the book has made.
-#[derive(Debug, PartialEq, Eq, Drop)]
+#[derive(Debug, Drop)]
 pub enum Change {
     /// The demand was edited.
     Edit(Edit),
+    /// A plan was installed.
+    Install(Plan),
+    /// An order was placed.
+    Order(Order),
 }

@@ -5,7 +5,7 @@ use crate::{Call, Reply};
 use std::marker::Model;
 
 /// One call on the book: who called, what was asked, and what was answered.
-#[derive(Debug, PartialEq, Eq, Drop)]
+#[derive(Debug, Drop)]
 pub struct Entry {
     /// The number of the caller.
     pub caller: u32,

@@ -1,8 +1,8 @@
 //! What desks ask of the book of changes, what it answers, and the entries of its history.
 //!
-//! It stands on `bt_frame` alone. `specs/Journal.antt` has the words for calls, replies and histories; all of it is
-//! promise, and nothing there is for bodies alone. Installs, orders and snapshots join the enums as variants, and the
-//! lists there as rows.
+//! It stands on the network's terminals, on demands and plans, on the orders of the air and on verdicts.
+//! `specs/Journal.antt` has the words for calls, replies and histories; all of it is promise, and nothing there is for
+//! bodies alone.
 #![tactic(auto)]
 
 mod call;

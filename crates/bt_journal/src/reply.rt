@@ -1,29 +1,84 @@
 // What the book of changes answers.
 ghost use Rattle.std.specs.Prelude.{◌≡◌, IfOk};
 
-use bt_frame::{BeamNo, EditionNo, OutOfMemory};
+use bt_demand::{Demand, Plan};
+use bt_frame::{BeamNo, Command, EditionNo, OutOfMemory};
+use bt_verdict::Verdict;
 use std::alloc::Global;
 
-/// The answer to a call. A refusal leaves the demand and its edition as they were.
-#[derive(Debug, PartialEq, Eq, Drop)]
+/// The answer to a call. A refusal leaves the demand, the plans and the orders as they were.
+#[derive(Debug, Drop)]
 pub enum Reply {
     /// The edit was made and makes this edition; the heaviest line has so many slots then.
-    Done { edition: EditionNo, length: u32 },
+    Done {
+        edition: EditionNo,
+        length: u32,
+    },
     /// Both ends of a link are one terminal.
     SameTerminal,
     /// The first link holds fewer units than the edit takes from it.
-    NotThere { held: u32 },
+    NotThere {
+        held: u32,
+    },
     /// After the edit that row would have so many slots, more than the frame.
-    RowFull { beam: BeamNo, sum: u32 },
+    RowFull {
+        beam: BeamNo,
+        sum: u32,
+    },
     /// After the edit that column would have so many slots, more than the frame.
-    ColumnFull { beam: BeamNo, sum: u32 },
+    ColumnFull {
+        beam: BeamNo,
+        sum: u32,
+    },
     /// The book has made as many changes as it can: so many.
-    BookFull { length: u32 },
+    BookFull {
+        length: u32,
+    },
+    /// The plan's edition is not greater than that of the newest plan, which is this.
+    NotNewer {
+        newest: EditionNo,
+    },
+    /// The plan's edition is greater than the last edition of the demand, which is this.
+    NoSuchEdition {
+        last: EditionNo,
+    },
+    /// The plan is not good for the demand of its edition, and this is wrong with it first.
+    NotGood {
+        verdict: Verdict,
+    },
+    /// The order's command is not the one after the last, which is this; 0 where there is none.
+    OutOfTurn {
+        last: Command,
+    },
+    /// No plan of the order's edition is installed; the newest is of this edition.
+    NotInstalled {
+        newest: EditionNo,
+    },
+    /// The last edition, the edition of the newest plan, and the demand.
+    Demand {
+        edition: EditionNo,
+        newest: EditionNo,
+        demand: Demand,
+    },
+    /// The plan was installed, and is the newest from then on.
+    Installed {
+        edition: EditionNo,
+    },
+    /// The newest plan, where it is newer than the caller's.
+    Newest {
+        newer: Option<Plan>,
+    },
+    /// The order was placed.
+    Placed,
+    /// The change was not kept: the store failed. The book is stopped.
+    StoreFault,
+    /// The store failed at an earlier change, and no change is made after that.
+    Stopped,
 }
 
 impl Reply {
     /// An equal reply.
-    pub fn copy(&self, _: Global) -> Result<Reply, OutOfMemory>
+    pub fn copy(&self, alloc: Global) -> Result<Reply, OutOfMemory>
         ensures { IfOk result (λ copy. copy ≡ self.now) }
     {
         match *self {
@@ -33,6 +88,37 @@ impl Reply {
             Reply::RowFull { beam, sum } => Ok(Reply::RowFull { beam, sum }),
             Reply::ColumnFull { beam, sum } => Ok(Reply::ColumnFull { beam, sum }),
             Reply::BookFull { length } => Ok(Reply::BookFull { length }),
+            Reply::NotNewer { newest } => Ok(Reply::NotNewer { newest }),
+            Reply::NoSuchEdition { last } => Ok(Reply::NoSuchEdition { last }),
+            Reply::NotGood { verdict } => Ok(Reply::NotGood { verdict }),
+            Reply::OutOfTurn { last } => Ok(Reply::OutOfTurn { last }),
+            Reply::NotInstalled { newest } => Ok(Reply::NotInstalled { newest }),
+            Reply::Demand {
+                edition,
+                newest,
+                ref demand,
+            } => Ok(Reply::Demand {
+                edition,
+                newest,
+                demand: demand.copy(alloc)?,
+            }),
+            Reply::Installed { edition } => Ok(Reply::Installed { edition }),
+            Reply::Newest { ref newer } => Ok(Reply::Newest {
+                newer: copy_of(alloc, newer)?,
+            }),
+            Reply::Placed => Ok(Reply::Placed),
+            Reply::StoreFault => Ok(Reply::StoreFault),
+            Reply::Stopped => Ok(Reply::Stopped),
         }
+    }
+}
+
+/// The same plan, or none where there is none.
+fn copy_of(alloc: Global, plan: &Option<Plan>) -> Result<Option<Plan>, OutOfMemory>
+    ensures { IfOk result (λ copy. copy ≡ plan.now) }
+{
+    match plan {
+        Some(plan) => Ok(Some(plan.copy(alloc)?)),
+        None => Ok(None),
     }
 }

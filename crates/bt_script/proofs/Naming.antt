@@ -1,5 +1,5 @@
 -- What a text spells names terminals of the network alone.
-use Rattle.std.proofs.Common.{◌≡◌, ℕ, zero, suc, ◌+◌, Bool, true, false, cond, ◌||◌, List, [], ◌∷◌, ◌++◌, length, All, Option, Some, None, Ok, Err, refl, position, option_map, option_and_then, arith}
+use Rattle.std.proofs.Common.{◌≡◌, ℕ, zero, suc, ◌+◌, Bool, true, false, cond, ◌||◌, List, [], ◌∷◌, ◌++◌, All, Option, Some, None, Ok, Err, refl, position, option_map, option_and_then, arith}
 use Rattle.std.specs.Str.{bytes_eq}
 use Rattle.std.proofs.lemmas.List.{length-map}
 use Rattle.std.proofs.lemmas.List.Elements.{All-append, All-nil, All-cons, All-tail}
@@ -104,9 +104,9 @@ with_terminals-Finds net (shape.Move desk from to new_from new_to units) =
 abbrev pub IsSaid : Net → ScriptLine → Type 0
 IsSaid net line.Remark = Unit {0}
 IsSaid net line.Round = Unit {0}
-IsSaid net (line.Edit desk edit) = NamesTerminals (length net.terminals) edit
+IsSaid net (line.Edit desk edit) = NamesTerminals net edit
 
-desk_edit-Finds : (net : Net) (desk units : ℕ) (asked : ℕ → Edit) → ((u : ℕ) → NamesTerminals (length net.terminals) (asked u)) → Finds (IsSaid net) (desk_edit desk units asked)
+desk_edit-Finds : (net : Net) (desk units : ℕ) (asked : ℕ → Edit) → ((u : ℕ) → NamesTerminals net (asked u)) → Finds (IsSaid net) (desk_edit desk units asked)
 desk_edit-Finds net desk units asked names =
     option_and_then-Finds (λ _. Unit {0}) (IsSaid net) (λ d. option_map (λ u. line.Edit d (asked u)) (within 4096 units)) (within 16 desk) (all-Finds (within 16 desk))
     (λ d h. option_map-Finds (λ _. Unit {0}) (IsSaid net) (λ u. line.Edit d (asked u)) (within 4096 units) (all-Finds (within 4096 units)) (λ u k. names u))
@@ -116,7 +116,7 @@ in_range-Finds net shape.Remark h = tt
 in_range-Finds net shape.Round h = tt
 in_range-Finds net (shape.Add desk from to units) h = desk_edit-Finds net desk units (edit.Add from to) (λ u. h)
 in_range-Finds net (shape.Drop desk from to units) h = desk_edit-Finds net desk units (edit.Drop from to) (λ u. h)
-in_range-Finds net (shape.Move desk from to new_from new_to units) h = desk_edit-Finds net desk units (edit.Move from to new_from new_to) (λ u. (h.0.0, h.0.1, h.1.0, h.1.1))
+in_range-Finds net (shape.Move desk from to new_from new_to units) h = desk_edit-Finds net desk units (edit.Move from to new_from new_to) (λ u. h)
 
 line_in-Reads : (net : Net) (at : ℕ) (is_open : Bool) (text : List ℕ) → Reads (IsSaid net) (line_in net at is_open text)
 line_in-Reads net at is_open text =

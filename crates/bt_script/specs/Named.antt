@@ -1,6 +1,6 @@
 -- What holds of every script for a network: it names terminals of the network alone, and the desks of a round
 -- ascend.
-use Rattle.std.specs.Prelude.{ℕ, ◌<◌, length, List, All, AllPairs}
+use Rattle.std.specs.Prelude.{ℕ, ◌<◌, List, All, AllPairs}
 use Rattle.bt_net.specs.Network.{Net}
 use Rattle.bt_journal.specs.Journal.{NamesTerminals}
 use Rattle.bt_script.specs.declared.script.DeskLine.{DeskLine}
@@ -10,7 +10,7 @@ use Rattle.bt_script.specs.declared.script.Item.TheVariants as item
 
 -- the line of a desk names terminals of the network alone
 abbrev pub IsLineFor : Net → DeskLine → Type 0
-IsLineFor net (desk_line.Edit edit) = NamesTerminals (length net.terminals) edit
+IsLineFor net (desk_line.Edit edit) = NamesTerminals net edit
 
 -- so do the desks of a round
 abbrev pub IsItemFor : Net → Item → Type 0
