@@ -1,5 +1,5 @@
 -- The traffic matrix after one more edit, by the demand before it.
-use Rattle.std.proofs.Common.{◌≡◌, ◌≢◌, ℕ, ◌+◌, ◌-◌, ◌<◌, ◌≤◌, ◌==◌, ◌&&◌, if◌then◌else◌, Bool, true, false, List, [], ◌∷◌, length, sum_by, refl, sym, ap, ◌∙◌, subst, arith, ⊎_elim}
+use Rattle.std.proofs.Common.{◌≡◌, ◌≢◌, ℕ, ◌+◌, ◌-◌, ◌<◌, ◌≤◌, ◌==◌, ◌&&◌, if◌then◌else◌, Bool, true, false, List, [], ◌∷◌, ◌++◌, length, sum_by, refl, sym, ap, ◌∙◌, subst, arith, ⊎_elim}
 use Rattle.std.proofs.lemmas.Bool.{cases_eq}
 use Rattle.std.proofs.lemmas.Bool.Decides.{nat_tests}
 use Rattle.std.proofs.lemmas.List.Sums.{sum_by-append, sum_by-cons, sum_by-le-sum_by}
@@ -15,7 +15,8 @@ use Rattle.bt_journal.specs.declared.call.Edit.{Edit}
 use Rattle.bt_journal.specs.declared.call.Edit.TheVariants.{Add, Drop, Move}
 use Rattle.bt_journal.specs.declared.call.Change.{Change}
 use Rattle.bt_journal.specs.declared.call.Change.TheVariants as change
-use Rattle.bt_book.specs.Machine.{given, taken_from, slots_after, slots_between, matrix_after, with_edit}
+use Rattle.bt_book.specs.Changes.{edits_in, given, taken_from, slots_after, slots_between, matrix_after}
+use Rattle.bt_book.specs.EditCauses.{with_edit}
 use Rattle.bt_book.specs.Records.{AddsUp}
 use Rattle.bt_demand.proofs.Tables.{same_tables, LinesExceed, table-LinesExceed}
 
@@ -50,6 +51,30 @@ pub slots_after-more : (changes : List Change) (links : List Link) (edit : Edit)
     → slots_after test (with_edit changes edit) ≡ units_where test links + given test (change.Edit edit) - taken_from test (change.Edit edit)
 slots_after-more changes links edit adds test =
     omega (arith, adds test, given-more test changes edit, taken-more test changes edit)
+
+given-other : (test : TermNo → TermNo → Bool) (one : Change) → edits_in one ≡ 0 → given test one ≡ 0
+given-other test (change.Edit _) none = absurd (omega (arith, none))
+given-other test (change.Install _) none = refl
+given-other test (change.Order _) none = refl
+
+taken-other : (test : TermNo → TermNo → Bool) (one : Change) → edits_in one ≡ 0 → taken_from test one ≡ 0
+taken-other test (change.Edit _) none = absurd (omega (arith, none))
+taken-other test (change.Install _) none = refl
+taken-other test (change.Order _) none = refl
+
+-- a plan or an order changes no link
+pub AddsUp-other : (changes : List Change) (links : List Link) (one : Change) → edits_in one ≡ 0 → AddsUp changes links → AddsUp (changes ++ one ∷ []) links
+AddsUp-other changes links one none adds test =
+    omega (
+      arith,
+      adds test,
+      given-other test one none,
+      taken-other test one none,
+      sum_by-append (given test) changes (one ∷ []),
+      sum_by-cons (given test) one [],
+      sum_by-append (taken_from test) changes (one ∷ []),
+      sum_by-cons (taken_from test) one [],
+    )
 
 -- a link that gained, lost or moved adds up with the edit
 pub AddsUp-Add : (changes : List Change) (old new : List Link) (from to : TermNo) (units : ℕ) → AddsUp changes old → Gains old new from to units

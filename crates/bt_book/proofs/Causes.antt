@@ -1,5 +1,5 @@
 -- The first cause of a refusal, by the lines of the link that gains.
-use Rattle.std.proofs.Common.{◌≡◌, ℕ, ◌+◌, ◌-◌, ◌<◌, ◌≤◌, ◌==◌, ◌&&◌, if◌then◌else◌, false, List, length, Option, Some, None, sym, ap, ◌∙◌, subst, arith, refl}
+use Rattle.std.proofs.Common.{◌≡◌, ℕ, ◌+◌, ◌-◌, ◌<◌, ◌≤◌, ◌==◌, ◌&&◌, if◌then◌else◌, true, false, List, length, Option, Some, None, sym, ap, ◌∙◌, subst, arith, refl, inl, inr}
 use Rattle.bt_frame.specs.declared.numbers.BeamNo.{BeamNo}
 use Rattle.bt_frame.specs.declared.numbers.TermNo.{TermNo}
 use Rattle.bt_net.specs.Network.{Net}
@@ -13,10 +13,14 @@ use Rattle.bt_journal.specs.declared.call.Edit.TheVariants.{Add, Drop, Move}
 use Rattle.bt_journal.specs.declared.call.Change.{Change}
 use Rattle.bt_journal.specs.declared.call.Change.TheVariants as change
 use Rattle.bt_journal.specs.declared.reply.Reply.{Reply}
-use Rattle.bt_journal.specs.declared.reply.Reply.TheVariants.{Done, SameTerminal, NotThere, RowFull, ColumnFull, BookFull}
+use Rattle.bt_journal.specs.declared.reply.Reply.TheVariants.{Done, SameTerminal, NotThere, RowFull, ColumnFull, BookFull, NotNewer, NoSuchEdition, NotGood, OutOfTurn, NotInstalled, Demand, Installed, Newest, Placed, StoreFault, Stopped}
+use Rattle.bt_journal.specs.Journal.{is_refusal}
 use Rattle.bt_book.specs.declared.lines.Lines.{Lines}
-use Rattle.bt_book.specs.Machine.{State, GainsFrom, GainsTo, matrix_after, with_edit, held_after, HasEnds, IsThere, FitsRow, FitsColumn, IsGoodEdit, IsCause}
-use Rattle.bt_book.specs.Records.{Records, KeepsUp, AreLinesAfter, IsFullLine, IsFirstCause, Refuses, IsBookFull, AddsUp}
+use Rattle.bt_book.specs.Changes.{matrix_after, held_after}
+use Rattle.bt_book.specs.EditCauses.{GainsFrom, GainsTo, with_edit, HasEnds, IsThere, FitsRow, FitsColumn}
+use Rattle.bt_book.specs.Causes.{IsGood, IsCause}
+use Rattle.bt_book.specs.Machine.{State}
+use Rattle.bt_book.specs.Records.{Records, KeepsUp, AreLinesAfter, IsFullLine, IsFirstEditCause, IsFirstCause, Refuses, IsBookFull, AddsUp}
 use Rattle.bt_book.proofs.After.{lines-Add, lines-Move, slots_after-AddsUp}
 
 -- a terminal is in one beam
@@ -45,7 +49,7 @@ fits_column net changes edit lines are fits beam gains =
 
 -- the first full line is the first cause, where the edit passed the tests before
 pub cause_by_lines : (net : Net) (changes : List Change) (edit : Edit) (lines : Lines) (slots : ℕ) (result : Option Reply) → slots ≡ net.slots
-    → HasEnds edit → IsThere changes edit → AreLinesAfter net changes edit lines → IsFullLine lines slots result → IsFirstCause net changes edit result
+    → HasEnds edit → IsThere changes edit → AreLinesAfter net changes edit lines → IsFullLine lines slots result → IsFirstEditCause net changes edit result
 cause_by_lines net changes edit lines slots None same ends there are full =
     (ends, there, fits_row net changes edit lines are (rw (← same) full.0), fits_column net changes edit lines are (rw (← same) full.1))
 cause_by_lines net changes edit lines slots (Some (RowFull beam sum)) same ends there are full = (
@@ -68,9 +72,20 @@ cause_by_lines net changes edit lines slots (Some (ColumnFull beam sum)) same en
   },
 )
 cause_by_lines net changes edit lines slots (Some SameTerminal) same ends there are full = absurd full
-cause_by_lines net changes edit lines slots (Some (NotThere held)) same ends there are full = absurd full
-cause_by_lines net changes edit lines slots (Some (BookFull count)) same ends there are full = absurd full
-cause_by_lines net changes edit lines slots (Some (Done edition most)) same ends there are full = absurd full
+cause_by_lines net changes edit lines slots (Some (NotThere _)) same ends there are full = absurd full
+cause_by_lines net changes edit lines slots (Some (BookFull _)) same ends there are full = absurd full
+cause_by_lines net changes edit lines slots (Some (Done _ _)) same ends there are full = absurd full
+cause_by_lines net changes edit lines slots (Some (NotNewer _)) same ends there are full = absurd full
+cause_by_lines net changes edit lines slots (Some (NoSuchEdition _)) same ends there are full = absurd full
+cause_by_lines net changes edit lines slots (Some (NotGood _)) same ends there are full = absurd full
+cause_by_lines net changes edit lines slots (Some (OutOfTurn _)) same ends there are full = absurd full
+cause_by_lines net changes edit lines slots (Some (NotInstalled _)) same ends there are full = absurd full
+cause_by_lines net changes edit lines slots (Some (Demand _ _ _)) same ends there are full = absurd full
+cause_by_lines net changes edit lines slots (Some (Installed _)) same ends there are full = absurd full
+cause_by_lines net changes edit lines slots (Some (Newest _)) same ends there are full = absurd full
+cause_by_lines net changes edit lines slots (Some Placed) same ends there are full = absurd full
+cause_by_lines net changes edit lines slots (Some StoreFault) same ends there are full = absurd full
+cause_by_lines net changes edit lines slots (Some Stopped) same ends there are full = absurd full
 
 -- the slots of a link are those after the changes
 pub held_after-units_of : (changes : List Change) (links : List Link) (from to : TermNo) → AddsUp changes links → units_of links from to ≡ held_after changes from to
@@ -137,18 +152,43 @@ now_lines-Move inside now links from to new_from new_to units slots up down new_
     (of_row_is ∙ ap (λ (n : ℕ). if up.0 == new_up.0 then n else 0) same) (of_column_is ∙ ap (λ (n : ℕ). if down.0 == new_down.0 then n else 0) same)) in
     subst (λ (r : Records). AreLinesAfter r.net r.state.changes (Move from to new_from new_to units) lines) view are
 
--- a cause is the answer, and no change is made
-pub refused_by_cause : (net : Net) (old : State) (edit : Edit) (reply : Reply) → old.stopped ≡ false → IsCause net old.changes (change.Edit edit) reply
-    → Refuses net old edit (Some reply)
-refused_by_cause net old edit SameTerminal runs is = ((runs, is), refl)
-refused_by_cause net old edit (NotThere held) runs is = ((runs, is), refl)
-refused_by_cause net old edit (RowFull beam sum) runs is = ((runs, is), refl)
-refused_by_cause net old edit (ColumnFull beam sum) runs is = ((runs, is), refl)
-refused_by_cause net old edit (BookFull count) runs is = absurd is
-refused_by_cause net old edit (Done edition most) runs is = absurd is
+-- the cause of a refused edit is a refusal
+refuses_edit : (net : Net) (changes : List Change) (edit : Edit) (reply : Reply) → IsCause net changes (change.Edit edit) reply → is_refusal reply ≡ true
+refuses_edit net changes edit SameTerminal is = refl
+refuses_edit net changes edit (NotThere _) is = refl
+refuses_edit net changes edit (RowFull _ _) is = refl
+refuses_edit net changes edit (ColumnFull _ _) is = refl
+refuses_edit net changes edit (BookFull _) is = absurd is
+refuses_edit net changes edit (Done _ _) is = absurd is
+refuses_edit net changes edit (NotNewer _) is = absurd is
+refuses_edit net changes edit (NoSuchEdition _) is = absurd is
+refuses_edit net changes edit (NotGood _) is = absurd is
+refuses_edit net changes edit (OutOfTurn _) is = absurd is
+refuses_edit net changes edit (NotInstalled _) is = absurd is
+refuses_edit net changes edit (Demand _ _ _) is = absurd is
+refuses_edit net changes edit (Installed _) is = absurd is
+refuses_edit net changes edit (Newest _) is = absurd is
+refuses_edit net changes edit Placed is = absurd is
+refuses_edit net changes edit StoreFault is = absurd is
+refuses_edit net changes edit Stopped is = absurd is
 
--- a good edit is refused where the book is full
-pub refused_by_book : (net : Net) (old : State) (edit : Edit) (result : Option Reply) → old.stopped ≡ false → IsGoodEdit net old.changes edit
-    → IsBookFull old.changes result → Refuses net old edit result
-refused_by_book net old edit None runs good full = record { runs = runs; good = good; room = full }
-refused_by_book net old edit (Some reply) runs good full = rw full.1 ((runs, good, full.0, refl), refl)
+-- the first cause of an edit is that of the change that it is
+pub cause_of_change : (net : Net) (changes : List Change) (edit : Edit) (result : Option Reply) → IsFirstEditCause net changes edit result
+    → IsFirstCause net changes (change.Edit edit) result
+cause_of_change net changes edit None good = good
+cause_of_change net changes edit (Some reply) is = (refuses_edit net changes edit reply is, is)
+
+-- a cause is the answer, and no change is made
+pub refused_by_cause : (net : Net) (old : State) (asked : Change) (reply : Reply) → old.stopped ≡ false → IsFirstCause net old.changes asked (Some reply)
+    → Refuses net old asked (Some reply)
+refused_by_cause net old asked reply runs is = record { runs = runs; refuses = is.0; why = inl is.1 }
+
+-- a good change is refused where the book is full
+pub refused_by_book : (net : Net) (old : State) (asked : Change) (result : Option Reply) → old.stopped ≡ false → IsGood net old.changes asked
+    → IsBookFull old.changes result → Refuses net old asked result
+refused_by_book net old asked None runs good full = record { runs = runs; good = good; room = full }
+refused_by_book net old asked (Some reply) runs good full = record {
+  runs = runs;
+  refuses = ap is_refusal full.1;
+  why = inr (good, full.0, full.1);
+}

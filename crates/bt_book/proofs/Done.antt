@@ -17,7 +17,7 @@ use Rattle.bt_journal.specs.declared.call.Edit.{Edit}
 use Rattle.bt_journal.specs.declared.call.Edit.TheVariants.{Add, Drop, Move}
 use Rattle.bt_journal.specs.declared.call.Change.{Change}
 use Rattle.bt_journal.specs.Journal.{NamesTerminals}
-use Rattle.bt_book.specs.Machine.{with_edit, IsThere, IsGoodEdit}
+use Rattle.bt_book.specs.EditCauses.{with_edit, IsThere, IsGoodEdit}
 use Rattle.bt_book.specs.Records.{AddsUp, KeepsUp, EditsLinks, GainsFirst, HoldsTaken, HoldsGiven}
 use Rattle.bt_demand.proofs.Tables.{LinesExceed, table-LinesExceed, same_tables}
 use Rattle.bt_book.proofs.After.{AddsUp-Add, AddsUp-Drop, AddsUp-Move, matrix_after-AddsUp}
@@ -133,7 +133,7 @@ fits_less net old new from to units up down edits fits (Column k) within =
     omega (arith, column-le _ _ up.0.0 down.0.0 units k.0 less, fits (Column k) (same_length net old new k.0 within))
 
 -- After a good edit each line is within the frame.
-pub fits_after : (net : Net) (changes : List Change) (old new : List Link) (edit : Edit) → IsSound net → NamesTerminals (length net.terminals) edit → AddsUp changes old
+pub fits_after : (net : Net) (changes : List Change) (old new : List Link) (edit : Edit) → IsSound net → NamesTerminals net edit → AddsUp changes old
     → HasSumsTo net.slots (matrix_of net old) → IsGoodEdit net changes edit → EditsLinks old edit new → HasSumsTo net.slots (matrix_of net new)
 fits_after net changes old new (Add from to units) sound names adds fits good edits =
     let e = Add from to units in
@@ -151,10 +151,10 @@ fits_after net changes old new (Drop from to units) sound names adds fits good e
     (beam_of_terminal net from sound names.0) (beam_of_terminal net to sound names.1) (loses_of_drop old new from to units edits) fits
 fits_after net changes old new (Move from to new_from new_to units) sound names adds fits good edits =
     let e = Move from to new_from new_to units in
-    let up = beam_of_terminal net from sound names.0 in
-    let down = beam_of_terminal net to sound names.1 in
-    let new_up = beam_of_terminal net new_from sound names.2 in
-    let new_down = beam_of_terminal net new_to sound names.3 in
+    let up = beam_of_terminal net from sound names.0.0 in
+    let down = beam_of_terminal net to sound names.0.1 in
+    let new_up = beam_of_terminal net new_from sound names.1.0 in
+    let new_down = beam_of_terminal net new_to sound names.1.1 in
     let more = gained_lines net old edits.half new_from new_to units new_up.0 new_down.0 edits.gains (new_up.1, new_up.2) (new_down.1, new_down.2) in
     let less = gained_lines net new edits.half from to units up.0 down.0 edits.loses (up.1, up.2) (down.1, down.2) in
     let is = matrix_after-AddsUp net (with_edit changes e) new (AddsUp-edit changes old new e adds edits) in

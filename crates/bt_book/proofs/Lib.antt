@@ -1,3 +1,4 @@
+pub mod Replies
 pub mod Start
 pub mod After
 pub mod Occupied
@@ -6,4 +7,5 @@ pub mod Done
 pub mod Histories
 pub mod Entries
 pub mod Redone
+pub mod OfNetwork
 pub mod TurnLock

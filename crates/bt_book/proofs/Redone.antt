@@ -1,5 +1,5 @@
 -- Edits made again, up to an earlier edition.
-use Rattle.std.proofs.Common.{◌≡◌, ℕ, ◌+◌, ◌-◌, ◌<◌, ◌≤◌, ◌++◌, List, [], ◌∷◌, length, drop, get_or, Option, Some, None, refl, sym, ap, ◌∙◌, subst, arith, append_assoc, ⊎_elim}
+use Rattle.std.proofs.Common.{◌≡◌, ◌≢◌, ℕ, ◌+◌, ◌-◌, ◌<◌, ◌≤◌, ◌++◌, List, [], ◌∷◌, length, drop, get_or, Option, Some, None, refl, sym, ap, ◌∙◌, subst, arith, append_assoc, ⊎_elim}
 use Rattle.std.proofs.lemmas.List.{append-nil, drop_more}
 use Rattle.std.proofs.lemmas.Bool.{cases_eq}
 use Rattle.std.proofs.Math.ListN.{drop_of_length-le}
@@ -13,11 +13,13 @@ use Rattle.bt_journal.specs.declared.call.Change.{Change}
 use Rattle.bt_journal.specs.declared.call.Change.TheVariants as change
 use Rattle.bt_journal.specs.declared.entry.Entry.{Entry}
 use Rattle.bt_journal.specs.Journal.{changes_of, change_made}
-use Rattle.bt_book.specs.Machine.{edition, with_edit, FollowFrom, Follows, IsChangeOn, IsGood, IsDemandAt}
+use Rattle.bt_book.specs.Changes.{edits_in, edition, IsDemandAt}
+use Rattle.bt_book.specs.EditCauses.{with_edit}
+use Rattle.bt_book.specs.Causes.{FollowFrom, Follows, IsChangeOn, IsGood}
 use Rattle.bt_book.specs.Records.{EditsLinks, CanRedo, RedoesOne, IsRedone, Redoes}
-use Rattle.bt_book.proofs.After.{slots_after-AddsUp}
+use Rattle.bt_book.proofs.After.{slots_after-AddsUp, AddsUp-other}
 use Rattle.bt_book.proofs.Done.{AddsUp-edit, fits_after, holds_taken}
-use Rattle.bt_book.proofs.Entries.{edition-more}
+use Rattle.bt_book.proofs.Entries.{edition-more, edition-other}
 use Rattle.bt_book.proofs.Histories.{as_list, changes_of-cons, FollowFrom-grows}
 use Rattle.bt_book.proofs.Start.{KeepsUp-start}
 
@@ -87,6 +89,29 @@ Redoes-past net changes ahead more links number left redoes same = record {
   next = λ some. redoes.next some ∙ same some;
 }
 
+-- a change that is no edit is passed over
+Redoes-other : (net : Net) (changes ahead : List Change) (links : List Link) (number left : ℕ) (one : Change) → edits_in one ≡ 0 → Follows net changes
+    → Redoes net changes (one ∷ ahead) links number left → Redoes net changes ahead links number left
+Redoes-other net changes ahead links number left one other follow redoes = ⊎_elim
+    (λ (none : left ≡ 0). Redoes-past net changes (one ∷ ahead) ahead links number left redoes (λ some. absurd (omega (arith, some, none))))
+    (λ (not_none : left ≡ 0 → ⊥).
+    let some : 0 < left = omega (arith, not_none) in
+    let parts : changes ≡ redoes.before ++ one ∷ ahead = redoes.parts ∙ ap (λ (c : List Change). redoes.before ++ c) (redoes.next some) in
+    let there = FollowFrom-at net [] redoes.before one ahead (subst (Follows net) parts follow) in
+    record {
+      before = redoes.before ++ one ∷ [];
+      after = ahead;
+      parts = parts ∙ sym (append_assoc redoes.before (one ∷ []) ahead);
+      keeps = record {
+        adds_up = AddsUp-other redoes.before links one other redoes.keeps.adds_up;
+        fits = redoes.keeps.fits;
+        follows = FollowFrom-grows net [] redoes.before one redoes.keeps.follows there.0 there.1;
+      };
+      counted = omega (arith, redoes.counted, edition-other redoes.before one other);
+      next = λ _. refl;
+    })
+    (cases_eq left 0)
+
 -- an edit was made again, or none was left
 pub Redoes-one : (net : Net) (changes ahead : List Change) (links new : List Link) (number left after : ℕ) (edit : Edit) → IsSound net → Follows net changes
     → Redoes net changes (change.Edit edit ∷ ahead) links number left → RedoesOne links edit left new after → Redoes net changes ahead new number after
@@ -121,27 +146,54 @@ opening_next net changes opening more links number left place one edit within is
     Redoes-past net changes (drop place opening ++ more) (change.Edit edit ∷ (drop (place + 1) opening ++ more)) links number left redoes
     (λ _. opening_ahead opening more place one within is ∙ ap (λ (o : Change). o ∷ (drop (place + 1) opening ++ more)) is_edit)
 
--- and so is the next edit of the history, where the call made one
+no_edit : (one : Change) → ((edit : Edit) → one ≢ change.Edit edit) → edits_in one ≡ 0
+no_edit (change.Edit edit) none = absurd (none edit refl)
+no_edit (change.Install plan) none = refl
+no_edit (change.Order order) none = refl
+
+-- a change of the opening that is no edit is passed over
+pub opening_past : (net : Net) (changes opening more : List Change) (links : List Link) (number left place : ℕ) (one : Change) → place < length opening
+    → one ≡ get_or opening place one → ((edit : Edit) → one ≢ change.Edit edit) → Follows net changes → Redoes net changes (drop place opening ++ more) links number left
+    → Redoes net changes (drop (place + 1) opening ++ more) links number left
+opening_past net changes opening more links number left place one within is none follow redoes =
+    Redoes-other net changes (drop (place + 1) opening ++ more) links number left one (no_edit one none) follow
+    (Redoes-past net changes (drop place opening ++ more) (one ∷ (drop (place + 1) opening ++ more)) links number left redoes (λ _. opening_ahead opening more place one within is))
+
+-- what a call made is the next change of the history
+history_one : (net : Net) (changes : List Change) (history : List Entry) (links : List Link) (number left place : ℕ) (entry : Entry) (made : Option Change) → place < length history
+    → entry ≡ get_or history place entry → change_made entry.call entry.reply ≡ made → Redoes net changes (changes_of (drop place history)) links number left
+    → Redoes net changes (as_list made ++ changes_of (drop (place + 1) history)) links number left
+history_one net changes history links number left place entry made within is made_is redoes =
+    Redoes-past net changes (changes_of (drop place history)) (as_list made ++ changes_of (drop (place + 1) history)) links number left redoes
+    (λ _. history_ahead history place entry within is ∙ ap (λ (o : Option Change). as_list o ++ changes_of (drop (place + 1) history)) made_is)
+
+-- so is the next edit, where the call made one
 pub history_next : (net : Net) (changes : List Change) (history : List Entry) (links : List Link) (number left place : ℕ) (entry : Entry) (edit : Edit) → place < length history
     → entry ≡ get_or history place entry → change_made entry.call entry.reply ≡ Some (change.Edit edit) → Redoes net changes (changes_of (drop place history)) links number left
     → Redoes net changes (change.Edit edit ∷ changes_of (drop (place + 1) history)) links number left
 history_next net changes history links number left place entry edit within is made redoes =
-    Redoes-past net changes (changes_of (drop place history)) (change.Edit edit ∷ changes_of (drop (place + 1) history)) links number left redoes
-    (λ _. history_ahead history place entry within is ∙ ap (λ (o : Option Change). as_list o ++ changes_of (drop (place + 1) history)) made)
+    history_one net changes history links number left place entry (Some (change.Edit edit)) within is made redoes
 
+history_other : (net : Net) (changes ahead : List Change) (links : List Link) (number left : ℕ) (made : Option Change) → ((edit : Edit) → made ≢ Some (change.Edit edit))
+    → Follows net changes → Redoes net changes (as_list made ++ ahead) links number left → Redoes net changes ahead links number left
+history_other net changes ahead links number left None none follow redoes = redoes
+history_other net changes ahead links number left (Some one) none follow redoes =
+    Redoes-other net changes ahead links number left one (no_edit one (λ edit is. none edit (ap Some is))) follow redoes
+
+-- and an entry that made no edit is passed over
 pub history_past : (net : Net) (changes : List Change) (history : List Entry) (links : List Link) (number left place : ℕ) (entry : Entry) → place < length history
-    → entry ≡ get_or history place entry → change_made entry.call entry.reply ≡ None → Redoes net changes (changes_of (drop place history)) links number left
-    → Redoes net changes (changes_of (drop (place + 1) history)) links number left
-history_past net changes history links number left place entry within is made redoes =
-    Redoes-past net changes (changes_of (drop place history)) (changes_of (drop (place + 1) history)) links number left redoes
-    (λ _. history_ahead history place entry within is ∙ ap (λ (o : Option Change). as_list o ++ changes_of (drop (place + 1) history)) made)
+    → entry ≡ get_or history place entry → ((edit : Edit) → change_made entry.call entry.reply ≢ Some (change.Edit edit)) → Follows net changes
+    → Redoes net changes (changes_of (drop place history)) links number left → Redoes net changes (changes_of (drop (place + 1) history)) links number left
+history_past net changes history links number left place entry within is none follow redoes =
+    history_other net changes (changes_of (drop (place + 1) history)) links number left (change_made entry.call entry.reply) none follow
+    (history_one net changes history links number left place entry _ within is refl redoes)
 
 pub opening_done : (opening more : List Change) (place : ℕ) → length opening ≤ place → drop place opening ++ more ≡ more
 opening_done opening more place whole = ap (λ (c : List Change). c ++ more) (drop_of_length-le opening whole)
 
 -- all of the edits were made again
 pub Redoes-end : (net : Net) (changes : List Change) (history : List Entry) (links : List Link) (number left place : ℕ) → number ≤ edition changes
-    → Redoes net changes (changes_of (drop place history)) links number left → length history ≤ place → IsRedone changes number links
+    → Redoes net changes (changes_of (drop place history)) links number left → length history ≤ place → IsRedone net changes number links
 Redoes-end net changes history links number left place reached redoes whole =
     let none : left ≡ 0 = ⊎_elim (λ (is : left ≡ 0). is) (λ (some : left ≡ 0 → ⊥).
     let nothing : redoes.after ≡ [] = redoes.next (omega (arith, some)) ∙ ap changes_of (drop_of_length-le history whole) in
@@ -152,15 +204,15 @@ Redoes-end net changes history links number left place reached redoes whole =
       after = redoes.after;
       parts = redoes.parts;
       counted = omega (arith, redoes.counted, none);
-      adds_up = redoes.keeps.adds_up;
+      keeps = redoes.keeps;
     }
 
 -- a demand that was made again is that of its edition
-pub demand_redone : (changes : List Change) (number : ℕ) (links : List Link) → IsDemand links → IsRedone changes number links → IsDemandAt changes number links
-demand_redone changes number links is redone = record {
+pub demand_redone : (net : Net) (changes : List Change) (number : ℕ) (links : List Link) → IsDemand links → IsRedone net changes number links → IsDemandAt changes number links
+demand_redone net changes number links is redone = record {
   before = redone.before;
   after = redone.after;
   parts = redone.parts;
   counted = redone.counted;
-  demand = record { demand = is; slots = slots_after-AddsUp redone.before links redone.adds_up };
+  demand = record { demand = is; slots = slots_after-AddsUp redone.before links redone.keeps.adds_up };
 }

@@ -1,5 +1,5 @@
 -- What is kept before the first call.
-use Rattle.std.proofs.Common.{◌≡◌, ℕ, ◌<◌, List, [], ◌++◌, length, replicate, slice_index, refl, sym, subst, arith}
+use Rattle.std.proofs.Common.{◌≡◌, ℕ, ◌<◌, List, [], ◌++◌, length, replicate, slice_index, refl, sym, ap, ◌∷◌, ◌∙◌, subst, arith}
 use Rattle.std.proofs.lemmas.List.{get_or-replicate, length-replicate}
 use Rattle.std.proofs.lemmas.List.Folds.{sum_by-replicate}
 use Rattle.bt_frame.specs.declared.schedule.Critical.TheVariants.{Row, Column}
@@ -8,9 +8,13 @@ use Rattle.bt_demand.specs.Traffic.{matrix_of, HasSumsTo}
 use Rattle.bt_demand.proofs.Matrices.{matrix_of-none}
 use Rattle.bt_journal.specs.declared.call.Change.{Change}
 use Rattle.bt_journal.specs.declared.entry.Entry.{Entry}
-use Rattle.bt_journal.specs.Journal.{changes_of}
 use Rattle.bt_demand.specs.declared.demand.Link.{Link}
-use Rattle.bt_book.specs.Records.{KeepsUp, Counts}
+use Rattle.bt_demand.specs.declared.plan.Plan.{Plan}
+use Rattle.bt_air.specs.declared.order.Order.{Order}
+use Rattle.bt_book.specs.Changes.{empty_plan}
+use Rattle.bt_book.specs.Machine.{running, state_after}
+use Rattle.bt_book.specs.Records.{KeepsUp, Counts, Lists}
+use Rattle.bt_book.proofs.Entries.{IsKept}
 
 -- the lines of a matrix of zeros ask for nothing
 HasSumsTo-zeros : (size most : ℕ) → HasSumsTo most (replicate size (replicate size 0))
@@ -47,6 +51,16 @@ Counts-start = record {
 }
 
 -- the same, as empty collections have it
-pub KeepsUp-open : (net : Net) (opening : List Change) (history : List Entry) (links : List Link) → opening ≡ [] → history ≡ [] → links ≡ []
-    → KeepsUp net (opening ++ changes_of history) links × Counts (opening ++ changes_of history) 0 0
-KeepsUp-open net opening history links no_change no_entry no_link = rw (no_change, no_entry, no_link) (KeepsUp-start net, Counts-start)
+pub IsKept-open : (net : Net) (opening : List Change) (history : List Entry) (links : List Link) (installed none : List Plan) (placed : List Order) (one : Plan) → opening ≡ []
+    → history ≡ [] → links ≡ [] → none ≡ [] → installed ≡ none ++ one ∷ [] → one ≡ empty_plan → placed ≡ []
+    → IsKept net opening history links 0 0 installed placed
+IsKept-open net opening history links installed none placed one no_change no_entry no_link no_plan installs one_is no_order =
+    let lists : Lists [] installed placed = record {
+      installs = installs ∙ (ap (λ (all : List Plan). all ++ one ∷ []) no_plan ∙ ap (λ (p : Plan). p ∷ []) one_is);
+      places = no_order;
+    } in
+    rw (no_change, no_entry, no_link) (KeepsUp-start net, Counts-start, lists, refl)
+
+-- and the state
+pub state-open : (opening : List Change) (history : List Entry) → opening ≡ [] → history ≡ [] → state_after opening history ≡ running []
+state-open opening history no_change no_entry = rw (no_change, no_entry) refl

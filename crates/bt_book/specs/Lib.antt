@@ -1,3 +1,6 @@
+pub mod Changes
+pub mod EditCauses
+pub mod Causes
 pub mod Machine
 pub mod Book
 pub mod Records

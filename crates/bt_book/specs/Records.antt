@@ -1,23 +1,29 @@
 -- For bodies alone: what contracts see of the machine and of the occupancy of its frame, and what is kept beside the
 -- changes.
-use Rattle.std.specs.Prelude.{◌≡◌, ℕ, ◌+◌, ◌≤◌, ◌<◌, Bool, false, List, ◌++◌, length, sum_by, Option, Some, None}
+use Rattle.std.specs.Prelude.{◌≡◌, ◌≢◌, ◌⊎◌, ℕ, ◌+◌, ◌≤◌, ◌<◌, Bool, true, false, List, ◌++◌, length, sum_by, Option, Some, None}
+use Rattle.std.specs.List.{list_any}
 use Rattle.bt_frame.specs.declared.numbers.TermNo.{TermNo}
 use Rattle.bt_frame.specs.declared.limits.TheConstants.{MOST_SLOTS}
 use Rattle.bt_net.specs.Network.{Net}
 use Rattle.bt_matrix.specs.Traffic.{row_sum, column_sum}
 use Rattle.bt_demand.specs.declared.demand.Link.{Link}
+use Rattle.bt_demand.specs.declared.plan.Plan.{Plan}
 use Rattle.bt_demand.specs.Demand.{units_where, units_of, Gains}
 use Rattle.bt_demand.specs.Traffic.{matrix_of, HasSumsTo}
+use Rattle.bt_air.specs.declared.order.Order.{Order}
 use Rattle.bt_journal.specs.declared.call.Change.{Change}
 use Rattle.bt_journal.specs.declared.call.Change.TheVariants as change
 use Rattle.bt_journal.specs.declared.entry.Entry.{Entry}
 use Rattle.bt_journal.specs.declared.call.Edit.{Edit}
 use Rattle.bt_journal.specs.declared.call.Edit.TheVariants.{Add, Drop, Move}
-use Rattle.bt_journal.specs.Journal.{NamesTerminals, is_made, change_made}
+use Rattle.bt_journal.specs.Journal.{NamesTerminals, is_refusal, is_fault, change_made}
 use Rattle.bt_journal.specs.declared.reply.Reply.{Reply}
 use Rattle.bt_journal.specs.declared.reply.Reply.TheVariants.{NotThere, RowFull, ColumnFull, BookFull}
 use Rattle.bt_book.specs.declared.lines.Lines.{Lines}
-use Rattle.bt_book.specs.Machine.{State, given, taken_from, most_changes, edition, Follows, GainsFrom, GainsTo, matrix_after, with_edit, held_after, HasEnds, IsGoodEdit, IsCause, IsRefusal, CanMake}
+use Rattle.bt_book.specs.Changes.{given, taken_from, edition, matrix_after, held_after, plans, orders}
+use Rattle.bt_book.specs.EditCauses.{GainsFrom, GainsTo, with_edit, HasEnds, IsGoodEdit}
+use Rattle.bt_book.specs.Causes.{Follows, IsGood, IsCause}
+use Rattle.bt_book.specs.Machine.{State, most_changes, CanMake}
 
 -- a network, and the links of the demand on it
 pub record Occupied : Type 0 where
@@ -47,6 +53,15 @@ pub record Counts (changes : List Change) (count edits : ℕ) : Type 0 where
   pub edited : edits ≡ edition changes
   pub fewer : edits ≤ count
 
+-- what holds of the lists kept beside the changes
+pub record Lists (changes : List Change) (installed : List Plan) (placed : List Order) : Type 0 where
+  pub installs : installed ≡ plans changes
+  pub places : placed ≡ orders changes
+
+-- no entry tells of a fault of the store
+abbrev pub IsSure : List Entry → Type 0
+IsSure history = list_any (λ entry. is_fault entry.reply) history ≡ false
+
 -- the lines of the link that gains, with their slots after the edit
 pub record AreLinesAfter (net : Net) (changes : List Change) (edit : Edit) (lines : Lines) : Type 0 where
   pub from : GainsFrom net edit lines.row
@@ -68,19 +83,30 @@ IsShortOf changes from to units (Some (NotThere held)) = (held ≡ held_after ch
 IsShortOf changes from to units (Some _) = ⊥
 
 -- the first cause of a refusal in an edit, or none where there is none
-abbrev pub IsFirstCause : Net → List Change → Edit → Option Reply → Type 0
-IsFirstCause net changes edit None = IsGoodEdit net changes edit
-IsFirstCause net changes edit (Some reply) = IsCause net changes (change.Edit edit) reply
+abbrev pub IsFirstEditCause : Net → List Change → Edit → Option Reply → Type 0
+IsFirstEditCause net changes edit None = IsGoodEdit net changes edit
+IsFirstEditCause net changes edit (Some reply) = IsCause net changes (change.Edit edit) reply
 
 -- the refusal where the book has made as many changes as it can, and none before
 abbrev pub IsBookFull : List Change → Option Reply → Type 0
 IsBookFull changes None = length changes < most_changes
 IsBookFull changes (Some reply) = (most_changes ≤ length changes) × (reply ≡ BookFull (length changes))
 
--- the refusal of an edit, or none where it can be made
-abbrev pub Refuses : Net → State → Edit → Option Reply → Type 0
-Refuses net old edit None = CanMake net old (change.Edit edit)
-Refuses net old edit (Some reply) = IsRefusal net old (change.Edit edit) reply × (is_made reply ≡ false)
+-- the first cause of a refusal in a change, or none where there is none
+abbrev pub IsFirstCause : Net → List Change → Change → Option Reply → Type 0
+IsFirstCause net changes asked None = IsGood net changes asked
+IsFirstCause net changes asked (Some reply) = (is_refusal reply ≡ true) × IsCause net changes asked reply
+
+-- the refusal of a change, with the state of the machine: its first cause, or that the book is full
+pub record IsRefusal (net : Net) (old : State) (asked : Change) (reply : Reply) : Type 0 where
+  pub runs : old.stopped ≡ false
+  pub refuses : is_refusal reply ≡ true
+  pub why : IsCause net old.changes asked reply ⊎ (IsGood net old.changes asked × (most_changes ≤ length old.changes) × (reply ≡ BookFull (length old.changes)))
+
+-- the refusal of a change, or none where it can be made
+abbrev pub Refuses : Net → State → Change → Option Reply → Type 0
+Refuses net old asked None = CanMake net old asked
+Refuses net old asked (Some reply) = IsRefusal net old asked reply
 
 -- the first half of an edit: the link that gains has its slots, and the one that loses has them still
 abbrev pub GainsFirst : List Link → Edit → List Link → Type 0
@@ -112,18 +138,23 @@ HoldsGiven links (Add from to units) = units ≤ units_of links from to
 HoldsGiven links (Drop _ _ _) = Unit {0}
 HoldsGiven links (Move _ _ new_from new_to units) = units ≤ units_of links new_from new_to
 
+-- the edit that a change is, if it is one
+abbrev pub IsEditOf : Change → Option Edit → Type 0
+IsEditOf one None = (edit : Edit) → one ≢ change.Edit edit
+IsEditOf one (Some edit) = one ≡ change.Edit edit
+
 -- the edit that a call made, if any
 abbrev pub IsEditMade : Entry → Option Edit → Type 0
-IsEditMade entry None = change_made entry.call entry.reply ≡ None
+IsEditMade entry None = (edit : Edit) → change_made entry.call entry.reply ≢ Some (change.Edit edit)
 IsEditMade entry (Some edit) = change_made entry.call entry.reply ≡ Some (change.Edit edit)
 
--- the links add up to first changes that have so many edits among them
-pub record IsRedone (changes : List Change) (number : ℕ) (links : List Link) : Type 0 where
+-- the links are kept beside first changes that have so many edits among them
+pub record IsRedone (net : Net) (changes : List Change) (number : ℕ) (links : List Link) : Type 0 where
   pub before : List Change
   pub after : List Change
   pub parts : changes ≡ before ++ after
   pub counted : edition before ≡ number
-  pub adds_up : AddsUp before links
+  pub keeps : KeepsUp net before links
 
 -- On the way there: first changes were made again, and so many edits are left; while some are, the changes ahead are
 -- all others.
@@ -137,7 +168,7 @@ pub record Redoes (net : Net) (changes ahead : List Change) (links : List Link) 
 
 -- what an edit that is made again asks of the demand
 pub record CanRedo (net : Net) (links : List Link) (edit : Edit) : Type 0 where
-  pub terminals : NamesTerminals (length net.terminals) edit
+  pub terminals : NamesTerminals net edit
   pub ends : HasEnds edit
   pub held : HoldsTaken links edit
   pub small : HasSumsTo MOST_SLOTS (matrix_of net links)

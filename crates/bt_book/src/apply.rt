@@ -1,8 +1,8 @@
-// Each call is answered, and its entry kept.
-ghost use Rattle.std.specs.Prelude.{◌≡◌, ◌++◌, ◌∷◌, [], false, length, IfOk, OnErr, None};
-ghost use Rattle.bt_journal.specs.Journal.{NamesTerminals, is_made};
+// Each edit is answered, and its entry kept.
+ghost use Rattle.std.specs.Prelude.{◌≡◌, ◌++◌, ◌∷◌, [], false, IfOk, OnErr};
+ghost use Rattle.bt_journal.specs.Journal.{NamesTerminals, is_fault, is_made};
 ghost use Rattle.bt_journal.specs.declared.call.Change.TheVariants as change;
-ghost use Rattle.bt_book.specs.Machine.{EditStep, IsRefusal, CanMake};
+ghost use Rattle.bt_book.specs.Machine.{ChangeStep, CanMake};
 
 use crate::machine::Machine;
 use bt_frame::{EditionNo, OutOfMemory};
@@ -11,45 +11,46 @@ use std::alloc::Global;
 
 impl Machine {
     /// Answers an edit: refuses it for its first cause, or makes it.
-    pub(crate) fn apply(
+    pub(crate) fn edit(
         &mut self,
         alloc: Global,
         caller: u32,
         edit: &Edit,
     ) -> Result<Reply, OutOfMemory>
-        requires { NamesTerminals (length self.old.net.terminals) edit.now }
-        ensures step { IfOk result (λ reply. EditStep self.old.net self.old.state edit.now reply self.new.state) }
+        requires { NamesTerminals self.old.net edit.now }
+        ensures step { IfOk result (λ reply. ChangeStep self.old.net self.old.state (change.Edit edit.now) reply self.new.state) }
         ensures entry { IfOk result (λ reply. self.new.history
             ≡ self.old.history ++ record { caller = caller; call = Call.Edit edit.now; reply = reply } ∷ []) }
         ensures net { self.new.net ≡ self.old.net }
         ensures err { OnErr result (self.new ≡ self.old) }
     {
         match self.refusal_of(edit) {
-            Some(reply) => self.refuse(alloc, caller, edit, reply),
+            Some(refusal) => self.answer(alloc, caller, Call::Edit(*edit), refusal),
             None => self.make(alloc, caller, edit),
         }
     }
 
-    /// Keeps a refusal, and answers it.
-    fn refuse(
+    /// Answers a call without a change, and keeps its entry.
+    pub(crate) fn answer(
         &mut self,
         alloc: Global,
         caller: u32,
-        edit: &Edit,
+        call: Call,
         reply: Reply,
     ) -> Result<Reply, OutOfMemory>
-        requires refused { IsRefusal self.old.net self.old.state (change.Edit edit.now) reply }
         requires not_made { is_made reply ≡ false }
-        ensures step { IfOk result (λ reply. EditStep self.old.net self.old.state edit.now reply self.new.state) }
+        requires no_fault { is_fault reply ≡ false }
+        ensures told { IfOk result (λ answer. answer ≡ reply) }
         ensures entry { IfOk result (λ answer. self.new.history
-            ≡ self.old.history ++ record { caller = caller; call = Call.Edit edit.now; reply = answer } ∷ []) }
+            ≡ self.old.history ++ record { caller = caller; call = call; reply = answer } ∷ []) }
+        ensures state { self.new.state ≡ self.old.state }
         ensures net { self.new.net ≡ self.old.net }
         ensures err { OnErr result (self.new ≡ self.old) }
     {
         let kept = reply.copy(alloc)?;
         self.history.push(Entry {
             caller,
-            call: Call::Edit(*edit),
+            call,
             reply: kept,
         })?;
         Ok(reply)
@@ -57,9 +58,9 @@ impl Machine {
 
     /// Makes an edit in two halves: what may fail stands between them, and then the first half is taken back.
     fn make(&mut self, alloc: Global, caller: u32, edit: &Edit) -> Result<Reply, OutOfMemory>
-        requires terminals { NamesTerminals (length self.old.net.terminals) edit.now }
+        requires terminals { NamesTerminals self.old.net edit.now }
         requires good { CanMake self.old.net self.old.state (change.Edit edit.now) }
-        ensures step { IfOk result (λ reply. EditStep self.old.net self.old.state edit.now reply self.new.state) }
+        ensures step { IfOk result (λ reply. ChangeStep self.old.net self.old.state (change.Edit edit.now) reply self.new.state) }
         ensures entry { IfOk result (λ reply. self.new.history
             ≡ self.old.history ++ record { caller = caller; call = Call.Edit edit.now; reply = reply } ∷ []) }
         ensures net { self.new.net ≡ self.old.net }

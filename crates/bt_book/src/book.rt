@@ -1,10 +1,13 @@
 // The book of changes, with the store of its records.
-ghost use Rattle.std.specs.Prelude.{◌≡◌, ◌≤◌, ◌++◌, ◌∷◌, [], length, IfOk, IfErr, OnErr};
-ghost use Rattle.bt_book.specs.Machine.{edition, running, IsDemandAfter, IsDemandAt, IsOfNetwork, Step};
+ghost use Rattle.std.specs.Prelude.{◌≡◌, ◌<◌, ◌≤◌, ◌++◌, ◌∷◌, [], length, slice_index_or, IfOk, IfErr, OnErr};
+ghost use Rattle.std.specs.List.{HoldsAt};
+ghost use Rattle.bt_book.specs.Changes.{edition, empty_plan, newest, orders, plans, IsDemandAfter, IsDemandAt};
+ghost use Rattle.bt_book.specs.Machine.{running, IsOfNetwork, Step};
 
 use crate::machine::Machine;
+use bt_air::Order;
 use bt_base::Keeper;
-use bt_demand::Demand;
+use bt_demand::{Demand, Plan};
 use bt_frame::{EditionNo, OutOfMemory};
 use bt_journal::{Call, Entry, Reply};
 use bt_net::Network;
@@ -48,9 +51,11 @@ impl<K: Keeper> Book<K> {
         }
     }
 
-    /// Answers a call, and keeps its entry. Each terminal of the call is one of the network's.
+    /// Answers a call, and keeps its entry. Each terminal and each beam of the call is one of the network's, and an Arm
+    /// is due at a superframe from 1 to the last.
     ///
-    /// A refusal leaves the changes as they were, and want of memory leaves all as it was.
+    /// A refusal leaves the changes as they were, and want of memory leaves all as it was. Nothing is written to the
+    /// store yet, so no reply tells of a fault of it.
     pub fn apply(&mut self, alloc: Global, caller: u32, call: Call) -> Result<Reply, OutOfMemory>
         requires terminals { IsOfNetwork self.old.net call }
         ensures step { IfOk result (λ reply. Step self.old.net self.old.state call reply self.new.state) }
@@ -61,7 +66,11 @@ impl<K: Keeper> Book<K> {
         ensures err { OnErr result (self.new ≡ self.old) }
     {
         match call {
-            Call::Edit(edit) => self.machine.apply(alloc, caller, &edit),
+            Call::Snapshot => self.machine.snapshot(alloc, caller),
+            Call::Newest { after } => self.machine.newest_after(alloc, caller, after),
+            Call::Edit(edit) => self.machine.edit(alloc, caller, &edit),
+            Call::Install(plan) => self.machine.install(alloc, caller, plan),
+            Call::Place(order) => self.machine.place(alloc, caller, &order),
         }
     }
 
@@ -92,6 +101,43 @@ impl<K: Keeper> Book<K> {
         ensures { IfOk result (λ demand. IsDemandAt self.now.state.changes number.0 demand) }
     {
         self.machine.demand_at(alloc, number)
+    }
+
+    /// The newest plan: the last that was installed, or the empty one.
+    pub fn newest(&self) -> &Plan
+        ensures { result.now ≡ newest self.now.state.changes }
+    {
+        self.machine.newest()
+    }
+
+    /// How many plans are installed: the empty one of edition 0, and those that the changes installed.
+    pub fn plan_count(&self) -> u32
+        ensures { result ≡ length (plans self.now.state.changes) }
+    {
+        self.machine.plan_count()
+    }
+
+    /// The plan at a place, in the order in which they were installed.
+    pub fn plan(&self, place: u32) -> &Plan
+        requires { place < length (plans self.now.state.changes) }
+        ensures { result.now ≡ slice_index_or (plans self.now.state.changes) place empty_plan }
+    {
+        self.machine.plan(place)
+    }
+
+    /// How many orders were placed.
+    pub fn order_count(&self) -> u32
+        ensures { result ≡ length (orders self.now.state.changes) }
+    {
+        self.machine.order_count()
+    }
+
+    /// The order at a place, in the order in which they were placed.
+    pub fn order(&self, place: u32) -> Order
+        requires { place < length (orders self.now.state.changes) }
+        ensures { HoldsAt (λ order. result ≡ order) (orders self.now.state.changes) place }
+    {
+        self.machine.order(place)
     }
 
     /// The store, and the entries of all calls in order.

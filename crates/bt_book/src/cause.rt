@@ -1,13 +1,13 @@
 // The first cause for which an edit is refused. Nothing changes while it is looked for.
 ghost use Rattle.std.specs.Prelude.{◌≡◌, ◌==◌, ◌<◌, ◌≤◌, if◌then◌else◌, length};
 ghost use Rattle.bt_journal.specs.Journal.{NamesTerminals};
-ghost use Rattle.bt_book.specs.Machine.{held_after};
-ghost use Rattle.bt_book.specs.Records.{AreLinesAfter, IsBookFull, IsFirstCause, IsShortOf, Refuses};
+ghost use Rattle.bt_book.specs.Changes.{held_after};
+ghost use Rattle.bt_book.specs.Records.{AreLinesAfter, IsBookFull, IsFirstEditCause, IsShortOf, Refuses};
 
 use crate::lines::{Lines, full_line};
 use crate::machine::Machine;
 use bt_frame::{BeamNo, TermNo, Units};
-use bt_journal::{Edit, Reply};
+use bt_journal::{Change, Edit, Reply};
 
 /// The most changes that a book makes.
 const MOST_CHANGES: u32 = 8_000_000;
@@ -15,8 +15,8 @@ const MOST_CHANGES: u32 = 8_000_000;
 impl Machine {
     /// The refusal of an edit: its own first cause, or that the book is full.
     pub(crate) fn refusal_of(&self, edit: &Edit) -> Option<Reply>
-        requires { NamesTerminals (length self.now.net.terminals) edit.now }
-        ensures { Refuses self.now.net self.now.state edit.now result }
+        requires { NamesTerminals self.now.net edit.now }
+        ensures { Refuses self.now.net self.now.state (Change.Edit edit.now) result }
     {
         // This is there for what holds of each machine: no fault of the store has stopped it.
         let _ = &self.count;
@@ -26,8 +26,8 @@ impl Machine {
         }
     }
 
-    /// The refusal of a good edit where the book has as many changes as it can make.
-    fn book_full(&self) -> Option<Reply>
+    /// The refusal of a good change where the book has as many changes as it can make.
+    pub(crate) fn book_full(&self) -> Option<Reply>
         ensures { IsBookFull self.now.state.changes result }
     {
         if self.count < MOST_CHANGES {
@@ -39,8 +39,8 @@ impl Machine {
 
     /// The first cause of a refusal in the edit itself.
     pub(crate) fn cause_of(&self, edit: &Edit) -> Option<Reply>
-        requires { NamesTerminals (length self.now.net.terminals) edit.now }
-        ensures { IsFirstCause self.now.net self.now.state.changes edit.now result }
+        requires { NamesTerminals self.now.net edit.now }
+        ensures { IsFirstEditCause self.now.net self.now.state.changes edit.now result }
     {
         match *edit {
             Edit::Add { from, to, units } => self.cause_of_add(from, to, units),
@@ -56,8 +56,8 @@ impl Machine {
     }
 
     fn cause_of_add(&self, from: TermNo, to: TermNo, units: Units) -> Option<Reply>
-        requires { NamesTerminals (length self.now.net.terminals) (Edit.Add from to units) }
-        ensures { IsFirstCause self.now.net self.now.state.changes (Edit.Add from to units) result }
+        requires { NamesTerminals self.now.net (Edit.Add from to units) }
+        ensures { IsFirstEditCause self.now.net self.now.state.changes (Edit.Add from to units) result }
     {
         if from == to {
             Some(Reply::SameTerminal)
@@ -70,8 +70,8 @@ impl Machine {
     }
 
     fn cause_of_drop(&self, from: TermNo, to: TermNo, units: Units) -> Option<Reply>
-        requires { NamesTerminals (length self.now.net.terminals) (Edit.Drop from to units) }
-        ensures { IsFirstCause self.now.net self.now.state.changes (Edit.Drop from to units) result }
+        requires { NamesTerminals self.now.net (Edit.Drop from to units) }
+        ensures { IsFirstEditCause self.now.net self.now.state.changes (Edit.Drop from to units) result }
     {
         if from == to {
             Some(Reply::SameTerminal)
@@ -88,8 +88,8 @@ impl Machine {
         new_to: TermNo,
         units: Units,
     ) -> Option<Reply>
-        requires { NamesTerminals (length self.now.net.terminals) (Edit.Move from to new_from new_to units) }
-        ensures { IsFirstCause self.now.net self.now.state.changes (Edit.Move from to new_from new_to units) result }
+        requires { NamesTerminals self.now.net (Edit.Move from to new_from new_to units) }
+        ensures { IsFirstEditCause self.now.net self.now.state.changes (Edit.Move from to new_from new_to units) result }
     {
         if from == to || new_from == new_to {
             return Some(Reply::SameTerminal);
@@ -117,7 +117,7 @@ impl Machine {
 
     /// The lines of a link after it gained.
     fn lines_after_add(&self, from: TermNo, to: TermNo, units: Units) -> Lines
-        requires { NamesTerminals (length self.now.net.terminals) (Edit.Add from to units) }
+        requires { NamesTerminals self.now.net (Edit.Add from to units) }
         ensures { AreLinesAfter self.now.net self.now.state.changes (Edit.Add from to units) result }
     {
         let (row, row_slots) = self.occupancy.row_of(from);
@@ -140,7 +140,7 @@ impl Machine {
         new_to: TermNo,
         units: Units,
     ) -> Lines
-        requires terminals { NamesTerminals (length self.now.net.terminals) (Edit.Move from to new_from new_to units) }
+        requires terminals { NamesTerminals self.now.net (Edit.Move from to new_from new_to units) }
         requires held { units ≤ held_after self.now.state.changes from to }
         ensures { AreLinesAfter self.now.net self.now.state.changes (Edit.Move from to new_from new_to units) result }
     {

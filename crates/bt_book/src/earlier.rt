@@ -1,8 +1,11 @@
 // The demand of an earlier edition.
 ghost use Rattle.std.specs.Prelude.{◌≡◌, ◌<◌, ◌≤◌, ◌++◌, [], IfOk, OnOk};
-ghost use Rattle.bt_journal.specs.Journal.{changes_of};
-ghost use Rattle.bt_book.specs.Machine.{edition, Follows, IsDemandAt};
-ghost use Rattle.bt_book.specs.Records.{CanRedo, IsEditMade, IsRedone, RedoesOne};
+ghost use Rattle.bt_frame.specs.declared.limits.TheConstants.{SUM_LAST};
+ghost use Rattle.bt_demand.specs.Traffic.{matrix_of, AreOfNetwork, HasSumsTo};
+ghost use Rattle.bt_journal.specs.Journal.{changes_of, is_made};
+ghost use Rattle.bt_book.specs.Changes.{edition, IsDemandAt};
+ghost use Rattle.bt_book.specs.Causes.{Follows};
+ghost use Rattle.bt_book.specs.Records.{CanRedo, IsEditMade, IsEditOf, IsRedone, RedoesOne};
 
 use crate::machine::Machine;
 use crate::occupancy::Occupancy;
@@ -15,9 +18,13 @@ impl Machine {
     /// The demand after so many edits, of those that were made.
     pub(crate) fn demand_at(&self, alloc: Global, number: EditionNo) -> Result<Demand, OutOfMemory>
         requires { number.0 ≤ edition self.now.state.changes }
-        ensures { IfOk result (λ demand. IsDemandAt self.now.state.changes number.0 demand) }
+        ensures demand { IfOk result (λ demand. IsDemandAt self.now.state.changes number.0 demand) }
+        ensures network { IfOk result (λ demand. AreOfNetwork self.now.net demand) }
+        ensures sums { IfOk result (λ demand. HasSumsTo SUM_LAST (matrix_of self.now.net demand)) }
     {
-        let mut occupancy = Occupancy::new(alloc, self.occupancy.network())?;
+        let mut occupancy = Occupancy::new(alloc, self.network())?;
+        // This is there for what holds of each network: its frame has at most 4096 slots.
+        let _slots = occupancy.slots();
         redo(
             alloc,
             &mut occupancy,
@@ -40,13 +47,15 @@ fn redo(
     requires none { occupancy.old.links ≡ [] }
     requires follows { Follows occupancy.old.net (opening.now ++ changes_of history.now) }
     requires made { number ≤ edition (opening.now ++ changes_of history.now) }
-    ensures { OnOk result (IsRedone (opening.now ++ changes_of history.now) number occupancy.new.links) }
+    ensures { OnOk result (IsRedone occupancy.old.net (opening.now ++ changes_of history.now) number occupancy.new.links) }
 {
     // This is there for what holds of each network: its frame has at most 4096 slots.
     let _slots = occupancy.slots();
     let mut left = number;
     for change in opening {
-        left = redo_one(alloc, occupancy, &edit_of(change), left)?;
+        if let Some(edit) = edit_of(change) {
+            left = redo_one(alloc, occupancy, &edit, left)?;
+        }
     }
     for entry in history {
         if let Some(edit) = edit_made(entry) {
@@ -74,24 +83,32 @@ fn redo_one(
     Ok(left - 1)
 }
 
-/// The edit that a change is.
-fn edit_of(change: &Change) -> Edit
-    ensures { change.now ≡ Change.Edit result }
+/// The edit that a change is, if it is one.
+fn edit_of(change: &Change) -> Option<Edit>
+    ensures { IsEditOf change.now result }
 {
     match change {
-        Change::Edit(edit) => *edit,
+        Change::Edit(edit) => Some(*edit),
+        _ => None,
     }
 }
 
-/// The edit that a call made.
+/// The edit that a call made, if any.
 fn edit_made(entry: &Entry) -> Option<Edit>
     ensures { IsEditMade entry.now result }
 {
-    match entry.reply {
-        Reply::Done { .. } => {
-            let Call::Edit(edit) = &entry.call;
-            Some(*edit)
-        }
+    match &entry.call {
+        Call::Edit(edit) if is_made(&entry.reply) => Some(*edit),
         _ => None,
+    }
+}
+
+/// The reply says that a change was made.
+fn is_made(reply: &Reply) -> bool
+    ensures { result ≡ is_made reply.now }
+{
+    match *reply {
+        Reply::Done { .. } | Reply::Installed { .. } | Reply::Placed => true,
+        _ => false,
     }
 }

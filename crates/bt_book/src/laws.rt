@@ -9,7 +9,8 @@ ghost use Rattle.bt_journal.specs.Journal.{changes_of};
 ghost use Rattle.bt_line.specs.declared.object.Entry as line;
 ghost use Rattle.bt_line.specs.Legal as line_legal;
 ghost use Rattle.bt_book.specs.Book.{Books, book_steps, journal_entry};
-ghost use Rattle.bt_book.specs.Machine.{running, State, state_after, Follows, Legal, NamesBeams, Step};
+ghost use Rattle.bt_book.specs.Causes.{Follows};
+ghost use Rattle.bt_book.specs.Machine.{running, State, state_after, Legal, NamesBeams, Step};
 
 use bt_base::Keeper;
 

@@ -1,20 +1,25 @@
-//! The book of changes: the desk machine that makes edits of the demand, or refuses them for one cause.
+//! The book of changes: the desk machine that makes edits of the demand, installs plans and places orders, or refuses
+//! each for its first cause.
 //!
-//! It stands on the network, the demand and the journal's calls and replies, and is handed a store. `specs/Machine.antt`
-//! has the machine as a relation over the list of changes, with each sum taken afresh, and `specs/Book.antt` what
-//! contracts see of a book, which a turn lock may hand round; these are promises. `specs/Records.antt` is for bodies
-//! alone. `laws.rt` has what holds of all histories.
+//! It stands on the network, the demand, the checker of plans and the journal's calls and replies, and is handed a store.
+//! These are promises: `specs/Changes.antt`, what a list of changes made, with each sum taken afresh;
+//! `specs/EditCauses.antt` and `specs/Causes.antt`, why a change is refused; `specs/Machine.antt`, the machine as a
+//! relation over the list of changes; `specs/Book.antt`, what contracts see of a book, which a turn lock may hand round.
+//! `specs/Records.antt` is for bodies alone. `laws.rt` has what holds of all histories.
 #![tactic(auto)]
 
 mod apply;
 mod book;
 mod cause;
 mod earlier;
+mod install;
 mod laws;
 mod lines;
 mod machine;
 mod object;
 mod occupancy;
+mod place;
+mod tell;
 
 pub use book::Book;
 pub use laws::{

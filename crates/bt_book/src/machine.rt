@@ -1,22 +1,29 @@
 // The machine: the changes made so far, and what is kept beside them so that an edit looks at no earlier one.
-ghost use Rattle.std.specs.Prelude.{◌≡◌, ℕ, [], length, IfOk};
-ghost use Rattle.bt_book.specs.Machine.{edition, running, IsDemandAfter};
+ghost use Rattle.std.specs.Prelude.{◌≡◌, ◌<◌, ℕ, [], length, IfOk, slice_index_or};
+ghost use Rattle.std.specs.List.{HoldsAt};
+ghost use Rattle.bt_frame.specs.declared.limits.TheConstants.{SUM_LAST};
+ghost use Rattle.bt_demand.specs.Traffic.{matrix_of, AreOfNetwork, HasSumsTo};
+ghost use Rattle.bt_book.specs.Changes.{edition, empty_plan, newest, orders, plans, IsDemandAfter};
+ghost use Rattle.bt_book.specs.Machine.{running};
 
 use crate::occupancy::Occupancy;
-use bt_demand::Demand;
-use bt_frame::{EditionNo, OutOfMemory};
+use bt_air::Order;
+use bt_demand::{Bursts, Demand, Plan};
+use bt_frame::{BeamNo, Critical, EditionNo, Modes, OutOfMemory, Schedule};
 use bt_journal::{Change, Entry};
 use bt_net::Network;
 use std::alloc::Global;
 use std::marker::Model;
 
-/// The network, the changes that the machine began with, the history of the calls, and the demand after them with
-/// its traffic.
+/// The network, the changes that the machine began with, the history of the calls, and what is kept beside these: the
+/// demand after them with its traffic, the plans that are installed and the orders that are placed.
 #[derive(Drop)]
 pub(crate) struct Machine {
     pub(crate) occupancy: Occupancy,
     pub(crate) opening: Vec<Change>,
     pub(crate) history: Vec<Entry>,
+    pub(crate) plans: Vec<Plan>,
+    pub(crate) orders: Vec<Order>,
     pub(crate) count: u32,
     pub(crate) edits: u32,
 }
@@ -25,7 +32,7 @@ impl Model for Machine {
     ghost use Rattle.std.specs.Prelude.{◌++◌};
     ghost use Rattle.bt_journal.specs.Journal.{changes_of};
     ghost use Rattle.bt_book.specs.Machine.{state_after};
-    ghost use Rattle.bt_book.specs.Records.{Records, KeepsUp, Counts};
+    ghost use Rattle.bt_book.specs.Records.{Records, KeepsUp, Counts, Lists, IsSure};
 
     ghost Value = { Records };
 
@@ -36,7 +43,9 @@ impl Model for Machine {
     } };
 
     ghost invariant = { λ a. KeepsUp a.occupancy.net (a.opening.items ++ changes_of a.history.items) a.occupancy.links
-        × Counts (a.opening.items ++ changes_of a.history.items) a.count a.edits };
+        × Counts (a.opening.items ++ changes_of a.history.items) a.count a.edits
+        × Lists (a.opening.items ++ changes_of a.history.items) a.plans.items a.orders.items
+        × IsSure a.history.items };
 }
 
 impl Machine {
@@ -46,10 +55,14 @@ impl Machine {
         ensures state { IfOk result (λ machine. machine.state ≡ running []) }
         ensures history { IfOk result (λ machine. machine.history ≡ []) }
     {
+        let mut plans = Vec::new(alloc);
+        plans.push(empty_plan(alloc))?;
         Ok(Machine {
             occupancy: Occupancy::new(alloc, net)?,
             opening: Vec::new(alloc),
             history: Vec::new(alloc),
+            plans,
+            orders: Vec::new(alloc),
             count: 0,
             edits: 0,
         })
@@ -69,11 +82,60 @@ impl Machine {
         self.count
     }
 
+    /// The network.
+    pub(crate) fn network(&self) -> &Network
+        ensures { result.now ≡ self.now.net }
+    {
+        self.occupancy.network()
+    }
+
     /// The demand after the changes.
     pub(crate) fn demand(&self) -> &Demand
-        ensures { IsDemandAfter self.now.state.changes result.now }
+        ensures demand { IsDemandAfter self.now.state.changes result.now }
+        ensures network { AreOfNetwork self.now.net result.now }
+        ensures sums { HasSumsTo SUM_LAST (matrix_of self.now.net result.now) }
     {
+        // This is there for what holds of each network: its frame has at most 4096 slots.
+        let _slots = self.occupancy.slots();
         self.occupancy.demand()
+    }
+
+    /// The newest plan.
+    pub(crate) fn newest(&self) -> &Plan
+        ensures { result.now ≡ newest self.now.state.changes }
+    {
+        let last = self.plans.len() - 1;
+        &self.plans[last]
+    }
+
+    /// How many plans are installed, the empty one among them.
+    pub(crate) fn plan_count(&self) -> u32
+        ensures { result ≡ length (plans self.now.state.changes) }
+    {
+        self.plans.as_slice().len() as u32
+    }
+
+    /// The plan at that place.
+    pub(crate) fn plan(&self, place: u32) -> &Plan
+        requires { place < length (plans self.now.state.changes) }
+        ensures { result.now ≡ slice_index_or (plans self.now.state.changes) place empty_plan }
+    {
+        &self.plans[place as usize]
+    }
+
+    /// How many orders were placed.
+    pub(crate) fn order_count(&self) -> u32
+        ensures { result ≡ length (orders self.now.state.changes) }
+    {
+        self.orders.as_slice().len() as u32
+    }
+
+    /// The order at that place.
+    pub(crate) fn order(&self, place: u32) -> Order
+        requires { place < length (orders self.now.state.changes) }
+        ensures { HoldsAt (λ order. result ≡ order) (orders self.now.state.changes) place }
+    {
+        self.orders[place as usize]
     }
 
     /// The entries of all calls, in order.
@@ -81,5 +143,20 @@ impl Machine {
         ensures { result.items ≡ self.history }
     {
         self.history
+    }
+}
+
+/// The empty plan, which edition 0 has.
+fn empty_plan(alloc: Global) -> Plan
+    ensures { result ≡ empty_plan }
+{
+    Plan {
+        edition: EditionNo(0),
+        schedule: Schedule {
+            length: 0,
+            critical: Critical::Row(BeamNo(0)),
+            modes: Modes::of(Vec::new(alloc)),
+        },
+        bursts: Bursts::of(Vec::new(alloc)),
     }
 }

@@ -7,7 +7,7 @@ ghost use Rattle.bt_demand.specs.Traffic.{matrix_of, HasSumsTo};
 ghost use Rattle.bt_net.specs.Terminals.{IsInBeam};
 ghost use Rattle.bt_net.specs.Network.{IsSound};
 ghost use Rattle.bt_journal.specs.Journal.{NamesTerminals};
-ghost use Rattle.bt_book.specs.Machine.{HasEnds};
+ghost use Rattle.bt_book.specs.EditCauses.{HasEnds};
 ghost use Rattle.bt_book.specs.Records.{EditsLinks, GainsFirst, LosesThen, HoldsTaken, HoldsGiven};
 
 use bt_demand::Demand;
@@ -137,7 +137,7 @@ impl Occupancy {
 
     /// Makes an edit. Where memory runs out all is as it was.
     pub(crate) fn edit(&mut self, alloc: Global, edit: &Edit) -> Result<(), OutOfMemory>
-        requires terminals { NamesTerminals (length self.old.net.terminals) edit.now }
+        requires terminals { NamesTerminals self.old.net edit.now }
         requires ends { HasEnds edit.now }
         requires held { HoldsTaken self.old.links edit.now }
         requires small { HasSumsTo MOST_SLOTS (matrix_of self.old.net self.old.links) }
@@ -152,7 +152,7 @@ impl Occupancy {
 
     /// The first half of an edit: what it gives. Where memory runs out all is as it was.
     pub(crate) fn gain_first(&mut self, alloc: Global, edit: &Edit) -> Result<(), OutOfMemory>
-        requires terminals { NamesTerminals (length self.old.net.terminals) edit.now }
+        requires terminals { NamesTerminals self.old.net edit.now }
         requires ends { HasEnds edit.now }
         requires small { HasSumsTo MOST_SLOTS (matrix_of self.old.net self.old.links) }
         ensures ok { OnOk result (GainsFirst self.old.links edit.now self.new.links) }
@@ -173,7 +173,7 @@ impl Occupancy {
 
     /// The second half of an edit: what it takes.
     pub(crate) fn lose_then(&mut self, edit: &Edit)
-        requires terminals { NamesTerminals (length self.old.net.terminals) edit.now }
+        requires terminals { NamesTerminals self.old.net edit.now }
         requires held { HoldsTaken self.old.links edit.now }
         ensures loses { LosesThen self.old.links edit.now self.new.links }
         ensures net { self.new.net ≡ self.old.net }
@@ -192,7 +192,7 @@ impl Occupancy {
 
     /// Takes back the first half of an edit.
     pub(crate) fn take_back(&mut self, edit: &Edit)
-        requires terminals { NamesTerminals (length self.old.net.terminals) edit.now }
+        requires terminals { NamesTerminals self.old.net edit.now }
         requires held { HoldsGiven self.old.links edit.now }
         ensures back { GainsFirst self.new.links edit.now self.old.links }
         ensures net { self.new.net ≡ self.old.net }
