@@ -2,7 +2,7 @@
 ghost use Rattle.std.specs.Prelude.{◌≡◌, ◌<◌, ◌≤◌, ◌++◌, [], IfOk, OnOk};
 ghost use Rattle.bt_frame.specs.declared.limits.TheConstants.{SUM_LAST};
 ghost use Rattle.bt_demand.specs.Traffic.{matrix_of, AreOfNetwork, HasSumsTo};
-ghost use Rattle.bt_journal.specs.Journal.{changes_of, is_made};
+ghost use Rattle.bt_journal.specs.Journal.{changes_of};
 ghost use Rattle.bt_book.specs.Changes.{edition, IsDemandAt};
 ghost use Rattle.bt_book.specs.Causes.{Follows};
 ghost use Rattle.bt_book.specs.Records.{CanRedo, IsEditMade, IsEditOf, IsRedone, RedoesOne};
@@ -11,7 +11,7 @@ use crate::machine::Machine;
 use crate::occupancy::Occupancy;
 use bt_demand::Demand;
 use bt_frame::{EditionNo, OutOfMemory};
-use bt_journal::{Call, Change, Edit, Entry, Reply};
+use bt_journal::{Call, Change, Edit, Entry};
 use std::alloc::Global;
 
 impl Machine {
@@ -98,17 +98,7 @@ fn edit_made(entry: &Entry) -> Option<Edit>
     ensures { IsEditMade entry.now result }
 {
     match &entry.call {
-        Call::Edit(edit) if is_made(&entry.reply) => Some(*edit),
+        Call::Edit(edit) if entry.reply.is_made() => Some(*edit),
         _ => None,
-    }
-}
-
-/// The reply says that a change was made.
-fn is_made(reply: &Reply) -> bool
-    ensures { result ≡ is_made reply.now }
-{
-    match *reply {
-        Reply::Done { .. } | Reply::Installed { .. } | Reply::Placed => true,
-        _ => false,
     }
 }

@@ -1,5 +1,6 @@
 // What the book of changes answers.
 ghost use Rattle.std.specs.Prelude.{◌≡◌, IfOk};
+ghost use Rattle.bt_journal.specs.Journal.{is_fault, is_made, is_refusal};
 
 use bt_demand::{Demand, Plan};
 use bt_frame::{BeamNo, Command, EditionNo, OutOfMemory};
@@ -77,6 +78,36 @@ pub enum Reply {
 }
 
 impl Reply {
+    /// It says that a change was made.
+    pub fn is_made(&self) -> bool
+        ensures { result ≡ is_made self.now }
+    {
+        match *self {
+            Reply::Done { .. } | Reply::Installed { .. } | Reply::Placed => true,
+            _ => false,
+        }
+    }
+
+    /// It tells of a fault of the store, now or before.
+    pub fn is_fault(&self) -> bool
+        ensures { result ≡ is_fault self.now }
+    {
+        match *self {
+            Reply::StoreFault | Reply::Stopped => true,
+            _ => false,
+        }
+    }
+
+    /// It refuses a change for a cause of its own.
+    pub fn is_refusal(&self) -> bool
+        ensures { result ≡ is_refusal self.now }
+    {
+        match *self {
+            Reply::Demand { .. } | Reply::Newest { .. } => false,
+            _ => !self.is_made() && !self.is_fault(),
+        }
+    }
+
     /// An equal reply.
     pub fn copy(&self, alloc: Global) -> Result<Reply, OutOfMemory>
         ensures { IfOk result (λ copy. copy ≡ self.now) }
