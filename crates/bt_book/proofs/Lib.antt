@@ -8,4 +8,5 @@ pub mod Histories
 pub mod Entries
 pub mod Redone
 pub mod OfNetwork
+pub mod Flying
 pub mod TurnLock

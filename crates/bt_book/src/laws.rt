@@ -1,6 +1,7 @@
 // What holds of histories, whatever the program does.
-ghost use Rattle.std.specs.Prelude.{◌≡◌, ◌++◌, ◌∷◌, [], List, map};
+ghost use Rattle.std.specs.Prelude.{◌≡◌, ◌++◌, ◌∷◌, [], All, List, map};
 ghost use Rattle.bt_net.specs.Network.{Net, IsSound};
+ghost use Rattle.bt_demand.specs.Flyable.{IsFlyable};
 ghost use Rattle.bt_journal.specs.declared.call.Call.{Call};
 ghost use Rattle.bt_journal.specs.declared.call.Change.{Change};
 ghost use Rattle.bt_journal.specs.declared.entry.Entry.{Entry};
@@ -9,6 +10,7 @@ ghost use Rattle.bt_journal.specs.Journal.{changes_of};
 ghost use Rattle.bt_line.specs.declared.object.Entry as line;
 ghost use Rattle.bt_line.specs.Legal as line_legal;
 ghost use Rattle.bt_book.specs.Book.{Books, book_steps, journal_entry};
+ghost use Rattle.bt_book.specs.Changes.{newest, plans};
 ghost use Rattle.bt_book.specs.Causes.{Follows};
 ghost use Rattle.bt_book.specs.Machine.{running, State, state_after, Legal, NamesBeams, Step};
 
@@ -29,6 +31,14 @@ pub fn histories_grow_by_steps()
 pub fn legal_changes_follow()
     ensures { (net : Net) (opening : List Change) (history : List Entry) → Follows net opening
         → Legal net opening history → Follows net (opening ++ changes_of history) }
+{}
+
+/// Each plan that is installed after changes that follow can be flown, the empty one too, and so can the newest.
+pub fn installed_plans_can_be_flown()
+    ensures all { (net : Net) (changes : List Change) → IsSound net → Follows net changes
+        → All (IsFlyable net) (plans changes) }
+    ensures newest { (net : Net) (changes : List Change) → IsSound net → Follows net changes
+        → IsFlyable net (newest changes) }
 {}
 
 /// The history that a turn lock makes of a book's calls is one of the machine: legal from the changes at its start, and

@@ -23,6 +23,6 @@ mod tell;
 
 pub use book::Book;
 pub use laws::{
-    histories_grow_by_steps, legal_changes_follow, locked_books_are_legal,
-    replies_name_beams_of_the_network,
+    histories_grow_by_steps, installed_plans_can_be_flown, legal_changes_follow,
+    locked_books_are_legal, replies_name_beams_of_the_network,
 };
