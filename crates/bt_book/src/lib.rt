@@ -19,6 +19,7 @@ mod machine;
 mod object;
 mod occupancy;
 mod place;
+mod restart;
 mod tell;
 
 pub use book::Book;
