@@ -1,68 +1,73 @@
-// The rounds that the lines of a script say.
-ghost use Rattle.std.specs.Prelude.{◌≡◌, ◌+◌, ◌<◌, ◌++◌, [], ℕ, vec_len, All, IfOk, OnOk};
+// The rounds and restarts that the lines of a script say.
+ghost use Rattle.std.specs.Prelude.{◌≡◌, ◌+◌, ◌<◌, ◌≤◌, ◌++◌, ◌∷◌, [], ℕ, length, vec_len, count_by, flat_map, All, IfOk, OnOk};
 ghost use Rattle.std.specs.List.{slice_index_or};
 ghost use Rattle.bt_script.specs.declared.desk_no.TheConstants.{MOST_DESKS};
-ghost use Rattle.bt_script.specs.ScriptText.{is_round, own_lines, lines_of, entry_of, desks_of, rounds_at, items_of};
+ghost use Rattle.bt_script.specs.declared.reader.TheConstants.{MOST_LINES};
+ghost use Rattle.bt_script.specs.ScriptText.{ends_round, round_lines, own_lines, is_plan, air_lines, entry_of, round_of, items_at, items_of};
 
 use crate::desk_no::MOST_DESKS;
 use crate::line::ScriptLine;
-use crate::{DeskLines, Desks, Item, Items, Round};
+use crate::{AirLine, AirLines, DeskLines, Desks, Item, Items, Round};
 use bt_frame::OutOfMemory;
 use std::alloc::Global;
 use std::mem;
 
-/// The rounds that the lines say.
+/// The rounds and restarts that the lines say.
 pub fn items_of(alloc: Global, said: &[ScriptLine]) -> Result<Items, OutOfMemory>
+    requires { length said.now ≤ MOST_LINES }
     ensures { IfOk result (λ items. items ≡ items_of said.now) }
 {
     let mut items = Vec::new(alloc);
     let mut rest = said;
     while let [first, after @ ..] = rest {
-        add_round(alloc, first, after, &mut items)?;
+        add_item(alloc, first, after, &mut items)?;
         rest = after;
     }
     Ok(Items::of(items))
 }
 
-// Adds the round that the line begins, if it begins one.
-fn add_round(
+// Adds the round or restart that the line begins, if it begins one.
+fn add_item(
     alloc: Global,
     first: &ScriptLine,
     after: &[ScriptLine],
     items: &mut Vec<Item>,
 ) -> Result<(), OutOfMemory>
-    ensures { OnOk result (items.new.items ≡ items.old.items ++ rounds_at first.now after.now) }
+    requires { length after.now ≤ MOST_LINES }
+    ensures { OnOk result (items.new.items ≡ items.old.items ++ items_at first.now after.now) }
 {
-    if !is_round(first) {
-        return Ok(());
-    }
-    let desks = desks_of(alloc, after)?;
-    items.push(Item::Round(Round { desks }))?;
-    Ok(())
-}
-
-// The line begins a round.
-fn is_round(line: &ScriptLine) -> bool
-    ensures { result ≡ is_round line.now }
-{
-    match line {
-        ScriptLine::Round => true,
-        _ => false,
+    match first {
+        ScriptLine::Round => {
+            let round = round_in_front(alloc, after)?;
+            items.push(Item::Round(round))?;
+            Ok(())
+        }
+        ScriptLine::Restart => {
+            items.push(Item::Restart)?;
+            Ok(())
+        }
+        _ => Ok(()),
     }
 }
 
-// The desks of the round that stands in front of these lines.
-fn desks_of(alloc: Global, said: &[ScriptLine]) -> Result<Desks, OutOfMemory>
-    ensures { IfOk result (λ desks. desks ≡ desks_of 1 MOST_DESKS said.now) }
+// The round of the lines in front of the next round or restart.
+fn round_in_front(alloc: Global, said: &[ScriptLine]) -> Result<Round, OutOfMemory>
+    requires { length said.now ≤ MOST_LINES }
+    ensures { IfOk result (λ round. round ≡ round_of (round_lines said.now)) }
 {
-    let mut table = lines_by_desk(alloc, said)?;
+    let lines = lines_by_worker(alloc, said)?;
+    let mut table = lines.desks;
     let mut desks = Vec::new(alloc);
     for desk in 1..MOST_DESKS + 1 {
         let place = usize::from(desk) - 1;
-        let lines = mem::replace(&mut table[place], DeskLines::none(alloc));
-        add_desk(desk, lines, &mut desks)?;
+        let own = mem::replace(&mut table[place], DeskLines::none(alloc));
+        add_desk(desk, own, &mut desks)?;
     }
-    Ok(Desks::of(desks))
+    Ok(Round {
+        desks: Desks::of(desks),
+        plans: lines.plans,
+        air: AirLines::of(lines.air),
+    })
 }
 
 // Adds the desk, if it has lines.
@@ -76,21 +81,40 @@ fn add_desk(desk: u8, lines: DeskLines, desks: &mut Vec<(u8, DeskLines)>) -> Res
     Ok(())
 }
 
-// The lines as far as the next round, by desk: those of desk 1 first.
-fn lines_by_desk(alloc: Global, said: &[ScriptLine]) -> Result<Vec<DeskLines>, OutOfMemory>
-    ensures count { IfOk result (λ table. vec_len table ≡ MOST_DESKS) }
-    ensures lines { IfOk result (λ table. (d : ℕ) → d < MOST_DESKS → slice_index_or table.items d [] ≡ lines_of (d + 1) said.now) }
+// The lines of a round, by who carries them out.
+#[derive(Drop)]
+struct RoundLines {
+    // The lines of each desk, those of desk 1 first.
+    desks: Vec<DeskLines>,
+    // How many lines are the planner's.
+    plans: u32,
+    // The lines of the air.
+    air: Vec<AirLine>,
+}
+
+// The lines in front of the next round or restart, by who carries them out.
+fn lines_by_worker(alloc: Global, said: &[ScriptLine]) -> Result<RoundLines, OutOfMemory>
+    requires { length said.now ≤ MOST_LINES }
+    ensures count { IfOk result (λ lines. vec_len lines.desks ≡ MOST_DESKS) }
+    ensures desks { IfOk result (λ lines. (d : ℕ) → d < MOST_DESKS
+        → slice_index_or lines.desks.items d [] ≡ flat_map (own_lines (d + 1)) (round_lines said.now)) }
+    ensures plans { IfOk result (λ lines. lines.plans ≡ count_by is_plan (round_lines said.now)) }
+    ensures air { IfOk result (λ lines. lines.air.items ≡ flat_map air_lines (round_lines said.now)) }
 {
-    let mut table = empty_table(alloc)?;
+    let mut lines = RoundLines {
+        desks: empty_table(alloc)?,
+        plans: 0,
+        air: Vec::new(alloc),
+    };
     let mut rest = said;
     while let [first, after @ ..] = rest {
-        if is_round(first) {
-            return Ok(table);
+        if ends_round(first) {
+            return Ok(lines);
         }
-        add_own(first, &mut table)?;
+        lines.add(first)?;
         rest = after;
     }
-    Ok(table)
+    Ok(lines)
 }
 
 // No lines for each desk.
@@ -105,19 +129,44 @@ fn empty_table(alloc: Global) -> Result<Vec<DeskLines>, OutOfMemory>
     Ok(table)
 }
 
-// Adds the line to those of its desk, if it is a desk's.
-fn add_own(line: &ScriptLine, table: &mut Vec<DeskLines>) -> Result<(), OutOfMemory>
-    requires { vec_len table.old ≡ MOST_DESKS }
-    ensures count { vec_len table.new ≡ MOST_DESKS }
-    ensures lines { OnOk result ((d : ℕ) → d < MOST_DESKS
-        → slice_index_or table.new.items d [] ≡ slice_index_or table.old.items d [] ++ own_lines (d + 1) line.now) }
+// The line ends the round before it.
+fn ends_round(line: &ScriptLine) -> bool
+    ensures { result ≡ ends_round line.now }
 {
     match line {
-        ScriptLine::Remark => Ok(()),
-        ScriptLine::Round => Ok(()),
-        ScriptLine::Edit { desk, edit } => {
-            let place = usize::from(desk.get() - 1);
-            table[place].add_edit(edit)
+        ScriptLine::Round => true,
+        ScriptLine::Restart => true,
+        _ => false,
+    }
+}
+
+impl RoundLines {
+    // Adds the line to those of its desk, of the planner or of the air, if it is one of these.
+    fn add(&mut self, line: &ScriptLine) -> Result<(), OutOfMemory>
+        requires count { vec_len self.old.desks ≡ MOST_DESKS }
+        requires plans { self.old.plans < MOST_LINES }
+        ensures count { vec_len self.new.desks ≡ MOST_DESKS }
+        ensures desks { OnOk result ((d : ℕ) → d < MOST_DESKS
+            → slice_index_or self.new.desks.items d [] ≡ slice_index_or self.old.desks.items d [] ++ own_lines (d + 1) line.now) }
+        ensures plans { OnOk result (self.new.plans ≡ self.old.plans + count_by is_plan (line.now ∷ [])) }
+        ensures air { OnOk result (self.new.air.items ≡ self.old.air.items ++ air_lines line.now) }
+    {
+        match line {
+            ScriptLine::Remark => Ok(()),
+            ScriptLine::Round => Ok(()),
+            ScriptLine::Restart => Ok(()),
+            ScriptLine::Desk { desk, line } => {
+                let place = usize::from(desk.get() - 1);
+                self.desks[place].add(line)
+            }
+            ScriptLine::Plan => {
+                self.plans += 1;
+                Ok(())
+            }
+            ScriptLine::Air(line) => {
+                self.air.push(*line)?;
+                Ok(())
+            }
         }
     }
 }

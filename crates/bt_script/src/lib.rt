@@ -1,9 +1,10 @@
-//! The script text: rounds, and in each round the lines of its desks.
+//! The script text: rounds, in each round the lines of its desks, of its planner and of the air, and the restarts of
+//! the centre between them.
 //!
-//! It stands on the texts of `bt_text`, the names of `bt_net` and the edits of `bt_journal`; `docs/formats.md` has the
-//! lines of a script. A line goes through four stages, and the first that it does not pass names its fault: its shape,
-//! its names, its ranges, its place. `specs/LineShape.antt` and `shape.rt` have the shapes in the same order,
-//! `specs/Stages.antt` and `line.rt` the stages.
+//! It stands on the texts of `bt_text`, the names of `bt_net`, the ends of the air of `bt_air` and the edits of
+//! `bt_journal`; `docs/formats.md` has the lines of a script. A line goes through four stages, and the first that it
+//! does not pass names its fault: its shape, its names, its ranges, its place. `specs/LineShape.antt` and `shape.rt`
+//! have the shapes in the same order; `specs/Stages.antt` and `names.rt`, `ranges.rt` and `line.rt` the stages.
 //!
 //! Promises are in `specs/ScriptText.antt`, the script that a text spells; `specs/Named.antt`, the terminals that a
 //! script names; `specs/Desks.antt`, the desks of a round. `specs/Reading.antt` and `specs/Range.antt` are words of
@@ -14,9 +15,13 @@ mod desk_no;
 mod fault;
 mod items;
 mod line;
+mod names;
+mod ranges;
 mod reader;
 mod script;
 mod shape;
 
 pub use fault::{ScriptCode, ScriptFault};
-pub use script::{DeskLine, DeskLines, Desks, Item, Items, Round, Script};
+pub use script::{
+    AirLine, AirLines, DeskLine, DeskLines, Desks, Item, Items, Losing, Round, Script,
+};

@@ -1,16 +1,13 @@
 // One line of a script: what it says, or the fault of the first stage that it does not pass.
 ghost use Rattle.std.specs.Prelude.{◌≡◌};
-ghost use Rattle.bt_frame.specs.declared.limits.TheConstants.{MOST_UNITS};
 ghost use Rattle.bt_text.specs.Reading.{Gives};
-ghost use Rattle.bt_script.specs.LineShape.{each_name};
-ghost use Rattle.bt_script.specs.Range.{within};
-ghost use Rattle.bt_script.specs.Stages.{link_of, with_terminals, in_range, may_stand, line_in};
+ghost use Rattle.bt_script.specs.Stages.{may_stand, line_in};
 
 use crate::desk_no::DeskNo;
-use crate::shape::{LineShape, shape_of};
-use crate::{ScriptCode, ScriptFault};
-use bt_frame::{MOST_UNITS, TermNo, Units};
-use bt_journal::Edit;
+use crate::names::with_terminals;
+use crate::ranges::in_range;
+use crate::shape::shape_of;
+use crate::{AirLine, DeskLine, ScriptCode, ScriptFault};
 use bt_net::Network;
 use bt_text::fault_at;
 
@@ -21,8 +18,14 @@ pub enum ScriptLine {
     Remark,
     /// A round begins.
     Round,
-    /// A desk edits the demand.
-    Edit { desk: DeskNo, edit: Edit },
+    /// The centre restarts.
+    Restart,
+    /// What a desk does.
+    Desk { desk: DeskNo, line: DeskLine },
+    /// The planner plans.
+    Plan,
+    /// What happens on the air.
+    Air(AirLine),
 }
 
 /// What line `at` says; `is_open` is whether a round is open there.
@@ -43,139 +46,6 @@ pub fn read_line(
     Ok(said)
 }
 
-// The line with the terminals of its names, or None where no terminal has one of them.
-fn with_terminals(net: &Network, shape: LineShape<&[u8]>) -> Option<LineShape<TermNo>>
-    ensures { result ≡ with_terminals net.now (each_name (λ name. name.now) shape.entry) }
-{
-    match shape {
-        LineShape::Remark => Some(LineShape::Remark),
-        LineShape::Round => Some(LineShape::Round),
-        LineShape::Add {
-            desk,
-            from,
-            to,
-            units,
-        } => {
-            let (from, to) = link_of(net, from, to)?;
-            Some(LineShape::Add {
-                desk,
-                from,
-                to,
-                units,
-            })
-        }
-        LineShape::Drop {
-            desk,
-            from,
-            to,
-            units,
-        } => {
-            let (from, to) = link_of(net, from, to)?;
-            Some(LineShape::Drop {
-                desk,
-                from,
-                to,
-                units,
-            })
-        }
-        LineShape::Move {
-            desk,
-            from,
-            to,
-            new_from,
-            new_to,
-            units,
-        } => {
-            let (from, to) = link_of(net, from, to)?;
-            let (new_from, new_to) = link_of(net, new_from, new_to)?;
-            Some(LineShape::Move {
-                desk,
-                from,
-                to,
-                new_from,
-                new_to,
-                units,
-            })
-        }
-    }
-}
-
-// The terminals of two names.
-fn link_of(net: &Network, from: &[u8], to: &[u8]) -> Option<(TermNo, TermNo)>
-    ensures { result ≡ link_of net.now from.now to.now }
-{
-    let from = net.terminal_named(from)?;
-    let to = net.terminal_named(to)?;
-    Some((from, to))
-}
-
-// The line, or None where a number is out of range.
-fn in_range(named: LineShape<TermNo>) -> Option<ScriptLine>
-    ensures { result ≡ in_range named }
-{
-    match named {
-        LineShape::Remark => Some(ScriptLine::Remark),
-        LineShape::Round => Some(ScriptLine::Round),
-        LineShape::Add {
-            desk,
-            from,
-            to,
-            units,
-        } => {
-            let desk = DeskNo::new(desk)?;
-            let units = units_of(units)?;
-            Some(ScriptLine::Edit {
-                desk,
-                edit: Edit::Add { from, to, units },
-            })
-        }
-        LineShape::Drop {
-            desk,
-            from,
-            to,
-            units,
-        } => {
-            let desk = DeskNo::new(desk)?;
-            let units = units_of(units)?;
-            Some(ScriptLine::Edit {
-                desk,
-                edit: Edit::Drop { from, to, units },
-            })
-        }
-        LineShape::Move {
-            desk,
-            from,
-            to,
-            new_from,
-            new_to,
-            units,
-        } => {
-            let desk = DeskNo::new(desk)?;
-            let units = units_of(units)?;
-            Some(ScriptLine::Edit {
-                desk,
-                edit: Edit::Move {
-                    from,
-                    to,
-                    new_from,
-                    new_to,
-                    units,
-                },
-            })
-        }
-    }
-}
-
-// The units of an edit.
-fn units_of(units: u64) -> Option<Units>
-    ensures { result ≡ within MOST_UNITS units }
-{
-    if units > u64::from(MOST_UNITS) {
-        return None;
-    }
-    Units::new(units as u32)
-}
-
 // The line may stand where a round is open, or is not.
 fn may_stand(is_open: bool, said: &ScriptLine) -> bool
     ensures { result ≡ may_stand is_open said.now }
@@ -183,6 +53,9 @@ fn may_stand(is_open: bool, said: &ScriptLine) -> bool
     match said {
         ScriptLine::Remark => true,
         ScriptLine::Round => true,
-        ScriptLine::Edit { .. } => is_open,
+        ScriptLine::Restart => true,
+        ScriptLine::Desk { .. } => is_open,
+        ScriptLine::Plan => is_open,
+        ScriptLine::Air(_) => is_open,
     }
 }

@@ -1,14 +1,14 @@
 // A script from its text.
-ghost use Rattle.std.specs.Prelude.{◌≤◌, [], length, false, All, IfOk, OnOk};
+ghost use Rattle.std.specs.Prelude.{◌≡◌, ◌+◌, ◌≤◌, [], length, vec_len, false, All, IfOk, OnOk};
 ghost use Rattle.bt_text.specs.Text.{lines};
 ghost use Rattle.bt_script.specs.declared.reader.TheConstants.{MOST_LINES};
 ghost use Rattle.bt_script.specs.Named.{HasDesksInOrder, IsItemFor};
 ghost use Rattle.bt_text.specs.Reading.{Gives};
-ghost use Rattle.bt_script.specs.ScriptText.{limited_line, added, last_in, lines_in, script_of};
+ghost use Rattle.bt_script.specs.ScriptText.{is_open_behind, limited_line, added, last_in, lines_in, script_of};
 
 use crate::items::items_of;
 use crate::line::{ScriptLine, read_line};
-use crate::{Script, ScriptCode, ScriptFault};
+use crate::{DeskLine, Script, ScriptCode, ScriptFault};
 use bt_net::Network;
 use bt_text::{fault_at, first_line};
 use std::alloc::Global;
@@ -19,7 +19,7 @@ const MOST_LINES: u32 = 20000;
 impl Script {
     /// The script that the bytes spell for this network, or the first line with a fault.
     ///
-    /// Its edits name terminals of the network alone, and the desks of a round ascend by number.
+    /// Its lines name terminals of the network alone, and the desks of a round ascend by number.
     #[tactic(auto, using(crate::proofs::Naming::items_named, crate::proofs::Order::items_in_order))]
     pub fn read(alloc: Global, net: &Network, bytes: &[u8]) -> Result<Script, ScriptFault>
         requires { length bytes.now ≤ 67108864 }
@@ -35,7 +35,8 @@ impl Script {
 
 // What the lines of a text say.
 fn read_lines(alloc: Global, net: &Network, text: &[u8]) -> Result<Vec<ScriptLine>, ScriptFault>
-    ensures { Gives (λ said. said.items) result (lines_in net.now 1 false (lines text.now)) }
+    ensures reading { Gives (λ said. said.items) result (lines_in net.now 1 false (lines text.now)) }
+    ensures few { IfOk result (λ said. vec_len said ≤ MOST_LINES) }
 {
     let mut said = Vec::new(alloc);
     let mut rest = text;
@@ -60,21 +61,32 @@ fn add_line(
 ) -> Result<bool, ScriptFault>
     ensures reading { Gives (λ opened. (opened, said.new.items)) result
         (added is_open said.old.items (limited_line net.now at is_open line.now)) }
+    ensures count { OnOk result (vec_len said.new ≡ vec_len said.old + 1) }
     ensures limit { OnOk result (at ≤ MOST_LINES) }
 {
-    match limited_line(net, at, is_open, line)? {
-        ScriptLine::Remark => {
-            said.push(ScriptLine::Remark)?;
-            Ok(is_open)
-        }
-        ScriptLine::Round => {
-            said.push(ScriptLine::Round)?;
-            Ok(true)
-        }
-        ScriptLine::Edit { desk, edit } => {
-            said.push(ScriptLine::Edit { desk, edit })?;
-            Ok(is_open)
-        }
+    let one = &limited_line(net, at, is_open, line)?;
+    // An edit is named apart, so that the range of its units is known here.
+    match one {
+        ScriptLine::Desk {
+            desk,
+            line: DeskLine::Edit(edit),
+        } => said.push(ScriptLine::Desk {
+            desk: *desk,
+            line: DeskLine::Edit(*edit),
+        })?,
+        _ => said.push(*one)?,
+    }
+    Ok(is_open_behind(is_open, one))
+}
+
+// A round is open behind the line.
+fn is_open_behind(is_open: bool, line: &ScriptLine) -> bool
+    ensures { result ≡ is_open_behind is_open line.now }
+{
+    match line {
+        ScriptLine::Round => true,
+        ScriptLine::Restart => false,
+        _ => is_open,
     }
 }
 

@@ -1,8 +1,9 @@
-// A script: what happens in each of its rounds.
+// A script: what happens in each of its rounds, and where the centre restarts.
 ghost use Rattle.std.specs.Prelude.{◌≡◌, ◌++◌, ◌∷◌, [], OnOk, OnErr};
 ghost use Rattle.bt_script.specs.Desks.{AreDesks};
 
-use bt_frame::OutOfMemory;
+use bt_air::Place;
+use bt_frame::{OutOfMemory, TermNo};
 use bt_journal::Edit;
 use std::alloc::Global;
 use std::marker::Model;
@@ -12,6 +13,8 @@ use std::marker::Model;
 pub enum DeskLine {
     /// The desk edits the demand.
     Edit(Edit),
+    /// The desk looks at the bursts that the terminal transmits.
+    Show(TermNo),
 }
 
 /// The lines of one desk in the order of the script.
@@ -46,12 +49,15 @@ impl DeskLines {
         }
     }
 
-    /// Adds an edit behind the other lines.
-    pub fn add_edit(&mut self, edit: &Edit) -> Result<(), OutOfMemory>
-        ensures ok { OnOk result (self.new ≡ self.old ++ DeskLine.Edit edit.now ∷ []) }
+    /// Adds a line behind the others.
+    pub fn add(&mut self, line: &DeskLine) -> Result<(), OutOfMemory>
+        ensures ok { OnOk result (self.new ≡ self.old ++ line.now ∷ []) }
         ensures err { OnErr result (self.new ≡ self.old) }
     {
-        self.lines.push(DeskLine::Edit(*edit))?;
+        match line {
+            DeskLine::Edit(edit) => self.lines.push(DeskLine::Edit(*edit))?,
+            DeskLine::Show(terminal) => self.lines.push(DeskLine::Show(*terminal))?,
+        }
         Ok(())
     }
 
@@ -99,17 +105,84 @@ impl Desks {
     }
 }
 
-/// A round: what its desks do.
+/// What is lost on the air.
+#[derive(Clone, Copy, Debug, PartialEq, Eq)]
+pub enum Losing {
+    /// All that waits.
+    All,
+    /// All that waits for this end of the air.
+    At(Place),
+}
+
+/// A line of the air.
+#[derive(Clone, Copy, Debug, PartialEq, Eq)]
+pub enum AirLine {
+    /// The satellite's next superframe begins.
+    Tick,
+    /// The centre has its turn.
+    Turn,
+    /// All that waits is delivered, and what joins it meanwhile.
+    Flow,
+    /// Something of what waits is lost.
+    Lose(Losing),
+    /// The message of this number is delivered at this end of the air, whatever waits. Messages are numbered from 0
+    /// in the order in which they were sent.
+    Deliver(u32, Place),
+    /// The next frame of the superframe is shown.
+    Frame,
+    /// The terminal restarts.
+    Reset(TermNo),
+}
+
+/// The lines of the air in the order of the script.
+#[derive(Debug, Drop)]
+pub struct AirLines {
+    lines: Vec<AirLine>,
+}
+
+impl Model for AirLines {
+    ghost use Rattle.std.specs.Prelude.{List};
+    ghost use Rattle.bt_script.specs.declared.script.AirLine.{AirLine};
+
+    ghost Value = { List AirLine };
+
+    ghost view = { λ a. a.lines.items };
+}
+
+impl AirLines {
+    /// These lines.
+    pub fn of(lines: Vec<AirLine>) -> AirLines
+        ensures { result ≡ lines.items }
+    {
+        AirLines { lines }
+    }
+
+    /// The lines in order.
+    pub fn as_slice(&self) -> &[AirLine]
+        ensures { result.now ≡ self.now }
+    {
+        self.lines.as_slice()
+    }
+}
+
+/// A round: its desks, its planner and the centre's worker run at once, each through lines of its own.
 #[derive(Debug, Drop)]
 pub struct Round {
+    /// What the desks do.
     pub desks: Desks,
+    /// How often the planner plans.
+    pub plans: u32,
+    /// What the centre's worker lets happen on the air.
+    pub air: AirLines,
 }
 
 /// A part of a script.
 #[derive(Debug, Drop)]
 pub enum Item {
-    /// The desks have their turns.
+    /// A round is run.
     Round(Round),
+    /// The centre restarts.
+    Restart,
 }
 
 /// The parts of a script in order.

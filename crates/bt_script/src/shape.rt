@@ -1,12 +1,81 @@
 // The shape of a line: the first of its four stages.
 ghost use Rattle.std.specs.Prelude.{◌≡◌, option_map};
-ghost use Rattle.bt_script.specs.LineShape.{each_name, link_in, links_in, desk_shape, desk_in, words_shape, shape_of};
+ghost use Rattle.bt_text.specs.Text.{number_of_digits};
+ghost use Rattle.bt_script.specs.LineShape.{receiver_name, desk_names, air_names, each_name, link_in, links_in, name_in, desk_shape, desk_in, receiver_of, lose_in, deliver_in, lone_shape, several_shape, words_shape, shape_of};
 
-use bt_net::are_names;
+use bt_net::{are_names, is_name};
 use bt_text::{WordReader, is_word, number_of_digits};
 
 /// The most digits of a number.
 const DIGITS: usize = 10;
+
+/// Who receives a message; a terminal is still a `Name`.
+#[derive(Clone, Copy, Debug, PartialEq, Eq)]
+pub enum Receiver<Name> {
+    /// The satellite.
+    Satellite,
+    /// The centre.
+    Centre,
+    /// A terminal.
+    Terminal(Name),
+}
+
+/// What a desk does; a terminal is still a `Name`, and units may be out of range.
+#[derive(Clone, Copy, Debug, PartialEq, Eq)]
+pub enum DeskShape<Name> {
+    /// It wants so many units more for a link.
+    Add {
+        from: Name,
+        to: Name,
+        units: u64,
+    },
+    /// It wants so many units fewer for a link.
+    Drop {
+        from: Name,
+        to: Name,
+        units: u64,
+    },
+    /// It wants so many units fewer for the first link, and more for the second.
+    Move {
+        from: Name,
+        to: Name,
+        new_from: Name,
+        new_to: Name,
+        units: u64,
+    },
+    /// It looks at the bursts that a terminal transmits.
+    Show {
+        terminal: Name,
+    },
+}
+
+/// What happens on the air; a terminal is still a `Name`, and the number of a message may be out of range.
+#[derive(Clone, Copy, Debug, PartialEq, Eq)]
+pub enum AirShape<Name> {
+    /// The satellite's next superframe begins.
+    Tick,
+    /// The centre has its turn.
+    Turn,
+    /// All that waits is delivered.
+    Flow,
+    /// All that waits is lost.
+    LoseAll,
+    /// All that waits for a receiver is lost.
+    Lose {
+        receiver: Receiver<Name>,
+    },
+    /// A message is delivered.
+    Deliver {
+        message: u64,
+        receiver: Receiver<Name>,
+    },
+    /// The next frame of the superframe is shown.
+    Frame,
+    /// A terminal restarts.
+    Reset {
+        terminal: Name,
+    },
+}
 
 /// A line whose words have their shapes: a name is still a `Name`, and a number may be out of range.
 #[derive(Clone, Copy, Debug, PartialEq, Eq)]
@@ -15,29 +84,14 @@ pub enum LineShape<Name> {
     Remark,
     /// A round begins.
     Round,
-    /// A desk wants so many units more for a link.
-    Add {
-        desk: u64,
-        from: Name,
-        to: Name,
-        units: u64,
-    },
-    /// A desk wants so many units fewer for a link.
-    Drop {
-        desk: u64,
-        from: Name,
-        to: Name,
-        units: u64,
-    },
-    /// A desk wants so many units fewer for the first link, and more for the second.
-    Move {
-        desk: u64,
-        from: Name,
-        to: Name,
-        new_from: Name,
-        new_to: Name,
-        units: u64,
-    },
+    /// The centre restarts.
+    Restart,
+    /// The line of a desk.
+    Desk { desk: u64, line: DeskShape<Name> },
+    /// The planner plans.
+    Plan,
+    /// The line of the air.
+    Air(AirShape<Name>),
 }
 
 /// The shape of a line, or None where it has none.
@@ -56,10 +110,51 @@ fn words_shape<'a>(mut words: WordReader<'a>) -> Option<LineShape<&'a [u8]>>
     ensures { option_map (each_name (λ name. name.now)) result ≡ words_shape words.entry }
 {
     let head = words.next()?;
+    if words.is_done() {
+        lone_shape(head)
+    } else {
+        several_shape(head, words)
+    }
+}
+
+// The shape of a line of one word.
+fn lone_shape<'a>(word: &[u8]) -> Option<LineShape<&'a [u8]>>
+    ensures { option_map (each_name (λ name. name.now)) result ≡ lone_shape word.now }
+{
+    if is_word(word, b"round") {
+        Some(LineShape::Round)
+    } else if is_word(word, b"restart") {
+        Some(LineShape::Restart)
+    } else if is_word(word, b"plan") {
+        Some(LineShape::Plan)
+    } else if is_word(word, b"tick") {
+        Some(LineShape::Air(AirShape::Tick))
+    } else if is_word(word, b"turn") {
+        Some(LineShape::Air(AirShape::Turn))
+    } else if is_word(word, b"flow") {
+        Some(LineShape::Air(AirShape::Flow))
+    } else if is_word(word, b"frame") {
+        Some(LineShape::Air(AirShape::Frame))
+    } else {
+        None
+    }
+}
+
+// The shape of a line of several words, by the first of them.
+fn several_shape<'a>(head: &[u8], words: WordReader<'a>) -> Option<LineShape<&'a [u8]>>
+    ensures { option_map (each_name (λ name. name.now)) result ≡ several_shape head.now words.entry }
+{
     if is_word(head, b"desk") {
         desk_in(words)
-    } else if is_word(head, b"round") && words.is_done() {
-        Some(LineShape::Round)
+    } else if is_word(head, b"lose") {
+        let line = lose_in(words)?;
+        Some(LineShape::Air(line))
+    } else if is_word(head, b"deliver") {
+        let line = deliver_in(words)?;
+        Some(LineShape::Air(line))
+    } else if is_word(head, b"reset") {
+        let terminal = name_in(words)?;
+        Some(LineShape::Air(AirShape::Reset { terminal }))
     } else {
         None
     }
@@ -71,40 +166,40 @@ fn desk_in<'a>(mut words: WordReader<'a>) -> Option<LineShape<&'a [u8]>>
 {
     let desk = words.next()?;
     let kind = words.next()?;
-    let desk = number_of_digits(desk, DIGITS)?;
-    desk_shape(desk, kind, words)
+    let desk = number_of(desk)?;
+    let line = desk_shape(kind, words)?;
+    Some(LineShape::Desk { desk, line })
+}
+
+// The number that a word of at most ten digits is.
+fn number_of(word: &[u8]) -> Option<u64>
+    ensures { result ≡ number_of_digits 10 word.now }
+{
+    number_of_digits(word, DIGITS)
 }
 
 // What a desk does, by the word that says it.
-fn desk_shape<'a>(desk: u64, kind: &[u8], words: WordReader<'a>) -> Option<LineShape<&'a [u8]>>
-    ensures { option_map (each_name (λ name. name.now)) result ≡ desk_shape desk kind.now words.entry }
+fn desk_shape<'a>(kind: &[u8], words: WordReader<'a>) -> Option<DeskShape<&'a [u8]>>
+    ensures { option_map (desk_names (λ name. name.now)) result ≡ desk_shape kind.now words.entry }
 {
     if is_word(kind, b"add") {
         let ((from, to), units) = link_in(words)?;
-        Some(LineShape::Add {
-            desk,
-            from,
-            to,
-            units,
-        })
+        Some(DeskShape::Add { from, to, units })
     } else if is_word(kind, b"drop") {
         let ((from, to), units) = link_in(words)?;
-        Some(LineShape::Drop {
-            desk,
-            from,
-            to,
-            units,
-        })
+        Some(DeskShape::Drop { from, to, units })
     } else if is_word(kind, b"move") {
         let ((from, to), ((new_from, new_to), units)) = links_in(words)?;
-        Some(LineShape::Move {
-            desk,
+        Some(DeskShape::Move {
             from,
             to,
             new_from,
             new_to,
             units,
         })
+    } else if is_word(kind, b"show") {
+        let terminal = name_in(words)?;
+        Some(DeskShape::Show { terminal })
     } else {
         None
     }
@@ -123,7 +218,7 @@ fn link_in<'a>(mut words: WordReader<'a>) -> Option<LinkWords<'a>>
     if !words.is_done() || !are_names(from, to) {
         return None;
     }
-    let units = number_of_digits(units, DIGITS)?;
+    let units = number_of(units)?;
     Some(((from, to), units))
 }
 
@@ -139,4 +234,59 @@ fn links_in<'a>(mut words: WordReader<'a>) -> Option<((&'a [u8], &'a [u8]), Link
     }
     let link = link_in(words)?;
     Some(((from, to), link))
+}
+
+// A name, and no more words.
+fn name_in<'a>(mut words: WordReader<'a>) -> Option<&'a [u8]>
+    ensures { option_map (λ name. name.now) result ≡ name_in words.entry }
+{
+    let name = words.next()?;
+    if !words.is_done() || !is_name(name) {
+        return None;
+    }
+    Some(name)
+}
+
+// The receiver that a word is.
+fn receiver_of(word: &[u8]) -> Option<Receiver<&[u8]>>
+    ensures { option_map (receiver_name (λ name. name.now)) result ≡ receiver_of word.now }
+{
+    if is_word(word, b"sat") {
+        Some(Receiver::Satellite)
+    } else if is_word(word, b"centre") {
+        Some(Receiver::Centre)
+    } else if is_name(word) {
+        Some(Receiver::Terminal(word))
+    } else {
+        None
+    }
+}
+
+// What the words behind `lose` say: what is lost.
+fn lose_in<'a>(mut words: WordReader<'a>) -> Option<AirShape<&'a [u8]>>
+    ensures { option_map (air_names (λ name. name.now)) result ≡ lose_in words.entry }
+{
+    let word = words.next()?;
+    if !words.is_done() {
+        return None;
+    }
+    if is_word(word, b"all") {
+        return Some(AirShape::LoseAll);
+    }
+    let receiver = receiver_of(word)?;
+    Some(AirShape::Lose { receiver })
+}
+
+// What the words behind `deliver` say: a message, and its receiver.
+fn deliver_in<'a>(mut words: WordReader<'a>) -> Option<AirShape<&'a [u8]>>
+    ensures { option_map (air_names (λ name. name.now)) result ≡ deliver_in words.entry }
+{
+    let number = words.next()?;
+    let word = words.next()?;
+    if !words.is_done() {
+        return None;
+    }
+    let message = number_of(number)?;
+    let receiver = receiver_of(word)?;
+    Some(AirShape::Deliver { message, receiver })
 }

@@ -7,4 +7,4 @@ pub returns-in_err-units-2 : goal.returns-in_err-units-2
 returns-in_err-units-2 c =
     let whole = three_words c.in_ok-from.from.now c.in_ok-to.to.now c.in_ok-units.units.now c.args.words c.next.new.self c.next-2.new.self c.next-3.new.self
     c.in_ok-from.ensures.word c.in_ok-from.ensures.rest c.in_ok-to.ensures.word c.in_ok-to.ensures.rest c.in_ok-units.ensures.word c.in_ok-units.ensures.rest c.if-not-is_done.ensures in
-    rw (no_units c.in_ok-from.from.now c.in_ok-to.to.now c.in_ok-units.units.now c.args.words whole c.if-not-are_names.ensures c.in_err-units-2.ensures.number) (search rules)
+    rw (no_units c.in_ok-from.from.now c.in_ok-to.to.now c.in_ok-units.units.now c.args.words whole c.if-not-are_names.ensures c.in_err-units-2.ensures) (search rules)

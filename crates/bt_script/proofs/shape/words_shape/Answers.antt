@@ -1,0 +1,7 @@
+-- a line of several words
+use Rattle.bt_script.proofs.Shapes.{several_read}
+use Rattle.bt_script.proofs.shape.words_shape.Goals as goal
+
+pub returns-else-is_done : goal.returns-else-is_done
+returns-else-is_done c =
+    rw (several_read c.in_ok-head.head.now c.args.words c.next.new.self c.in_ok-head.ensures.word c.in_ok-head.ensures.rest c.if-is_done.ensures) c.several_shape.ensures

@@ -1,0 +1,113 @@
+// The terminals of a line's names: the second of its four stages.
+ghost use Rattle.std.specs.Prelude.{◌≡◌};
+ghost use Rattle.bt_script.specs.LineShape.{receiver_name, desk_names, air_names, each_name};
+ghost use Rattle.bt_script.specs.Stages.{link_of, receiver_terminal, desk_terminals, air_terminals, with_terminals};
+
+use crate::shape::{AirShape, DeskShape, LineShape, Receiver};
+use bt_frame::TermNo;
+use bt_net::Network;
+
+/// The line with the terminals of its names, or None where no terminal has one of them.
+pub fn with_terminals(net: &Network, shape: LineShape<&[u8]>) -> Option<LineShape<TermNo>>
+    ensures { result ≡ with_terminals net.now (each_name (λ name. name.now) shape.entry) }
+{
+    match shape {
+        LineShape::Remark => Some(LineShape::Remark),
+        LineShape::Round => Some(LineShape::Round),
+        LineShape::Restart => Some(LineShape::Restart),
+        LineShape::Desk { desk, line } => {
+            let line = desk_terminals(net, line)?;
+            Some(LineShape::Desk { desk, line })
+        }
+        LineShape::Plan => Some(LineShape::Plan),
+        LineShape::Air(line) => {
+            let line = air_terminals(net, line)?;
+            Some(LineShape::Air(line))
+        }
+    }
+}
+
+// The line of a desk with the terminals of its names.
+fn desk_terminals(net: &Network, line: DeskShape<&[u8]>) -> Option<DeskShape<TermNo>>
+    ensures { result ≡ desk_terminals net.now (desk_names (λ name. name.now) line.entry) }
+{
+    match line {
+        DeskShape::Add { from, to, units } => {
+            let (from, to) = link_of(net, from, to)?;
+            Some(DeskShape::Add { from, to, units })
+        }
+        DeskShape::Drop { from, to, units } => {
+            let (from, to) = link_of(net, from, to)?;
+            Some(DeskShape::Drop { from, to, units })
+        }
+        DeskShape::Move {
+            from,
+            to,
+            new_from,
+            new_to,
+            units,
+        } => {
+            let (from, to) = link_of(net, from, to)?;
+            let (new_from, new_to) = link_of(net, new_from, new_to)?;
+            Some(DeskShape::Move {
+                from,
+                to,
+                new_from,
+                new_to,
+                units,
+            })
+        }
+        DeskShape::Show { terminal } => {
+            let terminal = net.terminal_named(terminal)?;
+            Some(DeskShape::Show { terminal })
+        }
+    }
+}
+
+// The terminals of two names.
+fn link_of(net: &Network, from: &[u8], to: &[u8]) -> Option<(TermNo, TermNo)>
+    ensures { result ≡ link_of net.now from.now to.now }
+{
+    let from = net.terminal_named(from)?;
+    let to = net.terminal_named(to)?;
+    Some((from, to))
+}
+
+// The line of the air with the terminal of its name.
+fn air_terminals(net: &Network, line: AirShape<&[u8]>) -> Option<AirShape<TermNo>>
+    ensures { result ≡ air_terminals net.now (air_names (λ name. name.now) line.entry) }
+{
+    match line {
+        AirShape::Tick => Some(AirShape::Tick),
+        AirShape::Turn => Some(AirShape::Turn),
+        AirShape::Flow => Some(AirShape::Flow),
+        AirShape::LoseAll => Some(AirShape::LoseAll),
+        AirShape::Lose { receiver } => {
+            let receiver = receiver_terminal(net, receiver)?;
+            Some(AirShape::Lose { receiver })
+        }
+        AirShape::Deliver { message, receiver } => {
+            let receiver = receiver_terminal(net, receiver)?;
+            Some(AirShape::Deliver { message, receiver })
+        }
+        AirShape::Frame => Some(AirShape::Frame),
+        AirShape::Reset { terminal } => {
+            let terminal = net.terminal_named(terminal)?;
+            Some(AirShape::Reset { terminal })
+        }
+    }
+}
+
+// The receiver with the terminal of its name.
+fn receiver_terminal(net: &Network, receiver: Receiver<&[u8]>) -> Option<Receiver<TermNo>>
+    ensures { result ≡ receiver_terminal net.now (receiver_name (λ name. name.now) receiver.entry) }
+{
+    match receiver {
+        Receiver::Satellite => Some(Receiver::Satellite),
+        Receiver::Centre => Some(Receiver::Centre),
+        Receiver::Terminal(name) => {
+            let terminal = net.terminal_named(name)?;
+            Some(Receiver::Terminal(terminal))
+        }
+    }
+}
