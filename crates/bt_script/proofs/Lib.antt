@@ -3,3 +3,4 @@ pub mod ScriptLines
 pub mod Grouping
 pub mod Naming
 pub mod Order
+pub mod Counting

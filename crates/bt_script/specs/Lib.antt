@@ -5,3 +5,4 @@ pub mod LineShape
 pub mod Stages
 pub mod ScriptText
 pub mod Named
+pub mod Length

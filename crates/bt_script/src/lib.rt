@@ -7,8 +7,8 @@
 //! have the shapes in the same order; `specs/Stages.antt` and `names.rt`, `ranges.rt` and `line.rt` the stages.
 //!
 //! Promises are in `specs/ScriptText.antt`, the script that a text spells; `specs/Named.antt`, the terminals that a
-//! script names; `specs/Desks.antt`, the desks of a round. `specs/Reading.antt` and `specs/Range.antt` are words of
-//! theirs.
+//! script names; `specs/Desks.antt`, the desks of a round; `specs/Length.antt`, how many lines a script has.
+//! `specs/Reading.antt` and `specs/Range.antt` are words of theirs.
 #![tactic(auto)]
 
 mod desk_no;

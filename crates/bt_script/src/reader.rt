@@ -2,6 +2,7 @@
 ghost use Rattle.std.specs.Prelude.{◌≡◌, ◌+◌, ◌≤◌, [], length, vec_len, false, All, IfOk, OnOk};
 ghost use Rattle.bt_text.specs.Text.{lines};
 ghost use Rattle.bt_script.specs.declared.reader.TheConstants.{MOST_LINES};
+ghost use Rattle.bt_script.specs.Length.{script_length};
 ghost use Rattle.bt_script.specs.Named.{HasDesksInOrder, IsItemFor};
 ghost use Rattle.bt_text.specs.Reading.{Gives};
 ghost use Rattle.bt_script.specs.ScriptText.{is_open_behind, limited_line, added, last_in, lines_in, script_of};
@@ -19,13 +20,15 @@ const MOST_LINES: u32 = 20000;
 impl Script {
     /// The script that the bytes spell for this network, or the first line with a fault.
     ///
-    /// Its lines name terminals of the network alone, and the desks of a round ascend by number.
-    #[tactic(auto, using(crate::proofs::Naming::items_named, crate::proofs::Order::items_in_order))]
+    /// Its lines name terminals of the network alone, the desks of a round ascend by number, and it has no more lines
+    /// than a text may have.
+    #[tactic(auto, using(crate::proofs::Naming::items_named, crate::proofs::Order::items_in_order, crate::proofs::Counting::items_short))]
     pub fn read(alloc: Global, net: &Network, bytes: &[u8]) -> Result<Script, ScriptFault>
         requires { length bytes.now ≤ 67108864 }
         ensures reading { Gives (λ script. script) result (script_of net.now bytes.now) }
         ensures terminals { IfOk result (λ script. All (IsItemFor net.now) script.items) }
         ensures ascending { IfOk result (λ script. All HasDesksInOrder script.items) }
+        ensures short { IfOk result (λ script. script_length script.items ≤ MOST_LINES) }
     {
         let said = read_lines(alloc, net, bytes)?;
         let items = items_of(alloc, &said)?;
