@@ -1,12 +1,66 @@
--- The lines that a run prints, each as its words.
-use Rattle.std.specs.Prelude.{ℕ, List, [], ◌∷◌, length, codes, decimal, Option, Some, None}
+-- The lines that a run prints of its rounds, each as its words.
+use Rattle.std.specs.Prelude.{◌≡◌, ℕ, ◌++◌, ◌<◌, List, [], ◌∷◌, length, codes, decimal, flat_map, Option, Some, None}
 use Rattle.std.specs.List.{slice_index_or}
 use Rattle.bt_frame.specs.declared.numbers.BeamNo.{BeamNo}
+use Rattle.bt_frame.specs.declared.numbers.EditionNo.{EditionNo}
+use Rattle.bt_frame.specs.declared.numbers.TermNo.{TermNo}
 use Rattle.bt_net.specs.Network.{Net}
+use Rattle.bt_net.specs.Terminals.{name_at}
+use Rattle.bt_demand.specs.Apart.{bursts_from}
+use Rattle.bt_demand.specs.declared.burst.Burst.{Burst}
+use Rattle.bt_demand.specs.declared.plan.Plan.{Plan}
+use Rattle.bt_journal.specs.declared.call.Call.{Call}
+use Rattle.bt_journal.specs.declared.call.Call.TheVariants as call
 use Rattle.bt_journal.specs.declared.entry.Entry.{Entry}
 use Rattle.bt_journal.specs.declared.reply.Reply.{Reply}
-use Rattle.bt_journal.specs.declared.reply.Reply.TheVariants.{Done, SameTerminal, NotThere, RowFull, ColumnFull, BookFull}
+use Rattle.bt_journal.specs.declared.reply.Reply.TheVariants.{Done, SameTerminal, NotThere, RowFull, ColumnFull, BookFull, NotNewer, NoSuchEdition, NotGood, OutOfTurn, NotInstalled, Demand, Installed, Newest, Placed, StoreFault, Stopped}
+use Rattle.bt_verdict.specs.declared.verdict.Verdict.{Verdict}
 use Rattle.bt_timeline.specs.Lines.{line_of, desk_name}
+use Rattle.bt_timeline.specs.Verdicts.{CanName, verdict_line}
+
+-- the beam is one of the network's
+abbrev pub IsBeam : Net → BeamNo → Type 0
+IsBeam net beam = beam.0 < length net.beams
+
+-- a reply that an edit can have; the beam that it names is one of the network's
+abbrev pub AnswersEdit : Net → Reply → Type 0
+AnswersEdit net (Done _ _) = Unit {0}
+AnswersEdit net SameTerminal = Unit {0}
+AnswersEdit net (NotThere _) = Unit {0}
+AnswersEdit net (RowFull beam _) = IsBeam net beam
+AnswersEdit net (ColumnFull beam _) = IsBeam net beam
+AnswersEdit net (BookFull _) = Unit {0}
+AnswersEdit net StoreFault = Unit {0}
+AnswersEdit net Stopped = Unit {0}
+AnswersEdit net _ = ⊥
+
+-- a reply that an install can have; the terminals that it names are the network's
+abbrev pub AnswersInstall : Net → Reply → Type 0
+AnswersInstall net (NotNewer _) = Unit {0}
+AnswersInstall net (NoSuchEdition _) = Unit {0}
+AnswersInstall net (NotGood verdict) = CanName (Some net) verdict
+AnswersInstall net (BookFull _) = Unit {0}
+AnswersInstall net StoreFault = Unit {0}
+AnswersInstall net Stopped = Unit {0}
+AnswersInstall net (Installed _) = Unit {0}
+AnswersInstall net _ = ⊥
+
+-- the last edition has a plan already
+abbrev pub IsNothingNew : Reply → Type 0
+IsNothingNew (Demand edition newest _) = edition ≡ newest
+IsNothingNew _ = ⊥
+
+-- The call and the reply have a line: an edit, by whomever; and of the planner an install, or a snapshot that shows
+-- nothing new.
+abbrev pub HasLine : Net → Option ℕ → Call → Reply → Type 0
+HasLine net desk (call.Edit _) reply = AnswersEdit net reply
+HasLine net None (call.Install _) reply = AnswersInstall net reply
+HasLine net None call.Snapshot reply = IsNothingNew reply
+HasLine net _ _ _ = ⊥
+
+-- the entry of that desk, or of the planner where there is none, has a line
+abbrev pub IsPrinted : Net → Option ℕ → Entry → Type 0
+IsPrinted net desk entry = HasLine net desk entry.call entry.reply
 
 -- the name of a beam of the network
 abbrev pub name_of_beam : Net → BeamNo → List ℕ
@@ -17,22 +71,76 @@ abbrev pub caller_name : Option ℕ → List ℕ
 caller_name (Some desk) = desk_name desk
 caller_name None = codes "plan"
 
--- the words of a reply
-abbrev pub reply_words : Net → Reply → List (List ℕ)
-reply_words net (Done edition length) = codes "done" ∷ decimal edition.0 ∷ decimal length ∷ []
-reply_words net SameTerminal = codes "refused" ∷ codes "E1" ∷ []
-reply_words net (NotThere held) = codes "refused" ∷ codes "E2" ∷ decimal held ∷ []
-reply_words net (RowFull beam sum) = codes "refused" ∷ codes "E3" ∷ name_of_beam net beam ∷ decimal sum ∷ []
-reply_words net (ColumnFull beam sum) = codes "refused" ∷ codes "E4" ∷ name_of_beam net beam ∷ decimal sum ∷ []
-reply_words net (BookFull length) = codes "refused" ∷ codes "E5" ∷ decimal length ∷ []
+-- the reply has words of its own, which name no beam, no terminal and no plan
+abbrev pub HasWords : Reply → Type 0
+HasWords (RowFull _ _) = ⊥
+HasWords (ColumnFull _ _) = ⊥
+HasWords (NotGood _) = ⊥
+HasWords (Installed _) = ⊥
+HasWords (Newest _) = ⊥
+HasWords Placed = ⊥
+HasWords _ = Unit {0}
+
+-- the words of a reply that names no beam, no terminal and no plan
+abbrev pub reply_words : Reply → List (List ℕ)
+reply_words (Done edition length) = codes "done" ∷ decimal edition.0 ∷ decimal length ∷ []
+reply_words SameTerminal = codes "refused" ∷ codes "E1" ∷ []
+reply_words (NotThere held) = codes "refused" ∷ codes "E2" ∷ decimal held ∷ []
+reply_words (BookFull length) = codes "refused" ∷ codes "E5" ∷ decimal length ∷ []
+reply_words (NotNewer newest) = codes "refused" ∷ codes "E6" ∷ decimal newest.0 ∷ []
+reply_words (NoSuchEdition last) = codes "refused" ∷ codes "E7" ∷ decimal last.0 ∷ []
+reply_words (OutOfTurn last) = codes "refused" ∷ codes "E9" ∷ decimal last.0 ∷ []
+reply_words (NotInstalled newest) = codes "refused" ∷ codes "E10" ∷ decimal newest.0 ∷ []
+reply_words StoreFault = codes "store" ∷ codes "fault" ∷ []
+reply_words Stopped = codes "stopped" ∷ []
+reply_words (Demand _ _ _) = codes "nothing" ∷ codes "new" ∷ []
+reply_words _ = []
+
+-- the call asks for an install
+abbrev pub IsInstall : Call → Type 0
+IsInstall (call.Install _) = Unit {0}
+IsInstall _ = ⊥
+
+-- the words of the plan that was installed as this edition
+abbrev pub installed_words : Call → EditionNo → List (List ℕ)
+installed_words (call.Install plan) edition = decimal edition.0 ∷ codes "length" ∷ decimal plan.schedule.length ∷ codes "modes" ∷ decimal (length plan.schedule.modes) ∷ codes "bursts" ∷ decimal (length plan.bursts) ∷ []
+installed_words _ edition = []
+
+-- the line of a plan that was not good: the refusal, and the line of its verdict
+abbrev pub not_good_line : Net → List ℕ → Verdict → List ℕ
+not_good_line net caller verdict = caller ++ codes " refused E8 " ++ verdict_line (Some net) verdict
+
+-- the line of a reply to a call, behind the name of who called
+abbrev pub answer_line : Net → List ℕ → Call → Reply → List ℕ
+answer_line net caller asked (RowFull beam sum) = line_of (caller ∷ codes "refused" ∷ codes "E3" ∷ name_of_beam net beam ∷ decimal sum ∷ [])
+answer_line net caller asked (ColumnFull beam sum) = line_of (caller ∷ codes "refused" ∷ codes "E4" ∷ name_of_beam net beam ∷ decimal sum ∷ [])
+answer_line net caller asked (NotGood verdict) = not_good_line net caller verdict
+answer_line net caller asked (Installed edition) = line_of (caller ∷ installed_words asked edition)
+answer_line net caller asked reply = line_of (caller ∷ reply_words reply)
 
 -- the line of an entry: who called, and what was answered
 abbrev pub entry_line : Net → Option ℕ → Entry → List ℕ
-entry_line net desk entry = line_of (caller_name desk ∷ reply_words net entry.reply)
+entry_line net desk entry = answer_line net (caller_name desk) entry.call entry.reply
+
+-- the line of a burst, with this name in front: its first slot, its slots, and the terminals that send and receive
+abbrev pub burst_line : Net → List ℕ → Burst → List ℕ
+burst_line net name burst = line_of (name ∷ decimal burst.start ∷ decimal burst.length ∷ name_at net burst.from ∷ name_at net burst.to ∷ [])
+
+-- the lines of bursts, in the order in which they stand
+abbrev pub burst_lines : Net → List ℕ → List Burst → List ℕ
+burst_lines net name bursts = flat_map (burst_line net name) bursts
+
+-- what a desk is shown of a plan: its edition, its length and its modes, and then each burst that the terminal sends
+abbrev pub show_lines : Net → ℕ → Plan → TermNo → List ℕ
+show_lines net desk plan terminal = line_of (desk_name desk ∷ codes "shows" ∷ decimal plan.edition.0 ∷ codes "length" ∷ decimal plan.schedule.length ∷ codes "modes" ∷ decimal (length plan.schedule.modes) ∷ []) ++ burst_lines net (codes "burst") (bursts_from terminal plan.bursts)
 
 -- the first line after a start: the last edition, the edition of the newest plan, and the mark of the superframe
 abbrev pub start_line : ℕ → ℕ → ℕ → List ℕ
 start_line edition plan mark = line_of (codes "start" ∷ codes "edition" ∷ decimal edition ∷ codes "plan" ∷ decimal plan ∷ codes "mark" ∷ decimal mark ∷ [])
+
+-- the line before the start that follows a restart
+abbrev pub restart_line : List ℕ
+restart_line = line_of (codes "restart" ∷ [])
 
 -- the line that begins a round
 abbrev pub round_line : ℕ → List ℕ

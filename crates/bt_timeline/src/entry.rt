@@ -1,17 +1,21 @@
 // The line of an entry of a history.
-ghost use Rattle.std.specs.Prelude.{◌≡◌, ◌++◌, OnOk, OnErr};
-ghost use Rattle.bt_book.specs.Machine.{NamesBeams};
-ghost use Rattle.bt_timeline.specs.Lines.{word_bytes};
-ghost use Rattle.bt_timeline.specs.Timeline.{caller_name, entry_line};
+ghost use Rattle.std.specs.Prelude.{◌≡◌, ◌++◌, ◌∷◌, [], codes, decimal, OnOk, OnErr, Some};
+ghost use Rattle.bt_timeline.specs.Lines.{line_of, word_bytes};
+ghost use Rattle.bt_timeline.specs.Timeline.{IsBeam, IsInstall, IsPrinted, caller_name, entry_line, installed_words, name_of_beam, not_good_line};
+ghost use Rattle.bt_timeline.specs.Verdicts.{CanName};
+ghost use Rattle.bt_timeline.specs.Written.{Extends};
 
-use crate::line::{Word, add_line};
-use bt_frame::OutOfMemory;
-use bt_journal::{Entry, Reply};
+use crate::line::{Word, add_line, add_word};
+use crate::reply::reply_text;
+use crate::verdict::verdict_text;
+use bt_frame::{BeamNo, EditionNo, OutOfMemory};
+use bt_journal::{Call, Entry, Reply};
 use bt_net::Network;
+use bt_verdict::Verdict;
 use std::alloc::Global;
 
-/// Appends the line of an entry: who called, a desk or the planner where there is none, and what was answered. Each
-/// beam of the reply is one of the network's.
+/// Appends the line of an entry that has one: who called, a desk or the planner where there is none, and what was
+/// answered.
 pub fn entry_text(
     alloc: Global,
     net: &Network,
@@ -19,37 +23,17 @@ pub fn entry_text(
     entry: &Entry,
     out: &mut Vec<u8>,
 ) -> Result<(), OutOfMemory>
-    requires { NamesBeams net.now entry.now.reply }
+    requires { IsPrinted net.now desk entry.now }
     ensures added { OnOk result (out.new.items ≡ out.old.items ++ entry_line net.now desk entry.now) }
     ensures unchanged { OnErr result (out.new.items ≡ out.old.items) }
 {
     let caller = caller(desk);
-    let refused = Word::Text("refused");
-    match entry.reply {
-        Reply::Done { edition, length } => {
-            let edition = Word::number(edition.0);
-            let length = Word::number(length);
-            add_line(alloc, &[caller, Word::Text("done"), edition, length], out)
-        }
-        Reply::SameTerminal => add_line(alloc, &[caller, refused, Word::Text("E1")], out),
-        Reply::NotThere { held } => {
-            let held = Word::number(held);
-            add_line(alloc, &[caller, refused, Word::Text("E2"), held], out)
-        }
-        Reply::RowFull { beam, sum } => {
-            let beam = Word::Text(net.beam_name(beam));
-            let sum = Word::number(sum);
-            add_line(alloc, &[caller, refused, Word::Text("E3"), beam, sum], out)
-        }
-        Reply::ColumnFull { beam, sum } => {
-            let beam = Word::Text(net.beam_name(beam));
-            let sum = Word::number(sum);
-            add_line(alloc, &[caller, refused, Word::Text("E4"), beam, sum], out)
-        }
-        Reply::BookFull { length } => {
-            let length = Word::number(length);
-            add_line(alloc, &[caller, refused, Word::Text("E5"), length], out)
-        }
+    match &entry.reply {
+        Reply::RowFull { beam, sum } => full_text(alloc, net, caller, "E3", (*beam, *sum), out),
+        Reply::ColumnFull { beam, sum } => full_text(alloc, net, caller, "E4", (*beam, *sum), out),
+        Reply::NotGood { verdict } => not_good_text(alloc, net, caller, verdict, out),
+        Reply::Installed { edition } => installed_text(alloc, caller, &entry.call, *edition, out),
+        reply => reply_text(alloc, caller, reply, out),
     }
 }
 
@@ -61,4 +45,96 @@ fn caller(desk: Option<u8>) -> Word<'static>
         Some(desk) => Word::Desk(desk),
         None => Word::Text("plan"),
     }
+}
+
+/// Appends the refusal of an edit with which a beam would have more slots than the frame: the refusal's code, the beam,
+/// and its slots.
+fn full_text<'a>(
+    alloc: Global,
+    net: &'a Network,
+    caller: Word<'a>,
+    code: &'a str,
+    full: (BeamNo, u32),
+    out: &mut Vec<u8>,
+) -> Result<(), OutOfMemory>
+    requires { IsBeam net.now full.0 }
+    ensures added { OnOk result (out.new.items ≡ out.old.items ++ line_of (word_bytes caller.entry ∷ codes "refused" ∷ code.now ∷ name_of_beam net.now full.0 ∷ decimal full.1 ∷ [])) }
+    ensures unchanged { OnErr result (out.new.items ≡ out.old.items) }
+{
+    let words = [
+        caller,
+        Word::Text("refused"),
+        Word::Text(code),
+        Word::Text(net.beam_name(full.0)),
+        Word::number(full.1),
+    ];
+    add_line(alloc, &words, out)
+}
+
+/// Appends the line of a plan that was installed, by the call that asked for it.
+fn installed_text(
+    alloc: Global,
+    caller: Word<'_>,
+    call: &Call,
+    edition: EditionNo,
+    out: &mut Vec<u8>,
+) -> Result<(), OutOfMemory>
+    requires { IsInstall call.now }
+    ensures added { OnOk result (out.new.items ≡ out.old.items ++ line_of (word_bytes caller.entry ∷ installed_words call.now edition)) }
+    ensures unchanged { OnErr result (out.new.items ≡ out.old.items) }
+{
+    let Call::Install(plan) = call else {
+        unreachable!()
+    };
+    let modes = plan.schedule.modes.as_slice().len() as u64;
+    let bursts = plan.bursts.as_slice().len() as u64;
+    let words = [
+        caller,
+        Word::number(edition.0),
+        Word::Text("length"),
+        Word::number(plan.schedule.length),
+        Word::Text("modes"),
+        Word::Number(modes),
+        Word::Text("bursts"),
+        Word::Number(bursts),
+    ];
+    add_line(alloc, &words, out)
+}
+
+/// Appends the line of a plan that was not good, with its verdict.
+fn not_good_text(
+    alloc: Global,
+    net: &Network,
+    caller: Word<'_>,
+    verdict: &Verdict,
+    out: &mut Vec<u8>,
+) -> Result<(), OutOfMemory>
+    requires { CanName (Some net.now) verdict.now }
+    ensures added { OnOk result (out.new.items ≡ out.old.items ++ not_good_line net.now (word_bytes caller.entry) verdict.now) }
+    ensures unchanged { OnErr result (out.new.items ≡ out.old.items) }
+{
+    let before = out.len();
+    let added = add_not_good(alloc, net, caller, verdict, out);
+    if added.is_err() {
+        out.truncate(before);
+    }
+    added
+}
+
+/// Appends that line. Want of memory leaves a first part of it.
+#[tactic(auto, using(crate::proofs::Extending::extends_on))]
+fn add_not_good(
+    alloc: Global,
+    net: &Network,
+    caller: Word<'_>,
+    verdict: &Verdict,
+    out: &mut Vec<u8>,
+) -> Result<(), OutOfMemory>
+    requires { CanName (Some net.now) verdict.now }
+    ensures added { OnOk result (out.new.items ≡ out.old.items ++ not_good_line net.now (word_bytes caller.entry) verdict.now) }
+    ensures kept { Extends out.old.items out.new.items }
+{
+    add_word(alloc, &caller, out)?;
+    out.extend_from_slice(b" refused E8 ")?;
+    verdict_text(alloc, Some(net), verdict, out)
 }

@@ -1,17 +1,28 @@
 //! The lines that a run and a check print.
 //!
-//! Each call appends its line to a text, its newline included, and leaves the text as it was where memory runs
-//! out. It stands on the network, whose names the lines have, on the entries of histories and on verdicts.
-//! `specs/Lines.antt`, `specs/Timeline.antt` and `specs/Verdicts.antt` are promises: the lines, each as its words.
-//! `specs/Written.antt` is for bodies alone.
+//! Each call appends its lines to a text, their newlines included, and leaves the text as it was where memory runs
+//! out. It stands on the network, whose names the lines have, on the entries of histories, on verdicts, and on plans and
+//! the messages of the air. `specs/Lines.antt`, `specs/Timeline.antt`, `specs/Air.antt` and `specs/Verdicts.antt` are
+//! promises: the lines, each as its words. `specs/Written.antt` is for bodies alone.
 #![tactic(auto)]
 
+mod air;
+mod bursts;
+mod delivery;
 mod entry;
 mod line;
 mod marks;
+mod order;
+mod reply;
+mod sent;
 mod verdict;
 
+pub use air::{flow_text, last_tick_text, lost_text, over_text, reset_text, tick_text, turn_text};
+pub use bursts::{frame_text, show_text};
+pub use delivery::{got_text, not_sent_text};
 pub use entry::entry_text;
 pub use line::{Word, add_line};
-pub use marks::{round_text, start_text, total_text};
+pub use marks::{Totals, restart_text, round_text, start_text, total_text};
+pub use order::{order_text, unplaced_text};
+pub use sent::sent_text;
 pub use verdict::verdict_text;

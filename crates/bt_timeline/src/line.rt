@@ -1,9 +1,10 @@
 // One line, word by word.
 ghost use Rattle.std.specs.Prelude.{◌≡◌, ◌++◌, ◌∷◌, decimal, map, OnOk, OnErr};
-ghost use Rattle.bt_timeline.specs.Lines.{line_of, spaced_out, word_bytes};
+ghost use Rattle.bt_timeline.specs.Lines.{armed_name, frame_name, line_of, spaced_out, word_bytes};
 ghost use Rattle.bt_timeline.specs.Written.{Extends};
 
-use bt_frame::OutOfMemory;
+use bt_air::Armed;
+use bt_frame::{Mark, OutOfMemory};
 use bt_text::number_text;
 use std::alloc::Global;
 
@@ -16,6 +17,10 @@ pub enum Word<'a> {
     Number(u64),
     /// `desk` and the number of a desk.
     Desk(u8),
+    /// A superframe and the number of a frame of it, from 0, with a point between them.
+    Frame(Mark, u32),
+    /// `armed`, the edition of the change for which the satellite is armed, `due` and its superframe.
+    Armed(Armed),
 }
 
 impl Word<'_> {
@@ -76,7 +81,7 @@ fn add_next(alloc: Global, word: &Word<'_>, out: &mut Vec<u8>) -> Result<(), Out
 }
 
 /// Appends a word. Want of memory leaves a first part of it.
-fn add_word(alloc: Global, word: &Word<'_>, out: &mut Vec<u8>) -> Result<(), OutOfMemory>
+pub(crate) fn add_word(alloc: Global, word: &Word<'_>, out: &mut Vec<u8>) -> Result<(), OutOfMemory>
     ensures added { OnOk result (out.new.items ≡ out.old.items ++ word_bytes word.now) }
     ensures kept { Extends out.old.items out.new.items }
 {
@@ -87,5 +92,30 @@ fn add_word(alloc: Global, word: &Word<'_>, out: &mut Vec<u8>) -> Result<(), Out
             out.extend_from_slice(b"desk ")?;
             number_text(alloc, u64::from(desk), out)
         }
+        Word::Frame(mark, number) => add_frame(alloc, mark, number, out),
+        Word::Armed(change) => add_armed(alloc, change, out),
     }
+}
+
+/// Appends a superframe, a point and the number of a frame. Want of memory leaves a first part of them.
+#[tactic(auto, using(crate::proofs::Extending::extends_on))]
+fn add_frame(alloc: Global, mark: Mark, number: u32, out: &mut Vec<u8>) -> Result<(), OutOfMemory>
+    ensures added { OnOk result (out.new.items ≡ out.old.items ++ frame_name mark number) }
+    ensures kept { Extends out.old.items out.new.items }
+{
+    number_text(alloc, u64::from(mark.0), out)?;
+    out.push(b'.')?;
+    number_text(alloc, u64::from(number), out)
+}
+
+/// Appends a change that is to come. Want of memory leaves a first part of it.
+#[tactic(auto, using(crate::proofs::Extending::extends_on))]
+fn add_armed(alloc: Global, change: Armed, out: &mut Vec<u8>) -> Result<(), OutOfMemory>
+    ensures added { OnOk result (out.new.items ≡ out.old.items ++ armed_name change) }
+    ensures kept { Extends out.old.items out.new.items }
+{
+    out.extend_from_slice(b"armed ")?;
+    number_text(alloc, u64::from(change.edition.0), out)?;
+    out.extend_from_slice(b" due ")?;
+    number_text(alloc, u64::from(change.due.0), out)
 }

@@ -1,6 +1,6 @@
 // The lines of a run that belong to no caller.
 ghost use Rattle.std.specs.Prelude.{◌≡◌, ◌++◌, OnOk, OnErr};
-ghost use Rattle.bt_timeline.specs.Timeline.{round_line, start_line, total_line};
+ghost use Rattle.bt_timeline.specs.Timeline.{restart_line, round_line, start_line, total_line};
 
 use crate::line::{Word, add_line};
 use bt_frame::OutOfMemory;
@@ -38,25 +38,38 @@ pub fn round_text(alloc: Global, number: u64, out: &mut Vec<u8>) -> Result<(), O
     add_line(alloc, &words, out)
 }
 
+/// How the edits of a run were answered.
+#[derive(Clone, Copy, Debug, PartialEq, Eq)]
+pub struct Totals {
+    /// Edits that were done.
+    pub done: u64,
+    /// Edits that were refused.
+    pub refused: u64,
+    /// Edits that a fault of the store kept from being done.
+    pub failed: u64,
+}
+
 /// Appends the last line of a run: how many edits were done, how many were refused, and how many the store failed.
-pub fn total_text(
-    alloc: Global,
-    done: u64,
-    refused: u64,
-    failed: u64,
-    out: &mut Vec<u8>,
-) -> Result<(), OutOfMemory>
-    ensures added { OnOk result (out.new.items ≡ out.old.items ++ total_line done refused failed) }
+pub fn total_text(alloc: Global, totals: Totals, out: &mut Vec<u8>) -> Result<(), OutOfMemory>
+    ensures added { OnOk result (out.new.items ≡ out.old.items ++ total_line totals.done totals.refused totals.failed) }
     ensures unchanged { OnErr result (out.new.items ≡ out.old.items) }
 {
     let words = [
         Word::Text("total"),
         Word::Text("done"),
-        Word::Number(done),
+        Word::Number(totals.done),
         Word::Text("refused"),
-        Word::Number(refused),
+        Word::Number(totals.refused),
         Word::Text("store"),
-        Word::Number(failed),
+        Word::Number(totals.failed),
     ];
     add_line(alloc, &words, out)
+}
+
+/// Appends the line of a restart. The line of the start that follows is another.
+pub fn restart_text(alloc: Global, out: &mut Vec<u8>) -> Result<(), OutOfMemory>
+    ensures added { OnOk result (out.new.items ≡ out.old.items ++ restart_line) }
+    ensures unchanged { OnErr result (out.new.items ≡ out.old.items) }
+{
+    add_line(alloc, &[Word::Text("restart")], out)
 }

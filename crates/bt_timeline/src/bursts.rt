@@ -1,0 +1,158 @@
+// Lines that bursts stand under: what a desk is shown of a plan, and what is on the air in a frame.
+ghost use Rattle.std.specs.Prelude.{◌≡◌, ◌++◌, OnOk, OnErr, IfOk, map};
+ghost use Rattle.bt_demand.specs.Apart.{AreBetweenTerminals, bursts_from};
+ghost use Rattle.bt_net.specs.Terminals.{IsTerminal};
+ghost use Rattle.bt_timeline.specs.Air.{frame_lines};
+ghost use Rattle.bt_timeline.specs.Lines.{line_of, word_bytes};
+ghost use Rattle.bt_timeline.specs.Timeline.{burst_line, burst_lines, show_lines};
+ghost use Rattle.bt_timeline.specs.Written.{Extends};
+
+use crate::line::{Word, add_line};
+use bt_air::AirFrame;
+use bt_demand::{Burst, Plan};
+use bt_frame::{OutOfMemory, TermNo};
+use bt_net::Network;
+use std::alloc::Global;
+
+/// Appends what a desk is shown of a plan: its edition, its length in slots and the number of its modes, and then the
+/// bursts that a terminal sends in it.
+pub fn show_text(
+    alloc: Global,
+    net: &Network,
+    desk: u8,
+    plan: &Plan,
+    terminal: TermNo,
+    out: &mut Vec<u8>,
+) -> Result<(), OutOfMemory>
+    requires { AreBetweenTerminals net.now plan.now.bursts }
+    ensures added { OnOk result (out.new.items ≡ out.old.items ++ show_lines net.now desk plan.now terminal) }
+    ensures unchanged { OnErr result (out.new.items ≡ out.old.items) }
+{
+    let bursts = sent_by(alloc, terminal, plan.bursts.as_slice())?;
+    let modes = plan.schedule.modes.as_slice().len() as u64;
+    let words = [
+        Word::Desk(desk),
+        Word::Text("shows"),
+        Word::number(plan.edition.0),
+        Word::Text("length"),
+        Word::number(plan.schedule.length),
+        Word::Text("modes"),
+        Word::Number(modes),
+    ];
+    list_text(alloc, net, &words, "burst", &bursts, out)
+}
+
+/// Appends the lines of a frame: its superframe and its number, the edition in the foreground, and the bursts on the
+/// air.
+pub fn frame_text(
+    alloc: Global,
+    net: &Network,
+    frame: &AirFrame,
+    out: &mut Vec<u8>,
+) -> Result<(), OutOfMemory>
+    requires { AreBetweenTerminals net.now frame.now.bursts }
+    ensures added { OnOk result (out.new.items ≡ out.old.items ++ frame_lines net.now frame.now) }
+    ensures unchanged { OnErr result (out.new.items ≡ out.old.items) }
+{
+    let words = [
+        Word::Text("frame"),
+        Word::Frame(frame.mark, frame.number),
+        Word::Text("fore"),
+        Word::number(frame.fore.0),
+    ];
+    list_text(alloc, net, &words, "air", frame.bursts.as_slice(), out)
+}
+
+/// The bursts that a terminal sends, in the order in which they stand.
+fn sent_by(alloc: Global, terminal: TermNo, bursts: &[Burst]) -> Result<Vec<Burst>, OutOfMemory>
+    ensures { IfOk result (λ sent. sent.items ≡ bursts_from terminal bursts.now) }
+{
+    let mut sent = Vec::new(alloc);
+    for burst in bursts {
+        if burst.from.0 == terminal.0 {
+            sent.push(*burst)?;
+        }
+    }
+    Ok(sent)
+}
+
+/// Appends a line of these words, and under it the lines of bursts, each with the name of its kind in front.
+fn list_text(
+    alloc: Global,
+    net: &Network,
+    words: &[Word<'_>],
+    name: &str,
+    bursts: &[Burst],
+    out: &mut Vec<u8>,
+) -> Result<(), OutOfMemory>
+    requires { AreBetweenTerminals net.now bursts.now }
+    ensures added { OnOk result (out.new.items ≡ out.old.items ++ line_of (map word_bytes words.now) ++ burst_lines net.now name.now bursts.now) }
+    ensures unchanged { OnErr result (out.new.items ≡ out.old.items) }
+{
+    let before = out.len();
+    let added = add_list(alloc, net, words, name, bursts, out);
+    if added.is_err() {
+        out.truncate(before);
+    }
+    added
+}
+
+/// Appends these lines. Want of memory leaves the first of them.
+#[tactic(auto, using(crate::proofs::Extending::extends_on))]
+fn add_list(
+    alloc: Global,
+    net: &Network,
+    words: &[Word<'_>],
+    name: &str,
+    bursts: &[Burst],
+    out: &mut Vec<u8>,
+) -> Result<(), OutOfMemory>
+    requires { AreBetweenTerminals net.now bursts.now }
+    ensures added { OnOk result (out.new.items ≡ out.old.items ++ line_of (map word_bytes words.now) ++ burst_lines net.now name.now bursts.now) }
+    ensures kept { Extends out.old.items out.new.items }
+{
+    add_line(alloc, words, out)?;
+    add_bursts(alloc, net, name, bursts, out)
+}
+
+/// Appends the lines of bursts. Want of memory leaves the first of them.
+#[tactic(auto, using(crate::proofs::Extending::extends_on))]
+fn add_bursts(
+    alloc: Global,
+    net: &Network,
+    name: &str,
+    bursts: &[Burst],
+    out: &mut Vec<u8>,
+) -> Result<(), OutOfMemory>
+    requires { AreBetweenTerminals net.now bursts.now }
+    ensures added { OnOk result (out.new.items ≡ out.old.items ++ burst_lines net.now name.now bursts.now) }
+    ensures kept { Extends out.old.items out.new.items }
+{
+    for burst in bursts {
+        burst_text(alloc, net, name, *burst, out)?;
+    }
+    Ok(())
+}
+
+/// Appends the line of a burst.
+fn burst_text(
+    alloc: Global,
+    net: &Network,
+    name: &str,
+    burst: Burst,
+    out: &mut Vec<u8>,
+) -> Result<(), OutOfMemory>
+    requires sends { IsTerminal net.now burst.from }
+    requires receives { IsTerminal net.now burst.to }
+    ensures added { OnOk result (out.new.items ≡ out.old.items ++ burst_line net.now name.now burst) }
+    ensures unchanged { OnErr result (out.new.items ≡ out.old.items) }
+{
+    let words = [
+        Word::Text(name),
+        Word::number(burst.start),
+        Word::number(burst.length),
+        Word::Text(net.name_of(burst.from)),
+        Word::Text(net.name_of(burst.to)),
+    ];
+    add_line(alloc, &words, out)
+}
