@@ -42,11 +42,8 @@ pub fn sent_text(
         Sent::Status(status) => status_text(alloc, number, status, out),
         Sent::PlanFor { to, edition } => {
             let (edition, to) = (Word::number(edition.0), Word::Text(net.name_of(to)));
-            add_line(
-                alloc,
-                &[title, number, Word::Text("plan"), edition, to],
-                out,
-            )
+            let words = [title, number, Word::Text("plan"), edition, to];
+            add_line(alloc, &words, out)
         }
         Sent::Confirm { from, edition } => {
             let (edition, from) = (Word::number(edition.0), Word::Text(net.name_of(from)));
