@@ -8,7 +8,7 @@ use Rattle.bt_frame.specs.declared.numbers.Mark.{Mark}
 use Rattle.bt_frame.specs.declared.numbers.TermNo.{TermNo}
 use Rattle.bt_air.specs.declared.message.Message.TheVariants as message
 use Rattle.bt_term.specs.Banks.{hold, have_room, next_bank}
-use Rattle.bt_term.specs.Terminal.{State, new_of, in_force, is_for_another, is_before, is_named, is_wrong, storing, step_of, sent}
+use Rattle.bt_term.specs.Terminal.{State, new_of, in_force, is_for_another, is_before, is_named, is_wrong, storing, step_of, transmitted}
 use Rattle.bt_term.specs.Run.{TerminalEvent, Hears, Restarts, after_event, state_after, TakesReference}
 use Rattle.bt_term.proofs.Rows.{plan_rows}
 
@@ -61,5 +61,5 @@ run_keeps s [] mark others none = none
 run_keeps s (event ∷ events) mark others none = run_keeps (after_event s event) events mark others.1 (event_keeps s event mark others.0 none)
 
 -- a terminal is silent where it did not take the reference burst
-pub is_silent : (number : TermNo) (events : List TerminalEvent) (mark : Mark) → All (λ event. ¬ (TakesReference mark event)) events → sent (state_after (new_of number) events) mark ≡ []
+pub is_silent : (number : TermNo) (events : List TerminalEvent) (mark : Mark) → All (λ event. ¬ (TakesReference mark event)) events → transmitted (state_after (new_of number) events) mark ≡ []
 is_silent number events mark others = rw (run_keeps (new_of number) events mark (recursion_from_All (λ event. ¬ (TakesReference mark event)) events others) refl) refl

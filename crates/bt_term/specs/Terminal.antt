@@ -74,5 +74,5 @@ bursts_named banks None = []
 bursts_named banks (Some edition) = bursts_of_bank (bank_of banks edition)
 
 -- the bursts that the terminal transmits in a superframe: those that it holds of the edition named
-abbrev pub sent : State → Mark → List Burst
-sent s mark = bursts_named s.banks (in_force s.heard mark)
+abbrev pub transmitted : State → Mark → List Burst
+transmitted s mark = bursts_named s.banks (in_force s.heard mark)

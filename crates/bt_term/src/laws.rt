@@ -6,7 +6,7 @@ ghost use Rattle.bt_frame.specs.declared.numbers.TermNo.{TermNo};
 ghost use Rattle.bt_demand.specs.declared.burst.Burst.{Burst};
 ghost use Rattle.bt_air.specs.declared.message.Message.{Message};
 ghost use Rattle.bt_term.specs.Banks.{hold};
-ghost use Rattle.bt_term.specs.Terminal.{State, new_of, in_force, step_of, sent};
+ghost use Rattle.bt_term.specs.Terminal.{State, new_of, in_force, step_of, transmitted};
 ghost use Rattle.bt_term.specs.Run.{TerminalEvent, TakesReference, AreDistinct, a_frame, oldest_first, state_after};
 ghost use Rattle.bt_term.specs.Said.{Agrees, NeverFalls, heard_in, held_after};
 
@@ -22,7 +22,7 @@ pub fn refusals_change_nothing()
 /// go on with the edition of an earlier superframe.
 pub fn unheard_superframes_are_silent()
     ensures { (number : TermNo) (events : List TerminalEvent) (mark : Mark)
-        → All (λ event. ¬ (TakesReference mark event)) events → sent (state_after (new_of number) events) mark ≡ [] }
+        → All (λ event. ¬ (TakesReference mark event)) events → transmitted (state_after (new_of number) events) mark ≡ [] }
 {}
 
 /// While the terminal holds bursts of the edition named, no bursts that come for it change what it transmits in
@@ -30,7 +30,7 @@ pub fn unheard_superframes_are_silent()
 pub fn bursts_in_force_stay()
     ensures { (s : State) (mark : Mark) (named : EditionNo) (to : TermNo) (edition : EditionNo) (bursts : List Burst)
         → in_force s.heard mark ≡ Some named → hold s.banks named ≡ true
-        → sent (step_of s mark (Message.PlanFor to edition bursts)).1 mark ≡ sent s mark }
+        → transmitted (step_of s mark (Message.PlanFor to edition bursts)).1 mark ≡ transmitted s mark }
 {}
 
 /// What a terminal has heard in the present superframe, and the editions of which it holds its bursts, are said by its
@@ -48,6 +48,6 @@ pub fn banks_stay_distinct()
 
 /// A run after which the terminal transmits, in the superframe whose reference burst it took and not in the next.
 pub fn some_run_transmits()
-    ensures now { (bursts : List Burst) → sent (state_after (new_of (record { 0 = 0 })) (a_frame bursts)) (record { 0 = 7 }) ≡ bursts }
-    ensures later { (bursts : List Burst) → sent (state_after (new_of (record { 0 = 0 })) (a_frame bursts)) (record { 0 = 8 }) ≡ [] }
+    ensures now { (bursts : List Burst) → transmitted (state_after (new_of (record { 0 = 0 })) (a_frame bursts)) (record { 0 = 7 }) ≡ bursts }
+    ensures later { (bursts : List Burst) → transmitted (state_after (new_of (record { 0 = 0 })) (a_frame bursts)) (record { 0 = 8 }) ≡ [] }
 {}

@@ -2,7 +2,7 @@
 ghost use Rattle.std.specs.Prelude.{◌≡◌};
 ghost use Rattle.bt_demand.specs.Burst.{AreBursts};
 ghost use Rattle.bt_term.specs.Banks.{next_bank};
-ghost use Rattle.bt_term.specs.Terminal.{new_of, in_force, is_before, is_named, step_of, sent};
+ghost use Rattle.bt_term.specs.Terminal.{new_of, in_force, is_before, is_named, step_of, transmitted};
 
 use crate::bank::Bank;
 use crate::banks::Banks;
@@ -54,7 +54,7 @@ impl Terminal {
     /// The bursts that the terminal transmits in this superframe: those of the edition that the reference burst of this
     /// very superframe names, where the terminal took it and holds them, and else none.
     pub fn sends(&self, mark: Mark) -> &[Burst]
-        ensures bursts { result.now ≡ sent self.now mark }
+        ensures bursts { result.now ≡ transmitted self.now mark }
         ensures in_order { AreBursts result.now }
     {
         let Some(edition) = self.in_force(mark) else {

@@ -33,7 +33,7 @@ use Rattle.bt_world.specs.Answers.{told_by, is_confirming, confirmed_by}
 use Rattle.bt_world.specs.Event.{Opening, Happening, Hears}
 use Rattle.bt_world.specs.Ground.{terminal}
 use Rattle.bt_world.specs.Satellite.{satellite, to_satellite}
-use Rattle.bt_world.specs.World.{greatest_due, mark, plans, plan_of, bursts_for, message_of, accepted, heard, held, held_by, sent_by_satellite, sent_by_terminal, sent_by_hearing}
+use Rattle.bt_world.specs.World.{greatest_due, mark, plans, plan_of, bursts_for, carried, accepted, heard, held, held_by, sent_by_satellite, sent_by_terminal, sent_by_hearing}
 use Rattle.bt_world.proofs.Ground.{terminal-agrees}
 
 -- there is an order
@@ -87,9 +87,9 @@ module _
     (on_mark : (o : Opening) (past : List Happening) → (satellite o past).mark.0 ≡ mark o past)
     (on_status : (o : Opening) (past : List Happening) → status_of (satellite o past) ≡ telling (accepted o past) (mark o past))
   where
-    pub satellite-answers : (o : Opening) (past : List Happening) (one : Sent) → sent_by_hearing o past (Some one) Satellite ≡ told_by (take (satellite o past) (message_of (plans o past) one))
+    pub satellite-answers : (o : Opening) (past : List Happening) (one : Sent) → sent_by_hearing o past (Some one) Satellite ≡ told_by (take (satellite o past) (carried (plans o past) one))
     satellite-answers o past one =
-        let m = message_of (plans o past) one in
+        let m = carried (plans o past) one in
         let s = satellite o past in
         let next : satellite o (Hears (Some one) Satellite ∷ past) ≡ (take s m).1 =
         state_more (new_at (record { 0 = greatest_due o.orders })) (oldest_first (to_satellite o past)) (Takes m) in
@@ -150,7 +150,7 @@ plan-answers to for edition bursts now named editions s false e agrees =
     rw (e, other) refl
 
 terminal-answers-by : (to : TermNo) (all : List Plan) (one : Sent) (now : ℕ) (named : Option EditionNo) (editions : List EditionNo) (s : State) → Agrees to now named editions s
-    → sent_by_terminal (held_by editions named to (Some one)) to (Some one) ≡ confirmed_by to one (step_of s (record { 0 = now }) (message_of all one)).0
+    → sent_by_terminal (held_by editions named to (Some one)) to (Some one) ≡ confirmed_by to one (step_of s (record { 0 = now }) (carried all one)).0
 terminal-answers-by to all (sends.PlanFor for edition) now named editions s agrees = plan-answers to for edition (bursts_for for (plan_of all edition)) now named editions s _ refl agrees
 terminal-answers-by to all (sends.Load command edition) now named editions s agrees = refl
 terminal-answers-by to all (sends.Arm command edition due) now named editions s agrees = refl
@@ -160,5 +160,5 @@ terminal-answers-by to all (sends.Reference superframe in_force) now named editi
 terminal-answers-by to all (sends.Lost from) now named editions s agrees = refl
 
 pub terminal-answers : (o : Opening) (past : List Happening) (one : Sent) (to : TermNo)
-    → sent_by_hearing o past (Some one) (Terminal to) ≡ confirmed_by to one (step_of (terminal o past to) (record { 0 = mark o past }) (message_of (plans o past) one)).0
+    → sent_by_hearing o past (Some one) (Terminal to) ≡ confirmed_by to one (step_of (terminal o past to) (record { 0 = mark o past }) (carried (plans o past) one)).0
 terminal-answers o past one to = terminal-answers-by to (plans o past) one (mark o past) (heard o past to) (held o past to) (terminal o past to) (terminal-agrees o past to)

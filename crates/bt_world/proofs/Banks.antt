@@ -22,10 +22,10 @@ use Rattle.bt_change.specs.declared.turn.Turn.{Turn as Sight}
 use Rattle.bt_change.specs.Last.{last_order}
 use Rattle.bt_change.specs.Turn.{attempt, act_of, arm_after, is_before, may_arm, wanted_by}
 use Rattle.bt_world.specs.World.{sight, with_wanted}
-use Rattle.bt_world.specs.World.{greatest_due, mark, plans, first_or, plan_of, modes_of, message_of, wanted, orders, kept, accepted, sent, log}
+use Rattle.bt_world.specs.World.{greatest_due, mark, plans, first_or, plan_of, modes_of, carried, wanted, orders, kept, accepted, sent, log}
 use Rattle.bt_switch.specs.Run.{oldest_first}
 use Rattle.bt_world.specs.Satellite.{to_satellite, satellite, BanksHold}
-use Rattle.bt_world.specs.Fits.{no_plan, StartsEmpty, newest_of, edition_in, HasPlan, IsWorld}
+use Rattle.bt_world.specs.Fits.{no_plan, StartsEmpty, newest_of, edition_ordered, HasPlan, IsWorld}
 use Rattle.bt_world.specs.Laws.{IsAmong}
 use Rattle.bt_world.proofs.Standing.{Comes, comes, world-holds}
 use Rattle.bt_world.proofs.Joins.{IsSoundIfAny}
@@ -121,12 +121,12 @@ joined-planned all (Some order) placed planned one = All-cons (HasPlan all) orde
 -- one plan more
 if-some-still : (plan : Plan) (all : List Plan) (next : Option Order) → IfSome next (HasPlan all) → IfSome next (HasPlan (plan ∷ all))
 if-some-still plan all None one = tt
-if-some-still plan all (Some order) one = still plan all (edition_in order) one
+if-some-still plan all (Some order) one = still plan all (edition_ordered order) one
 
 installed : (o : Opening) (past : List Happening) (plan : Plan) → Planned o past → Planned o (Installs plan ∷ past)
 installed o past plan planned = record {
   some = record { zero = still plan (plans o past) (record { 0 = 0 }) planned.some.zero; newest = first-some (plan_of (plans o past) plan.edition) plan _ refl };
-  placed = All-weaker (HasPlan (plans o past)) (HasPlan (plan ∷ plans o past)) (λ (order : Order) h. still plan (plans o past) (edition_in order) h) (orders o past) planned.placed;
+  placed = All-weaker (HasPlan (plans o past)) (HasPlan (plan ∷ plans o past)) (λ (order : Order) h. still plan (plans o past) (edition_ordered order) h) (orders o past) planned.placed;
   next = if-some-still plan (plans o past) (wanted past) planned.next;
 }
 
@@ -166,14 +166,14 @@ among-planned all order (first ∷ rest) planned (inl same) = subst (HasPlan all
 among-planned all order (first ∷ rest) planned (inr among) = among-planned all order rest (All-tail (HasPlan all) first rest planned) among
 
 banked-load : (all : List Plan) (s : State) (command : Command) (edition : EditionNo) (stale armed : Bool) → is_stale s command ≡ stale → is_armed s.armed ≡ armed
-    → IsSome (plan_of all edition) → Banked all s → Banked all (step_of s (message_of all (sends.Load command edition))).1
+    → IsSome (plan_of all edition) → Banked all s → Banked all (step_of s (carried all (sends.Load command edition))).1
 banked-load all s command edition true armed p q some banked = rw p banked
 banked-load all s command edition false true p q some banked = rw (p, q) banked
 banked-load all s command edition false false p q some banked = rw (p, q) (record { hold = record { fore = banked.hold.fore; back = refl }; fore = banked.fore; back = some })
 
 banked-arm : (all : List Plan) (s : State) (command : Command) (edition : EditionNo) (due : Mark) (stale armed missing late : Bool)
     → is_stale s command ≡ stale → is_armed s.armed ≡ armed → is_not_loaded s edition ≡ missing → is_too_late s due ≡ late
-    → Banked all s → Banked all (step_of s (message_of all (sends.Arm command edition due))).1
+    → Banked all s → Banked all (step_of s (carried all (sends.Arm command edition due))).1
 banked-arm all s command edition due true armed missing late p q r t banked = rw p banked
 banked-arm all s command edition due false true missing late p q r t banked = rw (p, q) banked
 banked-arm all s command edition due false false true late p q r t banked = rw (p, q, r) banked
@@ -182,7 +182,7 @@ banked-arm all s command edition due false false false false p q r t banked =
     rw (p, q, r, t) (record { hold = record { fore = banked.hold.fore; back = banked.hold.back }; fore = banked.fore; back = banked.back })
 
 banked-take : (placed taken : List Order) (now : ℕ) (all : List Plan) (s : State) (one : Sent) → All (HasPlan all) placed → IsSoundIfAny placed taken now (Some one)
-    → Banked all s → Banked all (step_of s (message_of all one)).1
+    → Banked all s → Banked all (step_of s (carried all one)).1
 banked-take placed taken now all s (sends.Load command edition) planned among banked =
     banked-load all s command edition _ _ refl refl (among-planned all (Load command edition) placed planned among) banked
 banked-take placed taken now all s (sends.Arm command edition due) planned among banked = banked-arm all s command edition due _ _ _ _ refl refl refl refl banked
@@ -202,7 +202,7 @@ banked-hear : (o : Opening) (past : List Happening) (one : Option Sent) (place :
     → Banked (plans o past) (satellite o past) → Banked (plans o past) (satellite o (Hears one place ∷ past))
 banked-hear o past None Satellite planned sound banked = banked
 banked-hear o past (Some sent) Satellite planned sound banked =
-    next (record { 0 = greatest_due o.orders }) (plans o past) (to_satellite o past) (Takes (message_of (plans o past) sent)) (Banked (plans o past))
+    next (record { 0 = greatest_due o.orders }) (plans o past) (to_satellite o past) (Takes (carried (plans o past) sent)) (Banked (plans o past))
     (banked-take (orders o past) (accepted o past) (mark o past) (plans o past) (satellite o past) sent planned.placed sound banked)
 banked-hear o past one Centre planned sound banked = banked
 banked-hear o past one (Terminal to) planned sound banked = banked

@@ -35,8 +35,8 @@ use Rattle.bt_change.specs.Known.{is_unseen, known, told_fore, is_later, later_o
 use Rattle.bt_change.specs.Last.{last_order}
 use Rattle.bt_change.specs.Turn.{attempt, act_of, is_before}
 use Rattle.bt_world.specs.Event.{Opening, Event, Tick, Turn, Ordered, Deliver, Frame, ResetTerminal, RestartCentre, Install, Happening, Turns, Hears}
-use Rattle.bt_world.specs.Fits.{edition_in, HasPlan, IsInTime, IsStored, AreStored, IsPlace, IsWorld}
-use Rattle.bt_world.specs.World.{mark, plans, has_burst, plan_of, modes_of, bursts_for, message_of, with_wanted, accepted, wanted, orders, kept, noting, known_now, terminals, is_missing, is_asking, plans_for, order_again, last_plans, sent_by_act, sent_to_asking, sent_by_order, sent_by_satellite, sent_by_terminal, sent_with, sent, joining_with, held, held_by, heard, sight, act, comes_to, log}
+use Rattle.bt_world.specs.Fits.{edition_ordered, HasPlan, IsInTime, IsStored, AreStored, IsPlace, IsWorld}
+use Rattle.bt_world.specs.World.{mark, plans, has_burst, plan_of, modes_of, bursts_for, carried, with_wanted, accepted, wanted, orders, kept, noting, known_now, terminals, is_missing, is_asking, plans_for, order_again, last_plans, sent_by_act, sent_to_asking, sent_by_order, sent_by_satellite, sent_by_terminal, sent_with, sent, joining_with, held, held_by, heard, sight, act, comes_to, log}
 use Rattle.bt_world.proofs.Banks.{world-planned}
 use Rattle.bt_world.proofs.Carried.{planned-word, modes-carried, bursts-carried}
 use Rattle.bt_world.proofs.Plans.{flies-each, plans-flyable}
@@ -59,7 +59,7 @@ Taken (Arm command edition due) = IsCommand command × IsWord edition.0 × IsDue
 
 -- and of one that was placed, but for the superframe
 abbrev pub Placed : Order → Type 0
-Placed order = IsCommand (command_of order) × IsWord (edition_in order).0
+Placed order = IsCommand (command_of order) × IsWord (edition_ordered order).0
 
 -- the edition fits four bytes
 abbrev pub IsEdition : EditionNo → Type 0
@@ -294,7 +294,7 @@ numbered-fits all [] stored numbered planned few = All-nil Placed
 numbered-fits all (order ∷ earlier) stored numbered planned few =
     let plan = All-head (HasPlan all) order earlier planned in
     let more : suc (length earlier) ≤ 4294967295 = few in
-    All-cons Placed order earlier ((omega (arith, numbered.0), omega (arith, numbered.0, more)), planned-word all (edition_in order) stored plan)
+    All-cons Placed order earlier ((omega (arith, numbered.0), omega (arith, numbered.0, more)), planned-word all (edition_ordered order) stored plan)
     (numbered-fits all earlier stored numbered.1 (All-tail (HasPlan all) order earlier planned) (omega (arith, more)))
 
 wanted-fits : (all : List Plan) (placed : List Order) (order : Option Order) → All IsStored all → IfSome order (IsNumbered placed) → IfSome order (HasPlan all)
@@ -418,7 +418,7 @@ world-fits o (event ∷ earlier) sound world stored =
 
 -- a message is in range where its fields are, and its modes and bursts
 in-range : (all : List Plan) → ((edition : EditionNo) → AreModes (modes_of (plan_of all edition)))
-    → ((edition : EditionNo) (terminal : TermNo) → AreBurstsOf terminal (bursts_for terminal (plan_of all edition))) → (one : Sent) → Fits one → IsInRange (message_of all one)
+    → ((edition : EditionNo) (terminal : TermNo) → AreBurstsOf terminal (bursts_for terminal (plan_of all edition))) → (one : Sent) → Fits one → IsInRange (carried all one)
 in-range all modes bursts (sends.Load command edition) fits = (fits.0, fits.1, modes edition)
 in-range all modes bursts (sends.Arm command edition due) fits = fits
 in-range all modes bursts (sends.Status status) fits = fits
@@ -434,12 +434,12 @@ module _ (small_modes : (net : Net) (plan : Plan) → IsFlyable net plan → All
     (few_bursts : (net : Net) (plan : Plan) (terminal : TermNo) → IsFlyable net plan → length (bursts_from terminal plan.bursts) ≤ 4096)
     (in_order : (bursts : List Burst) (terminal : TermNo) → AllPairs IsNotAfter bursts → AllPairs IsNotAfter (bursts_from terminal bursts)) where
   pub messages-in-range : (o : Opening) (events : List Event) → IsSound o.net → IsWorld o events → AreStored o (log o events)
-      → All (λ (one : Sent). IsInRange (message_of (plans o (log o events)) one)) (sent o (log o events))
+      → All (λ (one : Sent). IsInRange (carried (plans o (log o events)) one)) (sent o (log o events))
   messages-in-range o events sound world stored =
       let past = log o events in
       let all = plans o past in
       let flyable = plans-flyable o events (flies-each o events world) in
-      All-weaker Fits (λ (one : Sent). IsInRange (message_of all one))
+      All-weaker Fits (λ (one : Sent). IsInRange (carried all one))
       (in-range all (λ edition. modes-carried small_modes few_modes small_bursts few_bursts in_order o.net all edition sound flyable)
       (λ edition terminal. bursts-carried small_modes few_modes small_bursts few_bursts in_order o.net all edition terminal sound flyable stored.plans))
       (sent o past) (world-fits o events sound world stored).each

@@ -22,9 +22,9 @@ use Rattle.bt_air.specs.declared.sent.Sent.TheVariants as sends
 use Rattle.bt_term.specs.declared.bank.Bank.{Bank}
 use Rattle.bt_term.specs.declared.banks.Banks.{Banks}
 use Rattle.bt_term.specs.Banks.{bank_of, bursts_of_bank as bank_bursts}
-use Rattle.bt_term.specs.Terminal.{State, new_of, step_of, is_for_another, having_heard, storing, bursts_named, sent as transmitted}
+use Rattle.bt_term.specs.Terminal.{State, new_of, step_of, is_for_another, having_heard, storing, bursts_named, transmitted}
 use Rattle.bt_world.specs.Event.{Opening, Event, Tick, Turn, Ordered, Deliver, Frame, ResetTerminal, RestartCentre, Install, Happening, Ticks, Turns, Orders, Hears, Shows, Resets, Restarts, Installs}
-use Rattle.bt_world.specs.World.{mark, plans, plan_of, bursts_for, has_burst, message_of, wanted, orders, heard, known_now, terminals, is_missing, is_missing_of, is_confirmed, plans_for, order_again, last_plans, sent_by_act, sent_to_asking, sent_by_order, sent_by_satellite, sent_by_terminal, sent_by_hearing, sent_with, sent, log, act}
+use Rattle.bt_world.specs.World.{mark, plans, plan_of, bursts_for, has_burst, carried, wanted, orders, heard, known_now, terminals, is_missing, is_missing_of, is_confirmed, plans_for, order_again, last_plans, sent_by_act, sent_to_asking, sent_by_order, sent_by_satellite, sent_by_terminal, sent_by_hearing, sent_with, sent, log, act}
 use Rattle.bt_world.specs.Air.{where_held, bursts_under, transmits}
 use Rattle.bt_world.specs.Ground.{after_hearing, terminal}
 use Rattle.bt_term.specs.Said.{editions_in, IsFilledInOrder}
@@ -198,7 +198,7 @@ plan-banks all number now s to edition false e same some banks =
     let other : is_for_another s to ≡ true = rw e refl in rw other banks
 
 message-banks : (all : List Plan) (number : TermNo) (now : ℕ) (s : State) (one : Sent) → s.number ≡ number → HasPlanFor all one → AreBanks all number s
-    → AreBanks all number (step_of s (record { 0 = now }) (message_of all one)).1
+    → AreBanks all number (step_of s (record { 0 = now }) (carried all one)).1
 message-banks all number now s (sends.PlanFor to edition) same some banks = plan-banks all number (record { 0 = now }) s to edition _ refl same some banks
 message-banks all number now s (sends.Reference superframe found) same some banks = taken (IsBank all number) s superframe found _ banks.0 banks.1
 message-banks all number now s (sends.Load command edition) same some banks = banks

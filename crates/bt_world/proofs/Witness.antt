@@ -23,7 +23,7 @@ use Rattle.bt_world.specs.Air.{AreFlyable, IsAir}
 use Rattle.bt_world.specs.Event.{Opening, Event, Tick, Turn, Ordered, Deliver, Frame, ResetTerminal, RestartCentre, Install, Happening}
 use Rattle.bt_world.specs.Example.{two_beams, a, b, a_burst, b_burst, a_plan, opened, calm, lossy, reset, late}
 use Rattle.bt_world.specs.Fits.{no_plan, newest_of, HasPlan, IsInTime, IsOpening, IsPlace, IsStored, AreStored, IsWorld}
-use Rattle.bt_world.specs.World.{mark, number, plans, wanted, orders, sent, log}
+use Rattle.bt_world.specs.World.{mark, frames_shown, plans, wanted, orders, sent, log}
 
 -- whether the place is one of the network
 abbrev pub is_place : Opening → Place → Bool
@@ -37,7 +37,7 @@ meets o past Tick = nat_lt (mark o past) 4000000000
 meets o past (Turn newest) = newest.0 == (newest_of (plans o past)).0
 meets o past Ordered = is_some (wanted past)
 meets o past (Deliver message place) = nat_lt message (length (sent o past)) && is_place o place
-meets o past Frame = nat_lt (number past) o.net.frames
+meets o past Frame = nat_lt (frames_shown past) o.net.frames
 meets o past (ResetTerminal terminal) = nat_lt terminal.0 (length o.net.terminals)
 meets o past (RestartCentre true) = is_some (wanted past)
 meets o past (RestartCentre false) = true
@@ -81,7 +81,7 @@ world-by o (Deliver message place ∷ earlier) opening fit passes =
       ),
       world-by o earlier opening fit (second-of (nat_lt message (length (sent o (log o earlier))) && is_place o place) (all_meet o earlier) passes),
     )
-world-by o (Frame ∷ earlier) opening fit passes = (below (number (log o earlier)) o.net.frames (first-of _ (all_meet o earlier) passes), world-by o earlier opening fit (second-of _ (all_meet o earlier) passes))
+world-by o (Frame ∷ earlier) opening fit passes = (below (frames_shown (log o earlier)) o.net.frames (first-of _ (all_meet o earlier) passes), world-by o earlier opening fit (second-of _ (all_meet o earlier) passes))
 world-by o (ResetTerminal terminal ∷ earlier) opening fit passes =
     (below terminal.0 (length o.net.terminals) (first-of _ (all_meet o earlier) passes), world-by o earlier opening fit (second-of _ (all_meet o earlier) passes))
 world-by o (RestartCentre true ∷ earlier) opening fit passes = (first-of _ _ passes, world-by o earlier opening fit (second-of _ (all_meet o earlier) passes))

@@ -9,7 +9,7 @@ use Rattle.bt_air.specs.declared.sent.Place.{Place}
 use Rattle.bt_air.specs.declared.sent.Place.TheVariants.{Satellite, Centre, Terminal}
 use Rattle.bt_change.specs.Centre.{AreNumbered}
 use Rattle.bt_world.specs.Event.{Opening, Event, Tick, Turn, Ordered, Deliver, Frame, ResetTerminal, RestartCentre, Install, Happening}
-use Rattle.bt_world.specs.World.{mark, number, plans, plan_of, wanted, orders, sent, log}
+use Rattle.bt_world.specs.World.{mark, frames_shown, plans, plan_of, wanted, orders, sent, log}
 use Rattle.bt_demand.specs.Burst.{IsNotAfter}
 use Rattle.bt_demand.specs.Flyable.{IsFlyable}
 use Rattle.bt_air.specs.Range.{IsWord}
@@ -31,13 +31,13 @@ newest_of [] = record { 0 = 0 }
 newest_of (plan ∷ earlier) = plan.edition
 
 -- the edition of an order
-abbrev pub edition_in : Order → EditionNo
-edition_in (Load command edition) = edition
-edition_in (Arm command edition due) = edition
+abbrev pub edition_ordered : Order → EditionNo
+edition_ordered (Load command edition) = edition
+edition_ordered (Arm command edition due) = edition
 
 -- there is a plan of the edition of the order
 abbrev pub HasPlan : List Plan → Order → Type 0
-HasPlan all order = IsSome (plan_of all (edition_in order))
+HasPlan all order = IsSome (plan_of all (edition_ordered order))
 
 -- no order arms for a superframe past the last mark
 abbrev pub IsInTime : Order → Type 0
@@ -66,7 +66,7 @@ Meets o past Tick = mark o past < 4000000000
 Meets o past (Turn newest) = newest ≡ newest_of (plans o past)
 Meets o past Ordered = IsSome (wanted past)
 Meets o past (Deliver number place) = (number < length (sent o past)) × IsPlace o place
-Meets o past Frame = number past < o.net.frames
+Meets o past Frame = frames_shown past < o.net.frames
 Meets o past (ResetTerminal terminal) = IsTerminal o.net terminal
 Meets o past (RestartCentre true) = IsSome (wanted past)
 Meets o past (RestartCentre false) = Unit {0}

@@ -7,12 +7,12 @@ use Rattle.bt_air.specs.declared.sent.Place.TheVariants.{Terminal}
 use Rattle.bt_air.specs.declared.sent.Sent.{Sent}
 use Rattle.bt_term.specs.Terminal.{State, new_of, step_of}
 use Rattle.bt_world.specs.Event.{Opening, Happening, Hears, Resets}
-use Rattle.bt_world.specs.World.{mark, plans, message_of}
+use Rattle.bt_world.specs.World.{mark, plans, carried}
 
 -- the state after a message, if there is one
 abbrev pub after_hearing : State → ℕ → List Plan → Option Sent → State
 after_hearing s now all None = s
-after_hearing s now all (Some sent) = (step_of s (record { 0 = now }) (message_of all sent)).1
+after_hearing s now all (Some sent) = (step_of s (record { 0 = now }) (carried all sent)).1
 
 abbrev pub after_delivery : State → TermNo → ℕ → List Plan → Option Sent → Place → State
 after_delivery s terminal now all sent (Terminal to) = if to.0 == terminal.0 then after_hearing s now all sent else s

@@ -7,12 +7,12 @@ use Rattle.bt_air.specs.declared.sent.Sent.{Sent}
 use Rattle.bt_switch.specs.Satellite.{State, new_at}
 use Rattle.bt_switch.specs.Run.{SatelliteEvent, Begins, Hears as Takes, oldest_first, state_after}
 use Rattle.bt_world.specs.Event.{Opening, Happening, Ticks, Hears}
-use Rattle.bt_world.specs.World.{greatest_due, plans, plan_of, modes_of, message_of}
+use Rattle.bt_world.specs.World.{greatest_due, plans, plan_of, modes_of, carried}
 
 -- what happened to the satellite, with a message that it heard, if there is one
 abbrev pub with_message : List Plan → Option Sent → List SatelliteEvent → List SatelliteEvent
 with_message all None before = before
-with_message all (Some sent) before = Takes (message_of all sent) ∷ before
+with_message all (Some sent) before = Takes (carried all sent) ∷ before
 
 -- what happened to the satellite, after a delivery
 abbrev pub delivered : List Plan → Option Sent → Place → List SatelliteEvent → List SatelliteEvent

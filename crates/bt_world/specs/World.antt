@@ -41,11 +41,11 @@ mark o (Ticks ∷ past) = mark o past + 1
 mark o (_ ∷ past) = mark o past
 
 -- the frames of the present superframe that were shown
-abbrev pub number : List Happening → ℕ
-number [] = 0
-number (Ticks ∷ past) = 0
-number (Shows ∷ past) = number past + 1
-number (_ ∷ past) = number past
+abbrev pub frames_shown : List Happening → ℕ
+frames_shown [] = 0
+frames_shown (Ticks ∷ past) = 0
+frames_shown (Shows ∷ past) = frames_shown past + 1
+frames_shown (_ ∷ past) = frames_shown past
 
 -- the plans that are installed
 abbrev pub plans : Opening → List Happening → List Plan
@@ -78,20 +78,20 @@ abbrev pub has_burst : Option Plan → TermNo → Bool
 has_burst None terminal = false
 has_burst (Some plan) terminal = list_any (λ (burst : Burst). burst.from.0 == terminal.0) plan.bursts
 
--- the message that was sent, with the modes and the bursts of the plan of its edition
-abbrev pub message_of : List Plan → Sent → Message
-message_of all (sends.Load command edition) = message.Load command edition (modes_of (plan_of all edition))
-message_of all (sends.Arm command edition due) = message.Arm command edition due
-message_of all (sends.Status status) = message.Status status
-message_of all (sends.PlanFor to edition) = message.PlanFor to edition (bursts_for to (plan_of all edition))
-message_of all (sends.Confirm from edition) = message.Confirm from edition
-message_of all (sends.Reference superframe in_force) = message.Reference superframe in_force
-message_of all (sends.Lost from) = message.Lost from
+-- the message that was sent as it is carried, with the modes and the bursts of the plan of its edition
+abbrev pub carried : List Plan → Sent → Message
+carried all (sends.Load command edition) = message.Load command edition (modes_of (plan_of all edition))
+carried all (sends.Arm command edition due) = message.Arm command edition due
+carried all (sends.Status status) = message.Status status
+carried all (sends.PlanFor to edition) = message.PlanFor to edition (bursts_for to (plan_of all edition))
+carried all (sends.Confirm from edition) = message.Confirm from edition
+carried all (sends.Reference superframe in_force) = message.Reference superframe in_force
+carried all (sends.Lost from) = message.Lost from
 
 -- what a message that is delivered to the satellite joins to the accepted orders
 abbrev pub joining_with : List Order → ℕ → List Plan → Option Sent → List Order
 joining_with before now all None = []
-joining_with before now all (Some sent) = joining before now (message_of all sent)
+joining_with before now all (Some sent) = joining before now (carried all sent)
 
 -- what a delivery joins to the orders that the satellite accepted
 abbrev pub joins : List Order → ℕ → List Plan → Option Sent → Place → List Order

@@ -6,7 +6,7 @@ ghost use Rattle.bt_demand.specs.declared.burst.Burst.{Burst};
 ghost use Rattle.bt_air.specs.Range.{IsInRange};
 ghost use Rattle.bt_switch.specs.Orders.{StandsFor, telling};
 ghost use Rattle.bt_switch.specs.Satellite.{status_of};
-ghost use Rattle.bt_term.specs.Terminal.{sent as transmitted};
+ghost use Rattle.bt_term.specs.Terminal.{transmitted};
 ghost use Rattle.bt_air.specs.declared.sent.Sent.{Sent};
 ghost use Rattle.bt_switch.specs.Satellite.{step_of as take};
 ghost use Rattle.bt_term.specs.Terminal.{step_of as hear};
@@ -20,7 +20,7 @@ ghost use Rattle.bt_term.specs.Said.{Agrees};
 ghost use Rattle.bt_world.specs.Ground.{terminal};
 ghost use Rattle.bt_world.specs.Laws.{AreAmong, Ascend, IsOrdered, IsRight, TellsFront};
 ghost use Rattle.bt_world.specs.Satellite.{BanksHold, satellite};
-ghost use Rattle.bt_world.specs.World.{accepted, bursts_for, heard, held, log, mark, message_of, modes_of, orders, plan_of, plans, sent, sent_by_hearing};
+ghost use Rattle.bt_world.specs.World.{accepted, bursts_for, heard, held, log, mark, carried, modes_of, orders, plan_of, plans, sent, sent_by_hearing};
 
 use bt_air::{Place, Sent};
 use bt_change::sets_hold_what_joined;
@@ -82,7 +82,7 @@ pub fn banks_hold_plans()
 /// its range.
 pub fn messages_are_in_range()
     ensures { (o : Opening) (events : List Event) → IsSound o.net → IsWorld o events → AreStored o (log o events)
-        → All (λ one. IsInRange (message_of (plans o (log o events)) one)) (sent o (log o events)) }
+        → All (λ one. IsInRange (carried (plans o (log o events)) one)) (sent o (log o events)) }
 {
     flyable_plans_are_small();
 }
@@ -105,10 +105,10 @@ pub fn terminals_are_said()
 /// new status exactly where it carried the message out, and a terminal confirms exactly the bursts that it holds.
 pub fn answers_are_said()
     ensures satellite { (o : Opening) (past : List Happening) (one : Sent)
-        → sent_by_hearing o past (Some one) Place.Satellite ≡ told_by (take (satellite o past) (message_of (plans o past) one)) }
+        → sent_by_hearing o past (Some one) Place.Satellite ≡ told_by (take (satellite o past) (carried (plans o past) one)) }
     ensures terminal { (o : Opening) (past : List Happening) (one : Sent) (to : TermNo)
         → sent_by_hearing o past (Some one) (Place.Terminal to)
-        ≡ confirmed_by to one (hear (terminal o past to) (record { 0 = mark o past }) (message_of (plans o past) one)).0 }
+        ≡ confirmed_by to one (hear (terminal o past to) (record { 0 = mark o past }) (carried (plans o past) one)).0 }
 {
     satellite_is_said();
 }
