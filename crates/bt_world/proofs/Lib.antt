@@ -19,3 +19,4 @@ mod Centre
 mod Witness
 mod Answers
 mod Board
+mod Shared

@@ -9,6 +9,7 @@
 #![tactic(auto)]
 
 mod laws;
+mod shares;
 
 pub use laws::{
     answers_are_said, banks_hold_plans, centre_is_said, examples_are_worlds, frames_are_safe,
