@@ -20,3 +20,5 @@ mod Witness
 mod Answers
 mod Board
 mod Shared
+mod Ordered
+mod Few

@@ -9,6 +9,7 @@
 #![tactic(auto)]
 
 mod laws;
+mod on_air;
 mod shares;
 
 pub use laws::{
