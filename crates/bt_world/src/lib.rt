@@ -8,6 +8,7 @@
 //! `specs/Answers.antt` what their answers call for, and `specs/Example.antt` has worlds that run.
 #![tactic(auto)]
 
+mod carry;
 mod laws;
 mod on_air;
 mod shares;
