@@ -22,3 +22,6 @@ mod Board
 mod Shared
 mod Ordered
 mod Few
+mod Kept
+mod Indexed
+mod Ticks

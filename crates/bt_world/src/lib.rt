@@ -9,12 +9,16 @@
 #![tactic(auto)]
 
 mod carry;
+mod event_log;
 mod laws;
 mod on_air;
 mod shares;
+mod tick;
+mod world;
 
 pub use laws::{
     answers_are_said, banks_hold_plans, centre_is_said, examples_are_worlds, frames_are_safe,
     messages_are_in_range, orders_come_first, references_are_right, satellite_is_said,
     some_worlds_change, statuses_stay_true, terminals_are_said, transmissions_are_said,
 };
+pub use world::World;

@@ -1,0 +1,106 @@
+-- What contracts see of a world, and what it keeps beside that.
+use Rattle.std.specs.Prelude.{◌≡◌, ℕ, ◌<◌, ◌≤◌, List, [], ◌∷◌, ◌++◌, map, reverse, length, Option, Some, None, slice_get, All}
+use Rattle.bt_frame.specs.declared.numbers.EditionNo.{EditionNo}
+use Rattle.bt_net.specs.Network.{Net, IsSound}
+use Rattle.bt_demand.specs.declared.burst.Burst.{Burst}
+use Rattle.bt_demand.specs.declared.plan.Plan.{Plan}
+use Rattle.bt_air.specs.declared.order.Order.{Order}
+use Rattle.bt_air.specs.declared.sent.Sent.{Sent}
+use Rattle.bt_change.specs.Centre.{State as Centre}
+use Rattle.bt_switch.specs.Satellite.{State as Satellite}
+use Rattle.bt_term.specs.Terminal.{State as Terminal}
+use Rattle.bt_world.specs.Centre.{centre}
+use Rattle.bt_world.specs.Event.{Opening, Event, Install, Happening}
+use Rattle.bt_world.specs.Fits.{Meets, IsWorld, IsStored, AreStored, StartsEmpty}
+use Rattle.bt_world.specs.Ground.{terminal}
+use Rattle.bt_world.specs.Satellite.{satellite}
+use Rattle.bt_world.specs.Shares.{shares_of}
+use Rattle.bt_world.specs.World.{mark, frames_shown, orders, terminals, sent, log}
+
+-- an opening, and the events from the first on
+pub record Life : Type 0 where
+  pub opening : Opening
+  pub events : List Event
+
+-- what its events came to, the latest first
+abbrev pub past_of : Life → List Happening
+past_of life = log life.opening (reverse life.events)
+
+-- a life with one event more
+abbrev pub having_had : Life → Event → Life
+having_had life event = record { opening = life.opening; events = life.events ++ event ∷ [] }
+
+-- an event may come next: what must hold of it does, and neither messages nor orders are too many
+pub record MayCome (life : Life) (event : Event) : Type 0 where
+  pub meets : Meets life.opening (past_of life) event
+  pub few_sent : length (sent life.opening (past_of life)) ≤ 2000000000
+  pub few_orders : length (orders life.opening (past_of life)) ≤ 2000000000
+
+-- the plans that events install; both have the latest first
+abbrev pub installs : List Event → List Plan
+installs [] = []
+installs (Install plan ∷ earlier) = plan ∷ installs earlier
+installs (_ ∷ earlier) = installs earlier
+
+-- the number of terminals, the plans that opened and the events, both from the first on, and how many events more
+-- find room
+pub record Logged : Type 0 where
+  pub terminals : ℕ
+  pub opening : List Plan
+  pub events : List Event
+  pub room : ℕ
+
+-- all plans of a log, with the latest first
+abbrev pub plans_in : Logged → List Plan
+plans_in logged = installs (reverse logged.events) ++ reverse logged.opening
+
+-- the event installs no plan
+abbrev pub BringsNoPlan : Event → Type 0
+BringsNoPlan (Install plan) = ⊥
+BringsNoPlan _ = Unit {0}
+
+-- the plan that an event installs
+abbrev pub installed_by : Option Event → Option Plan
+installed_by (Some (Install plan)) = Some plan
+installed_by _ = None
+
+-- where the plans stand: the edition of each and its bursts by terminal, and the event that brought it
+pub record Index : Type 0 where
+  pub editions : List EditionNo
+  pub shares : List (List (List Burst))
+  pub places : List ℕ
+
+-- every plan of the log is found by the index
+pub record IsIndexed (logged : Logged) (index : Index) : Type 0 where
+  pub starts : StartsEmpty (plans_in logged)
+  pub stored : All IsStored (plans_in logged)
+  pub few : logged.terminals ≤ 64
+  pub editions : index.editions ≡ map (λ (plan : Plan). plan.edition) (reverse (plans_in logged))
+  pub shares : index.shares ≡ map (λ (plan : Plan). shares_of logged.terminals plan.bursts) (reverse (plans_in logged))
+  pub places : map (λ (place : ℕ). installed_by (slice_get logged.events place)) index.places ≡ map (λ (plan : Plan). Some plan) (reverse (installs (reverse logged.events)))
+
+-- the life that a network, the orders that opened, the first first, and a log tell
+abbrev pub life_of : Net → List Order → Logged → Life
+life_of net placed logged = record { opening = record { net = net; plans = reverse logged.opening; orders = reverse placed }; events = logged.events }
+
+-- what is kept beside a life
+pub record Kept : Type 0 where
+  pub terminal_count : ℕ
+  pub sent : List Sent
+  pub satellite : Satellite
+  pub terminals : List Terminal
+  pub centre : Centre
+  pub frames_shown : ℕ
+
+-- what is kept is what the events say, and the other laws speak of this world
+pub record IsKept (life : Life) (kept : Kept) : Type 0 where
+  pub sound : IsSound life.opening.net
+  pub world : IsWorld life.opening (reverse life.events)
+  pub stored : AreStored life.opening (past_of life)
+  pub few : length kept.sent ≤ 4294967295
+  pub terminal_count : kept.terminal_count ≡ length life.opening.net.terminals
+  pub sent : kept.sent ≡ sent life.opening (past_of life)
+  pub satellite : kept.satellite ≡ satellite life.opening (past_of life)
+  pub terminals : kept.terminals ≡ map (terminal life.opening (past_of life)) (terminals life.opening)
+  pub centre : kept.centre ≡ centre life.opening (past_of life)
+  pub frames_shown : kept.frames_shown ≡ frames_shown (past_of life)

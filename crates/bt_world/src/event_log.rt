@@ -1,0 +1,113 @@
+// The events of a world, and where its plans stand.
+ghost use Rattle.std.specs.Prelude.{◌≡◌, ◌<◌, ◌≤◌, ◌++◌, ◌∷◌, [], length, map, reverse, All, IfOk, OnOk, OnErr, Some};
+ghost use Rattle.bt_air.specs.Range.{IsWord};
+ghost use Rattle.bt_world.specs.Fits.{IsStored, StartsEmpty};
+ghost use Rattle.bt_world.specs.Life.{BringsNoPlan, plans_in};
+
+use crate::shares::Shares;
+use bt_air::Event;
+use bt_demand::Plan;
+use bt_frame::{EditionNo, OutOfMemory};
+use std::alloc::Global;
+use std::marker::Model;
+
+/// The events from the first on, and the plans that opened. A plan that an event installed stays in its event.
+#[derive(Drop)]
+pub(crate) struct EventLog {
+    terminals: u32,
+    opening: Vec<Plan>,
+    events: Vec<Event>,
+    // of each plan, the first first
+    editions: Vec<EditionNo>,
+    shares: Vec<Shares>,
+    // of each plan that was installed, the number of its event
+    places: Vec<usize>,
+}
+
+impl Model for EventLog {
+    ghost use Rattle.std.specs.Prelude.{◌-◌, vec_capacity, vec_len};
+    ghost use Rattle.bt_world.specs.Life.{Logged, IsIndexed};
+
+    ghost Value = { Logged };
+
+    ghost view = { λ a. record { terminals = a.terminals; opening = a.opening.items; events = a.events.items; room = vec_capacity a.events - vec_len a.events } };
+
+    ghost invariant = { λ a. IsIndexed (record { terminals = a.terminals; opening = a.opening.items; events = a.events.items; room = vec_capacity a.events - vec_len a.events })
+        (record { editions = a.editions.items; shares = a.shares.items; places = a.places.items }) };
+}
+
+impl EventLog {
+    /// The log before the first event: these plans opened, the first first, in a network of so many terminals.
+    pub(crate) fn open(
+        alloc: Global,
+        terminals: u32,
+        opening: Vec<Plan>,
+    ) -> Result<EventLog, OutOfMemory>
+        requires few { terminals ≤ 64 }
+        requires starts { StartsEmpty (reverse opening.items) }
+        ensures terminals { IfOk result (λ log. log.terminals ≡ terminals) }
+        ensures opening { IfOk result (λ log. log.opening ≡ opening.items) }
+        ensures events { IfOk result (λ log. log.events ≡ []) }
+        ensures stored { IfOk result (λ log. All IsStored (plans_in log)) }
+    {
+        let mut editions = Vec::with_capacity(alloc, opening.len())?;
+        let mut shares = Vec::with_capacity(alloc, opening.len())?;
+        for plan in &opening {
+            editions.push(edition_of(plan))?;
+            shares.push(Shares::of(alloc, terminals, plan.bursts.as_slice())?)?;
+        }
+        Ok(EventLog {
+            terminals,
+            opening,
+            events: Vec::new(alloc),
+            editions,
+            shares,
+            places: Vec::new(alloc),
+        })
+    }
+
+    /// Makes room for an event.
+    pub(crate) fn reserve(&mut self) -> Result<(), OutOfMemory>
+        ensures room { OnOk result (0 < self.new.room) }
+        ensures terminals { self.new.terminals ≡ self.old.terminals }
+        ensures opening { self.new.opening ≡ self.old.opening }
+        ensures events { self.new.events ≡ self.old.events }
+    {
+        Ok(self.events.reserve(1)?)
+    }
+
+    /// Appends an event, for which there is room. It brings no plan.
+    pub(crate) fn push(&mut self, event: Event)
+        requires room { 0 < self.old.room }
+        requires no_plan { BringsNoPlan event }
+        ensures terminals { self.new.terminals ≡ self.old.terminals }
+        ensures opening { self.new.opening ≡ self.old.opening }
+        ensures events { self.new.events ≡ self.old.events ++ event ∷ [] }
+    {
+        self.events.push_reserved(event);
+    }
+
+    /// The events, the first first.
+    pub(crate) fn into_events(self) -> Vec<Event>
+        ensures { result.items ≡ self.events }
+    {
+        self.events
+    }
+}
+
+// The edition of a plan, which as each plan that a program holds is a stored one.
+fn edition_of(plan: &Plan) -> EditionNo
+    ensures edition { result ≡ plan.now.edition }
+    ensures stored { IsStored plan.now }
+{
+    let _bursts = plan.bursts.as_slice();
+    held(plan.edition)
+}
+
+// An edition that a program holds fits four bytes.
+fn held(edition: EditionNo) -> EditionNo
+    ensures same { result ≡ edition }
+    ensures word { IsWord edition.0 }
+{
+    edition
+}
