@@ -1,13 +1,10 @@
 -- One event more, as a world keeps it.
-use Rattle.std.proofs.Common.{◌≡◌, ℕ, ◌+◌, ◌≤◌, List, [], ◌∷◌, ◌++◌, length, map, reverse, All, refl, sym, ◌∙◌, ap, subst, arith}
+use Rattle.std.proofs.Common.{◌≡◌, ◌≤◌, List, [], ◌∷◌, ◌++◌, length, map, reverse, sym, ◌∙◌, ap, subst, arith}
 use Rattle.std.proofs.lemmas.List.{reverse-append, length-append}
 use Rattle.bt_air.specs.declared.sent.Sent.{Sent}
-use Rattle.bt_change.specs.Centre.{State as Centre}
-use Rattle.bt_switch.specs.Satellite.{State as Satellite}
-use Rattle.bt_term.specs.Terminal.{State as Terminal}
 use Rattle.bt_world.specs.Centre.{centre}
-use Rattle.bt_world.specs.Event.{Opening, Event, Happening}
-use Rattle.bt_world.specs.Fits.{Meets, IsWorld, AreStored}
+use Rattle.bt_world.specs.Event.{Event, Happening}
+use Rattle.bt_world.specs.Fits.{IsWorld, AreStored}
 use Rattle.bt_world.specs.Ground.{terminal}
 use Rattle.bt_world.specs.Life.{Life, past_of, having_had, MayCome, Kept, IsKept}
 use Rattle.bt_world.specs.Satellite.{satellite}

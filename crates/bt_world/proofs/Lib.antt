@@ -25,3 +25,4 @@ mod Few
 mod Kept
 mod Indexed
 mod Ticks
+mod Lookup

@@ -1,17 +1,16 @@
 -- A superframe begins, as a world keeps it.
-use Rattle.std.proofs.Common.{◌≡◌, ◌+◌, List, [], ◌∷◌, ◌++◌, refl, sym, ◌∙◌, ap, lit≤}
+use Rattle.std.proofs.Common.{◌≡◌, ◌+◌, List, [], ◌∷◌, ◌++◌, sym, ◌∙◌, ap, lit≤}
 use Rattle.bt_air.specs.declared.order.Status.{Status}
-use Rattle.bt_air.specs.declared.sent.Sent.{Sent}
 use Rattle.bt_air.specs.declared.sent.Sent.TheVariants as sends
 use Rattle.bt_switch.specs.Orders.{telling}
 use Rattle.bt_switch.specs.Satellite.{State, new_at, ticked, status_of}
 use Rattle.bt_switch.specs.Run.{Begins, oldest_first}
 use Rattle.bt_switch.proofs.ByEvents.{state_more}
-use Rattle.bt_world.specs.Event.{Opening, Event, Tick, Happening, Ticks}
+use Rattle.bt_world.specs.Event.{Opening, Tick, Happening, Ticks}
 use Rattle.bt_world.specs.Life.{Life, past_of, having_had, MayCome, Kept, IsKept}
 use Rattle.bt_world.specs.Satellite.{satellite, to_satellite}
 use Rattle.bt_world.specs.World.{greatest_due, mark, accepted}
-use Rattle.bt_world.proofs.Kept.{Follows, kept-after}
+use Rattle.bt_world.proofs.Kept.{kept-after}
 
 satellite-ticks : (o : Opening) (past : List Happening) → satellite o (Ticks ∷ past) ≡ ticked (satellite o past)
 satellite-ticks o past = state_more (new_at (record { 0 = greatest_due o.orders })) (oldest_first (to_satellite o past)) Begins

@@ -1,5 +1,5 @@
 -- What contracts see of a world, and what it keeps beside that.
-use Rattle.std.specs.Prelude.{◌≡◌, ℕ, ◌<◌, ◌≤◌, List, [], ◌∷◌, ◌++◌, map, reverse, length, Option, Some, None, slice_get, All}
+use Rattle.std.specs.Prelude.{◌≡◌, ℕ, ◌<◌, ◌≤◌, List, [], ◌∷◌, ◌++◌, map, reverse, length, Option, Some, None, slice_get, slice_index_or as get_or, All}
 use Rattle.bt_frame.specs.declared.numbers.EditionNo.{EditionNo}
 use Rattle.bt_net.specs.Network.{Net, IsSound}
 use Rattle.bt_demand.specs.declared.burst.Burst.{Burst}
@@ -15,7 +15,7 @@ use Rattle.bt_world.specs.Fits.{Meets, IsWorld, IsStored, AreStored, StartsEmpty
 use Rattle.bt_world.specs.Ground.{terminal}
 use Rattle.bt_world.specs.Satellite.{satellite}
 use Rattle.bt_world.specs.Shares.{shares_of}
-use Rattle.bt_world.specs.World.{mark, frames_shown, orders, terminals, sent, log}
+use Rattle.bt_world.specs.World.{frames_shown, plan_of, orders, terminals, sent, log}
 
 -- an opening, and the events from the first on
 pub record Life : Type 0 where
@@ -78,6 +78,11 @@ pub record IsIndexed (logged : Logged) (index : Index) : Type 0 where
   pub editions : index.editions ≡ map (λ (plan : Plan). plan.edition) (reverse (plans_in logged))
   pub shares : index.shares ≡ map (λ (plan : Plan). shares_of logged.terminals plan.bursts) (reverse (plans_in logged))
   pub places : map (λ (place : ℕ). installed_by (slice_get logged.events place)) index.places ≡ map (λ (plan : Plan). Some plan) (reverse (installs (reverse logged.events)))
+
+-- the plan of an edition stands at this place among all, the first first
+pub record StandsAt (all : List Plan) (edition : EditionNo) (place : ℕ) : Type 0 where
+  pub within : place < length all
+  pub is : (other : Plan) → plan_of all edition ≡ Some (get_or (reverse all) place other)
 
 -- the life that a network, the orders that opened, the first first, and a log tell
 abbrev pub life_of : Net → List Order → Logged → Life

@@ -1,5 +1,5 @@
 -- What each event shows.
-use Rattle.std.specs.Prelude.{◌≡◌, ℕ, ◌+◌, List, [], ◌∷◌, Option, Some, None, IfSome, slice_get}
+use Rattle.std.specs.Prelude.{◌≡◌, ◌+◌, List, IfSome, slice_get}
 use Rattle.bt_air.specs.declared.sent.Answer.{Answer}
 use Rattle.bt_air.specs.declared.sent.Answer.TheVariants.{Taken, Heard, Noted, NotForMe}
 use Rattle.bt_air.specs.declared.sent.Place.{Place}

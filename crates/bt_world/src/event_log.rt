@@ -1,13 +1,16 @@
 // The events of a world, and where its plans stand.
-ghost use Rattle.std.specs.Prelude.{◌≡◌, ◌<◌, ◌≤◌, ◌++◌, ◌∷◌, [], length, map, reverse, All, IfOk, OnOk, OnErr, Some};
+ghost use Rattle.std.specs.Prelude.{◌≡◌, ◌<◌, ◌≤◌, ◌++◌, ◌∷◌, [], length, reverse, slice_index_or, All, IfOk, MatchOption, OnOk, OnErr, None};
+ghost use Rattle.std.specs.Option.{option_copied};
+ghost use Rattle.bt_demand.specs.declared.plan.Plan.{Plan};
 ghost use Rattle.bt_air.specs.Range.{IsWord};
-ghost use Rattle.bt_world.specs.Fits.{IsStored, StartsEmpty};
-ghost use Rattle.bt_world.specs.Life.{BringsNoPlan, plans_in};
+ghost use Rattle.bt_world.specs.Fits.{IsStored, StartsEmpty, newest_of};
+ghost use Rattle.bt_world.specs.Life.{BringsNoPlan, StandsAt, plans_in};
+ghost use Rattle.bt_world.specs.World.{bursts_for, has_burst, plan_of};
 
 use crate::shares::Shares;
 use bt_air::Event;
-use bt_demand::Plan;
-use bt_frame::{EditionNo, OutOfMemory};
+use bt_demand::{Burst, Plan};
+use bt_frame::{EditionNo, OutOfMemory, TermNo};
 use std::alloc::Global;
 use std::marker::Model;
 
@@ -85,6 +88,70 @@ impl EventLog {
         ensures events { self.new.events ≡ self.old.events ++ event ∷ [] }
     {
         self.events.push_reserved(event);
+    }
+
+    /// The newest edition that has a plan.
+    pub(crate) fn newest(&self) -> EditionNo
+        ensures { result ≡ newest_of (plans_in self.now) }
+    {
+        self.editions[self.editions.len() - 1]
+    }
+
+    /// The plan of an edition, if there is one.
+    pub(crate) fn plan(&self, edition: EditionNo) -> Option<&Plan>
+        ensures { option_copied result ≡ plan_of (plans_in self.now) edition }
+    {
+        match self.number_of(edition) {
+            Some(number) => Some(self.plan_at(number)),
+            None => None,
+        }
+    }
+
+    /// The bursts that a terminal transmits in the plan of an edition, none where there is no such plan.
+    pub(crate) fn share(&self, edition: EditionNo, terminal: TermNo) -> &[Burst]
+        requires { terminal.0 < self.now.terminals }
+        ensures { result.now ≡ bursts_for terminal (plan_of (plans_in self.now) edition) }
+    {
+        match self.number_of(edition) {
+            Some(number) => self.shares[number].at(terminal),
+            None => &[],
+        }
+    }
+
+    /// The terminal transmits in the plan of an edition.
+    pub(crate) fn has_burst(&self, edition: EditionNo, terminal: TermNo) -> bool
+        requires { terminal.0 < self.now.terminals }
+        ensures { result ≡ has_burst (plan_of (plans_in self.now) edition) terminal }
+    {
+        !self.share(edition, terminal).is_empty()
+    }
+
+    // The plan that stands at this place among all, the first first.
+    fn plan_at(&self, number: usize) -> &Plan
+        requires { number < length (plans_in self.now) }
+        ensures { (other : Plan) → result.now ≡ slice_index_or (reverse (plans_in self.now)) number other }
+    {
+        let opened = self.opening.len();
+        if number < opened {
+            return &self.opening[number];
+        }
+        match &self.events[self.places[number - opened]] {
+            Event::Install { plan } => plan,
+            _ => unreachable!(),
+        }
+    }
+
+    // Where the plan of an edition stands among all plans, the first first.
+    fn number_of(&self, edition: EditionNo) -> Option<usize>
+        ensures { MatchOption result (plan_of (plans_in self.now) edition ≡ None) (StandsAt (plans_in self.now) edition) }
+    {
+        let found = self
+            .editions
+            .binary_search_by_key(&edition.0, |edition| edition.0);
+        match found {
+            Ok(number) => Some(number),
+            Err(_) => None,
+        }
     }
 
     /// The events, the first first.

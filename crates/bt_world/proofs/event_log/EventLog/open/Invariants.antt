@@ -1,4 +1,4 @@
-use Rattle.std.proofs.Common.{◌≡◌, ℕ, map, take, All}
+use Rattle.std.proofs.Common.{◌≡◌, map, take, All}
 use Rattle.bt_demand.specs.declared.plan.Plan.{Plan}
 use Rattle.bt_world.specs.Fits.{IsStored}
 use Rattle.bt_world.specs.Shares.{shares_of}

@@ -1,11 +1,8 @@
-use Rattle.std.proofs.Common.{◌≡◌, ◌++◌, ◌∷◌, [], refl, ◌∙◌, sym, ap, subst}
+use Rattle.std.proofs.Common.{◌≡◌, refl, ◌∙◌, sym, ap, subst}
 use Rattle.bt_air.specs.declared.order.Status.{Status}
-use Rattle.bt_air.specs.declared.sent.Sent.TheVariants as sends
 use Rattle.bt_air.specs.declared.shown.Shown.TheVariants as shows
-use Rattle.bt_switch.specs.Satellite.{status_of}
 use Rattle.bt_world.specs.Event.{Tick}
-use Rattle.bt_world.specs.Life.{Life, MayCome, having_had, life_of, past_of}
-use Rattle.bt_world.specs.Shown.{IsShown}
+use Rattle.bt_world.specs.Life.{Life, MayCome, having_had, life_of}
 use Rattle.bt_world.proofs.Ticks.{tick-told, tick-kept}
 use Rattle.bt_world.proofs.world.World.tick.Goals as goal
 
