@@ -17,6 +17,10 @@ last-first events event = reverse-append events (event ∷ [])
 pub came-more : (life : Life) (event : Event) → past_of (having_had life event) ≡ comes_to life.opening (past_of life) event ∷ past_of life
 came-more life event = ap (λ (list : List Event). log life.opening list) (last-first life.events event)
 
+-- what is kept beside a life, by whichever name it goes
+pub kept-as : (life view : Life) (kept : Kept) → life ≡ view → IsKept life kept → IsKept view kept
+kept-as life view kept same is = subst (λ (l : Life). IsKept l kept) same is
+
 -- what is kept is the state after one event more
 pub record Follows (life : Life) (event : Event) (kept next : Kept) : Type 0 where
   pub terminal_count : next.terminal_count ≡ kept.terminal_count

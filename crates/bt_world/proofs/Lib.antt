@@ -26,3 +26,4 @@ mod Kept
 mod Indexed
 mod Ticks
 mod Lookup
+mod Framed

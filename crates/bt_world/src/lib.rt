@@ -10,6 +10,7 @@
 
 mod carry;
 mod event_log;
+mod frame;
 mod laws;
 mod on_air;
 mod shares;
