@@ -1,10 +1,12 @@
 -- The index of a log, with one event more.
 use Rattle.std.proofs.Common.{◌≡◌, ℕ, ◌+◌, ◌-◌, ◌<◌, ◌≤◌, List, length, take, get_or, arith, [], ◌∷◌, ◌++◌, map, reverse, All, Option, Some, None, slice_get, zero, suc, refl, sym, ◌∙◌, ap, subst}
-use Rattle.std.proofs.lemmas.List.{map_more, reverse-reverse, length-reverse, get_or-reverse}
-use Rattle.std.proofs.lemmas.List.Elements.{All-more}
+use Rattle.std.proofs.lemmas.List.{map-append, reverse-append, map_more, reverse-reverse, length-reverse, get_or-reverse}
+use Rattle.std.proofs.lemmas.List.Elements.{All-cons, All-more}
+use Rattle.bt_frame.specs.declared.numbers.EditionNo.{EditionNo}
+use Rattle.bt_demand.specs.declared.burst.Burst.{Burst}
 use Rattle.bt_demand.specs.declared.plan.Plan.{Plan}
 use Rattle.bt_world.specs.Event.{Event, Tick, Turn, Ordered, Deliver, Frame, ResetTerminal, RestartCentre, Install}
-use Rattle.bt_world.specs.Fits.{IsStored, StartsEmpty}
+use Rattle.bt_world.specs.Fits.{IsStored, StartsEmpty, newest_of}
 use Rattle.bt_world.specs.Life.{BringsNoPlan, Logged, Index, IsIndexed, installs, installed_by, plans_in}
 use Rattle.bt_world.specs.Shares.{shares_of}
 use Rattle.bt_world.proofs.Kept.{last-first}
@@ -99,4 +101,44 @@ indexed-first logged index opening few starts stored opens none editions shares 
       shares = shares ∙ ap (λ (list : List Plan). map (λ (plan : Plan). shares_of logged.terminals plan.bursts) list) back;
       places = ap (λ (list : List ℕ). map (λ (place : ℕ). installed_by (slice_get logged.events place)) list) places
           ∙ ap (λ (list : List Event). map (λ (plan : Plan). Some plan) (reverse (installs (reverse list)))) (sym none);
+    }
+
+-- one plan more
+newer-starts : (plan : Plan) (all : List Plan) → StartsEmpty all → (newest_of all).0 < plan.edition.0 → StartsEmpty (plan ∷ all)
+newer-starts plan [] starts newer = absurd starts
+newer-starts plan (before ∷ rest) starts newer = (newer, starts)
+
+at-end : (events : List Event) (event : Event) → slice_get (events ++ event ∷ []) (length events) ≡ Some event
+at-end [] event = refl
+at-end (first ∷ rest) event = at-end rest event
+
+mapped-end : {X Y : Type 0} (f : X → Y) (xs : List X) (x : X) → map f (reverse (x ∷ xs)) ≡ map f (reverse xs) ++ f x ∷ []
+mapped-end {X} f xs x = ap (λ (list : List X). map f list) (reverse-append (x ∷ []) xs) ∙ map-append f (reverse xs) (x ∷ [])
+
+pub indexed-installed : (old new : Logged) (index next : Index) (plan : Plan) → IsIndexed old index → (newest_of (plans_in old)).0 < plan.edition.0 → IsStored plan
+    → new.terminals ≡ old.terminals → new.opening ≡ old.opening → new.events ≡ old.events ++ Install plan ∷ [] → next.editions ≡ index.editions ++ plan.edition ∷ []
+    → next.shares ≡ index.shares ++ shares_of old.terminals plan.bursts ∷ [] → next.places ≡ index.places ++ length old.events ∷ [] → IsIndexed new next
+indexed-installed old new index next plan is newer stored terminals opening events editions shares places =
+    let share : Plan → List (List Burst) = λ (p : Plan). shares_of old.terminals p.bursts in
+    let edition : Plan → EditionNo = λ (p : Plan). p.edition in
+    let one : Plan → Option Plan = λ (p : Plan). Some p in
+    let before : ℕ → Option Plan = λ (place : ℕ). installed_by (slice_get old.events place) in
+    let after : ℕ → Option Plan = λ (place : ℕ). installed_by (slice_get (old.events ++ Install plan ∷ []) place) in
+    let plans : installs (reverse new.events) ≡ plan ∷ installs (reverse old.events) =
+    ap (λ (list : List Event). installs (reverse list)) events ∙ ap installs (last-first old.events (Install plan)) in
+    let all : plan ∷ plans_in old ≡ plans_in new = sym (ap (λ (list : List Plan). list ++ reverse new.opening) plans ∙ ap (λ (list : List Plan). plan ∷ (installs (reverse old.events) ++ reverse list)) opening) in
+    record {
+      starts = subst (λ (list : List Plan). StartsEmpty list) all (newer-starts plan (plans_in old) is.starts newer);
+      stored = subst (λ (list : List Plan). All IsStored list) all (All-cons IsStored plan (plans_in old) stored is.stored);
+      few = rw terminals is.few;
+      editions = editions ∙ ap (λ (list : List EditionNo). list ++ plan.edition ∷ []) is.editions ∙ sym (mapped-end edition (plans_in old) plan)
+          ∙ ap (λ (list : List Plan). map edition (reverse list)) all;
+      shares = shares ∙ ap (λ (list : List (List (List Burst))). list ++ share plan ∷ []) is.shares ∙ sym (mapped-end share (plans_in old) plan)
+          ∙ ap (λ (list : List Plan). map share (reverse list)) all ∙ ap (λ (n : ℕ). map (λ (p : Plan). shares_of n p.bursts) (reverse (plans_in new))) (sym terminals);
+      places = ap (λ (list : List Event). map (λ (place : ℕ). installed_by (slice_get list place)) next.places) events
+          ∙ ap (λ (list : List ℕ). map after list) places ∙ map-append after index.places (length old.events ∷ [])
+          ∙ ap (λ (o : Option Plan). map after index.places ++ o ∷ []) (ap installed_by (at-end old.events (Install plan)))
+          ∙ ap (λ (list : List (Option Plan)). list ++ Some plan ∷ []) (places-still old.events (Install plan) index.places (reverse (installs (reverse old.events))) is.places)
+          ∙ sym (mapped-end one (installs (reverse old.events)) plan)
+          ∙ ap (λ (list : List Plan). map one (reverse list)) (sym plans);
     }

@@ -27,3 +27,4 @@ mod Indexed
 mod Ticks
 mod Lookup
 mod Framed
+mod Needs

@@ -1,6 +1,8 @@
 -- What contracts see of a world, and what it keeps beside that.
 use Rattle.std.specs.Prelude.{◌≡◌, ℕ, ◌<◌, ◌≤◌, List, [], ◌∷◌, ◌++◌, map, reverse, length, Option, Some, None, slice_get, slice_index_or as get_or, All}
+use Rattle.std.specs.List.{range_with_len}
 use Rattle.bt_frame.specs.declared.numbers.EditionNo.{EditionNo}
+use Rattle.bt_frame.specs.declared.numbers.TermNo.{TermNo}
 use Rattle.bt_net.specs.Network.{Net, IsSound}
 use Rattle.bt_demand.specs.declared.burst.Burst.{Burst}
 use Rattle.bt_demand.specs.declared.plan.Plan.{Plan}
@@ -41,6 +43,10 @@ abbrev pub installs : List Event → List Plan
 installs [] = []
 installs (Install plan ∷ earlier) = plan ∷ installs earlier
 installs (_ ∷ earlier) = installs earlier
+
+-- so many terminals, by number
+abbrev pub terminals_of : ℕ → List TermNo
+terminals_of n = map (λ (k : ℕ). record { 0 = k }) (range_with_len 0 n)
 
 -- the number of terminals, the plans that opened and the events, both from the first on, and how many events more
 -- find room

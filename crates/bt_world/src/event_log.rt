@@ -3,14 +3,16 @@ ghost use Rattle.std.specs.Prelude.{◌≡◌, ◌<◌, ◌≤◌, ◌++◌, ◌
 ghost use Rattle.std.specs.Option.{option_copied};
 ghost use Rattle.bt_demand.specs.declared.plan.Plan.{Plan};
 ghost use Rattle.bt_air.specs.Range.{IsWord};
+ghost use Rattle.bt_world.specs.Centre.{needed_by};
 ghost use Rattle.bt_world.specs.Fits.{IsStored, StartsEmpty, newest_of};
-ghost use Rattle.bt_world.specs.Life.{BringsNoPlan, StandsAt, plans_in};
+ghost use Rattle.bt_world.specs.Life.{BringsNoPlan, StandsAt, plans_in, terminals_of};
 ghost use Rattle.bt_world.specs.World.{bursts_for, has_burst, plan_of};
 
 use crate::shares::Shares;
-use bt_air::Event;
+use bt_air::{Event, Order};
+use bt_change::with_terminal;
 use bt_demand::{Burst, Plan};
-use bt_frame::{EditionNo, OutOfMemory, TermNo};
+use bt_frame::{EditionNo, OutOfMemory, TermNo, TermSet};
 use std::alloc::Global;
 use std::marker::Model;
 
@@ -124,6 +126,46 @@ impl EventLog {
         ensures { result ≡ has_burst (plan_of (plans_in self.now) edition) terminal }
     {
         !self.share(edition, terminal).is_empty()
+    }
+
+    /// The terminals that transmit in the edition of an order, a Load.
+    pub(crate) fn needs(&self, order: Option<Order>) -> TermSet
+        ensures { result ≡ needed_by (terminals_of self.now.terminals) (plans_in self.now) order }
+    {
+        let Some(Order::Load { edition, .. }) = order else {
+            return TermSet(0);
+        };
+        let mut needs = TermSet(0);
+        for number in (0..self.terminals as u8).rev() {
+            let terminal = TermNo(number);
+            if self.has_burst(edition, terminal) {
+                needs = with_terminal(needs, terminal);
+            }
+        }
+        needs
+    }
+
+    /// Appends an event that installs a plan, which is newer than the others.
+    pub(crate) fn install(&mut self, alloc: Global, plan: Plan) -> Result<(), OutOfMemory>
+        requires newer { (newest_of (plans_in self.old)).0 < plan.edition.0 }
+        ensures event { OnOk result (self.new.events ≡ self.old.events ++ Event.Install plan ∷ []) }
+        ensures stored { IsStored plan }
+        ensures terminals { self.new.terminals ≡ self.old.terminals }
+        ensures opening { self.new.opening ≡ self.old.opening }
+        ensures err { OnErr result (self.new.events ≡ self.old.events) }
+    {
+        self.events.reserve(1)?;
+        self.editions.reserve(1)?;
+        self.shares.reserve(1)?;
+        self.places.reserve(1)?;
+        let share = Shares::of(alloc, self.terminals, plan.bursts.as_slice())?;
+        let edition = edition_of(&plan);
+        let place = self.events.len();
+        self.events.push_reserved(Event::Install { plan });
+        self.editions.push_reserved(edition);
+        self.shares.push_reserved(share);
+        self.places.push_reserved(place);
+        Ok(())
     }
 
     // The plan that stands at this place among all, the first first.
