@@ -28,3 +28,7 @@ mod Ticks
 mod Lookup
 mod Framed
 mod Needs
+mod Delivered
+mod Delivers
+mod Addressed
+mod Messages

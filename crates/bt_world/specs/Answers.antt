@@ -1,6 +1,9 @@
 -- What the answer of a machine calls for.
-use Rattle.std.specs.Prelude.{if◌then◌else◌, Bool, true, false, List, [], ◌∷◌}
+use Rattle.std.specs.Prelude.{if◌then◌else◌, Bool, true, false, List, [], ◌∷◌, Option, Some, None}
+use Rattle.bt_frame.specs.declared.numbers.EditionNo.{EditionNo}
 use Rattle.bt_frame.specs.declared.numbers.TermNo.{TermNo}
+use Rattle.bt_air.specs.declared.message.Message.{Message}
+use Rattle.bt_air.specs.declared.message.Message.TheVariants as message
 use Rattle.bt_air.specs.declared.sent.Heard.{Heard}
 use Rattle.bt_air.specs.declared.sent.Heard.TheVariants.{Held, Stored}
 use Rattle.bt_air.specs.declared.sent.Sent.{Sent}
@@ -23,3 +26,8 @@ is_confirming _ = false
 abbrev pub confirmed_by : TermNo → Sent → Heard → List Sent
 confirmed_by terminal (sends.PlanFor to edition) heard = if is_confirming heard then sends.Confirm terminal edition ∷ [] else []
 confirmed_by terminal sent heard = []
+
+-- the edition of the bursts that a message brings to a terminal, if it brings some
+abbrev pub planned_in : Message → Option EditionNo
+planned_in (message.PlanFor to edition bursts) = Some edition
+planned_in _ = None

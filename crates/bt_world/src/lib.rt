@@ -9,6 +9,7 @@
 #![tactic(auto)]
 
 mod carry;
+mod deliver;
 mod event_log;
 mod frame;
 mod laws;

@@ -1,0 +1,55 @@
+use Rattle.std.proofs.Common.{◌≡◌, ◌++◌, ℕ, List, length, slice_set, refl, ◌∙◌, ap, arith}
+use Rattle.std.specs.Option.{option_to_list}
+use Rattle.bt_air.specs.declared.sent.Answer.TheVariants as answers
+use Rattle.bt_air.specs.declared.sent.Heard.{Heard}
+use Rattle.bt_air.specs.declared.shown.Shown.TheVariants as shows
+use Rattle.bt_air.specs.declared.sent.Place.TheVariants.{Terminal}
+use Rattle.bt_air.specs.declared.sent.Sent.{Sent}
+use Rattle.bt_world.specs.Answers.{planned_in}
+use Rattle.bt_world.specs.Event.{Deliver}
+use Rattle.bt_world.specs.Life.{Life, having_had, life_of, past_of}
+use Rattle.bt_world.specs.World.{carried, plans, sent}
+use Rattle.bt_world.proofs.Kept.{kept-as}
+use Rattle.bt_world.proofs.Delivers.{some-of, terminal-at, terminal-step, terminal-kept}
+use Rattle.bt_world.proofs.Framed.{length-terminals}
+use Rattle.bt_world.proofs.world.World.deliver_to_terminal.Goals as goal
+
+pub invariant_of-self-2 : goal.invariant_of-self-2
+invariant_of-self-2 c =
+    let inside = c.self.inside in
+    let life : Life = life_of inside.net inside.orders.items inside.log in
+    let view : Life = c.args.self.now in
+    let event = Deliver c.args.number (Terminal c.args.to) in
+    let message = c.in_ok-message.message in
+    let is = kept-as _ _ _ c.self.view_is c.self.invariant in
+    let one = some-of (λ (one : Sent). message ≡ carried (plans view.opening (past_of view)) one) (sent view.opening (past_of view)) c.args.number c.requires.meets.0 c.in_ok-message.ensures.same in
+    let opening = c.push.ensures.opening ∙ c.reserve.ensures.opening in
+    let events = c.push.ensures.events in
+    let room = c.reserve.ensures.events in
+    let next : life_of inside.net inside.orders.items c.push.new.self ≡ having_had life event = cc in
+    let now = next ∙ ap (λ (l : Life). having_had l event) c.self.view_is in
+    let count = c.push.ensures.terminals ∙ c.reserve.ensures.terminals in
+    let within = c.requires.meets.1 in
+    let was = terminal-at view.opening (past_of view) inside.terminals.items c.from.result c.args.to c.index_mut.result.now is.terminals c.from.ensures within c.index_mut.ensures.value in
+    let step = terminal-step view.opening (past_of view) c.args.to one.0 c.index_mut.result.now c.mark-mark.result message was c.mark-mark.ensures one.2 in
+    let told = c.confirmed_by.ensures (plans view.opening (past_of view)) one.0 (c.planned_in-planned.ensures ∙ ap planned_in one.2) in
+    let said = c.send.ensures ∙ ap (λ (list : List Sent). list ++ option_to_list c.confirmed_by.result) c.in_ok-reserve-2.ensures.items ∙ ap (λ (list : List Sent). inside.sent.items ++ list) told in
+    terminal-kept c.answers_are_said.ensures.terminal view _ c.args.number c.args.to one.0 _ _ c.hear-heard.result c.hear-heard.new.self is c.requires now one.1
+    (c.hear-heard.ensures.answer ∙ ap (λ t. t.0) step) (c.hear-heard.ensures.state ∙ ap (λ t. t.1) step) count refl said
+    (ap (λ (at : ℕ). slice_set inside.terminals.items at c.hear-heard.new.self) c.from.ensures) refl refl
+
+pub index_mut-requires : goal.index_mut-requires
+index_mut-requires c =
+    let is = kept-as _ _ _ c.self.view_is c.self.invariant in
+    let view : Life = c.args.self.now in
+    omega (arith, c.from.ensures, c.requires.meets.1, ap length is.terminals, length-terminals view.opening (past_of view))
+
+pub returns-clause-shown : goal.returns-clause-shown
+returns-clause-shown c =
+    let view : Life = c.args.self.now in
+    let message = c.in_ok-message.message in
+    let is = kept-as _ _ _ c.self.view_is c.self.invariant in
+    let one = some-of (λ (one : Sent). message ≡ carried (plans view.opening (past_of view)) one) (sent view.opening (past_of view)) c.args.number c.requires.meets.0 c.in_ok-message.ensures.same in
+    let was = terminal-at view.opening (past_of view) c.self.inside.terminals.items c.from.result c.args.to c.index_mut.result.now is.terminals c.from.ensures c.requires.meets.1 c.index_mut.ensures.value in
+    let step = terminal-step view.opening (past_of view) c.args.to one.0 c.index_mut.result.now c.mark-mark.result message was c.mark-mark.ensures one.2 in
+    rw one.1 (ap (λ (heard : Heard). shows.Delivered (answers.Heard heard)) (c.hear-heard.ensures.answer ∙ ap (λ t. t.0) step))
