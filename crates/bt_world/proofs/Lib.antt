@@ -32,3 +32,6 @@ mod Delivered
 mod Delivers
 mod Addressed
 mod Messages
+mod Started
+mod Installs
+mod Resets

@@ -14,12 +14,16 @@ use Rattle.bt_demand.specs.Flyable.{IsFlyable}
 use Rattle.bt_air.specs.Orders.{fore_at}
 use Rattle.bt_switch.specs.Slots.{HasSlot}
 use Rattle.bt_world.specs.Event.{Opening, Event, Install, Happening}
-use Rattle.bt_world.specs.World.{mark, plans, accepted, heard, held, plan_of, bursts_for, terminals}
+use Rattle.bt_world.specs.World.{mark, plans, accepted, heard, held, plan_of, modes_of, bursts_for, terminals}
 use Rattle.bt_term.specs.Said.{holds}
 
 -- the edition in front
 abbrev pub fore : Opening → List Happening → EditionNo
 fore o past = fore_at (accepted o past) (mark o past)
+
+-- the modes of the plan in front
+abbrev pub modes_in_front : Opening → List Happening → List Mode
+modes_in_front o past = modes_of (plan_of (plans o past) (fore o past))
 
 -- the edition that is named, where it is held
 abbrev pub where_held : List EditionNo → Option EditionNo → Option EditionNo

@@ -90,9 +90,13 @@ pub record StandsAt (all : List Plan) (edition : EditionNo) (place : ℕ) : Type
   pub within : place < length all
   pub is : (other : Plan) → plan_of all edition ≡ Some (get_or (reverse all) place other)
 
+-- the opening of a network, with these plans and orders, the first first
+abbrev pub opening_of : Net → List Plan → List Order → Opening
+opening_of net installed placed = record { net = net; plans = reverse installed; orders = reverse placed }
+
 -- the life that a network, the orders that opened, the first first, and a log tell
 abbrev pub life_of : Net → List Order → Logged → Life
-life_of net placed logged = record { opening = record { net = net; plans = reverse logged.opening; orders = reverse placed }; events = logged.events }
+life_of net placed logged = record { opening = opening_of net logged.opening placed; events = logged.events }
 
 -- what is kept beside a life
 pub record Kept : Type 0 where

@@ -1,16 +1,24 @@
 // The world.
-ghost use Rattle.std.specs.Prelude.{◌≡◌, ◌<◌, length, Some, slice_get};
-ghost use Rattle.bt_world.specs.Life.{past_of};
-ghost use Rattle.bt_world.specs.World.{mark, sent, frames_shown};
+ghost use Rattle.std.specs.Prelude.{◌≡◌, ◌<◌, ◌≤◌, ◌↔◌, [], length, map, reverse, IfOk, IfSome, IsNone, Some, slice_get};
+ghost use Rattle.bt_matrix.specs.Good.{total_duration};
+ghost use Rattle.bt_change.specs.Last.{last_order};
+ghost use Rattle.bt_switch.specs.Slots.{HasSlot};
+ghost use Rattle.bt_term.specs.Terminal.{new_of};
+ghost use Rattle.bt_world.specs.Air.{modes_in_front};
+ghost use Rattle.bt_world.specs.Fits.{IsOpening, newest_of};
+ghost use Rattle.bt_world.specs.Life.{opening_of, past_of, terminals_of};
+ghost use Rattle.bt_world.specs.World.{frames_shown, greatest_due, mark, orders, plans, sent, wanted};
 
 use crate::event_log::EventLog;
-use crate::satellite_is_said;
+use crate::{banks_hold_plans, centre_is_said, satellite_is_said};
 use bt_air::{Event, Order, Sent};
 use bt_change::Centre;
-use bt_frame::Mark;
+use bt_demand::Plan;
+use bt_frame::{EditionNo, Mark, Mode, OutOfMemory, TermNo};
 use bt_net::Network;
 use bt_switch::Satellite;
 use bt_term::Terminal;
+use std::alloc::Global;
 use std::marker::Model;
 
 /// The satellite, the terminals and the centre of a network, over all that happens to them.
@@ -41,6 +49,36 @@ impl Model for World {
 }
 
 impl World {
+    /// A world of a network before its first event: these plans are installed and these orders are placed, the first
+    /// first. Its superframe is the greatest for which an order arms.
+    pub fn start(
+        alloc: Global,
+        net: &Network,
+        plans: Vec<Plan>,
+        orders: Vec<Order>,
+    ) -> Result<World, OutOfMemory>
+        requires { IsOpening (opening_of net.now plans.items orders.items) }
+        ensures { IfOk result (λ world. world ≡ record { opening = opening_of net.now plans.items orders.items; events = [] }) }
+    {
+        let count = net.terminal_count();
+        let mark = greatest_due(orders.as_slice());
+        let net = net.copy(alloc)?;
+        let terminals = new_terminals(alloc, count)?;
+        let placed = Vec::from_slice(alloc, orders.as_slice())?;
+        let log = EventLog::open(alloc, count, plans)?;
+        let needs = log.needs(last_of(orders.as_slice()));
+        Ok(World {
+            net,
+            orders,
+            log,
+            sent: Vec::new(alloc),
+            satellite: Satellite::new(alloc, mark),
+            terminals,
+            centre: Centre::from_orders(placed, needs),
+            frames_shown: 0,
+        })
+    }
+
     /// The present superframe.
     pub fn mark(&self) -> Mark
         ensures { result.0 ≡ mark self.now.opening (past_of self.now) }
@@ -71,10 +109,76 @@ impl World {
         &self.sent[number as usize]
     }
 
+    /// The newest edition that has a plan.
+    pub fn newest(&self) -> EditionNo
+        ensures { result ≡ newest_of (plans self.now.opening (past_of self.now)) }
+    {
+        self.log.newest()
+    }
+
+    /// The order that the last turn wanted, where it was neither placed nor lost since.
+    pub fn wanted(&self) -> Option<Order>
+        ensures { result ≡ wanted (past_of self.now) }
+    {
+        centre_is_said();
+        self.centre.wanted()
+    }
+
+    /// How many orders are placed.
+    pub fn order_count(&self) -> u32
+        ensures { result ≡ length (orders self.now.opening (past_of self.now)) }
+    {
+        centre_is_said();
+        self.centre.order_count()
+    }
+
+    /// The mode that the switch takes in a slot of the frame, or None past the end of the plan in front.
+    pub fn mode_at(&self, slot: u32) -> Option<&Mode>
+        ensures past { IsNone result ↔ (total_duration (modes_in_front self.now.opening (past_of self.now)) ≤ slot) }
+        ensures mode { IfSome result (λ mode. HasSlot (modes_in_front self.now.opening (past_of self.now)) slot mode.now) }
+    {
+        satellite_is_said();
+        banks_hold_plans();
+        self.satellite.mode_at(slot)
+    }
+
     /// The events from the first on.
     pub fn into_events(self) -> Vec<Event>
         ensures { result.items ≡ self.events }
     {
         self.log.into_events()
     }
+}
+
+// The superframe in which a world of these orders begins: the greatest for which one arms, or 0.
+fn greatest_due(orders: &[Order]) -> Mark
+    ensures { result.0 ≡ greatest_due (reverse orders.now) }
+{
+    let mut greatest = Mark(0);
+    for order in orders {
+        match order {
+            Order::Arm { due, .. } if *due > greatest => greatest = *due,
+            _ => {}
+        }
+    }
+    greatest
+}
+
+// The last of these orders.
+fn last_of(orders: &[Order]) -> Option<Order>
+    ensures { result ≡ last_order (reverse orders.now) }
+{
+    orders.last().copied()
+}
+
+// So many terminals that have heard nothing, by number.
+fn new_terminals(alloc: Global, count: u32) -> Result<Vec<Terminal>, OutOfMemory>
+    requires { count ≤ 64 }
+    ensures { IfOk result (λ terminals. terminals.items ≡ map new_of (terminals_of count)) }
+{
+    let mut terminals = Vec::with_capacity(alloc, count as usize)?;
+    for number in 0..count as u8 {
+        terminals.push(Terminal::new(alloc, TermNo(number)))?;
+    }
+    Ok(terminals)
 }
