@@ -1,5 +1,5 @@
 -- A plan is installed, as a world keeps it.
-use Rattle.std.proofs.Common.{◌≡◌, ◌++◌, [], refl, sym, ◌∙◌, lit≤}
+use Rattle.std.proofs.Common.{◌≡◌, sym, ◌∙◌, lit≤}
 use Rattle.std.proofs.lemmas.List.{append-nil}
 use Rattle.std.proofs.lemmas.List.Elements.{All-cons}
 use Rattle.bt_demand.specs.declared.plan.Plan.{Plan}
@@ -7,7 +7,7 @@ use Rattle.bt_world.specs.Event.{Install}
 use Rattle.bt_world.specs.Fits.{IsStored}
 use Rattle.bt_world.specs.Life.{Life, having_had, past_of, MayCome, Kept, IsKept}
 use Rattle.bt_world.specs.World.{plans}
-use Rattle.bt_world.proofs.Kept.{Follows, kept-after}
+use Rattle.bt_world.proofs.Kept.{kept-after}
 
 pub install-kept : (life now : Life) (plan : Plan) (kept next : Kept) → IsKept life kept → MayCome life (Install plan) → IsStored plan → now ≡ having_had life (Install plan)
     → next.terminal_count ≡ kept.terminal_count → next.sent ≡ kept.sent → next.satellite ≡ kept.satellite → next.terminals ≡ kept.terminals → next.centre ≡ kept.centre

@@ -35,3 +35,6 @@ mod Messages
 mod Started
 mod Installs
 mod Resets
+mod Sending
+mod Placed
+mod Turned

@@ -14,7 +14,7 @@ use Rattle.bt_world.specs.Event.{Opening, Happening, ResetTerminal, Resets}
 use Rattle.bt_world.specs.Ground.{terminal}
 use Rattle.bt_world.specs.Life.{Life, having_had, past_of, MayCome, Kept, IsKept}
 use Rattle.bt_world.specs.World.{mark, heard, held, terminals, terminals as terminals_in}
-use Rattle.bt_world.proofs.Kept.{Follows, kept-after}
+use Rattle.bt_world.proofs.Kept.{kept-after}
 
 -- the terminal of that number
 abbrev numbered : ℕ → TermNo

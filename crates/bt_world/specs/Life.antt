@@ -1,5 +1,5 @@
 -- What contracts see of a world, and what it keeps beside that.
-use Rattle.std.specs.Prelude.{◌≡◌, ℕ, ◌<◌, ◌≤◌, List, [], ◌∷◌, ◌++◌, map, reverse, length, Option, Some, None, slice_get, slice_index_or as get_or, All}
+use Rattle.std.specs.Prelude.{◌≡◌, ℕ, ◌&&◌, Bool, ◌<◌, ◌≤◌, List, [], ◌∷◌, ◌++◌, map, reverse, length, Option, Some, None, slice_get, slice_index_or as get_or, All}
 use Rattle.std.specs.List.{range_with_len}
 use Rattle.bt_frame.specs.declared.numbers.EditionNo.{EditionNo}
 use Rattle.bt_frame.specs.declared.numbers.TermNo.{TermNo}
@@ -9,6 +9,7 @@ use Rattle.bt_demand.specs.declared.plan.Plan.{Plan}
 use Rattle.bt_air.specs.declared.order.Order.{Order}
 use Rattle.bt_air.specs.declared.sent.Sent.{Sent}
 use Rattle.bt_change.specs.Centre.{State as Centre}
+use Rattle.bt_change.specs.Terminals.{has}
 use Rattle.bt_switch.specs.Satellite.{State as Satellite}
 use Rattle.bt_term.specs.Terminal.{State as Terminal}
 use Rattle.bt_world.specs.Centre.{centre}
@@ -17,7 +18,7 @@ use Rattle.bt_world.specs.Fits.{Meets, IsWorld, IsStored, AreStored, StartsEmpty
 use Rattle.bt_world.specs.Ground.{terminal}
 use Rattle.bt_world.specs.Satellite.{satellite}
 use Rattle.bt_world.specs.Shares.{shares_of}
-use Rattle.bt_world.specs.World.{frames_shown, plan_of, orders, terminals, sent, log}
+use Rattle.bt_world.specs.World.{frames_shown, has_burst, plan_of, orders, terminals, sent, log}
 
 -- an opening, and the events from the first on
 pub record Life : Type 0 where
@@ -47,6 +48,10 @@ installs (_ ∷ earlier) = installs earlier
 -- so many terminals, by number
 abbrev pub terminals_of : ℕ → List TermNo
 terminals_of n = map (λ (k : ℕ). record { 0 = k }) (range_with_len 0 n)
+
+-- the terminal asks the centre, and transmits in the plan
+abbrev pub is_answered : Option Plan → Centre → TermNo → Bool
+is_answered plan s terminal = has s.asking terminal && has_burst plan terminal
 
 -- the number of terminals, the plans that opened and the events, both from the first on, and how many events more
 -- find room

@@ -92,6 +92,14 @@ impl EventLog {
         self.events.push_reserved(event);
     }
 
+    /// The number of terminals.
+    pub(crate) fn terminal_count(&self) -> u32
+        ensures count { result ≡ self.now.terminals }
+        ensures few { result ≤ 64 }
+    {
+        self.terminals
+    }
+
     /// The newest edition that has a plan.
     pub(crate) fn newest(&self) -> EditionNo
         ensures { result ≡ newest_of (plans_in self.now) }

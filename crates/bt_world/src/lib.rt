@@ -15,9 +15,12 @@ mod frame;
 mod install;
 mod laws;
 mod on_air;
+mod order;
 mod restart;
+mod send;
 mod shares;
 mod tick;
+mod turn;
 mod world;
 
 pub use laws::{

@@ -165,7 +165,7 @@ fn greatest_due(orders: &[Order]) -> Mark
 }
 
 // The last of these orders.
-fn last_of(orders: &[Order]) -> Option<Order>
+pub(crate) fn last_of(orders: &[Order]) -> Option<Order>
     ensures { result ≡ last_order (reverse orders.now) }
 {
     orders.last().copied()

@@ -1,7 +1,5 @@
-use Rattle.std.proofs.Common.{◌≡◌, ◌<◌, refl, sym, subst, ap, ◌∙◌}
-use Rattle.bt_demand.specs.declared.plan.Plan.{Plan}
+use Rattle.std.proofs.Common.{◌≡◌, refl, sym, subst}
 use Rattle.bt_world.specs.Event.{Install}
-use Rattle.bt_world.specs.Fits.{newest_of}
 use Rattle.bt_world.specs.Life.{Life, MayCome, having_had, life_of}
 use Rattle.bt_world.proofs.Installs.{install-kept}
 use Rattle.bt_world.proofs.Started.{plans-logged}

@@ -4,7 +4,6 @@ use Rattle.bt_air.specs.declared.order.Order.{Order}
 use Rattle.bt_change.specs.Centre.{begins_with}
 use Rattle.bt_change.specs.Last.{last_order}
 use Rattle.bt_frame.specs.declared.numbers.TermSet.{TermSet}
-use Rattle.bt_frame.specs.declared.numbers.Mark.{Mark}
 use Rattle.bt_switch.specs.Satellite.{new_at}
 use Rattle.bt_term.specs.Terminal.{new_of}
 use Rattle.bt_world.specs.Centre.{needed_by}

@@ -1,0 +1,31 @@
+use Rattle.std.proofs.Common.{◌∙◌, Vec, vec_len, vec_capacity, sym, ap, arith}
+use Rattle.std.specs.Global.{Global}
+use Rattle.bt_air.specs.declared.sent.Sent.{Sent}
+use Rattle.bt_change.specs.Centre.{is_missing}
+use Rattle.bt_world.proofs.Sending.{sends-one, sends-none}
+use Rattle.bt_world.proofs.send.send_missing.Goals as goal
+use Rattle.bt_world.proofs.send.send_missing.Goals.{then-missing, else-missing}
+
+pub loop-number-preserved : goal.loop-number-preserved
+loop-number-preserved c =
+    let before = c.loop-number.invariant in
+    elim c.if-missing.branch [
+      | then-missing w ↦
+          let len = ap (λ (v : Vec Sent Global). vec_len v) w.sent-is in
+          let cap = ap (λ (v : Vec Sent Global). vec_capacity v) w.sent-is in
+          record {
+            said = sends-one (is_missing c.args.centre.now) c.args.edition c.loop-number.number _ _ _ (sym c.missing.ensures ∙ w.if-missing.true) before.said (ap (λ (v : Vec Sent Global). v.items) w.sent-is ∙ w.push_reserved.ensures.items);
+            room = omega (arith, len, cap, w.push_reserved.ensures.len, w.push_reserved.ensures.capacity, before.room, c.loop-number-test.true, c.terminal_count-number-end.ensures.count);
+            capacity = cap ∙ w.push_reserved.ensures.capacity ∙ before.capacity;
+            count = omega (arith, len, w.push_reserved.ensures.len, before.count);
+          }
+      | else-missing w ↦
+          let len = ap (λ (v : Vec Sent Global). vec_len v) w.sent-is in
+          let cap = ap (λ (v : Vec Sent Global). vec_capacity v) w.sent-is in
+          record {
+            said = ap (λ (v : Vec Sent Global). v.items) w.sent-is ∙ sends-none (is_missing c.args.centre.now) c.args.edition c.loop-number.number _ _ (sym c.missing.ensures ∙ w.if-missing.false) before.said;
+            room = omega (arith, len, cap, before.room);
+            capacity = cap ∙ before.capacity;
+            count = omega (arith, len, before.count);
+          }
+    ]

@@ -1,0 +1,28 @@
+use Rattle.std.proofs.Common.{◌∙◌, Vec, vec_len, vec_capacity, sym, ap, arith}
+use Rattle.std.specs.Global.{Global}
+use Rattle.bt_air.specs.declared.sent.Sent.{Sent}
+use Rattle.bt_world.specs.Life.{plans_in}
+use Rattle.bt_world.specs.World.{has_burst, plan_of}
+use Rattle.bt_world.proofs.Sending.{sends-one, sends-none}
+use Rattle.bt_world.proofs.send.send_needed.Goals as goal
+use Rattle.bt_world.proofs.send.send_needed.Goals.{then-has_burst, else-has_burst}
+
+pub loop-number-preserved : goal.loop-number-preserved
+loop-number-preserved c =
+    let before = c.loop-number.invariant in
+    elim c.if-has_burst.branch [
+      | then-has_burst w ↦
+          let len = ap (λ (v : Vec Sent Global). vec_len v) w.sent-is in
+          let cap = ap (λ (v : Vec Sent Global). vec_capacity v) w.sent-is in
+          record {
+            said = sends-one (has_burst (plan_of (plans_in c.args.log.now) c.args.edition)) c.args.edition c.loop-number.number _ _ _ (sym c.has_burst.ensures ∙ w.if-has_burst.true) before.said (ap (λ (v : Vec Sent Global). v.items) w.sent-is ∙ w.push_reserved.ensures.items);
+            room = omega (arith, len, cap, w.push_reserved.ensures.len, w.push_reserved.ensures.capacity, before.room, c.loop-number-test.true, c.terminal_count-number-end.ensures.count);
+          }
+      | else-has_burst w ↦
+          let len = ap (λ (v : Vec Sent Global). vec_len v) w.sent-is in
+          let cap = ap (λ (v : Vec Sent Global). vec_capacity v) w.sent-is in
+          record {
+            said = ap (λ (v : Vec Sent Global). v.items) w.sent-is ∙ sends-none (has_burst (plan_of (plans_in c.args.log.now) c.args.edition)) c.args.edition c.loop-number.number _ _ (sym c.has_burst.ensures ∙ w.if-has_burst.false) before.said;
+            room = omega (arith, len, cap, before.room);
+          }
+    ]
