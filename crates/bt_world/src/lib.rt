@@ -19,6 +19,7 @@ mod order;
 mod restart;
 mod send;
 mod shares;
+mod step;
 mod tick;
 mod turn;
 mod world;
