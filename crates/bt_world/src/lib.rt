@@ -6,6 +6,11 @@
 //! when that is safe, `specs/Fits.antt` what must hold of an opening and of each event. `laws.rt` has what holds of
 //! every world. `specs/Satellite.antt`, `specs/Ground.antt` and `specs/Centre.antt` say what the machines then are,
 //! `specs/Answers.antt` what their answers call for, and `specs/Example.antt` has worlds that run.
+//!
+//! `World` is a world that runs: `world.rt` has what it keeps and tells, `step.rt` the step by one event, and a file for
+//! each kind of event its part of it. `specs/Life.antt` says as what a world is seen and when an event may come, and
+//! `specs/Shown.antt` what each event shows. `specs/Shares.antt` is for bodies alone, as is what `specs/Life.antt` says of
+//! logs and of what is kept.
 #![tactic(auto)]
 
 mod carry;

@@ -13,13 +13,8 @@ impl World {
     /// An event happens, and shows what came of it. Want of memory changes nothing.
     ///
     /// The network is the one with which the world was started.
-    pub fn step(
-        &mut self,
-        alloc: Global,
-        _net: &Network,
-        event: Event,
-    ) -> Result<Shown, OutOfMemory>
-        requires network { _net.now ≡ self.old.opening.net }
+    pub fn step(&mut self, alloc: Global, net: &Network, event: Event) -> Result<Shown, OutOfMemory>
+        requires network { net.now ≡ self.old.opening.net }
         requires event { MayCome self.old event }
         ensures event { OnOk result (self.new ≡ having_had self.old event) }
         ensures shown { IfOk result (λ shown. IsShown self.old.opening (past_of self.old) event shown) }
