@@ -28,7 +28,6 @@ mod Ticks
 mod Lookup
 mod Framed
 mod Needs
-mod Delivered
 mod Delivers
 mod Addressed
 mod Messages
