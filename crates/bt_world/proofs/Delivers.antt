@@ -56,11 +56,18 @@ terminals-hear o past one to within =
     ∙ ap (λ (list : List State). slice_set list to.0 next) (sym (map-map before numbered (range_with_len 0 n)))
 
 -- the message of a number, with what is known of it
-pub some-of : {X : Type 0} (P : X → Type 0) (all : List X) (number : ℕ) → number < length all → IfSome (slice_get all number) P
+some-of : {X : Type 0} (P : X → Type 0) (all : List X) (number : ℕ) → number < length all → IfSome (slice_get all number) P
     → (one : X) × (slice_get all number ≡ Some one) × P one
 some-of P [] number within holds = absurd (omega arith)
 some-of P (x ∷ xs) zero within holds = (x, refl, holds)
 some-of P (x ∷ xs) (suc k) within holds = some-of P xs k (omega arith) holds
+
+-- the message that is delivered
+pub one-delivered : (life : Life) (number : ℕ) (place : Place) (message : Message) → MayCome life (Deliver number place)
+    → IfSome (slice_get (sent life.opening (past_of life)) number) (λ one. message ≡ carried (plans life.opening (past_of life)) one)
+    → (one : Sent) × (slice_get (sent life.opening (past_of life)) number ≡ Some one) × (message ≡ carried (plans life.opening (past_of life)) one)
+one-delivered life number place message may made =
+    some-of (λ (one : Sent). message ≡ carried (plans life.opening (past_of life)) one) (sent life.opening (past_of life)) number may.meets.0 made
 
 -- what is kept is the state after what an event came to
 record Changes (o : Opening) (past : List Happening) (came : Happening) (kept next : Kept) : Type 0 where

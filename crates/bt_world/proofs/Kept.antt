@@ -1,12 +1,14 @@
 -- One event more, as a world keeps it.
 use Rattle.std.proofs.Common.{◌≡◌, ◌≤◌, List, [], ◌∷◌, ◌++◌, length, map, reverse, sym, ◌∙◌, ap, subst, arith}
 use Rattle.std.proofs.lemmas.List.{reverse-append, length-append}
+use Rattle.bt_net.specs.Network.{Net}
+use Rattle.bt_air.specs.declared.order.Order.{Order}
 use Rattle.bt_air.specs.declared.sent.Sent.{Sent}
 use Rattle.bt_world.specs.Centre.{centre}
 use Rattle.bt_world.specs.Event.{Event, Happening}
 use Rattle.bt_world.specs.Fits.{IsWorld, AreStored}
 use Rattle.bt_world.specs.Ground.{terminal}
-use Rattle.bt_world.specs.Life.{Life, past_of, having_had, MayCome, Kept, IsKept}
+use Rattle.bt_world.specs.Life.{Life, past_of, having_had, MayCome, Kept, IsKept, Logged, life_of}
 use Rattle.bt_world.specs.Satellite.{satellite}
 use Rattle.bt_world.specs.World.{frames_shown, terminals, sent, sent_with, comes_to, log}
 
@@ -16,6 +18,13 @@ last-first events event = reverse-append events (event ∷ [])
 -- what the events came to, with one event more
 pub came-more : (life : Life) (event : Event) → past_of (having_had life event) ≡ comes_to life.opening (past_of life) event ∷ past_of life
 came-more life event = ap (λ (list : List Event). log life.opening list) (last-first life.events event)
+
+-- a log with room made and an event appended tells a life with one event more
+pub logged-more : (net : Net) (placed : List Order) (old roomy new : Logged) (life : Life) (event : Event) → life_of net placed old ≡ life
+    → roomy.opening ≡ old.opening → roomy.events ≡ old.events → new.opening ≡ roomy.opening → new.events ≡ roomy.events ++ event ∷ []
+    → life_of net placed new ≡ having_had life event
+logged-more net placed old roomy new life event same room_opening room opening events =
+    let next : life_of net placed new ≡ having_had (life_of net placed old) event = cc in next ∙ ap (λ (l : Life). having_had l event) same
 
 -- what is kept beside a life, by whichever name it goes
 pub kept-as : (life view : Life) (kept : Kept) → life ≡ view → IsKept life kept → IsKept view kept

@@ -1,28 +1,22 @@
-use Rattle.std.proofs.Common.{◌≡◌, ◌++◌, List, refl, ◌∙◌, ap}
+use Rattle.std.proofs.Common.{◌++◌, List, refl, ◌∙◌, ap}
 use Rattle.std.specs.Option.{option_to_list}
 use Rattle.bt_air.specs.declared.sent.Place.TheVariants.{Satellite}
 use Rattle.bt_air.specs.declared.sent.Sent.{Sent}
 use Rattle.bt_world.specs.Event.{Deliver}
-use Rattle.bt_world.specs.Life.{Life, having_had, life_of, past_of}
-use Rattle.bt_world.specs.World.{carried, plans, sent}
-use Rattle.bt_world.proofs.Kept.{kept-as}
-use Rattle.bt_world.proofs.Delivers.{some-of, told-by, satellite-kept}
+use Rattle.bt_world.specs.Life.{Life}
+use Rattle.bt_world.proofs.Kept.{kept-as, logged-more}
+use Rattle.bt_world.proofs.Delivers.{one-delivered, told-by, satellite-kept}
 use Rattle.bt_world.proofs.world.World.deliver_to_satellite.Goals as goal
 
 pub invariant_of-self-2 : goal.invariant_of-self-2
 invariant_of-self-2 c =
     let inside = c.self.inside in
-    let life : Life = life_of inside.net inside.orders.items inside.log in
     let view : Life = c.args.self.now in
-    let event = Deliver c.args.number Satellite in
     let message = c.in_ok-message.message in
     let is = kept-as _ _ _ c.self.view_is c.self.invariant in
-    let one = some-of (λ (one : Sent). message ≡ carried (plans view.opening (past_of view)) one) (sent view.opening (past_of view)) c.args.number c.requires.meets.0 c.in_ok-message.ensures.same in
-    let opening = c.push.ensures.opening ∙ c.reserve.ensures.opening in
-    let events = c.push.ensures.events in
-    let room = c.reserve.ensures.events in
-    let next : life_of inside.net inside.orders.items c.push.new.self ≡ having_had life event = cc in
-    let now = next ∙ ap (λ (l : Life). having_had l event) c.self.view_is in
+    let one = one-delivered view c.args.number Satellite message c.requires c.in_ok-message.ensures.same in
+    let now = logged-more inside.net inside.orders.items inside.log c.reserve.new.self c.push.new.self view (Deliver c.args.number Satellite) c.self.view_is
+    c.reserve.ensures.opening c.reserve.ensures.events c.push.ensures.opening c.push.ensures.events in
     let count = c.push.ensures.terminals ∙ c.reserve.ensures.terminals in
     let told = told-by inside.satellite c.take-taken.new.self message c.take-taken.result c.take-taken.ensures.answer c.take-taken.ensures.state in
     let said = c.send.ensures ∙ ap (λ (list : List Sent). list ++ option_to_list c.told_by.result) c.in_ok-reserve-2.ensures.items ∙ ap (λ (list : List Sent). inside.sent.items ++ list) (c.told_by.ensures ∙ told) in

@@ -1,4 +1,4 @@
-use Rattle.std.proofs.Common.{◌≡◌, ◌++◌, ℕ, List, length, slice_set, refl, ◌∙◌, ap, arith}
+use Rattle.std.proofs.Common.{◌++◌, ℕ, List, length, slice_set, refl, ◌∙◌, ap, arith}
 use Rattle.std.specs.Option.{option_to_list}
 use Rattle.bt_air.specs.declared.sent.Answer.TheVariants as answers
 use Rattle.bt_air.specs.declared.sent.Heard.{Heard}
@@ -7,27 +7,22 @@ use Rattle.bt_air.specs.declared.sent.Place.TheVariants.{Terminal}
 use Rattle.bt_air.specs.declared.sent.Sent.{Sent}
 use Rattle.bt_world.specs.Answers.{planned_in}
 use Rattle.bt_world.specs.Event.{Deliver}
-use Rattle.bt_world.specs.Life.{Life, having_had, life_of, past_of}
-use Rattle.bt_world.specs.World.{carried, plans, sent}
-use Rattle.bt_world.proofs.Kept.{kept-as}
-use Rattle.bt_world.proofs.Delivers.{some-of, terminal-at, terminal-step, terminal-kept}
+use Rattle.bt_world.specs.Life.{Life, past_of}
+use Rattle.bt_world.specs.World.{plans}
+use Rattle.bt_world.proofs.Kept.{kept-as, logged-more}
+use Rattle.bt_world.proofs.Delivers.{one-delivered, terminal-at, terminal-step, terminal-kept}
 use Rattle.bt_world.proofs.Framed.{length-terminals}
 use Rattle.bt_world.proofs.world.World.deliver_to_terminal.Goals as goal
 
 pub invariant_of-self-2 : goal.invariant_of-self-2
 invariant_of-self-2 c =
     let inside = c.self.inside in
-    let life : Life = life_of inside.net inside.orders.items inside.log in
     let view : Life = c.args.self.now in
-    let event = Deliver c.args.number (Terminal c.args.to) in
     let message = c.in_ok-message.message in
     let is = kept-as _ _ _ c.self.view_is c.self.invariant in
-    let one = some-of (λ (one : Sent). message ≡ carried (plans view.opening (past_of view)) one) (sent view.opening (past_of view)) c.args.number c.requires.meets.0 c.in_ok-message.ensures.same in
-    let opening = c.push.ensures.opening ∙ c.reserve.ensures.opening in
-    let events = c.push.ensures.events in
-    let room = c.reserve.ensures.events in
-    let next : life_of inside.net inside.orders.items c.push.new.self ≡ having_had life event = cc in
-    let now = next ∙ ap (λ (l : Life). having_had l event) c.self.view_is in
+    let one = one-delivered view c.args.number (Terminal c.args.to) message c.requires c.in_ok-message.ensures.same in
+    let now = logged-more inside.net inside.orders.items inside.log c.reserve.new.self c.push.new.self view (Deliver c.args.number (Terminal c.args.to)) c.self.view_is
+    c.reserve.ensures.opening c.reserve.ensures.events c.push.ensures.opening c.push.ensures.events in
     let count = c.push.ensures.terminals ∙ c.reserve.ensures.terminals in
     let within = c.requires.meets.1 in
     let was = terminal-at view.opening (past_of view) inside.terminals.items c.from.result c.args.to c.index_mut.result.now is.terminals c.from.ensures within c.index_mut.ensures.value in
@@ -49,7 +44,7 @@ returns-clause-shown c =
     let view : Life = c.args.self.now in
     let message = c.in_ok-message.message in
     let is = kept-as _ _ _ c.self.view_is c.self.invariant in
-    let one = some-of (λ (one : Sent). message ≡ carried (plans view.opening (past_of view)) one) (sent view.opening (past_of view)) c.args.number c.requires.meets.0 c.in_ok-message.ensures.same in
+    let one = one-delivered view c.args.number (Terminal c.args.to) message c.requires c.in_ok-message.ensures.same in
     let was = terminal-at view.opening (past_of view) c.self.inside.terminals.items c.from.result c.args.to c.index_mut.result.now is.terminals c.from.ensures c.requires.meets.1 c.index_mut.ensures.value in
     let step = terminal-step view.opening (past_of view) c.args.to one.0 c.index_mut.result.now c.mark-mark.result message was c.mark-mark.ensures one.2 in
     rw one.1 (ap (λ (heard : Heard). shows.Delivered (answers.Heard heard)) (c.hear-heard.ensures.answer ∙ ap (λ t. t.0) step))
