@@ -1,6 +1,7 @@
 // Desks that call one book in turns: each call has its entry, and the store comes back with the book.
 ghost use Rattle.std.specs.Prelude.{◌≡◌, ◌<◌, ℕ, length, slice_index_or};
 ghost use Rattle.bt_net.specs.Network.{Net};
+ghost use Rattle.bt_journal.specs.Journal.{NamesTerminals};
 ghost use Rattle.bt_book.specs.Machine.{IsOfNetwork};
 ghost use Rattle.bt_line.specs.Passes.{IsOfLine, IsSamePass};
 
@@ -22,17 +23,24 @@ const NETWORK: &str =
 // How many calls a desk makes, for 1 unit, then for 2, and so on. The first 20 ask for 210 units together.
 const CALLS: u32 = 30;
 
-// The call of a desk that adds so many units to its own link: desk 0 sends from the first terminal, any other from the
+// The edit of a desk that adds so many units to its own link: desk 0 sends from the first terminal, any other from the
 // second.
-fn call_of(desk: u32, units: Units) -> Call
-    ensures { (net : Net) → length net.terminals ≡ 2 → IsOfNetwork net result }
+fn edit_of(desk: u32, units: Units) -> Edit
+    ensures { (net : Net) → length net.terminals ≡ 2 → NamesTerminals net result }
 {
     let (from, to) = if desk == 0 {
         (TermNo(0), TermNo(1))
     } else {
         (TermNo(1), TermNo(0))
     };
-    Call::Edit(Edit::Add { from, to, units })
+    Edit::Add { from, to, units }
+}
+
+// The call of a desk that makes this edit.
+fn call_of(desk: u32, units: Units) -> Call
+    ensures { (net : Net) → length net.terminals ≡ 2 → IsOfNetwork net result }
+{
+    Call::Edit(edit_of(desk, units))
 }
 
 // One desk makes its calls.
@@ -98,37 +106,29 @@ fn book_of_two_desks<R: Threads + Wait + Sync>(rt: &R, alloc: Global) -> Option<
     Some(line.close(passes))
 }
 
-// The only desk, which has the only pass.
-fn add_alone<R: Wait>(
-    rt: &R,
-    alloc: Global,
-    line: &Line<Book<MemKeeper>>,
-    part: &mut [Pass<Book<MemKeeper>>],
-)
-    requires one { length part.old ≡ 1 }
-    requires of_line { (d : _) → IsOfLine line.now.table.shared.table_id line.now.table.shared.key.value (slice_index_or part.old 0 d).place }
-    requires terminals { length line.now.table.shared.key.value.net.terminals ≡ 2 }
-    ensures length { length part.new ≡ 1 }
-    ensures same { (d : _) → IsSamePass (slice_index_or part.old 0 d).place (slice_index_or part.new 0 d).place }
+// One desk makes its calls on a book that has no lock.
+fn add_alone(alloc: Global, book: &mut Book<MemKeeper>)
+    requires { length book.old.net.terminals ≡ 2 }
 {
-    add_many(rt, alloc, line, &mut part[0]);
+    for number in 1..=CALLS {
+        if let Some(units) = Units::new(number) {
+            let _answer = book.apply(alloc, 0, call_of(0, units));
+        }
+    }
 }
 
 // The book after the calls of one desk, or None where memory runs out. The first call on its store would fail, and
 // keep two bytes of its piece.
-fn book_of_one_desk<R: Wait>(rt: &R, alloc: Global) -> Option<Book<MemKeeper>> {
+fn book_of_one_desk(alloc: Global) -> Option<Book<MemKeeper>> {
     let net = Network::read(alloc, NETWORK.as_bytes()).ok()?;
     if net.terminal_count() != 2 {
         return None;
     }
     let bytes = Vec::from_slice(alloc, b"kept").ok()?;
     let fails = Vec::from_slice(alloc, &[Fail { call: 0, kept: 2 }]).ok()?;
-    let book = Book::open(alloc, &net, MemKeeper::new(bytes, fails)).ok()?;
-    let Ok((line, mut passes)) = Line::start(alloc, book, 1) else {
-        return None;
-    };
-    add_alone(rt, alloc, &line, &mut passes[..]);
-    Some(line.close(passes))
+    let mut book = Book::open(alloc, &net, MemKeeper::new(bytes, fails)).ok()?;
+    add_alone(alloc, &mut book);
+    Some(book)
 }
 
 // The first entry that is not as the calls before it have it, by its number. Each desk's calls stand in their order, an
@@ -144,25 +144,26 @@ fn first_wrong(history: &[Entry]) -> Option<usize> {
             return Some(number);
         };
         let sum = held[desk].saturating_add(units.get());
-        let reply = if sum <= 210 {
+        let fits = sum <= 210;
+        if fits {
             held[desk] = sum;
             edition = edition.saturating_add(1);
+        }
+        let asked_for = match entry.call {
+            Call::Edit(edit) => edit == edit_of(desk as u32, units),
+            _ => false,
+        };
+        let answered = match entry.reply {
             Reply::Done {
-                edition: EditionNo(edition),
-                length: held[0].max(held[1]),
+                edition: made,
+                length,
+            } => fits && made.0 == edition && length == held[0].max(held[1]),
+            Reply::RowFull { beam, sum: full } => {
+                !fits && beam == BeamNo(desk as u8) && full == sum
             }
-        } else {
-            Reply::RowFull {
-                beam: BeamNo(desk as u8),
-                sum,
-            }
+            _ => false,
         };
-        let wanted = Entry {
-            caller: desk as u32,
-            call: call_of(desk as u32, units),
-            reply,
-        };
-        if *entry != wanted {
+        if !asked_for || !answered || entry.caller != desk as u32 {
             return Some(number);
         }
     }
@@ -210,7 +211,7 @@ fn two_desks_on_threads_make_one_history_of_a_book(rt: HostRuntime) -> Result<()
 fn the_book_appends_nothing_and_a_store_that_fails_comes_back_as_it_was(
     rt: HostRuntime,
 ) -> Result<(), test::Fail> {
-    let Some(book) = book_of_one_desk(&rt, rt.alloc()) else {
+    let Some(book) = book_of_one_desk(rt.alloc()) else {
         assert!(rt; false, "out of memory");
         return Ok(());
     };
