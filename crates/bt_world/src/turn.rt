@@ -54,7 +54,7 @@ fn send_act(sent: &mut Vec<Sent>, log: &EventLog, centre: &Centre, act: Act)
     ensures capacity { vec_capacity sent.new ≡ vec_capacity sent.old }
     ensures count { vec_len sent.new ≤ vec_len sent.old + (log.now.terminals + 1) }
 {
-    let last = last_of(centre);
+    let last = last_order(centre);
     match act {
         Act::RepeatLoad { load } => {
             if load {
@@ -90,7 +90,7 @@ fn send_last(sent: &mut Vec<Sent>, log: &EventLog, centre: &Centre, last: Option
 }
 
 // The last order that was placed.
-fn last_of(centre: &Centre) -> Option<Order>
+fn last_order(centre: &Centre) -> Option<Order>
     ensures { result ≡ last_order centre.now.orders }
 {
     let count = centre.order_count();
