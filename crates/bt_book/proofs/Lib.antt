@@ -11,3 +11,4 @@ pub mod Redone
 pub mod OfNetwork
 pub mod Flying
 pub mod TurnLock
+pub mod Demands

@@ -11,6 +11,7 @@
 mod apply;
 mod book;
 mod cause;
+mod demand_laws;
 mod earlier;
 mod install;
 mod laws;
@@ -23,6 +24,7 @@ mod restart;
 mod tell;
 
 pub use book::Book;
+pub use demand_laws::demands_fit_the_frame;
 pub use laws::{
     histories_grow_by_steps, installed_plans_can_be_flown, legal_changes_follow,
     locked_books_are_legal, replies_name_beams_of_the_network,
