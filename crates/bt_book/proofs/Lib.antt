@@ -6,7 +6,6 @@ pub mod Causes
 pub mod Done
 pub mod Histories
 pub mod Entries
-mod Made
 pub mod Redone
 pub mod OfNetwork
 pub mod Flying

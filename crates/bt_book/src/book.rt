@@ -1,5 +1,5 @@
 // The book of changes, with the store of its records.
-ghost use Rattle.std.specs.Prelude.{◌≡◌, ◌<◌, ◌≤◌, ◌++◌, ◌∷◌, [], length, slice_index_or, IfOk, IfErr, OnErr, OnOk};
+ghost use Rattle.std.specs.Prelude.{◌≡◌, ◌<◌, ◌≤◌, ◌++◌, ◌∷◌, [], length, slice_index_or, IfOk, IfErr, OnErr};
 ghost use Rattle.std.specs.List.{HoldsAt};
 ghost use Rattle.bt_book.specs.Changes.{edition, empty_plan, newest, orders, plans, IsDemandAfter, IsDemandAt};
 ghost use Rattle.bt_book.specs.Machine.{running, IsOfNetwork, Step};
@@ -72,20 +72,6 @@ impl<K: Keeper> Book<K> {
             Call::Install(plan) => self.machine.install(alloc, caller, plan),
             Call::Place(order) => self.machine.place(alloc, caller, &order),
         }
-    }
-
-    /// Begins anew with the changes made so far and an empty history, and gives the entries of the calls until now.
-    ///
-    /// Want of memory leaves all as it was.
-    pub fn restart(&mut self, alloc: Global) -> Result<Vec<Entry>, OutOfMemory>
-        ensures entries { IfOk result (λ entries. entries.items ≡ self.old.history) }
-        ensures history { OnOk result (self.new.history ≡ []) }
-        ensures state { OnOk result (self.new.state ≡ self.old.state) }
-        ensures net { self.new.net ≡ self.old.net }
-        ensures store { self.new.store ≡ self.old.store }
-        ensures err { OnErr result (self.new ≡ self.old) }
-    {
-        self.machine.restart(alloc)
     }
 
     /// The last edition of the demand: how many edits were made.

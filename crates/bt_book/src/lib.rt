@@ -20,7 +20,6 @@ mod machine;
 mod object;
 mod occupancy;
 mod place;
-mod restart;
 mod tell;
 
 pub use book::Book;
