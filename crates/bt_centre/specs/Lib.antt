@@ -1,4 +1,9 @@
 pub mod Lines
 pub mod Output
-pub mod Run
+pub mod Desks
+pub mod Planning
 pub mod Progress
+pub mod AirLines
+pub mod Waiting
+pub mod Worker
+pub mod Run

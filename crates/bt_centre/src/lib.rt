@@ -5,11 +5,23 @@
 //! ends; `specs/Progress.antt` is for bodies alone.
 #![tactic(auto)]
 
+mod air;
+mod caller;
+mod desk;
+mod flow;
+mod gate;
 mod history;
+mod lines;
+mod planner;
 mod play;
-mod print;
 mod round;
 mod run;
+mod script;
+mod total;
+mod turn;
+mod waiting;
+mod worker;
 
+pub use gate::{Gate, NoGate};
 pub use history::{Histories, History};
-pub use run::{RunEnd, run_script};
+pub use script::{RunEnd, run_script};

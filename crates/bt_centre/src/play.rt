@@ -1,166 +1,107 @@
-// Playing a script, round by round.
-ghost use Rattle.std.specs.Prelude.{◌≡◌, ◌++◌, [], All, length, IfOk, IsErr, IsOkAnd, OnOk};
-ghost use Rattle.bt_journal.specs.Journal.{refused_of};
-ghost use Rattle.bt_script.specs.Named.{IsItemFor};
-ghost use Rattle.bt_timeline.specs.Timeline.{start_line};
-ghost use Rattle.bt_centre.specs.Lines.{counts_line, done_of};
-ghost use Rattle.bt_centre.specs.Progress.{HasLegalHistory, RoundPlayed, RoundsPlayed};
-ghost use Rattle.bt_centre.specs.Run.{IsLegalHistory, IsRun};
+// Playing a part of a script.
+ghost use Rattle.std.specs.Prelude.{◌≡◌, ◌+◌, ◌<◌, ◌≤◌, ◌++◌, IfOk};
+ghost use Rattle.bt_script.specs.Named.{IsItemFor, IsRoundFor};
+ghost use Rattle.bt_timeline.specs.Timeline.{round_line};
+ghost use Rattle.bt_centre.specs.AirLines.{AirState};
+ghost use Rattle.bt_centre.specs.Progress.{HasLegalHistory, ItemDone, RestartDone, RoundDone, rounds_with};
 
-use crate::print::print_round;
+use crate::Gate;
 use crate::round::run_round;
-use crate::{Histories, History};
+use crate::worker::CentreWorker;
 use bt_base::Keeper;
 use bt_book::Book;
 use bt_frame::OutOfMemory;
-use bt_journal::{Entries, Entry, Reply};
 use bt_net::Network;
-use bt_script::{Item, Round, Script};
-use bt_timeline::{start_text, total_text};
+use bt_script::{Item, Round};
+use bt_timeline::{restart_text, round_text, start_text};
 use std::alloc::Global;
 
-/// What a run came to.
-#[derive(Drop)]
-pub(crate) struct Played<K> {
-    /// The text to print, or want of memory.
-    pub(crate) text: Result<Vec<u8>, OutOfMemory>,
-    /// The store, as it was given.
-    pub(crate) store: K,
-    /// What was asked and answered, also where memory ran out.
-    pub(crate) histories: Histories,
-}
-
-/// Plays a script from a book without changes.
-pub(crate) fn play<K: Keeper>(alloc: Global, net: &Network, script: &Script, store: K) -> Played<K>
-    requires { All (IsItemFor net.now) script.now.items }
-    ensures ran { IfOk result.text (λ text. IsRun net.now script.now result.histories text.items) }
-    ensures legal { All (IsLegalHistory net.now []) result.histories }
-    ensures store { result.store ≡ store }
-{
-    let mut histories = match Vec::with_capacity(alloc, 1) {
-        Ok(histories) => histories,
-        Err(_) => return Played::out_of_memory(alloc, store),
-    };
-    let mut book = match Book::open(alloc, net, store) {
-        Ok(book) => book,
-        Err((store, _)) => return Played::out_of_memory(alloc, store),
-    };
-    let lines = play_items(alloc, net, script.items.as_slice(), &mut book);
-    let (store, entries) = book.into_parts();
-    let text = with_total(alloc, lines, entries.as_slice());
-    let Ok(()) = histories.push(History {
-        before: 0,
-        entries: Entries::of(entries),
-    }) else {
-        unreachable!();
-    };
-    Played {
-        text,
-        store,
-        histories: Histories::of(histories),
-    }
-}
-
-impl<K> Played<K> {
-    /// Nothing was asked for want of memory.
-    fn out_of_memory(alloc: Global, store: K) -> Played<K>
-        ensures text { IsErr result.text }
-        ensures histories { result.histories ≡ [] }
-        ensures store { result.store ≡ store }
-    {
-        Played {
-            text: Err(OutOfMemory),
-            store,
-            histories: Histories::none(alloc),
-        }
-    }
-}
-
-/// The lines of the start and of each part of a script.
-fn play_items<K: Keeper>(
+/// Plays a part of a script behind so many rounds, and gives its text.
+pub(crate) fn play_item<K: Keeper, G: Gate>(
     alloc: Global,
     net: &Network,
-    items: &[Item],
+    gate: &G,
+    rounds: u64,
+    item: &Item,
     book: &mut Book<K>,
+    centre: &mut CentreWorker,
+) -> Result<Vec<u8>, OutOfMemory>
+    requires few { rounds < 9223372036854775808 }
+    requires network { book.old.net ≡ net.now }
+    requires air_network { centre.old.life.opening.net ≡ net.now }
+    requires terminals { IsItemFor net.now item.now }
+    requires legal { HasLegalHistory net.now book.old.state book.old.history }
+    ensures network { book.new.net ≡ net.now }
+    ensures opening { centre.new.life.opening ≡ centre.old.life.opening }
+    ensures done { IfOk result (λ text. ItemDone net.now item.now rounds centre.old centre.new book.old.history book.new.history text.items) }
+    ensures legal { HasLegalHistory net.now book.new.state book.new.history }
+    ensures store { book.new.store ≡ book.old.store }
+{
+    match item {
+        Item::Round(round) => play_round(alloc, net, gate, rounds + 1, round, book, centre),
+        Item::Restart => play_restart(alloc, net, book, centre),
+    }
+}
+
+/// Plays a round of that number, and gives its text.
+fn play_round<K: Keeper, G: Gate>(
+    alloc: Global,
+    net: &Network,
+    gate: &G,
+    number: u64,
+    round: &Round,
+    book: &mut Book<K>,
+    centre: &mut CentreWorker,
 ) -> Result<Vec<u8>, OutOfMemory>
     requires network { book.old.net ≡ net.now }
-    requires terminals { All (IsItemFor net.now) items.now }
+    requires air_network { centre.old.life.opening.net ≡ net.now }
+    requires terminals { IsRoundFor net.now round.now }
     requires legal { HasLegalHistory net.now book.old.state book.old.history }
-    ensures played { IfOk result (λ text. RoundsPlayed net.now 1 items.now book.old.history book.new.history (start_line 0 0 0) text.items) }
+    ensures network { book.new.net ≡ net.now }
+    ensures opening { centre.new.life.opening ≡ centre.old.life.opening }
+    ensures done { IfOk result (λ text. RoundDone net.now round.now centre.old centre.new book.old.history book.new.history (round_line number) text.items) }
     ensures legal { HasLegalHistory net.now book.new.state book.new.history }
     ensures store { book.new.store ≡ book.old.store }
 {
     let mut text = Vec::new(alloc);
-    start_text(alloc, 0, 0, 0, &mut text)?;
-    for (index, item) in items.iter().enumerate() {
-        play_round(
-            alloc,
-            net,
-            index as u64 + 1,
-            round_of(item),
-            book,
-            &mut text,
-        )?;
-    }
+    round_text(alloc, number, &mut text)?;
+    run_round(alloc, net, gate, round, book, centre, &mut text)?;
     Ok(text)
 }
 
-/// The round that an item is.
-fn round_of(item: &Item) -> &Round
-    ensures { item.now ≡ Item.Round result.now }
-{
-    match item {
-        Item::Round(round) => round,
-    }
-}
-
-/// Runs a round, and then prints it.
-fn play_round<K: Keeper>(
+/// Restarts the centre over the book, which is what it recovers, and gives the text of it.
+fn play_restart<K: Keeper>(
     alloc: Global,
     net: &Network,
-    number: u64,
-    round: &Round,
-    book: &mut Book<K>,
-    text: &mut Vec<u8>,
-) -> Result<(), OutOfMemory>
-    requires network { book.old.net ≡ net.now }
-    requires terminals { IsItemFor net.now (Item.Round round.now) }
-    requires legal { HasLegalHistory net.now book.old.state book.old.history }
-    ensures network { book.new.net ≡ net.now }
-    ensures played { OnOk result (RoundPlayed net.now number round.now book.old.history book.new.history text.old.items text.new.items) }
-    ensures legal { HasLegalHistory net.now book.new.state book.new.history }
-    ensures store { book.new.store ≡ book.old.store }
-{
-    let entries = run_round(alloc, net, round, book)?;
-    print_round(alloc, net, number, round, &entries, text)
-}
-
-/// The text of the run with its last line, which counts the replies.
-fn with_total(
-    alloc: Global,
-    lines: Result<Vec<u8>, OutOfMemory>,
-    entries: &[Entry],
+    book: &Book<K>,
+    centre: &mut CentreWorker,
 ) -> Result<Vec<u8>, OutOfMemory>
-    ensures { IfOk result (λ text. IsOkAnd lines (λ before. text.items ≡ before.items ++ counts_line entries.now)) }
+    requires air_network { centre.old.life.opening.net ≡ net.now }
+    ensures opening { centre.new.life.opening ≡ centre.old.life.opening }
+    ensures done { IfOk result (λ text. RestartDone book.now.state.changes centre.old centre.new text.items) }
 {
-    let mut text = lines?;
-    let (done, refused) = counts_of(entries);
-    total_text(alloc, done, refused, 0, &mut text)?;
+    let mut text = Vec::new(alloc);
+    restart_text(alloc, &mut text)?;
+    let mark = centre.mark();
+    start_text(
+        alloc,
+        book.edition().0,
+        book.newest().edition.0,
+        mark.0,
+        &mut text,
+    )?;
+    centre.restart(alloc, net)?;
     Ok(text)
 }
 
-/// How many edits were done, and how many were refused.
-fn counts_of(entries: &[Entry]) -> (u64, u64)
-    ensures done { result.0 ≡ length (done_of entries.now) }
-    ensures refused { result.1 ≡ length (refused_of entries.now) }
+/// The rounds that were played, with one part of the script more.
+pub(crate) fn rounds_with(rounds: u64, item: &Item) -> u64
+    requires few { rounds < 9223372036854775808 }
+    ensures rounds { result ≡ rounds_with rounds item.now }
+    ensures few { result ≤ rounds + 1 }
 {
-    let mut done = 0u64;
-    let mut refused = 0u64;
-    for entry in entries {
-        match entry.reply {
-            Reply::Done { .. } => done += 1,
-            _ => refused += 1,
-        }
+    match item {
+        Item::Round(_) => rounds + 1,
+        Item::Restart => rounds,
     }
-    (done, refused)
 }

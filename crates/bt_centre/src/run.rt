@@ -1,76 +1,74 @@
-// The run of a script, and its printing.
-ghost use Rattle.std.specs.Prelude.{◌≡◌, All};
+// The parts of a script are played in order, and each is written when it is over.
+ghost use Rattle.std.specs.Prelude.{◌≡◌, ◌≤◌, ◌++◌, [], All, IfOk, IsErrOf, OnOk};
+ghost use Rattle.bt_base.specs.Told.{GainsPrefix, Rose, gained};
 ghost use Rattle.bt_script.specs.Named.{IsItemFor};
-ghost use Rattle.bt_centre.specs.Output.{PrintsOrNot};
-ghost use Rattle.bt_centre.specs.Progress.{EndsAfter};
-ghost use Rattle.bt_centre.specs.Run.{RunsTo};
+ghost use Rattle.bt_centre.specs.AirLines.{AirState};
+ghost use Rattle.bt_centre.specs.Progress.{AllWritten, HasLegalHistory, PartlyWritten};
+ghost use Rattle.bt_centre.specs.Run.{at_start};
 
-use crate::Histories;
-use crate::play::play;
+use crate::Gate;
+use crate::play::{play_item, rounds_with};
+use crate::worker::CentreWorker;
 use bt_base::{Keeper, Sink, SinkFault};
-use bt_frame::OutOfMemory;
+use bt_book::Book;
 use bt_net::Network;
-use bt_script::Script;
+use bt_script::Item;
 use std::alloc::Global;
 
-/// The status where memory ran out.
-const OUT_OF_MEMORY: u8 = 1;
-
-/// The status where the sink failed.
-const WRITE_FAILED: u8 = 6;
-
-/// What a run gives back.
-#[derive(Debug, Drop)]
-pub struct RunEnd<K> {
-    /// 0 where the script was run and printed, 1 where memory ran out, 6 where the sink failed.
-    pub status: u8,
-    /// The store, as the run left it.
-    pub store: K,
-    /// What was asked and answered, one history for each start of the centre.
-    pub histories: Histories,
+/// Why a run stops before its end.
+#[derive(Clone, Copy, Debug, PartialEq, Eq)]
+pub(crate) enum Stop {
+    /// Memory ran out.
+    OutOfMemory,
+    /// The sink failed.
+    WriteFailed,
 }
 
-/// Runs a script on its network from a book without changes, and prints what the desks were answered.
-pub fn run_script<O: Sink, K: Keeper>(
+/// Plays the parts of a script in order, and writes the text of each when it is over.
+pub(crate) fn play_items<G: Gate, O: Sink, K: Keeper>(
     alloc: Global,
     net: &Network,
-    script: &Script,
+    gate: &G,
+    items: &[Item],
+    book: &mut Book<K>,
+    centre: &mut CentreWorker,
     out: &mut O,
-    store: K,
-) -> RunEnd<K>
-    requires terminals { All (IsItemFor net.now) script.now.items }
-    ensures ends { RunsTo net.now script.now
-        (record { before = O.told out.old; after = O.told out.new; faults_before = O.fault_count out.old; faults_after = O.fault_count out.new })
-        result.status result.histories }
-    ensures store { result.store ≡ store }
+) -> Result<(), Stop>
+    requires network { book.old.net ≡ net.now }
+    requires begins { centre.old ≡ (at_start net.now).air }
+    requires terminals { All (IsItemFor net.now) items.now }
+    requires none { book.old.history ≡ [] }
+    requires legal { HasLegalHistory net.now book.old.state book.old.history }
+    ensures network { book.new.net ≡ net.now }
+    ensures opening { centre.new.life.opening ≡ centre.old.life.opening }
+    ensures ok { OnOk result (AllWritten net.now items.now book.new.history centre.new (O.told out.old) (O.told out.new)) }
+    ensures failed { IsErrOf result Stop.WriteFailed → PartlyWritten net.now items.now book.new.history centre.new (O.told out.old) (O.told out.new) }
+    ensures cause { IsErrOf result Stop.WriteFailed → Rose (O.fault_count out.old) (O.fault_count out.new) }
+    ensures later { O.fault_count out.old ≤ O.fault_count out.new }
+    ensures legal { HasLegalHistory net.now book.new.state book.new.history }
+    ensures store { book.new.store ≡ book.old.store }
 {
-    let played = play(alloc, net, script, store);
-    RunEnd {
-        status: print(alloc, out, played.text),
-        store: played.store,
-        histories: played.histories,
+    let mut rounds = 0u64;
+    for item in items {
+        let Ok(text) = play_item(alloc, net, gate, rounds, item, book, centre) else {
+            return Err(Stop::OutOfMemory);
+        };
+        rounds = rounds_with(rounds, item);
+        write(alloc, text.as_slice(), out)?;
     }
+    Ok(())
 }
 
-/// Prints the text of a run, and gives the status to end with.
-fn print<O: Sink>(alloc: Global, out: &mut O, text: Result<Vec<u8>, OutOfMemory>) -> u8
-    ensures { EndsAfter (record { before = O.told out.old; after = O.told out.new; faults_before = O.fault_count out.old; faults_after = O.fault_count out.new })
-        text result }
-{
-    match text {
-        Ok(text) => print_text(alloc, out, text.as_slice()),
-        Err(_) => OUT_OF_MEMORY,
-    }
-}
-
-/// Prints a text, and gives the status to end with.
-fn print_text<O: Sink>(alloc: Global, out: &mut O, text: &[u8]) -> u8
-    ensures { PrintsOrNot (record { before = O.told out.old; after = O.told out.new; faults_before = O.fault_count out.old; faults_after = O.fault_count out.new })
-        text.now 0 result }
+/// Writes a text behind what was written before.
+pub(crate) fn write<O: Sink>(alloc: Global, text: &[u8], out: &mut O) -> Result<(), Stop>
+    ensures ok { OnOk result (O.told out.new ≡ gained (O.told out.old) text.now) }
+    ensures failed { IsErrOf result Stop.WriteFailed → GainsPrefix (O.told out.old) text.now (O.told out.new) }
+    ensures cause { IsErrOf result Stop.WriteFailed → Rose (O.fault_count out.old) (O.fault_count out.new) }
+    ensures later { O.fault_count out.old ≤ O.fault_count out.new }
 {
     match out.write(alloc, text) {
-        Ok(()) => 0,
-        Err(SinkFault::Failed) => WRITE_FAILED,
-        Err(SinkFault::OutOfMemory) => OUT_OF_MEMORY,
+        Ok(()) => Ok(()),
+        Err(SinkFault::Failed) => Err(Stop::WriteFailed),
+        Err(SinkFault::OutOfMemory) => Err(Stop::OutOfMemory),
     }
 }

@@ -1,0 +1,114 @@
+// The last line of a run: how its edits were answered.
+ghost use Rattle.std.specs.Prelude.{◌≡◌, ◌++◌, ◌&&◌, if◌then◌else◌, length, OnOk};
+ghost use Rattle.bt_journal.specs.Journal.{asks_edit, failed_of, is_fault, is_made, is_refusal, refused_of};
+ghost use Rattle.bt_centre.specs.Lines.{done_of, total_of};
+
+use bt_frame::OutOfMemory;
+use bt_journal::{Call, Entry, Reply};
+use bt_timeline::{Totals, total_text};
+use std::alloc::Global;
+
+/// Appends the last line of a run with these entries. It counts edits alone, and no install or order.
+pub(crate) fn add_total(
+    alloc: Global,
+    entries: &[Entry],
+    text: &mut Vec<u8>,
+) -> Result<(), OutOfMemory>
+    ensures { OnOk result (text.new.items ≡ text.old.items ++ total_of entries.now) }
+{
+    total_text(alloc, totals_of(entries), text)
+}
+
+/// How many edits were done, how many were refused, and how many the store failed.
+fn totals_of(entries: &[Entry]) -> Totals
+    ensures done { result.done ≡ length (done_of entries.now) }
+    ensures refused { result.refused ≡ length (refused_of entries.now) }
+    ensures failed { result.failed ≡ length (failed_of entries.now) }
+{
+    let mut done = 0u64;
+    let mut refused = 0u64;
+    let mut failed = 0u64;
+    for entry in entries {
+        done += one_if(is_done(entry));
+        refused += one_if(is_refused(entry));
+        failed += one_if(is_failed(entry));
+    }
+    Totals {
+        done,
+        refused,
+        failed,
+    }
+}
+
+/// 1 where the test is passed, else 0.
+fn one_if(test: bool) -> u64
+    ensures { result ≡ (if test then 1 else 0) }
+{
+    if test { 1 } else { 0 }
+}
+
+/// The entry is that of an edit that was made.
+fn is_done(entry: &Entry) -> bool
+    ensures { result ≡ (asks_edit entry.now.call && is_made entry.now.reply) }
+{
+    is_edit(&entry.call) && is_made(&entry.reply)
+}
+
+/// The entry is that of an edit that was refused for a cause of its own.
+fn is_refused(entry: &Entry) -> bool
+    ensures { result ≡ (asks_edit entry.now.call && is_refusal entry.now.reply) }
+{
+    is_edit(&entry.call) && is_refusal(&entry.reply)
+}
+
+/// The entry is that of an edit that a fault of the store kept from being made.
+fn is_failed(entry: &Entry) -> bool
+    ensures { result ≡ (asks_edit entry.now.call && is_fault entry.now.reply) }
+{
+    is_edit(&entry.call) && is_fault(&entry.reply)
+}
+
+fn is_edit(call: &Call) -> bool
+    ensures { result ≡ asks_edit call.now }
+{
+    match *call {
+        Call::Edit(_) => true,
+        Call::Snapshot | Call::Install(_) | Call::Newest { .. } | Call::Place(_) => false,
+    }
+}
+
+fn is_made(reply: &Reply) -> bool
+    ensures { result ≡ is_made reply.now }
+{
+    match *reply {
+        Reply::Done { .. } | Reply::Installed { .. } | Reply::Placed => true,
+        _ => false,
+    }
+}
+
+fn is_refusal(reply: &Reply) -> bool
+    ensures { result ≡ is_refusal reply.now }
+{
+    match *reply {
+        Reply::SameTerminal
+        | Reply::NotThere { .. }
+        | Reply::RowFull { .. }
+        | Reply::ColumnFull { .. }
+        | Reply::BookFull { .. }
+        | Reply::NotNewer { .. }
+        | Reply::NoSuchEdition { .. }
+        | Reply::NotGood { .. }
+        | Reply::OutOfTurn { .. }
+        | Reply::NotInstalled { .. } => true,
+        _ => false,
+    }
+}
+
+fn is_fault(reply: &Reply) -> bool
+    ensures { result ≡ is_fault reply.now }
+{
+    match *reply {
+        Reply::StoreFault | Reply::Stopped => true,
+        _ => false,
+    }
+}
