@@ -1,5 +1,5 @@
 -- How a run ends, from what its parts wrote.
-use Rattle.std.proofs.Common.{◌≡◌, ℕ, ◌+◌, ◌<◌, ◌≤◌, ◌⊎◌, inl, inr, List, [], ◌∷◌, ◌++◌, length, take, drop, reverse, All, Option, Some, None, Result, Ok, Err, IsOk, IsErrOf, OnOk, refl, sym, ap, ◌∙◌, subst, append_assoc, arith}
+use Rattle.std.proofs.Common.{◌≡◌, ℕ, ◌+◌, ◌≤◌, ◌⊎◌, inl, inr, List, [], ◌∷◌, ◌++◌, length, take, drop, reverse, All, Option, Result, Ok, Err, IsOk, IsErrOf, OnOk, refl, sym, ap, ◌∙◌, subst, append_assoc, arith}
 use Rattle.std.proofs.Math.Seq.{take-append-add}
 use Rattle.std.proofs.lemmas.List.{append-nil, take-append-drop}
 use Rattle.std.proofs.lemmas.List.Elements.{All-cons, All-nil}
@@ -162,11 +162,14 @@ whole : (net : Net) (script : Script) (history : List Entry) (air : AirState) (s
     → t2 ≡ gained t1 (total_of history) → status ≡ 0 → RunsTo net script (over t0 t2 f0 f2) status histories events
 whole net script history air state histories events t0 t1 t2 f0 f1 f2 (Ok done) status comes plays ok wrote is =
     let so = plays.ok in
-    inr (inl (is, (
-      start_line 0 0 0 ++ so.lines ++ total_of history,
-      run_of net script.items history air so.rounds so.lines state histories events comes.legal comes.one comes.same comes.world so.done,
-      wrote ∙ ap (λ (t : Option (List ℕ)). gained t (total_of history)) so.wrote ∙ gained-append t0 (start_line 0 0 0 ++ so.lines) (total_of history),
-    )))
+    inr (inl (
+      is,
+      (
+        start_line 0 0 0 ++ so.lines ++ total_of history,
+        run_of net script.items history air so.rounds so.lines state histories events comes.legal comes.one comes.same comes.world so.done,
+        wrote ∙ ap (λ (t : Option (List ℕ)). gained t (total_of history)) so.wrote ∙ gained-append t0 (start_line 0 0 0 ++ so.lines) (total_of history),
+      ),
+    ))
 whole net script history air state histories events t0 t1 t2 f0 f1 f2 (Err stop) status comes plays ok wrote is = absurd (not_ok stop ok)
 
 partly : (net : Net) (script : Script) (history : List Entry) (air : AirState) (state : State) (histories : List History) (events : List Event) (t0 t1 t2 : Option (List ℕ)) (f0 f1 f2 : ℕ)
@@ -175,26 +178,32 @@ partly : (net : Net) (script : Script) (history : List Entry) (air : AirState) (
 partly net script history air state histories events t0 t1 t2 f0 f1 f2 played status comes plays later is (inl (stopped, same)) =
     let so = plays.failed stopped in
     let gains : GainsPrefix t0 (start_line 0 0 0 ++ so.lines) t2 = subst (λ (t : Option (List ℕ)). GainsPrefix t0 (start_line 0 0 0 ++ so.lines) t) (sym same) so.wrote in
-    inr (inr (is, (
-      so.first,
-      so.more,
-      start_line 0 0 0 ++ so.lines ++ total_of history,
-      so.parts,
-      run_of net so.first history air so.rounds so.lines state histories events comes.legal comes.one comes.same comes.world so.done,
-      Rose-kept f0 f1 f2 later (plays.cause stopped),
-      prefix_longer t0 t2 (start_line 0 0 0 ++ so.lines) (total_of history) gains,
-    )))
+    inr (inr (
+      is,
+      (
+        so.first,
+        so.more,
+        start_line 0 0 0 ++ so.lines ++ total_of history,
+        so.parts,
+        run_of net so.first history air so.rounds so.lines state histories events comes.legal comes.one comes.same comes.world so.done,
+        Rose-kept f0 f1 f2 later (plays.cause stopped),
+        prefix_longer t0 t2 (start_line 0 0 0 ++ so.lines) (total_of history) gains,
+      ),
+    ))
 partly net script history air state histories events t0 t1 t2 f0 f1 f2 (Ok done) status comes plays later is (inr (ok, gains, rose)) =
     let so = plays.ok in
-    inr (inr (is, (
-      script.items,
-      [],
-      start_line 0 0 0 ++ so.lines ++ total_of history,
-      sym (append-nil script.items),
-      run_of net script.items history air so.rounds so.lines state histories events comes.legal comes.one comes.same comes.world so.done,
-      Rose-longer f0 f1 f2 plays.later rose,
-      prefix_behind t0 t1 t2 (start_line 0 0 0 ++ so.lines) (total_of history) so.wrote gains,
-    )))
+    inr (inr (
+      is,
+      (
+        script.items,
+        [],
+        start_line 0 0 0 ++ so.lines ++ total_of history,
+        sym (append-nil script.items),
+        run_of net script.items history air so.rounds so.lines state histories events comes.legal comes.one comes.same comes.world so.done,
+        Rose-longer f0 f1 f2 plays.later rose,
+        prefix_behind t0 t1 t2 (start_line 0 0 0 ++ so.lines) (total_of history) so.wrote gains,
+      ),
+    ))
 partly net script history air state histories events t0 t1 t2 f0 f1 f2 (Err stop) status comes plays later is (inr (ok, gains, rose)) = absurd (not_ok stop ok)
 
 -- what came of a run, by its status
@@ -206,7 +215,10 @@ ends net script history air state histories events t0 t1 t2 f0 f1 f2 played (Ok 
 ends net script history air state histories events t0 t1 t2 f0 f1 f2 played (Err WriteFailed) status comes plays finish ok memory failed =
     partly net script history air state histories events t0 t1 t2 f0 f1 f2 played status comes plays finish.later (failed refl) (finish.failed refl)
 ends net script history air state histories events t0 t1 t2 f0 f1 f2 played (Err OutOfMemory) status comes plays finish ok memory failed =
-    inl (memory refl, (
-      subst (λ (hs : List History). All (IsLegalHistory net []) hs) (sym comes.one) (All-cons (IsLegalHistory net []) (record { before = 0; entries = history }) [] (refl, comes.legal.legal) (All-nil (IsLegalHistory net []))),
-      comes.world,
-    ))
+    inl (
+      memory refl,
+      (
+        subst (λ (hs : List History). All (IsLegalHistory net []) hs) (sym comes.one) (All-cons (IsLegalHistory net []) (record { before = 0; entries = history }) [] (refl, comes.legal.legal) (All-nil (IsLegalHistory net []))),
+        comes.world,
+      ),
+    )

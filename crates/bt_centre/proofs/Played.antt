@@ -1,5 +1,5 @@
 -- Parts of a script, played one after the other.
-use Rattle.std.proofs.Common.{◌≡◌, false, ℕ, suc, ◌+◌, ◌<◌, ◌≤◌, List, [], ◌∷◌, ◌++◌, length, take, drop, get_or, All, AllPairs, Option, Some, None, refl, sym, ap, ◌∙◌, subst, append_assoc, arith}
+use Rattle.std.proofs.Common.{◌≡◌, false, ℕ, suc, ◌+◌, ◌<◌, ◌≤◌, List, [], ◌∷◌, ◌++◌, length, take, drop, get_or, Option, Some, None, refl, sym, ap, ◌∙◌, subst, append_assoc, arith}
 use Rattle.std.specs.List.{Contains}
 use Rattle.std.proofs.Math.Seq.{take-append-add, take-suc}
 use Rattle.std.proofs.lemmas.List.{append-nil, take-append-drop}
@@ -21,7 +21,7 @@ use Rattle.bt_centre.specs.Desks.{IsNotOlder, Sight, desks_text}
 use Rattle.bt_centre.specs.Planning.{planner_text}
 use Rattle.bt_base.specs.Told.{GainsPrefix, gained}
 use Rattle.bt_centre.specs.Progress.{ItemDone, ItemsDone, PartlyWritten, RestartDone, RoundDone, RoundsWritten, newest_after, rounds_with}
-use Rattle.bt_centre.specs.Run.{IsSeen, PlaysItem, PlaysItems, PlaysRestart, PlaysRound, Stand, at_start, changes_at}
+use Rattle.bt_centre.specs.Run.{PlaysItem, PlaysItems, PlaysRestart, PlaysRound, Stand, at_start, changes_at}
 use Rattle.bt_centre.proofs.DeskLines.{later_is_newer}
 
 one_more : (n : ℕ) → n + 1 ≡ suc n

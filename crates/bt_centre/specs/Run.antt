@@ -2,17 +2,13 @@
 use Rattle.std.specs.Prelude.{◌≡◌, false, ◌⊎◌, ℕ, ◌+◌, ◌≤◌, ◌<◌, ◌++◌, List, [], ◌∷◌, length, map, reverse, All, AllPairs, Contains}
 use Rattle.bt_base.specs.Told.{GainsPrefix, gained}
 use Rattle.bt_net.specs.Network.{Net}
-use Rattle.bt_demand.specs.declared.demand.Link.{Link}
-use Rattle.bt_demand.specs.declared.plan.Plan.{Plan}
-use Rattle.bt_demand.specs.Plan.{IsGoodPlan}
 use Rattle.bt_air.specs.declared.event.Event.{Event}
 use Rattle.bt_world.specs.Event.{Opening, RestartCentre}
 use Rattle.bt_world.specs.Fits.{IsWorld, no_plan}
 use Rattle.bt_journal.specs.declared.call.Change.{Change}
-use Rattle.bt_journal.specs.declared.call.Change.TheVariants as change
 use Rattle.bt_journal.specs.declared.entry.Entry.{Entry}
 use Rattle.bt_journal.specs.Journal.{calls_of, changes_of}
-use Rattle.bt_book.specs.Changes.{IsDemandAt, edition, newest, plans}
+use Rattle.bt_book.specs.Changes.{edition, newest, plans}
 use Rattle.bt_book.specs.Machine.{Legal}
 use Rattle.bt_script.specs.declared.script.Item.{Item}
 use Rattle.bt_script.specs.declared.script.Item.TheVariants as item

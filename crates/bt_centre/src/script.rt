@@ -154,11 +154,7 @@ impl<K: Keeper> Begun<K> {
 }
 
 /// The world of a network on the empty plan, which the book has at its start.
-fn open_world<K: Keeper>(
-    alloc: Global,
-    net: &Network,
-    book: &Book<K>,
-) -> Result<World, OutOfMemory>
+fn open_world<K: Keeper>(alloc: Global, net: &Network, book: &Book<K>) -> Result<World, OutOfMemory>
     requires state { book.now.state ≡ running [] }
     ensures { IfOk result (λ world. world ≡ record { opening = opening_on net.now; events = [] }) }
 {

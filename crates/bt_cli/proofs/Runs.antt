@@ -1,15 +1,15 @@
 -- A run after the loads of its files.
-use Rattle.std.proofs.Common.{◌≡◌, ℕ, ◌≤◌, inl, inr, refl, List, Option, subst}
+use Rattle.std.proofs.Common.{◌≡◌, ℕ, ◌≤◌, ◌⊎◌, inl, inr, refl, List, Option, subst}
 use Rattle.bt_base.specs.Told.{Rose}
 use Rattle.bt_net.specs.Network.{Net}
 use Rattle.bt_script.specs.declared.script.Script.{Script}
 use Rattle.bt_centre.specs.Output.{Output}
 use Rattle.bt_centre.specs.Run.{RunsTo}
 use Rattle.bt_cli.specs.Kinds.{network_file, script_file}
-use Rattle.bt_cli.specs.Outcome.{Input, HasFailed, IsLoaded, StopsAtLoad, PrintsOneOf}
-use Rattle.bt_cli.specs.Request.{RunScript}
+use Rattle.bt_cli.specs.Outcome.{Outcome, Input, HasFailed, IsLoaded, StopsAtLoad, PrintsOneOf}
+use Rattle.bt_cli.specs.Request.{Request, Faulty, CheckModes, CheckPlan, PlanModes, PlanDemand, RunScript}
 use Rattle.bt_cli.specs.Run.{End, EndsRun, EndsScript, HasRun, PrintsRun, Runs, RunsScript}
-use Rattle.bt_cli.specs.Top.{Answered}
+use Rattle.bt_cli.specs.Top.{Answered, Ends}
 use Rattle.bt_cli.proofs.Loads.{PrintsOneOf-among, StopsAtLoad-moved}
 
 -- what the files tell, with their faults from one moment to another
@@ -24,18 +24,36 @@ script_sooner told now before between end output script net ended same sooner (i
     let P : (List ℕ → Option (List ℕ)) → Type 0 = λ held. IsLoaded (script_file net) held script read in
     inr (read, subst P same loaded, ran)
 
--- what a run comes to is one of its outcomes, printed
-ran_answered : {Store : Type 0} (net : Net) (script : Script) (output : Output) (ended : End Store) → RunsTo net script output ended.status ended.histories → PrintsOneOf output (PrintsRun net script) ended.status
-ran_answered net script output ended (inl (none, legal)) = inl none
-ran_answered net script output ended (inr (text, is, printed)) = inr (record { text = text; status = 0 }, ((ended.histories, is), refl), printed)
+-- what is printed, or the sink failed
+abbrev PrintsOrFails : Output → (Outcome → Type 0) → ℕ → Type 0
+PrintsOrFails output Outcomes status = (status ≡ 6) ⊎ PrintsOneOf output Outcomes status
 
-run_answered : {Store : Type 0} (net : Net) (script : Script) (output : Output) (ended : End Store) → HasRun net script output ended → PrintsOneOf output (PrintsRun net script) ended.status
+among : (output : Output) (Some Others : Outcome → Type 0) → ((outcome : Outcome) → Some outcome → Others outcome) → (status : ℕ) → PrintsOrFails output Some status → PrintsOrFails output Others status
+among output Some Others so status (inl failed) = inl failed
+among output Some Others so status (inr printed) = inr (PrintsOneOf-among output Some Others so status printed)
+
+-- what a run comes to is one of its outcomes, printed, where the sink did not fail
+ran_answered : {Store : Type 0} (net : Net) (script : Script) (output : Output) (ended : End Store) → RunsTo net script output ended.status ended.histories ended.events → PrintsOrFails output (PrintsRun net script) ended.status
+ran_answered net script output ended (inl (none, broke)) = inr (inl none)
+ran_answered net script output ended (inr (inl (done, (text, is, wrote)))) = inr (inr (record { text = text; status = 0 }, ((ended.histories, ended.events, is), refl), inl (wrote, done)))
+ran_answered net script output ended (inr (inr (failed, partly))) = inl failed
+
+run_answered : {Store : Type 0} (net : Net) (script : Script) (output : Output) (ended : End Store) → HasRun net script output ended → PrintsOrFails output (PrintsRun net script) ended.status
 run_answered net script output ended so = ran_answered net script output ended so.ran
 
-script_answered : {Store : Type 0} (input : Input) (output : Output) (script : List ℕ) (net : Net) (ended : End Store) → EndsScript input output script net ended → PrintsOneOf output (RunsScript input.told (HasFailed input) script net) ended.status
-script_answered input output script net ended (inl (nothing, stopped)) = PrintsOneOf-among output (StopsAtLoad (script_file net) input.told (HasFailed input) script) (RunsScript input.told (HasFailed input) script net) (λ outcome so. inl so) ended.status stopped
-script_answered input output script net ended (inr (read, loaded, ran)) = PrintsOneOf-among output (PrintsRun net read) (RunsScript input.told (HasFailed input) script net) (λ outcome so. inr (read, loaded, so)) ended.status (run_answered net read output ended ran)
+script_answered : {Store : Type 0} (input : Input) (output : Output) (script : List ℕ) (net : Net) (ended : End Store) → EndsScript input output script net ended → PrintsOrFails output (RunsScript input.told (HasFailed input) script net) ended.status
+script_answered input output script net ended (inl (nothing, stopped)) = inr (PrintsOneOf-among output (StopsAtLoad (script_file net) input.told (HasFailed input) script) (RunsScript input.told (HasFailed input) script net) (λ outcome so. inl so) ended.status stopped)
+script_answered input output script net ended (inr (read, loaded, ran)) = among output (PrintsRun net read) (RunsScript input.told (HasFailed input) script net) (λ outcome so. inr (read, loaded, so)) ended.status (run_answered net read output ended ran)
 
-pub runs_answered : {Store : Type 0} (input : Input) (output : Output) (net script journal : List ℕ) (ended : End Store) → EndsRun input output net script ended → Answered input output (RunScript net script journal) ended.status
-runs_answered input output net script journal ended (inl (nothing, stopped)) = PrintsOneOf-among output (StopsAtLoad network_file input.told (HasFailed input) net) (Runs input.told (HasFailed input) net script) (λ outcome so. inl so) ended.status stopped
-runs_answered input output net script journal ended (inr (network, loaded, so)) = PrintsOneOf-among output (RunsScript input.told (HasFailed input) script network) (Runs input.told (HasFailed input) net script) (λ outcome so. inr (network, loaded, so)) ended.status (script_answered input output script network ended so)
+runs_answered : {Store : Type 0} (input : Input) (output : Output) (net script journal : List ℕ) (ended : End Store) → EndsRun input output net script ended → (ended.status ≡ 6) ⊎ Answered input output (RunScript net script journal) ended.status
+runs_answered input output net script journal ended (inl (nothing, stopped)) = inr (PrintsOneOf-among output (StopsAtLoad network_file input.told (HasFailed input) net) (Runs input.told (HasFailed input) net script) (λ outcome so. inl so) ended.status stopped)
+runs_answered input output net script journal ended (inr (network, loaded, so)) = among output (RunsScript input.told (HasFailed input) script network) (Runs input.told (HasFailed input) net script) (λ outcome so. inr (network, loaded, so)) ended.status (script_answered input output script network ended so)
+
+-- so is what any command comes to
+pub ends_answered : {Store : Type 0} (input : Input) (output : Output) (request : Request) (ended : End Store) → Ends input output request ended → (ended.status ≡ 6) ⊎ Answered input output request ended.status
+ends_answered input output Faulty ended so = inr so.1
+ends_answered input output (CheckModes matrix modes) ended so = inr so.1
+ends_answered input output (CheckPlan net traffic plan) ended so = inr so.1
+ends_answered input output (PlanModes matrix) ended so = inr so.1
+ends_answered input output (PlanDemand net traffic) ended so = inr so.1
+ends_answered input output (RunScript net script journal) ended so = runs_answered input output net script journal ended so

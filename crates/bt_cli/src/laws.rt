@@ -1,5 +1,5 @@
 // What holds of the program's answers, whatever it does.
-ghost use Rattle.std.specs.Prelude.{◌≡◌, ℕ, List, [], ◌∷◌, length, codes, Option, Ok};
+ghost use Rattle.std.specs.Prelude.{◌≡◌, ◌⊎◌, ℕ, List, [], ◌∷◌, length, codes, Option, Ok};
 ghost use Rattle.bt_frame.specs.declared.schedule.Schedule.{Schedule};
 ghost use Rattle.bt_net.specs.Network.{Net, IsSound};
 ghost use Rattle.bt_matrix.specs.Good.{IsGood};
@@ -14,11 +14,14 @@ ghost use Rattle.bt_timeline.specs.Lines.{line_of};
 ghost use Rattle.bt_cli.specs.Check.{Judges};
 ghost use Rattle.bt_cli.specs.CheckPlan.{JudgesPlan};
 ghost use Rattle.bt_cli.specs.Fitting.{Fits};
-ghost use Rattle.bt_cli.specs.Outcome.{Outcome, Says, text_alone};
+ghost use Rattle.bt_cli.specs.Outcome.{Input, Outcome, Says, text_alone};
 ghost use Rattle.bt_cli.specs.Plans.{PrintsPlan};
 ghost use Rattle.bt_cli.specs.Request.{Request};
-ghost use Rattle.bt_cli.specs.Top.{Answers, AreTold, IsOneAnswer};
+ghost use Rattle.bt_centre.specs.Output.{Output};
+ghost use Rattle.bt_cli.specs.Run.{End};
+ghost use Rattle.bt_cli.specs.Top.{Answered, Answers, AreTold, Ends, IsOneAnswer};
 
+use bt_base::Keeper;
 use bt_demand::good_plans_are_flyable;
 use bt_matrix::one_line_is_heaviest;
 use bt_plan::{plans_have_one_spelling, schedules_have_one_spelling};
@@ -35,6 +38,13 @@ pub fn one_answer()
     one_plan_verdict();
     one_line_is_heaviest();
 }
+
+/// However the program ends, what was asked was answered, but where the output failed: memory ran out, or one of the
+/// outcomes that the promise allows was printed with its status.
+pub fn ends_are_answers<K: Keeper>()
+    ensures { (input : Input) (output : Output) (request : Request) (end : End K) → Ends input output request end
+        → (end.status ≡ 6) ⊎ Answered input output request end.status }
+{}
 
 /// What `modes` prints for a matrix is read back by `check`, for that matrix, as the schedule that was printed; and
 /// the line of its verdict is `good`, with status 0, and no other.

@@ -23,7 +23,9 @@ mod top;
 
 pub use bt_centre::{Histories, History};
 pub use check::check_command;
-pub use laws::{one_answer, printed_plans_are_read_back, printed_schedules_are_read_back};
+pub use laws::{
+    ends_are_answers, one_answer, printed_plans_are_read_back, printed_schedules_are_read_back,
+};
 pub use modes::modes_command;
 pub use plan::plan_command;
 pub use top::{Ended, centre_main};

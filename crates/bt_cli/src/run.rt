@@ -7,11 +7,11 @@ use crate::Ended;
 use crate::load::{load_network, load_script};
 use crate::print::print;
 use bt_base::{Files, Keeper, Sink};
-use bt_centre::run_script;
+use bt_centre::{NoGate, run_script};
 use bt_net::Network;
 use std::alloc::Global;
 
-/// Runs the script in a file on the network in a file, and prints what the desks were answered.
+/// Runs the script in a file on the network in a file, and prints what was answered and what happened on the air.
 pub fn run_files<F: Files, O: Sink, K: Keeper>(
     alloc: Global,
     net: &str,
@@ -22,7 +22,7 @@ pub fn run_files<F: Files, O: Sink, K: Keeper>(
 ) -> Ended<K>
     ensures ends { EndsRun (record { told = F.told files.old; faults_before = F.fault_count files.old; faults_after = F.fault_count files.new })
         (record { before = O.told out.old; after = O.told out.new; faults_before = O.fault_count out.old; faults_after = O.fault_count out.new }) net.now script.now
-        (record { status = result.status; histories = result.histories; given = store; left = result.store }) }
+        (record { status = result.status; histories = result.histories; events = result.events.items; given = store; left = result.store }) }
 {
     match load_network(alloc, files, net) {
         Ok(net) => run_script_file(alloc, &net, script, files, out, store),
@@ -40,11 +40,11 @@ fn run_script_file<F: Files, O: Sink, K: Keeper>(
 ) -> Ended<K>
     ensures ends { EndsScript (record { told = F.told files.old; faults_before = F.fault_count files.old; faults_after = F.fault_count files.new })
         (record { before = O.told out.old; after = O.told out.new; faults_before = O.fault_count out.old; faults_after = O.fault_count out.new }) script.now net.now
-        (record { status = result.status; histories = result.histories; given = store; left = result.store }) }
+        (record { status = result.status; histories = result.histories; events = result.events.items; given = store; left = result.store }) }
     ensures later { F.fault_count files.old ≤ F.fault_count files.new }
 {
     match load_script(alloc, files, script, net) {
-        Ok(script) => Ended::of_run(run_script(alloc, net, &script, out, store)),
+        Ok(script) => Ended::of_run(run_script(alloc, net, &script, &NoGate, out, store)),
         Err(stop) => Ended::without_run(alloc, print(alloc, out, Err(stop)), store),
     }
 }

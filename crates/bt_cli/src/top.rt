@@ -10,6 +10,7 @@ use crate::modes::modes_command;
 use crate::plan::plan_command;
 use crate::request::{Command, command_of};
 use crate::run::run_files;
+use bt_air::Event;
 use bt_base::{Files, Keeper, Sink};
 use bt_centre::{Histories, RunEnd};
 use std::alloc::Global;
@@ -25,6 +26,8 @@ pub struct Ended<K> {
     pub store: K,
     /// The histories of a run; none where nothing was run.
     pub histories: Histories,
+    /// What happened on the air in a run, from the first on; nothing where nothing was run.
+    pub events: Vec<Event>,
 }
 
 impl<K> Ended<K> {
@@ -33,11 +36,13 @@ impl<K> Ended<K> {
         ensures status { result.status ≡ end.status }
         ensures store { result.store ≡ end.store }
         ensures histories { result.histories ≡ end.histories }
+        ensures events { result.events.items ≡ end.events.items }
     {
         Ended {
             status: end.status,
             store: end.store,
             histories: end.histories,
+            events: end.events,
         }
     }
 
@@ -46,11 +51,13 @@ impl<K> Ended<K> {
         ensures status { result.status ≡ status }
         ensures store { result.store ≡ store }
         ensures histories { result.histories ≡ [] }
+        ensures events { result.events.items ≡ [] }
     {
         Ended {
             status,
             store,
             histories: Histories::none(alloc),
+            events: Vec::new(alloc),
         }
     }
 }
@@ -79,7 +86,7 @@ pub fn centre_main<R: Threads + Wait + Sync, F: Files, O: Sink, K: Keeper + Send
     ensures ends { Ends (record { told = F.told files.old; faults_before = F.fault_count files.old; faults_after = F.fault_count files.new })
         (record { before = O.told out.old; after = O.told out.new; faults_before = O.fault_count out.old; faults_after = O.fault_count out.new })
         (request_of (map string_bytes words.now))
-        (record { status = result.status; histories = result.histories; given = store; left = result.store }) }
+        (record { status = result.status; histories = result.histories; events = result.events.items; given = store; left = result.store }) }
 {
     let status = match command_of(words) {
         Command::RunScript { net, script, .. } => {

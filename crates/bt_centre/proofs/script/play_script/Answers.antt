@@ -1,7 +1,5 @@
 -- the first line, and then the parts
-use Rattle.std.proofs.Common.{rules, List, subst}
-use Rattle.bt_script.specs.declared.script.Item.{Item}
-use Rattle.bt_centre.specs.Progress.{AllWritten, PartlyWritten}
+use Rattle.std.proofs.Common.{rules}
 use Rattle.bt_centre.proofs.Ended.{all_behind, stopped_at_start, stopped_later}
 use Rattle.bt_centre.proofs.script.play_script.Goals as goal
 
