@@ -1,7 +1,7 @@
 // The lines of a demand whose links gain and lose slots.
 use crate::texts::put_links;
-use crate::words::{byte_of, number_of};
 use anyhow::{Result, bail, ensure};
+use bt_case_text::{byte_of, number_of};
 use bt_demand::Demand;
 use bt_frame::TermNo;
 use bt_matrix::SUM_LAST;

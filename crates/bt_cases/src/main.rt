@@ -1,51 +1,40 @@
-//! Plays the cases in the files that the words name, and prints how many there were.
+//! Plays the cases of texts and commands in the files that the words name, and prints how many there were.
 //!
 //! A case is a line of such a file that is answered; the lines below it that begin with `>` or `=` are the answer that
 //! it must get. Where one gets another answer, it is printed with that answer, and the program fails. `docs/cases.md`
 //! has the lines of such a file.
 //!
-//! The crate stands on all that the cases reach, from the top call down to messages and their machines. It promises
-//! nothing beyond that each step is safe, and has no `specs/`.
+//! The crate stands on what the cases reach, from the top call down to the readers. It promises nothing beyond that each
+//! step is safe, and has no `specs/`.
 #![tactic(auto)]
 
-mod air;
-mod answers;
-mod centre;
+mod cutting;
 mod demand;
-mod escape;
-mod files;
-mod links;
-mod message;
+mod ending;
 mod outside;
 mod pieces;
 mod planning;
-mod play;
-mod satellite;
 mod stage;
-mod terminal;
 mod texts;
-mod words;
 
-use anyhow::{Context, Result, ensure};
-use play::{Tally, play};
+use anyhow::{Context, Result};
+use bt_case_text::{Tally, play};
+use stage::Texts;
 use std::{env, fs};
 
 fn main(rt: HostRuntime) -> Result<()> {
     let alloc = rt.alloc();
     let names: Vec<String> = env::args(&rt)?.skip(1).collect(alloc)?;
-    let mut out = String::new(alloc);
-    let mut tally = Tally::none();
+    let mut tally = Tally::none(alloc);
     for name in &names {
         let name = name.as_str();
         let text = fs::read_to_string(&rt, name).context(format_args!("{name}"))?;
-        play(&rt, alloc, name, text.as_str(), &mut tally, &mut out)?;
+        let mut stage = Texts::new(alloc);
+        play(&rt, alloc, &mut stage, name, text.as_str(), &mut tally)?;
     }
-    let (cases, others) = (tally.cases, tally.others);
-    ensure!(0 < cases, "no cases");
-    if 0 < others {
-        print!(rt; "{out}")?;
-    }
-    ensure!(others == 0, "{others} of {cases} cases got another answer");
+    let (cases, others) = (tally.cases(), tally.others());
+    print!(rt; "{others}")?;
+    tally.see_all_well()?;
     println!(rt; "{cases} cases")?;
     Ok(())
 }

@@ -1,10 +1,9 @@
 // Commands, and the outside that they meet.
-use crate::answers::{Ending, Part};
-use crate::files::Shelf;
-use crate::words::number_of;
+use crate::ending::Ending;
 use anyhow::{Result, bail};
 use bt_base::{Fail, Files, MemSink, Sink, SureKeeper, SureSink};
-use bt_cli::{centre_main, check_command, modes_command, plan_command};
+use bt_case_text::{Part, Shelf, number_of};
+use bt_cli::{History, centre_main, check_command, modes_command, plan_command};
 use std::alloc::Global;
 use std::sync::Wait;
 use std::thread::Threads;
@@ -216,19 +215,22 @@ impl Outside {
         sink: &mut O,
         words: &[&str],
     ) -> Result<u8> {
-        let mut owned = Vec::new(alloc);
-        for word in words {
-            owned.push(String::from_str(alloc, word)?)?;
-        }
+        let owned = owned_words(alloc, words)?;
         let store = SureKeeper::new(self.store.clone()?);
         let ended = centre_main(rt, alloc, &owned, files, sink, store);
         self.store = ended.store.kept().to_vec(alloc)?;
+        self.keep_histories(ended.histories.as_slice())?;
+        Ok(ended.status)
+    }
+
+    /// Keeps of each history how many changes stood before it, and how many entries it has.
+    fn keep_histories(&mut self, histories: &[History]) -> Result<()> {
         self.histories.clear();
-        for history in ended.histories.as_slice() {
+        for history in histories {
             self.histories
                 .push((history.before, history.entries.as_slice().len()))?;
         }
-        Ok(ended.status)
+        Ok(())
     }
 
     /// Appends a line for each history of the last command.
@@ -248,29 +250,61 @@ fn status_alone<F: Files, O: Sink>(
     words: &[&str],
 ) -> Result<u8> {
     match words {
-        ["check", first, second] => {
-            let words = vec![in alloc;
-                String::from_str(alloc, "check")?,
-                String::from_str(alloc, first)?,
-                String::from_str(alloc, second)?,
-            ]?;
-            Ok(check_command(alloc, &words, files, sink))
-        }
-        ["modes", first] => {
-            let words = vec![in alloc;
-                String::from_str(alloc, "modes")?,
-                String::from_str(alloc, first)?,
-            ]?;
-            Ok(modes_command(alloc, &words, files, sink))
-        }
-        ["plan", first, second] => {
-            let words = vec![in alloc;
-                String::from_str(alloc, "plan")?,
-                String::from_str(alloc, first)?,
-                String::from_str(alloc, second)?,
-            ]?;
-            Ok(plan_command(alloc, &words, files, sink))
-        }
+        ["check", first, second] => check_alone(alloc, files, sink, [first, second]),
+        ["modes", first] => modes_alone(alloc, files, sink, first),
+        ["plan", first, second] => plan_alone(alloc, files, sink, [first, second]),
         _ => bail!("no command with a call of its own"),
     }
+}
+
+fn check_alone<F: Files, O: Sink>(
+    alloc: Global,
+    files: &mut F,
+    sink: &mut O,
+    names: [&str; 2],
+) -> Result<u8> {
+    let [first, second] = names;
+    let words = vec![in alloc;
+        String::from_str(alloc, "check")?,
+        String::from_str(alloc, first)?,
+        String::from_str(alloc, second)?,
+    ]?;
+    Ok(check_command(alloc, &words, files, sink))
+}
+
+fn modes_alone<F: Files, O: Sink>(
+    alloc: Global,
+    files: &mut F,
+    sink: &mut O,
+    name: &str,
+) -> Result<u8> {
+    let words = vec![in alloc;
+        String::from_str(alloc, "modes")?,
+        String::from_str(alloc, name)?,
+    ]?;
+    Ok(modes_command(alloc, &words, files, sink))
+}
+
+fn plan_alone<F: Files, O: Sink>(
+    alloc: Global,
+    files: &mut F,
+    sink: &mut O,
+    names: [&str; 2],
+) -> Result<u8> {
+    let [first, second] = names;
+    let words = vec![in alloc;
+        String::from_str(alloc, "plan")?,
+        String::from_str(alloc, first)?,
+        String::from_str(alloc, second)?,
+    ]?;
+    Ok(plan_command(alloc, &words, files, sink))
+}
+
+/// The words, each with bytes of its own.
+fn owned_words(alloc: Global, words: &[&str]) -> Result<Vec<String>> {
+    let mut owned = Vec::new(alloc);
+    for word in words {
+        owned.push(String::from_str(alloc, word)?)?;
+    }
+    Ok(owned)
 }

@@ -1,14 +1,12 @@
 // The files, the output and the store in memory, call by call.
 ghost use Rattle.bt_base.specs.Told.{HasBytes};
 
-use crate::answers::{Part, put_lines};
-use crate::files::Shelf;
 use crate::outside::Outside;
-use crate::words::number_of;
 use anyhow::{Context, Result, bail, ensure};
 use bt_base::{
     FileFault, Files, KeepFault, Keeper, MemKeeper, MemSink, Sink, SinkFault, SureKeeper, SureSink,
 };
+use bt_case_text::{Part, Shelf, number_of, put_lines};
 use std::alloc::Global;
 
 /// Reads files one after the other, each with the most bytes that it may have, and appends the answers, with the

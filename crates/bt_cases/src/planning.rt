@@ -1,23 +1,15 @@
 // Steps of planning that a command does not show one by one.
-ghost use Rattle.std.specs.Prelude.{◌≡◌, length, OnOk};
+ghost use Rattle.std.specs.Prelude.{◌≡◌, length};
 ghost use Rattle.std.specs.Bool.{OnTrue};
-ghost use Rattle.bt_demand.specs.Traffic.{matrix_of, AreOfNetwork, HasSumsTo};
 ghost use Rattle.bt_match.specs.Matching.{HasEqualLineSums};
-ghost use Rattle.bt_matrix.specs.Good.{IsGood};
 
-use crate::answers::{Part, put_lines};
-use crate::files::Shelf;
-use crate::texts::{demand_from, is_line, matrix_from, network_from, put_verdict, schedule_from};
-use crate::words::{byte_of, number_of};
-use anyhow::{Context, Result, bail, ensure};
-use bt_cut::cut;
-use bt_demand::{Demand, traffic_of};
-use bt_frame::{BeamNo, EditionNo, Schedule};
+use crate::cutting::put_cutting;
+use crate::texts::{matrix_from, put_verdict};
+use anyhow::{Result, bail, ensure};
+use bt_case_text::{Shelf, byte_of};
+use bt_frame::BeamNo;
 use bt_match::{Partial, Perm, perfect};
-use bt_matrix::{Dense, SUM_LAST, Traffic};
-use bt_net::Network;
-use bt_plan::plan_text;
-use bt_verdict::{Verdict, check_modes};
+use bt_matrix::{Dense, Traffic};
 use std::alloc::Global;
 
 /// Shows steps of planning over texts.
@@ -36,52 +28,6 @@ pub fn show_steps(alloc: Global, shelf: &Shelf, words: &[&str], out: &mut String
         _ => return Ok(false),
     }
     Ok(true)
-}
-
-/// Appends the plan of a demand that is cut from a schedule which is good for it.
-fn put_cutting(alloc: Global, texts: [&[u8]; 3], edition: &str, out: &mut String) -> Result<()> {
-    let [net, traffic, modes] = texts;
-    let net = network_from(alloc, net)?;
-    let demand = demand_from(alloc, &net, traffic)?;
-    let schedule = schedule_from(alloc, net.beam_count(), modes)?;
-    see_fit(alloc, &net, &demand)?;
-    see_good(alloc, &net, &demand, &schedule)?;
-    let edition = EditionNo(number_of(edition)?);
-    let Ok(plan) = cut(alloc, &net, &demand, edition, schedule) else {
-        bail!("out of memory");
-    };
-    let text = plan_text(alloc, &net, &plan).ok().context("out of memory")?;
-    put_lines(alloc, &text, Part::All, out)
-}
-
-/// No line of the demand's matrix has more slots than the longest frame.
-fn see_fit(alloc: Global, net: &Network, demand: &Demand) -> Result<()>
-    requires terminals { AreOfNetwork net.now demand.now }
-    requires sums { HasSumsTo SUM_LAST (matrix_of net.now demand.now) }
-    ensures { OnOk result (HasSumsTo 4096 (matrix_of net.now demand.now)) }
-{
-    let Ok(matrix) = traffic_of(alloc, net, demand) else {
-        bail!("out of memory");
-    };
-    let (_, most) = matrix.heaviest();
-    ensure!(most <= 4096, "too much for a frame");
-    Ok(())
-}
-
-/// The schedule is good for the demand's matrix.
-fn see_good(alloc: Global, net: &Network, demand: &Demand, schedule: &Schedule) -> Result<()>
-    requires terminals { AreOfNetwork net.now demand.now }
-    requires sums { HasSumsTo 4096 (matrix_of net.now demand.now) }
-    ensures { OnOk result (IsGood (matrix_of net.now demand.now) schedule.now) }
-{
-    let Ok(matrix) = traffic_of(alloc, net, demand) else {
-        bail!("out of memory");
-    };
-    ensure!(is_line(&matrix, schedule.critical), "a line of no beam");
-    match check_modes(&matrix, schedule) {
-        Verdict::Good => Ok(()),
-        _ => bail!("no good schedule"),
-    }
 }
 
 /// Appends a permutation inside a matrix of equal line sums, and the one that is found after three rows were freed.

@@ -1,51 +1,27 @@
-// The lines of a file of cases: each goes to the file of what it acts on. `docs/cases.md` says what they mean.
-use crate::air::put_message;
-use crate::centre::{new_centre, show_centre};
+// The lines of texts and commands: each goes to the file of what it acts on. `docs/cases.md` says what they mean.
 use crate::demand::{put_gain, put_loss, put_units};
-use crate::files::{Shelf, set_files};
 use crate::outside::{Outside, set_meeting};
 use crate::pieces::{append, cut, put_keeps, put_reads, put_store, put_writes};
 use crate::planning::show_steps;
-use crate::satellite::show_satellite;
-use crate::terminal::show_terminal;
 use crate::texts::show_text;
-use crate::words::number_of;
 use anyhow::{Context, Result, bail};
-use bt_change::Centre;
+use bt_case_text::{Shelf, Stage, number_of, set_files};
 use bt_demand::Demand;
-use bt_frame::{Mark, TermNo};
-use bt_switch::Satellite;
-use bt_term::Terminal;
 use std::alloc::Global;
 use std::sync::Wait;
 use std::thread::Threads;
 
-/// All that the lines of a file of cases act on.
+/// What the lines act on.
 #[derive(Drop)]
-pub struct Stage {
+pub struct Texts {
     shelf: Shelf,
     outside: Outside,
     demand: Demand,
-    satellite: Satellite,
-    terminal: Terminal,
-    centre: Centre,
 }
 
-impl Stage {
-    /// No files, an empty demand, a satellite at superframe 0, terminal 0, and a centre that has placed no order.
-    pub fn new(alloc: Global) -> Stage {
-        Stage {
-            shelf: Shelf::new(alloc),
-            outside: Outside::new(alloc),
-            demand: Demand::empty(alloc),
-            satellite: Satellite::new(alloc, Mark(0)),
-            terminal: Terminal::new(alloc, TermNo(0)),
-            centre: new_centre(alloc),
-        }
-    }
-
+impl Stage for Texts {
     /// Does what the line says, and appends what is answered.
-    pub fn take<R: Threads + Wait + Sync>(
+    fn take<R: Threads + Wait + Sync>(
         &mut self,
         rt: &R,
         alloc: Global,
@@ -66,14 +42,24 @@ impl Stage {
             words => self.act(alloc, words, out),
         }
     }
+}
+
+impl Texts {
+    /// No files, an empty store, and an empty demand.
+    pub fn new(alloc: Global) -> Texts {
+        Texts {
+            shelf: Shelf::new(alloc),
+            outside: Outside::new(alloc),
+            demand: Demand::empty(alloc),
+        }
+    }
 
     /// Does what a line says that runs no command.
     fn act(&mut self, alloc: Global, words: &[&str], out: &mut String) -> Result<()> {
         let is_done = self.set(alloc, words)?
             || self.show_outside(alloc, words, out)?
             || show_text(alloc, &self.shelf, words, out)?
-            || self.show_planning(alloc, words, out)?
-            || self.show_machine(alloc, words, out)?;
+            || self.show_planning(alloc, words, out)?;
         if is_done {
             Ok(())
         } else {
@@ -134,18 +120,5 @@ impl Stage {
             words => return show_steps(alloc, &self.shelf, words, out),
         }
         Ok(true)
-    }
-
-    /// Shows messages and the machines that take them.
-    fn show_machine(&mut self, alloc: Global, words: &[&str], out: &mut String) -> Result<bool> {
-        if let ["decode", digits] = words {
-            put_message(alloc, digits, out)?;
-            return Ok(true);
-        }
-        Ok(
-            show_satellite(alloc, &mut self.satellite, words, out)?
-                || show_terminal(alloc, &mut self.terminal, words, out)?
-                || show_centre(alloc, &mut self.centre, words, out)?,
-        )
     }
 }

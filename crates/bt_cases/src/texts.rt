@@ -5,11 +5,8 @@ ghost use Rattle.bt_demand.specs.Traffic.{matrix_of, AreOfNetwork, HasSumsTo};
 ghost use Rattle.bt_frame.specs.Critical.{IsOfBeams};
 ghost use Rattle.bt_matrix.specs.Traffic.{IsLine};
 
-use crate::answers::{Part, put_lines};
-use crate::escape::take_bytes;
-use crate::files::Shelf;
-use crate::words::number_of;
 use anyhow::{Context, Result, bail, ensure};
+use bt_case_text::{Part, Shelf, number_of, put_lines, take_bytes};
 use bt_demand::{Demand, traffic_of};
 use bt_frame::{BeamNo, Critical, Schedule, TermNo};
 use bt_matrix::{Dense, SUM_LAST, Traffic};

@@ -2,9 +2,9 @@
 ghost use Rattle.std.specs.Prelude.{◌<◌, IfOk};
 
 use crate::message::status_of;
-use crate::words::{byte_of, number_of};
 use anyhow::{Context, Result, bail, ensure};
 use bt_air::{Act, Order};
+use bt_case_text::{byte_of, number_of};
 use bt_change::{Centre, with_terminal};
 use bt_frame::{Command, EditionNo, LAST_MARK, Mark, TermNo, TermSet};
 use std::alloc::Global;

@@ -1,9 +1,9 @@
 // The lines of a terminal.
 use crate::air::bursts_told;
 use crate::message::message_of;
-use crate::words::{byte_of, number_of};
 use anyhow::Result;
 use bt_air::Heard;
+use bt_case_text::{byte_of, number_of};
 use bt_frame::{Mark, TermNo};
 use bt_term::Terminal;
 use std::alloc::Global;

@@ -1,25 +1,20 @@
 // A file of cases: which of its lines are cases, and which of these got another answer than stands below them.
-use crate::stage::Stage;
+use crate::tally::Tally;
 use anyhow::{Context, Result, ensure};
 use std::alloc::Global;
 use std::sync::Wait;
 use std::thread::Threads;
 
-/// How many cases were played, and how many of them got another answer.
-#[derive(Drop)]
-pub struct Tally {
-    pub cases: u64,
-    pub others: u64,
-}
-
-impl Tally {
-    /// Nothing was played.
-    pub fn none() -> Tally {
-        Tally {
-            cases: 0,
-            others: 0,
-        }
-    }
+/// What the lines of a file of cases act on.
+pub trait Stage {
+    /// Does what the line says, and appends what is answered.
+    fn take<R: Threads + Wait + Sync>(
+        &mut self,
+        rt: &R,
+        alloc: Global,
+        line: &str,
+        out: &mut String,
+    ) -> Result<()>;
 }
 
 /// A line that was played, its number, the answer that came, and the one that stands below it.
@@ -31,17 +26,16 @@ struct Played<'a> {
     wanted: String,
 }
 
-/// Plays the lines of a file, and appends each case that got another answer.
-pub fn play<R: Threads + Wait + Sync>(
+/// Plays the lines of a file, and counts its cases.
+pub fn play<R: Threads + Wait + Sync, S: Stage>(
     rt: &R,
     alloc: Global,
+    stage: &mut S,
     name: &str,
     text: &str,
     tally: &mut Tally,
-    out: &mut String,
 ) -> Result<()> {
-    let before = tally.cases;
-    let mut stage = Stage::new(alloc);
+    let before = tally.cases();
     let mut played = Played {
         line: "",
         number: 0,
@@ -55,7 +49,7 @@ pub fn play<R: Threads + Wait + Sync>(
             played.wanted.push_str(line)?;
             played.wanted.push('\n')?;
         } else {
-            judge(alloc, name, &mut played, tally, out)?;
+            judge(alloc, name, &mut played, tally)?;
             played.line = line;
             played.number = number;
             stage
@@ -63,31 +57,23 @@ pub fn play<R: Threads + Wait + Sync>(
                 .context(format_args!("{name}:{number}: {line}"))?;
         }
     }
-    judge(alloc, name, &mut played, tally, out)?;
-    ensure!(before < tally.cases, "{name} has no case");
+    judge(alloc, name, &mut played, tally)?;
+    ensure!(before < tally.cases(), "{name} has no case");
     Ok(())
 }
 
-/// Counts the line where it is a case, and appends it where it got another answer. It is done with then.
-fn judge(
-    alloc: Global,
-    name: &str,
-    played: &mut Played<'_>,
-    tally: &mut Tally,
-    out: &mut String,
-) -> Result<()> {
-    if !played.came.is_empty() || !played.wanted.is_empty() {
-        tally.cases = tally.cases.saturating_add(1);
-    }
+/// Counts the line where it is a case. It is done with then.
+fn judge(alloc: Global, name: &str, played: &mut Played<'_>, tally: &mut Tally) -> Result<()> {
     if played.came != played.wanted {
-        tally.others = tally.others.saturating_add(1);
         let Played {
             line,
             number,
             came,
             ..
         } = played;
-        out.push_str(&format!(in alloc; "{name}:{number}\n{line}\n{came}")?)?;
+        tally.count_other(&format!(in alloc; "{name}:{number}\n{line}\n{came}")?)?;
+    } else if !played.came.is_empty() {
+        tally.count();
     }
     played.came.clear();
     played.wanted.clear();

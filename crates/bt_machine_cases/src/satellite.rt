@@ -1,9 +1,9 @@
 // The lines of a satellite.
 use crate::air::status_told;
 use crate::message::message_of;
-use crate::words::number_of;
 use anyhow::{Result, ensure};
 use bt_air::{Status, Taken};
+use bt_case_text::number_of;
 use bt_frame::{LAST_MARK, Mark};
 use bt_switch::Satellite;
 use std::alloc::Global;

@@ -1,9 +1,9 @@
 // Messages of the air as printed lines.
 ghost use Rattle.std.specs.Prelude.{◌≤◌, length, vec_len, IfOk};
 
-use crate::escape::hex_byte;
 use anyhow::{Context, Result, bail};
 use bt_air::{AirFault, Armed, Message, Status, decode, encode, messages_have_one_spelling};
+use bt_case_text::hex_byte;
 use bt_demand::Burst;
 use bt_frame::{Command, EditionNo, Mark, Modes, TermNo};
 use std::alloc::Global;

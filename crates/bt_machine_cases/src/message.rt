@@ -1,7 +1,7 @@
 // Messages in words, as lines for the satellite and for a terminal give them.
-use crate::words::{byte_of, number_of};
 use anyhow::{Result, bail, ensure};
 use bt_air::{Armed, Message, Status};
+use bt_case_text::{byte_of, number_of};
 use bt_demand::{Burst, Bursts};
 use bt_frame::{Columns, Command, EditionNo, Mark, Mode, Modes, TermNo};
 use std::alloc::Global;

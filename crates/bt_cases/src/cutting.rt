@@ -1,0 +1,84 @@
+// The plan that is cut from a schedule.
+ghost use Rattle.std.specs.Prelude.{◌≡◌, OnOk};
+ghost use Rattle.bt_demand.specs.Traffic.{matrix_of, AreOfNetwork, HasSumsTo};
+ghost use Rattle.bt_matrix.specs.Good.{IsGood};
+
+use crate::texts::{demand_from, is_line, network_from, schedule_from};
+use anyhow::{Result, bail, ensure};
+use bt_case_text::{Part, number_of, put_lines};
+use bt_cut::cut;
+use bt_demand::{Demand, traffic_of};
+use bt_frame::{EditionNo, Schedule};
+use bt_matrix::{SUM_LAST, Traffic};
+use bt_net::Network;
+use bt_plan::plan_text;
+use bt_verdict::{Verdict, check_modes};
+use std::alloc::Global;
+
+/// Appends the plan of a demand that is cut from a schedule which is good for it.
+pub fn put_cutting(
+    alloc: Global,
+    texts: [&[u8]; 3],
+    edition: &str,
+    out: &mut String,
+) -> Result<()> {
+    let [net, traffic, modes] = texts;
+    let net = network_from(alloc, net)?;
+    let demand = demand_from(alloc, &net, traffic)?;
+    see_fit(alloc, &net, &demand)?;
+    let schedule = schedule_from(alloc, net.beam_count(), modes)?;
+    let edition = EditionNo(number_of(edition)?);
+    let text = cut_text(alloc, &net, &demand, edition, schedule)?;
+    put_lines(alloc, &text, Part::All, out)
+}
+
+/// The text of the plan that is cut from a schedule, which must be good for the demand.
+fn cut_text(
+    alloc: Global,
+    net: &Network,
+    demand: &Demand,
+    edition: EditionNo,
+    schedule: Schedule,
+) -> Result<Vec<u8>>
+    requires terminals { AreOfNetwork net.now demand.now }
+    requires sums { HasSumsTo 4096 (matrix_of net.now demand.now) }
+{
+    see_good(alloc, net, demand, &schedule)?;
+    let Ok(plan) = cut(alloc, net, demand, edition, schedule) else {
+        bail!("out of memory");
+    };
+    match plan_text(alloc, net, &plan) {
+        Ok(text) => Ok(text),
+        Err(_full) => bail!("out of memory"),
+    }
+}
+
+/// No line of the demand's matrix has more slots than the longest frame.
+fn see_fit(alloc: Global, net: &Network, demand: &Demand) -> Result<()>
+    requires terminals { AreOfNetwork net.now demand.now }
+    requires sums { HasSumsTo SUM_LAST (matrix_of net.now demand.now) }
+    ensures { OnOk result (HasSumsTo 4096 (matrix_of net.now demand.now)) }
+{
+    let Ok(matrix) = traffic_of(alloc, net, demand) else {
+        bail!("out of memory");
+    };
+    let (_, most) = matrix.heaviest();
+    ensure!(most <= 4096, "too much for a frame");
+    Ok(())
+}
+
+/// The schedule is good for the demand's matrix.
+fn see_good(alloc: Global, net: &Network, demand: &Demand, schedule: &Schedule) -> Result<()>
+    requires terminals { AreOfNetwork net.now demand.now }
+    requires sums { HasSumsTo 4096 (matrix_of net.now demand.now) }
+    ensures { OnOk result (IsGood (matrix_of net.now demand.now) schedule.now) }
+{
+    let Ok(matrix) = traffic_of(alloc, net, demand) else {
+        bail!("out of memory");
+    };
+    ensure!(is_line(&matrix, schedule.critical), "a line of no beam");
+    match check_modes(&matrix, schedule) {
+        Verdict::Good => Ok(()),
+        _ => bail!("no good schedule"),
+    }
+}
