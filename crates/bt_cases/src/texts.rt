@@ -78,9 +78,11 @@ fn put_line_end(alloc: Global, bytes: &[u8], place: &str, out: &mut String) -> R
 
 /// Appends how many lines begin with that word.
 fn put_count(alloc: Global, bytes: &[u8], word: &str, out: &mut String) -> Result<()> {
+    let mut start = Vec::new(alloc);
+    take_bytes(word, &mut start)?;
     let mut count = 0u64;
     for line in bytes.split(|byte| *byte == b'\n') {
-        if line.starts_with(word.as_bytes()) {
+        if line.starts_with(&start) {
             count = count.saturating_add(1);
         }
     }
