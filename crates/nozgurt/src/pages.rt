@@ -44,12 +44,13 @@ commands
                examples/two-beams.plan
 
   run NET SCRIPT JOURNAL
-      Lets the desks of the script in the file SCRIPT edit the demand of the
-      network in the file NET, round by round, and prints the answer to each
-      edit, and how many were done and refused. Nothing is kept in JOURNAL yet:
-      each run begins with no edits.
-      example: nozgurt run examples/four-terminals.net
-               examples/four-terminals.script journal
+      Plays the script in the file SCRIPT on the network in the file NET: desks
+      edit the demand, the planner plans, the centre brings plans into force,
+      and frames go on the air. Prints the answer to each edit, each plan, each
+      message with what its receiver did, each frame, and how many edits were
+      done and refused. Nothing is kept in JOURNAL yet: each run begins anew.
+      example: nozgurt run examples/two-beams.net
+               examples/calm-change.script journal
 
   --help      prints this page
   --version   prints the version
