@@ -2,11 +2,11 @@
 ghost use Rattle.std.specs.Prelude.{◌<◌, IfOk};
 
 use crate::message::status_of;
+use crate::shown::{act_told, order_told};
 use anyhow::{Context, Result, bail, ensure};
-use bt_air::{Act, Order};
 use bt_case_text::{byte_of, number_of};
 use bt_change::{Centre, with_terminal};
-use bt_frame::{Command, EditionNo, LAST_MARK, Mark, TermNo, TermSet};
+use bt_frame::{EditionNo, LAST_MARK, Mark, TermNo, TermSet};
 use std::alloc::Global;
 
 /// Does what a line of the centre says; false where the words are another line.
@@ -75,13 +75,8 @@ fn put_turn(alloc: Global, centre: &mut Centre, turn: [&str; 4], out: &mut Strin
     let (lead, patience) = (number_of(lead)?, number_of(patience)?);
     ensure!(mark <= LAST_MARK && lead <= 32, "no superframe or no lead");
     ensure!(centre.order_count() <= 4_000_000_000, "too many orders");
-    match centre.turn(Mark(mark), newest, lead, patience) {
-        Act::Quiet => out.push_str(">quiet\n")?,
-        Act::RepeatLoad { load: true } => out.push_str(">repeat load\n")?,
-        Act::RepeatLoad { load: false } => out.push_str(">repeat plans\n")?,
-        Act::RepeatArm => out.push_str(">repeat arm\n")?,
-        Act::Want(order) => put_order(alloc, ">want", order, out)?,
-    }
+    let act = act_told(alloc, centre.turn(Mark(mark), newest, lead, patience))?;
+    out.push_str(&format!(in alloc; ">{act}\n")?)?;
     Ok(())
 }
 
@@ -98,22 +93,8 @@ fn put_ordered(
     }
     ensure!(centre.wanted().is_some(), "no order is wanted");
     let order = centre.ordered(alloc, needs).ok().context("out of memory")?;
-    put_order(alloc, ">ordered", order, out)
-}
-
-fn put_order(alloc: Global, word: &str, order: Order, out: &mut String) -> Result<()> {
-    let text = match order {
-        Order::Load {
-            command: Command(command),
-            edition: EditionNo(edition),
-        } => format!(in alloc; "{word} load {command} {edition}\n")?,
-        Order::Arm {
-            command: Command(command),
-            edition: EditionNo(edition),
-            due: Mark(due),
-        } => format!(in alloc; "{word} arm {command} {edition} {due}\n")?,
-    };
-    out.push_str(&text)?;
+    let told = order_told(alloc, "ordered", order)?;
+    out.push_str(&format!(in alloc; ">{told}\n")?)?;
     Ok(())
 }
 

@@ -12,8 +12,10 @@ mod air;
 mod centre;
 mod message;
 mod satellite;
+mod shown;
 mod stage;
 mod terminal;
+mod world;
 
 use anyhow::{Context, Result};
 use bt_case_text::{Tally, play};

@@ -1,8 +1,9 @@
 // The lines of a satellite.
 use crate::air::status_told;
 use crate::message::message_of;
+use crate::shown::taken_told;
 use anyhow::{Result, ensure};
-use bt_air::{Status, Taken};
+use bt_air::Status;
 use bt_case_text::number_of;
 use bt_frame::{LAST_MARK, Mark};
 use bt_switch::Satellite;
@@ -38,15 +39,8 @@ fn put_taken(
     words: &[&str],
     out: &mut String,
 ) -> Result<()> {
-    let taken = match satellite.take(message_of(alloc, words)?) {
-        Taken::Accepted => ">accepted\n",
-        Taken::Stale => ">stale\n",
-        Taken::Busy => ">busy\n",
-        Taken::NotLoaded => ">notloaded\n",
-        Taken::TooLate => ">toolate\n",
-        Taken::NotForMe => ">notforme\n",
-    };
-    out.push_str(taken)?;
+    let taken = taken_told(satellite.take(message_of(alloc, words)?));
+    out.push_str(&format!(in alloc; ">{taken}\n")?)?;
     Ok(())
 }
 

@@ -1,8 +1,8 @@
 // The lines of a terminal.
 use crate::air::bursts_told;
 use crate::message::message_of;
+use crate::shown::heard_told;
 use anyhow::Result;
-use bt_air::Heard;
 use bt_case_text::{byte_of, number_of};
 use bt_frame::{Mark, TermNo};
 use bt_term::Terminal;
@@ -39,16 +39,8 @@ fn put_heard(
     out: &mut String,
 ) -> Result<()> {
     let message = message_of(alloc, words)?;
-    let heard = match terminal.hear(Mark(number_of(mark)?), message) {
-        Heard::Took => ">took\n",
-        Heard::WrongMark => ">wrongmark\n",
-        Heard::Held => ">held\n",
-        Heard::Stored => ">stored\n",
-        Heard::Older => ">older\n",
-        Heard::InUse => ">inuse\n",
-        Heard::NotForMe => ">notforme\n",
-    };
-    out.push_str(heard)?;
+    let heard = heard_told(terminal.hear(Mark(number_of(mark)?), message));
+    out.push_str(&format!(in alloc; ">{heard}\n")?)?;
     Ok(())
 }
 

@@ -1,0 +1,224 @@
+// The lines of a world: the satellite, the terminals and the centre of a network together, event by event.
+ghost use Rattle.std.specs.Prelude.{◌≡◌, IfOk};
+ghost use Rattle.std.specs.Bool.{OnTrue};
+ghost use Rattle.bt_demand.specs.Flyable.{IsFlyable};
+ghost use Rattle.bt_timeline.specs.Air.{NamesTerminal};
+ghost use Rattle.bt_world.specs.Fits.{Meets, no_plan};
+ghost use Rattle.bt_world.specs.Life.{past_of};
+
+use crate::shown::shown_told;
+use anyhow::{Result, bail, ensure};
+use bt_air::{Event, Place, Sent, Shown};
+use bt_case_text::{Part, byte_of, number_of, put_lines};
+use bt_demand::{Bursts, Plan, good_plans_are_flyable};
+use bt_frame::{BeamNo, Critical, EditionNo, LAST_MARK, Modes, Schedule, TermNo};
+use bt_net::Network;
+use bt_plan::{read_demand, read_plan};
+use bt_timeline::sent_text;
+use bt_verdict::{Verdict, check};
+use bt_world::World;
+use std::alloc::Global;
+
+/// A world, and the network with which it was started.
+#[derive(Drop)]
+pub struct Flight {
+    net: Network,
+    world: World,
+    ghost same: { world.opening.net ≡ net },
+}
+
+impl Flight {
+    /// The world of a network before its first event, with the empty plan and no order.
+    pub fn start(alloc: Global, net: &[u8]) -> Result<Flight> {
+        let Ok(net) = Network::read(alloc, net) else {
+            bail!("no network");
+        };
+        let plans = vec![in alloc; empty_plan(alloc)]?;
+        match World::start(alloc, &net, plans, Vec::new(alloc)) {
+            Ok(world) => Ok(Flight { net, world }),
+            Err(_full) => bail!("out of memory"),
+        }
+    }
+
+    /// An event happens. Appends what it shows, and the messages that it sends.
+    pub fn put_event(&mut self, alloc: Global, words: &[&str], out: &mut String) -> Result<()> {
+        let before = self.world.sent_count();
+        let shown = self.event_of(alloc, words)?;
+        let told = shown_told(alloc, &shown)?;
+        out.push_str(&format!(in alloc; ">{told}\n")?)?;
+        self.put_sent(alloc, before, out)
+    }
+
+    /// A plan that is good for a demand is installed. Appends what that shows.
+    pub fn put_install(
+        &mut self,
+        alloc: Global,
+        traffic: &[u8],
+        plan: &[u8],
+        out: &mut String,
+    ) -> Result<()> {
+        let plan = good_plan_from(alloc, &self.net, traffic, plan)?;
+        ensure!(self.world.newest().0 < plan.edition.0, "no newer edition");
+        let told = shown_told(alloc, &self.happen(alloc, Event::Install { plan })?)?;
+        out.push_str(&format!(in alloc; ">{told}\n")?)?;
+        Ok(())
+    }
+
+    /// The event that the words say happens.
+    fn event_of(&mut self, alloc: Global, words: &[&str]) -> Result<Shown> {
+        match words {
+            ["tick"] => self.tick(alloc),
+            ["turn"] => self.turn(alloc),
+            ["ordered"] => self.order(alloc),
+            ["deliver", number, place] => self.deliver(alloc, number, place),
+            ["frame"] => self.frame(alloc),
+            ["reset", terminal] => self.reset(alloc, terminal),
+            ["restart", "kept"] => self.restart_with(alloc),
+            ["restart"] => self.happen(alloc, Event::RestartCentre { kept: false }),
+            _ => bail!("no event"),
+        }
+    }
+
+    fn tick(&mut self, alloc: Global) -> Result<Shown> {
+        ensure!(self.world.mark().0 < LAST_MARK, "the last superframe");
+        self.happen(alloc, Event::Tick)
+    }
+
+    fn turn(&mut self, alloc: Global) -> Result<Shown> {
+        let newest = self.world.newest();
+        self.happen(alloc, Event::Turn { newest })
+    }
+
+    fn order(&mut self, alloc: Global) -> Result<Shown> {
+        ensure!(self.world.wanted().is_some(), "no order is wanted");
+        self.happen(alloc, Event::Ordered)
+    }
+
+    fn frame(&mut self, alloc: Global) -> Result<Shown> {
+        ensure!(
+            self.world.frame_number() < self.net.frames(),
+            "no frame is left"
+        );
+        self.happen(alloc, Event::Frame)
+    }
+
+    fn restart_with(&mut self, alloc: Global) -> Result<Shown> {
+        ensure!(self.world.wanted().is_some(), "no order is wanted");
+        self.happen(alloc, Event::RestartCentre { kept: true })
+    }
+
+    fn reset(&mut self, alloc: Global, terminal: &str) -> Result<Shown> {
+        let terminal = TermNo(byte_of(terminal)?);
+        ensure!(
+            u32::from(terminal.0) < self.net.terminal_count(),
+            "no terminal"
+        );
+        self.happen(alloc, Event::ResetTerminal { terminal })
+    }
+
+    fn deliver(&mut self, alloc: Global, number: &str, place: &str) -> Result<Shown> {
+        let message = number_of(number)?;
+        ensure!(message < self.world.sent_count(), "not sent");
+        match place {
+            "sat" => self.happen(
+                alloc,
+                Event::Deliver {
+                    message,
+                    place: Place::Satellite,
+                },
+            ),
+            "centre" => self.happen(
+                alloc,
+                Event::Deliver {
+                    message,
+                    place: Place::Centre,
+                },
+            ),
+            name => {
+                let terminal = TermNo(byte_of(name)?);
+                ensure!(
+                    u32::from(terminal.0) < self.net.terminal_count(),
+                    "no terminal"
+                );
+                self.happen(
+                    alloc,
+                    Event::Deliver {
+                        message,
+                        place: Place::Terminal(terminal),
+                    },
+                )
+            }
+        }
+    }
+
+    /// An event that may come happens.
+    fn happen(&mut self, alloc: Global, event: Event) -> Result<Shown>
+        requires { Meets self.old.world.opening (past_of self.old.world) event }
+    {
+        let (sent, orders) = (self.world.sent_count(), self.world.order_count());
+        ensure!(sent <= 2_000_000_000 && orders <= 2_000_000_000, "too much");
+        match self.world.step(alloc, &self.net, event) {
+            Ok(shown) => Ok(shown),
+            Err(_full) => bail!("out of memory"),
+        }
+    }
+
+    /// Appends the messages that were sent, from a number on.
+    fn put_sent(&self, alloc: Global, first: u32, out: &mut String) -> Result<()> {
+        let mut text = Vec::new(alloc);
+        for number in first..self.world.sent_count() {
+            let sent = self.world.sent(number);
+            ensure!(is_named(&self.net, sent), "no terminal");
+            if sent_text(alloc, &self.net, number, sent, &mut text).is_err() {
+                bail!("out of memory");
+            }
+        }
+        put_lines(alloc, &text, Part::All, out)
+    }
+}
+
+/// The terminal of a message, where it is of one, is the network's.
+fn is_named(net: &Network, sent: &Sent) -> bool
+    ensures { OnTrue result (NamesTerminal net.now sent.now) }
+{
+    match *sent {
+        Sent::PlanFor { to, .. } => u32::from(to.0) < net.terminal_count(),
+        Sent::Confirm { from, .. } => u32::from(from.0) < net.terminal_count(),
+        Sent::Lost { from } => u32::from(from.0) < net.terminal_count(),
+        _ => true,
+    }
+}
+
+/// The plan of a text, which must be good for the demand of another.
+fn good_plan_from(alloc: Global, net: &Network, traffic: &[u8], plan: &[u8]) -> Result<Plan>
+    ensures { IfOk result (IsFlyable net.now) }
+{
+    ensure!(plan.len() <= 67_108_864, "a long text");
+    let Ok(demand) = read_demand(alloc, net, traffic) else {
+        bail!("no demand");
+    };
+    let Ok(plan) = read_plan(alloc, net, plan) else {
+        bail!("no plan");
+    };
+    ensure!(plan.schedule.length <= 4096, "a long frame");
+    good_plans_are_flyable();
+    match check(net, &demand, &plan) {
+        Verdict::Good => Ok(plan),
+        _ => bail!("no good plan"),
+    }
+}
+
+/// The plan of edition 0.
+fn empty_plan(alloc: Global) -> Plan
+    ensures { result ≡ no_plan }
+{
+    Plan {
+        edition: EditionNo(0),
+        schedule: Schedule {
+            length: 0,
+            critical: Critical::Row(BeamNo(0)),
+            modes: Modes::of(Vec::new(alloc)),
+        },
+        bursts: Bursts::of(Vec::new(alloc)),
+    }
+}
