@@ -33,11 +33,8 @@ impl Flight {
         let Ok(net) = Network::read(alloc, net) else {
             bail!("no network");
         };
-        let plans = vec![in alloc; empty_plan(alloc)]?;
-        match World::start(alloc, &net, plans, Vec::new(alloc)) {
-            Ok(world) => Ok(Flight { net, world }),
-            Err(_full) => bail!("out of memory"),
-        }
+        let world = world_of(alloc, &net)?;
+        Ok(Flight { net, world })
     }
 
     /// An event happens. Appends what it shows, and the messages that it sends.
@@ -58,8 +55,8 @@ impl Flight {
         out: &mut String,
     ) -> Result<()> {
         let plan = good_plan_from(alloc, &self.net, traffic, plan)?;
-        ensure!(self.world.newest().0 < plan.edition.0, "no newer edition");
-        let told = shown_told(alloc, &self.happen(alloc, Event::Install { plan })?)?;
+        let shown = self.install(alloc, plan)?;
+        let told = shown_told(alloc, &shown)?;
         out.push_str(&format!(in alloc; ">{told}\n")?)?;
         Ok(())
     }
@@ -77,6 +74,13 @@ impl Flight {
             ["restart"] => self.happen(alloc, Event::RestartCentre { kept: false }),
             _ => bail!("no event"),
         }
+    }
+
+    fn install(&mut self, alloc: Global, plan: Plan) -> Result<Shown>
+        requires { IsFlyable self.old.net plan }
+    {
+        ensure!(self.world.newest().0 < plan.edition.0, "no newer edition");
+        self.happen(alloc, Event::Install { plan })
     }
 
     fn tick(&mut self, alloc: Global) -> Result<Shown> {
@@ -174,6 +178,18 @@ impl Flight {
             }
         }
         put_lines(alloc, &text, Part::All, out)
+    }
+}
+
+/// The world of a network before its first event, with the empty plan and no order.
+fn world_of(alloc: Global, net: &Network) -> Result<World>
+    ensures { IfOk result (λ world. world.opening.net ≡ net.now) }
+{
+    let mut plans = Vec::new(alloc);
+    plans.push(empty_plan(alloc))?;
+    match World::start(alloc, net, plans, Vec::new(alloc)) {
+        Ok(world) => Ok(world),
+        Err(_full) => bail!("out of memory"),
     }
 }
 
