@@ -14,27 +14,30 @@ mod ending;
 mod outside;
 mod pieces;
 mod planning;
+mod play;
 mod stage;
 mod texts;
 
-use anyhow::{Context, Result};
-use bt_case_text::{Tally, play};
-use stage::Texts;
+use anyhow::{Context, Result, ensure};
+use play::{Tally, play};
 use std::{env, fs};
 
 fn main(rt: HostRuntime) -> Result<()> {
     let alloc = rt.alloc();
     let names: Vec<String> = env::args(&rt)?.skip(1).collect(alloc)?;
-    let mut tally = Tally::none(alloc);
+    let mut out = String::new(alloc);
+    let mut tally = Tally::none();
     for name in &names {
         let name = name.as_str();
         let text = fs::read_to_string(&rt, name).context(format_args!("{name}"))?;
-        let mut stage = Texts::new(alloc);
-        play(&rt, alloc, &mut stage, name, text.as_str(), &mut tally)?;
+        play(&rt, alloc, name, text.as_str(), &mut tally, &mut out)?;
     }
-    let (cases, others) = (tally.cases(), tally.others());
-    print!(rt; "{others}")?;
-    tally.see_all_well()?;
+    let (cases, others) = (tally.cases, tally.others);
+    ensure!(0 < cases, "no cases");
+    if 0 < others {
+        print!(rt; "{out}")?;
+    }
+    ensure!(others == 0, "{others} of {cases} cases got another answer");
     println!(rt; "{cases} cases")?;
     Ok(())
 }

@@ -5,7 +5,7 @@ use crate::pieces::{append, cut, put_keeps, put_reads, put_store, put_writes};
 use crate::planning::show_steps;
 use crate::texts::show_text;
 use anyhow::{Context, Result, bail};
-use bt_case_text::{Shelf, Stage, number_of, set_files};
+use bt_case_text::{Shelf, number_of, set_files};
 use bt_demand::Demand;
 use std::alloc::Global;
 use std::sync::Wait;
@@ -19,9 +19,18 @@ pub struct Texts {
     demand: Demand,
 }
 
-impl Stage for Texts {
+impl Texts {
+    /// No files, an empty store, and an empty demand.
+    pub fn new(alloc: Global) -> Texts {
+        Texts {
+            shelf: Shelf::new(alloc),
+            outside: Outside::new(alloc),
+            demand: Demand::empty(alloc),
+        }
+    }
+
     /// Does what the line says, and appends what is answered.
-    fn take<R: Threads + Wait + Sync>(
+    pub fn take<R: Threads + Wait + Sync>(
         &mut self,
         rt: &R,
         alloc: Global,
@@ -40,17 +49,6 @@ impl Stage for Texts {
             [""] | ["#", ..] => Ok(()),
             ["$", words @ ..] => self.outside.run(rt, alloc, &mut self.shelf, words, out),
             words => self.act(alloc, words, out),
-        }
-    }
-}
-
-impl Texts {
-    /// No files, an empty store, and an empty demand.
-    pub fn new(alloc: Global) -> Texts {
-        Texts {
-            shelf: Shelf::new(alloc),
-            outside: Outside::new(alloc),
-            demand: Demand::empty(alloc),
         }
     }
 
