@@ -1,6 +1,7 @@
 // One turn of a seat: it draws a ticket, waits for it, uses the object and passes the turn on.
-ghost use Rattle.std.specs.Prelude.{◌≡◌, ℕ, ◌%◌, ◌^◌, [], ◌∷◌, List, Some, None, MatchResult};
+ghost use Rattle.std.specs.Prelude.{◌≡◌, ◌≤◌, ℕ, ◌%◌, ◌^◌, [], ◌∷◌, List, Some, None, MatchResult};
 ghost use Rattle.bt_line.specs.declared.object.Entry.{Entry};
+ghost use Rattle.bt_line.specs.declared.turn.TheConstants.{SPINS};
 ghost use Rattle.bt_line.specs.Legal.{entry_of};
 ghost use Rattle.bt_line.specs.Passes.{Gains};
 ghost use Rattle.bt_line.specs.Turns.{IsSized, IsIdle, HasTurn, MayGive, passed, rested};
@@ -12,9 +13,13 @@ use crate::{Object, Turns, View};
 use atomic_table::{Seat, Shared};
 use bt_frame::OutOfMemory;
 use std::alloc::Global;
+use std::hint::spin_loop;
 use std::snapshot::Snapshot;
 use std::sync::Wait;
 use std::thread::yield_now;
+
+/// How often a caller whose turn it is not looks again at once, before it lets others run between its looks.
+const SPINS: u32 = 100;
 
 pub(crate) type Top<O> = Shared<
     Option<O>,
@@ -34,14 +39,28 @@ fn take_turn<O: Object, R: Wait>(rt: &R, top: &Top<O>, place: &mut Place<O>)
     ensures turn { (k : ℕ) × HasTurn O.steps O.history k place.old.me place.new.me }
 {
     let ticket = top.fetch_add::<Draw>(place, 0, 1);
+    let mut spins = 0;
     for _ in rt.forever() {
         let served = top.load::<Look<O>>(place, 1);
         if served == ticket {
             return;
         }
-        yield_now();
+        spins = pause(spins);
     }
     unreachable!()
+}
+
+// Passes a moment between two looks, and counts the short ones: a caller before it is mostly done at once.
+fn pause(spins: u32) -> u32
+    ensures few { result ≤ SPINS }
+{
+    if spins < SPINS {
+        spin_loop();
+        spins + 1
+    } else {
+        yield_now();
+        SPINS
+    }
 }
 
 // Puts the object back, and passes the turn on. The seat has then seen the history with its own call in it.
