@@ -3,3 +3,4 @@ pub mod Lines
 pub mod Timeline
 pub mod Verdicts
 pub mod Written
+pub mod Replayed

@@ -1,8 +1,8 @@
-//! The lines that a run and a check print.
+//! The lines that a run, a replay and a check print.
 //!
 //! Each call appends its lines to a text, their newlines included, and leaves the text as it was where memory runs
 //! out. It stands on the network, whose names the lines have, on the entries of histories, on verdicts, and on plans and
-//! the messages of the air. `specs/Lines.antt`, `specs/Timeline.antt`, `specs/Air.antt` and `specs/Verdicts.antt` are
+//! the messages of the air. `specs/Lines.antt`, `specs/Timeline.antt`, `specs/Air.antt`, `specs/Replayed.antt` and `specs/Verdicts.antt` are
 //! promises: the lines, each as its words. `specs/Written.antt` is for bodies alone.
 #![tactic(auto)]
 
@@ -13,6 +13,7 @@ mod entry;
 mod line;
 mod marks;
 mod order;
+mod replayed;
 mod reply;
 mod sent;
 mod verdict;
@@ -24,5 +25,6 @@ pub use entry::entry_text;
 pub use line::{Word, add_line};
 pub use marks::{Totals, restart_text, round_text, start_text, total_text};
 pub use order::{order_text, unplaced_text};
+pub use replayed::replay_text;
 pub use sent::sent_text;
 pub use verdict::verdict_text;
