@@ -2,6 +2,7 @@
 use Rattle.std.specs.Prelude.{◌≡◌, ℕ, ◌+◌, ◌≤◌, codes, decimal, List, [], ◌∷◌, ◌++◌}
 use Rattle.bt_text.specs.Text.{spaced}
 use Rattle.bt_frame.specs.declared.limits.TheConstants.{MOST_UNITS}
+use Rattle.bt_frame.specs.declared.numbers.EditionNo.{EditionNo}
 use Rattle.bt_net.specs.Network.{Net}
 use Rattle.bt_net.specs.Terminals.{name_at}
 use Rattle.bt_plan.specs.PlanSpelling.{plan_lines, IsPlanInRange}
@@ -43,9 +44,9 @@ units_in (Drop _ _ units) = units
 units_in (Move _ _ _ _ units) = units
 
 -- an edit of this edition that a line can spell for the network
-pub record IsEditInRange (net : Net) (number : ℕ) (edit : Edit) : Type 0 where
-  pub some : 1 ≤ number
-  pub number : number ≤ 4294967295
+pub record IsEditInRange (net : Net) (made : ℕ) (edit : Edit) : Type 0 where
+  pub some : 1 ≤ made
+  pub number : made ≤ 4294967295
   pub terminals : NamesTerminals net edit
   pub units : 1 ≤ units_in edit
   pub few : units_in edit ≤ MOST_UNITS
@@ -60,6 +61,13 @@ abbrev pub IsChangeInRange : Net → ℕ → Change → Type 0
 IsChangeInRange net number (change.Edit edit) = IsEditInRange net number edit
 IsChangeInRange net number (change.Install plan) = IsPlanInRange net plan
 IsChangeInRange net number (change.Order order) = IsOrderInRange order
+
+-- the edition that the line of a change says: the one that an edit makes, and that of the plan or of the order
+abbrev pub edition_said : ℕ → Change → EditionNo
+edition_said number (change.Edit _) = record { 0 = number }
+edition_said number (change.Install plan) = plan.edition
+edition_said number (change.Order (Load _ edition)) = edition
+edition_said number (change.Order (Arm _ edition _)) = edition
 
 -- how many edits a change is
 abbrev pub edits_in : Change → ℕ

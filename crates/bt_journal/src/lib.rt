@@ -1,14 +1,22 @@
-//! What desks ask of the book of changes, what it answers, and the entries of its history.
+//! What desks ask of the book of changes, what it answers, the entries of its history, and the lines of its journal.
 //!
-//! It stands on the network's terminals, on demands and plans, on the orders of the air and on verdicts.
-//! `specs/Journal.antt` has the words for calls, replies and histories; all of it is promise, and nothing there is for
-//! bodies alone.
+//! It stands on the network's terminals, on demands and plans and their texts, on the orders of the air and on verdicts.
+//! Promises are in `specs/Journal.antt`, the words for calls, replies and histories, and in `specs/JournalLines.antt`, the
+//! one line of each change. `laws.rt` says that there is no other. `specs/LineReading.antt` is for bodies alone.
 #![tactic(auto)]
 
 mod call;
 mod entry;
+mod laws;
+mod line_fault;
+mod reader;
 mod reply;
+mod writer;
 
 pub use call::{Call, Change, Edit};
 pub use entry::{Entries, Entry};
+pub use laws::{lines_end_once, lines_tell_changes};
+pub use line_fault::LineFault;
+pub use reader::read_change;
 pub use reply::Reply;
+pub use writer::change_text;

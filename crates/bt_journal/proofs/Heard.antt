@@ -1,0 +1,134 @@
+-- The line of a change in range is read as that change, and no other line is read as it.
+use Rattle.std.proofs.Common.{◌≡◌, ℕ, ◌+◌, ◌<◌, ◌≤◌, length-append, Result, Ok, Err, Bool, true, false, cond, List, [], ◌∷◌, ◌++◌, codes, length, Some, None, refl, sym, ap, subst, ◌∙◌, append_assoc, arith}
+use Rattle.std.specs.Prelude.{IfOk, IsErrOf}
+use Rattle.std.specs.List.{join_with_byte}
+use Rattle.std.proofs.lemmas.List.{append_cancel_right, append-nil}
+use Rattle.std.proofs.lemmas.List.Splits.{join_with_byte-slice_split}
+use Rattle.std.proofs.lemmas.Option.{same_Some}
+use Rattle.bt_text.specs.Text.{words, lines, spaced, lacks, is_word}
+use Rattle.bt_text.proofs.Fronts.{words-HasFirst}
+use Rattle.bt_text.proofs.TextLines.{words-spaced, spaced-words, lacks-spaced, slice_split-next, text_from_first_line, first_line_lacks}
+use Rattle.bt_net.specs.Network.{Net, IsSound}
+use Rattle.bt_journal.specs.declared.call.Change.{Change}
+use Rattle.bt_journal.specs.declared.call.Change.TheVariants as change
+use Rattle.bt_air.specs.declared.order.Order.TheVariants.{Load, Arm}
+use Rattle.bt_journal.specs.declared.line_fault.LineFault.{LineFault}
+use Rattle.bt_journal.specs.declared.line_fault.LineFault.TheVariants.{Bad, OutOfMemory}
+use Rattle.bt_journal.specs.JournalLines.{order_words, change_parts, change_line, edition_said, IsChangeInRange}
+use Rattle.bt_journal.specs.LineReading.{told_plan, told_small, told_in, Told, Answers}
+use Rattle.bt_journal.proofs.PlanWords.{plan_lines-lack, plan-words, plan_told, plan_said}
+use Rattle.bt_journal.proofs.Words.{edit-lacks, order-lacks, edit_told, order_told}
+use Rattle.bt_journal.proofs.Said.{small_said}
+
+module _ (net : Net) (sound : IsSound net) where
+  -- no newline stands in the line
+  pub once : (number : ℕ) (one : Change) → IsChangeInRange net number one → lacks 10 (spaced (change_parts net number one)) ≡ true
+  once number (change.Edit edit) range = lacks-spaced 10 (change_parts net number (change.Edit edit)) refl ∙ edit-lacks net sound 10 refl refl number edit range
+  once number (change.Install plan) range = lacks-spaced 10 (change_parts net number (change.Install plan)) refl ∙ plan_lines-lack net sound plan range
+  once number (change.Order order) range = lacks-spaced 10 (change_parts net number (change.Order order)) refl ∙ order-lacks net sound 10 refl refl order range
+
+  pub cut : (number : ℕ) (one : Change) (rest : List ℕ) → IsChangeInRange net number one → lines (change_line net number one ++ rest) ≡ spaced (change_parts net number one) ∷ lines rest
+  cut number one rest range =
+      let text = spaced (change_parts net number one) in
+      ap lines (append_assoc text (10 ∷ []) rest) ∙ slice_split-next 10 text rest (once number one range)
+
+  -- a change in range is read from its line
+  pub told : (number : ℕ) (one : Change) → IsChangeInRange net number one → told_in net (words (spaced (change_parts net number one))) ≡ Some (edition_said number one, one)
+  told number (change.Edit edit) range =
+      ap (told_in net) (words-spaced (change_parts net number (change.Edit edit)) (omega arith) (edit-lacks net sound 32 refl refl number edit range)) ∙ edit_told net sound number edit range
+  told number (change.Install plan) range = ap (told_in net) (plan-words net sound plan range) ∙ plan_told net sound plan range
+  told number (change.Order (Load command edition)) range =
+      ap (told_in net) (words-spaced (order_words (Load command edition)) (omega arith) (order-lacks net sound 32 refl refl (Load command edition) range)) ∙ order_told net sound number (Load command edition) range
+  told number (change.Order (Arm command edition due)) range =
+      ap (told_in net) (words-spaced (order_words (Arm command edition due)) (omega arith) (order-lacks net sound 32 refl refl (Arm command edition due) range)) ∙ order_told net sound number (Arm command edition due) range
+
+  -- what is read is spelled as it is, and in range
+  pub record IsHeard (text : List ℕ) (said : Told) : Type 0 where
+    pub spelled : text ≡ spaced (change_parts net said.0.0 said.1)
+    pub range : IsChangeInRange net said.0.0 said.1
+    pub edition : said.0 ≡ edition_said said.0.0 said.1
+
+  heard_by : (text kind : List ℕ) (rest : List (List ℕ)) (said : Told) (plan : Bool) → lacks 10 text ≡ true → words text ≡ kind ∷ rest
+      → cond plan (told_plan net (kind ∷ rest)) (told_small net kind rest) ≡ Some said → IsHeard text said
+  heard_by text kind rest said true none are is =
+      let here = plan_said net sound text said none (ap (told_plan net) are ∙ is) in
+      let plain : IsHeard text (here.plan.edition, change.Install here.plan) = record { spelled = here.spelled; range = here.range; edition = refl } in
+      subst (IsHeard text) (sym here.change_is) plain
+  heard_by text kind rest said false none are is =
+      let here = small_said net kind rest said is in
+      record { spelled = sym (spaced-words text) ∙ ap spaced (are ∙ here.spelled); range = here.range; edition = here.edition }
+
+  heard_from : (ws : List (List ℕ)) (kind : List ℕ) (rest : List (List ℕ)) (said : Told) → ws ≡ kind ∷ rest → told_in net ws ≡ Some said → told_in net (kind ∷ rest) ≡ Some said
+  heard_from ws kind rest said are is = ap (told_in net) (sym are) ∙ is
+
+  pub heard : (text : List ℕ) (said : Told) → lacks 10 text ≡ true → told_in net (words text) ≡ Some said → IsHeard text said
+  heard text said none is =
+      let (kind, rest, are) = words-HasFirst text in
+      heard_by text kind rest said (is_word (codes "plan") kind) none are (heard_from (words text) kind rest said are is)
+
+  -- two changes with one line are one
+  told_twice : (ws : List (List ℕ)) (said again : Told) → told_in net ws ≡ Some said → told_in net ws ≡ Some again → said ≡ again
+  told_twice ws said again first second = same_Some said again (sym first ∙ second)
+
+  same_told : (number other : ℕ) (one two : Change) → IsChangeInRange net number one → IsChangeInRange net other two → change_line net number one ≡ change_line net other two
+      → told_in net (words (spaced (change_parts net number one))) ≡ Some (edition_said other two, two)
+  same_told number other one two range ranged same =
+      let text = append_cancel_right (spaced (change_parts net number one)) (spaced (change_parts net other two)) (10 ∷ []) same in
+      ap (λ t. told_in net (words t)) text ∙ told other two ranged
+
+  pub same_change : (number other : ℕ) (one two : Change) → IsChangeInRange net number one → IsChangeInRange net other two → change_line net number one ≡ change_line net other two
+      → (one ≡ two) × (edition_said number one ≡ edition_said other two)
+  same_change number other one two range ranged same =
+      let both = told_twice (words (spaced (change_parts net number one))) (edition_said number one, one) (edition_said other two, two) (told number one range) (same_told number other one two range ranged same) in
+      (ap (λ (t : Told). t.1) both, ap (λ (t : Told). t.0) both)
+
+  -- a line is its text and a newline, and what is read of it
+  line_is : (line text rest : List ℕ) → lines line ≡ text ∷ lines rest → length rest ≡ 0 → line ≡ text ++ 10 ∷ []
+  line_is line text [] is none = text_from_first_line line text [] is
+  line_is line text (b ∷ rest) is none = absurd (omega arith)
+
+  pub heard_line : (line text rest : List ℕ) (said : Told) → lines line ≡ text ∷ lines rest → length rest ≡ 0 → told_in net (words text) ≡ Some said
+      → (line ≡ change_line net said.0.0 said.1) × IsChangeInRange net said.0.0 said.1 × (said.0 ≡ edition_said said.0.0 said.1)
+  heard_line line text rest said is none read =
+      let here = heard text said (first_line_lacks line text (lines rest) is) read in
+      (line_is line text rest is none ∙ ap (λ t. t ++ 10 ∷ []) here.spelled, here.range, here.edition)
+
+  -- the line of a change has its newline, nothing behind it, and is read
+  own_lines : (line : List ℕ) (number : ℕ) (one : Change) → IsChangeInRange net number one → line ≡ change_line net number one → lines line ≡ spaced (change_parts net number one) ∷ [] ∷ []
+  own_lines line number one range is = ap lines (is ∙ sym (append-nil (change_line net number one))) ∙ cut number one [] range
+
+  pub no_newline : (line : List ℕ) (number : ℕ) (one : Change) → lines line ≡ line ∷ [] → IsChangeInRange net number one → line ≡ change_line net number one → ⊥
+  no_newline line number one alone range is = let two = sym alone ∙ own_lines line number one range is in absurd cc
+
+  pub more_behind : (line text rest : List ℕ) (number : ℕ) (one : Change) → lines line ≡ text ∷ lines rest → 0 < length rest → IsChangeInRange net number one → line ≡ change_line net number one → ⊥
+  more_behind line text rest number one first some range is =
+      let both : text ∷ lines rest ≡ spaced (change_parts net number one) ∷ [] ∷ [] = sym first ∙ own_lines line number one range is in
+      let last : lines rest ≡ [] ∷ [] = cc in
+      let none : rest ≡ [] = sym (join_with_byte-slice_split 10 rest) ∙ ap (join_with_byte 10) last in
+      let length_is = ap length none in
+      omega arith
+
+  pub not_told : (line text rest : List ℕ) (number : ℕ) (one : Change) → lines line ≡ text ∷ lines rest → told_in net (words text) ≡ None → IsChangeInRange net number one → line ≡ change_line net number one → ⊥
+  not_told line text rest number one first none range is =
+      let both : text ∷ lines rest ≡ spaced (change_parts net number one) ∷ [] ∷ [] = sym first ∙ own_lines line number one range is in
+      let same : text ≡ spaced (change_parts net number one) = cc in
+      let read = sym none ∙ (ap (λ t. told_in net (words t)) same ∙ told number one range) in
+      absurd cc
+
+  -- the answer to a line
+  pub record IsAnswer (line : List ℕ) (result : Result Told LineFault) : Type 0 where
+    pub line_is : IfOk result (λ said. line ≡ change_line net said.0.0 said.1)
+    pub range : IfOk result (λ said. IsChangeInRange net said.0.0 said.1)
+    pub edition : IfOk result (λ said. said.0 ≡ edition_said said.0.0 said.1)
+    pub bad : IsErrOf result Bad → (number : ℕ) (one : Change) → IsChangeInRange net number one → line ≡ change_line net number one → ⊥
+
+  pub answered : (line text rest : List ℕ) (result : Result Told LineFault) → lines line ≡ text ∷ lines rest → length rest ≡ 0 → Answers result (told_in net (words text)) → IsAnswer line result
+  answered line text rest (Ok said) is none read =
+      let here = heard_line line text rest said is none read in
+      record { line_is = here.0; range = here.1; edition = here.2; bad = λ h. absurd cc }
+  answered line text rest (Err Bad) is none read = record { line_is = tt; range = tt; edition = tt; bad = λ h number one range same. not_told line text rest number one is read range same }
+  answered line text rest (Err OutOfMemory) is none read = record { line_is = tt; range = tt; edition = tt; bad = λ h. absurd cc }
+
+  -- a line is longer than its text
+  pub longer : (line text rest : List ℕ) → lines line ≡ text ∷ lines rest → length text + 1 ≤ length line
+  longer line text rest is = omega (arith, ap length (text_from_first_line line text rest is), length-append text (10 ∷ rest))

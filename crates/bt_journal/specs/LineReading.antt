@@ -1,0 +1,133 @@
+-- How the line of a change is read, word by word. All of it is for bodies alone.
+use Rattle.std.specs.Prelude.{◌≡◌, ℕ, zero, suc, ◌+◌, ◌==◌, ◌||◌, if◌then◌else◌, nat_le, codes, length, drop, List, [], ◌∷◌, ◌++◌, Option, Some, None, option_map, option_and_then, Result, Ok, Err}
+use Rattle.bt_text.specs.Text.{is_word}
+use Rattle.bt_text.specs.WordReader.{first_word, number_to}
+use Rattle.bt_frame.specs.declared.limits.TheConstants.{MOST_UNITS, LAST_MARK}
+use Rattle.bt_frame.specs.declared.numbers.EditionNo.{EditionNo}
+use Rattle.bt_frame.specs.declared.numbers.TermNo.{TermNo}
+use Rattle.bt_net.specs.Network.{Net}
+use Rattle.bt_net.specs.Terminals.{terminal_of}
+use Rattle.bt_demand.specs.declared.plan.Plan.{Plan}
+use Rattle.bt_plan.specs.Reading.{Reading}
+use Rattle.bt_plan.specs.PlanText.{plan_of}
+use Rattle.bt_air.specs.declared.order.Order.TheVariants.{Load, Arm}
+use Rattle.bt_journal.specs.declared.call.Change.{Change}
+use Rattle.bt_journal.specs.declared.call.Change.TheVariants as change
+use Rattle.bt_journal.specs.declared.call.Edit.{Edit}
+use Rattle.bt_journal.specs.declared.call.Edit.TheVariants.{Add, Drop, Move}
+use Rattle.bt_journal.specs.declared.line_fault.LineFault.{LineFault}
+use Rattle.bt_journal.specs.declared.line_fault.LineFault.TheVariants.{Bad, OutOfMemory}
+
+-- the value where nothing is left behind it
+abbrev pub at_end : {A : Type 0} → List (List ℕ) → A → Option A
+at_end ws value = if length ws == 0 then Some value else None
+
+-- the number in front, from `least` to `most`
+abbrev pub number_from : ℕ → ℕ → List (List ℕ) → Option ℕ
+number_from least most ws = option_and_then (λ n. if nat_le least n then Some n else None) (option_and_then (number_to most) (first_word ws))
+
+-- the terminal in front, by its name
+abbrev pub terminal_in : Net → List (List ℕ) → Option TermNo
+terminal_in net ws = option_and_then (terminal_of net) (first_word ws)
+
+-- the ends of the link in front
+abbrev pub ends_in : Net → List (List ℕ) → Option (TermNo × TermNo)
+ends_in net ws = option_and_then (λ from. option_map (λ to. (from, to)) (terminal_in net (drop 1 ws))) (terminal_in net ws)
+
+-- units, and no more words
+abbrev pub units_in : List (List ℕ) → Option ℕ
+units_in ws = option_and_then (at_end (drop 1 ws)) (number_from 1 MOST_UNITS ws)
+
+-- a link and units
+abbrev pub link_in : Net → List (List ℕ) → Option ((TermNo × TermNo) × ℕ)
+link_in net ws = option_and_then (λ link. option_map (λ units. (link, units)) (units_in (drop 2 ws))) (ends_in net ws)
+
+-- two links and units
+abbrev pub links_in : Net → List (List ℕ) → Option ((TermNo × TermNo) × ((TermNo × TermNo) × ℕ))
+links_in net ws = option_and_then (λ link. option_map (λ new. (link, new)) (link_in net (drop 2 ws))) (ends_in net ws)
+
+-- what is edited, by the word that says it and the words behind
+abbrev pub edit_of : Net → List ℕ → List (List ℕ) → Option Edit
+edit_of net kind rest =
+    if is_word (codes "add") kind then option_map (λ link. Add link.0.0 link.0.1 link.1) (link_in net rest)
+    else (if is_word (codes "drop") kind then option_map (λ link. Drop link.0.0 link.0.1 link.1) (link_in net rest)
+    else (if is_word (codes "move") kind then option_map (λ both. Move both.0.0 both.0.1 both.1.0.0 both.1.0.1 both.1.1) (links_in net rest)
+    else None))
+
+-- what is edited
+abbrev pub edit_in : Net → List (List ℕ) → Option Edit
+edit_in net [] = None
+edit_in net (kind ∷ rest) = edit_of net kind rest
+
+-- a change with the edition that its line says
+abbrev pub Told : Type 0
+Told = EditionNo × Change
+
+-- the words behind `edit`
+abbrev pub told_edit : Net → List (List ℕ) → Option Told
+told_edit net ws = option_and_then (λ number. option_map (λ edit. (record { 0 = number }, change.Edit edit)) (edit_in net (drop 1 ws))) (number_from 1 4294967295 ws)
+
+-- the words behind `load`
+abbrev pub told_load : List (List ℕ) → Option Told
+told_load ws = option_and_then (λ command. option_and_then (λ edition. at_end (drop 1 (drop 1 ws)) (record { 0 = edition }, change.Order (Load (record { 0 = command }) (record { 0 = edition })))) (number_from 0 4294967295 (drop 1 ws))) (number_from 1 4294967295 ws)
+
+-- the words behind `arm`
+abbrev pub told_arm : List (List ℕ) → Option Told
+told_arm ws = option_and_then (λ command. option_and_then (λ edition. option_and_then (λ due. at_end (drop 1 (drop 1 (drop 1 ws))) (record { 0 = edition }, change.Order (Arm (record { 0 = command }) (record { 0 = edition }) (record { 0 = due })))) (number_from 1 LAST_MARK (drop 1 (drop 1 ws)))) (number_from 0 4294967295 (drop 1 ws))) (number_from 1 4294967295 ws)
+
+-- a change of one of the kinds but a plan, by its first word and the words behind
+abbrev pub told_small : Net → List ℕ → List (List ℕ) → Option Told
+told_small net kind rest =
+    if is_word (codes "edit") kind then told_edit net rest
+    else (if is_word (codes "load") kind then told_load rest
+    else (if is_word (codes "arm") kind then told_arm rest
+    else None))
+
+-- how many words stand behind this one where it begins a line of a plan's text
+abbrev pub words_behind : ℕ → List ℕ → ℕ
+words_behind beams word =
+    if is_word (codes "burst") word then 4
+    else (if is_word (codes "mode") word then beams + 1
+    else (if is_word (codes "critical") word then 2
+    else (if is_word (codes "length") word || is_word (codes "plan") word then 1
+    else 0)))
+
+-- how many words of a line of a plan's text are left behind this one, where so many were left before; where none was, it
+-- begins a line
+abbrev pub left_behind : ℕ → ℕ → List ℕ → ℕ
+left_behind beams zero word = words_behind beams word
+left_behind beams (suc left) word = left
+
+-- what stands behind a word: a newline where it ends a line
+abbrev pub separator : ℕ → ℕ
+separator zero = 10
+separator (suc left) = 32
+
+-- the words as lines of a plan's text, where so many words of the line in front are still left
+abbrev pub in_lines : ℕ → ℕ → List (List ℕ) → List ℕ
+in_lines beams left [] = []
+in_lines beams left (word ∷ rest) = word ++ separator (left_behind beams left word) ∷ in_lines beams (left_behind beams left word) rest
+
+-- the change that installs the plan, where one was read
+abbrev pub install_of : Reading Plan → Option Told
+install_of (Ok plan) = Some (plan.edition, change.Install plan)
+install_of (Err fault) = None
+
+-- the words of a plan's line
+abbrev pub told_plan : Net → List (List ℕ) → Option Told
+told_plan net ws = install_of (plan_of net (in_lines (length net.beams) 0 ws))
+
+-- the words of a line
+abbrev pub told_in : Net → List (List ℕ) → Option Told
+told_in net [] = None
+told_in net (kind ∷ rest) = if is_word (codes "plan") kind then told_plan net (kind ∷ rest) else told_small net kind rest
+
+-- the answer is what the line says, unless memory ran out
+abbrev pub Answers : Result Told LineFault → Option Told → Type 0
+Answers (Ok told) said = said ≡ Some told
+Answers (Err Bad) said = said ≡ None
+Answers (Err OutOfMemory) said = Unit {0}
+
+-- a space in the place of a newline, and each other byte as it is
+abbrev pub space_for_newline : ℕ → ℕ
+space_for_newline byte = if byte == 10 then 32 else byte

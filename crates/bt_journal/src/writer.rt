@@ -1,0 +1,174 @@
+// Writing the line of a change.
+ghost use Rattle.std.specs.Prelude.{◌≡◌, ◌<◌, ◌++◌, ◌∷◌, [], IfOk, OnOk, length, decimal, map};
+ghost use Rattle.bt_text.specs.Text.{spaced};
+ghost use Rattle.bt_net.specs.Terminals.{name_at, IsBetweenTerminals};
+ghost use Rattle.bt_plan.specs.PlanSpelling.{plan_lines, IsPlanInRange};
+ghost use Rattle.bt_journal.specs.Journal.{NamesTerminals};
+ghost use Rattle.bt_journal.specs.JournalLines.{edit_words, order_words, change_parts, change_line, IsChangeInRange};
+ghost use Rattle.bt_journal.specs.LineReading.{space_for_newline};
+
+use crate::{Change, Edit};
+use bt_air::Order;
+use bt_demand::Plan;
+use bt_frame::{EditionNo, OutOfMemory, TermNo};
+use bt_net::Network;
+use bt_plan::plan_text;
+use bt_text::number_text;
+use std::alloc::Global;
+
+/// The line of a change, its newline included, as `read_change` reads it. `edition` is the edition that an edit makes;
+/// it is not looked at for another change.
+pub fn change_text(
+    alloc: Global,
+    net: &Network,
+    edition: EditionNo,
+    change: &Change,
+) -> Result<Vec<u8>, OutOfMemory>
+    requires range { IsChangeInRange net.now edition.0 change.now }
+    ensures line { IfOk result (λ line. line.items ≡ change_line net.now edition.0 change.now) }
+{
+    let mut line = match change {
+        Change::Edit(edit) => edit_text(alloc, net, edition, *edit)?,
+        Change::Install(plan) => install_text(alloc, net, plan)?,
+        Change::Order(order) => order_text(alloc, *order)?,
+    };
+    line.push(b'\n')?;
+    Ok(line)
+}
+
+// `edit K` and the edit.
+fn edit_text(
+    alloc: Global,
+    net: &Network,
+    made: EditionNo,
+    edit: Edit,
+) -> Result<Vec<u8>, OutOfMemory>
+    requires { NamesTerminals net.now edit }
+    ensures { IfOk result (λ text. text.items ≡ spaced (change_parts net.now made.0 (Change.Edit edit))) }
+{
+    let mut text = Vec::from_slice(alloc, b"edit")?;
+    write_number(alloc, made.0, &mut text)?;
+    write_edit(alloc, net, edit, &mut text)?;
+    Ok(text)
+}
+
+// Appends an edit, behind a space.
+fn write_edit(
+    alloc: Global,
+    net: &Network,
+    edit: Edit,
+    text: &mut Vec<u8>,
+) -> Result<(), OutOfMemory>
+    requires { NamesTerminals net.now edit }
+    ensures { OnOk result (text.new.items ≡ text.old.items ++ 32 ∷ spaced (edit_words net.now edit)) }
+{
+    match edit {
+        Edit::Add { from, to, units } => {
+            text.extend_from_slice(b" add")?;
+            write_link(net, from, to, text)?;
+            write_number(alloc, units.get(), text)
+        }
+        Edit::Drop { from, to, units } => {
+            text.extend_from_slice(b" drop")?;
+            write_link(net, from, to, text)?;
+            write_number(alloc, units.get(), text)
+        }
+        Edit::Move {
+            from,
+            to,
+            new_from,
+            new_to,
+            units,
+        } => {
+            text.extend_from_slice(b" move")?;
+            write_link(net, from, to, text)?;
+            write_link(net, new_from, new_to, text)?;
+            write_number(alloc, units.get(), text)
+        }
+    }
+}
+
+// Appends the names of a link's ends, each behind a space.
+fn write_link(
+    net: &Network,
+    from: TermNo,
+    to: TermNo,
+    text: &mut Vec<u8>,
+) -> Result<(), OutOfMemory>
+    requires { IsBetweenTerminals net.now from to }
+    ensures { OnOk result (text.new.items
+        ≡ text.old.items ++ 32 ∷ (name_at net.now from ++ 32 ∷ name_at net.now to)) }
+{
+    text.push(b' ')?;
+    text.extend_from_slice(net.name_of(from).as_bytes())?;
+    text.push(b' ')?;
+    text.extend_from_slice(net.name_of(to).as_bytes())?;
+    Ok(())
+}
+
+// Appends a number, behind a space.
+fn write_number(alloc: Global, number: u32, text: &mut Vec<u8>) -> Result<(), OutOfMemory>
+    ensures { OnOk result (text.new.items ≡ text.old.items ++ 32 ∷ decimal number) }
+{
+    text.push(b' ')?;
+    number_text(alloc, u64::from(number), text)
+}
+
+// An order.
+fn order_text(alloc: Global, order: Order) -> Result<Vec<u8>, OutOfMemory>
+    ensures { IfOk result (λ text. text.items ≡ spaced (order_words order)) }
+{
+    match order {
+        Order::Load { command, edition } => {
+            let mut text = Vec::from_slice(alloc, b"load")?;
+            write_number(alloc, command.0, &mut text)?;
+            write_number(alloc, edition.0, &mut text)?;
+            Ok(text)
+        }
+        Order::Arm {
+            command,
+            edition,
+            due,
+        } => {
+            let mut text = Vec::from_slice(alloc, b"arm")?;
+            write_number(alloc, command.0, &mut text)?;
+            write_number(alloc, edition.0, &mut text)?;
+            write_number(alloc, due.0, &mut text)?;
+            Ok(text)
+        }
+    }
+}
+
+// The text of a plan with its lines in one, a space between each two.
+fn install_text(alloc: Global, net: &Network, plan: &Plan) -> Result<Vec<u8>, OutOfMemory>
+    requires range { IsPlanInRange net.now plan.now }
+    ensures { IfOk result (λ text. text.items ≡ spaced (plan_lines net.now plan.now)) }
+{
+    let _sound = net.beam_count();
+    let mut text = plan_text(alloc, net, plan)?;
+    join_lines(&mut text);
+    let _last = text.pop();
+    Ok(text)
+}
+
+// Puts a space in the place of each newline.
+fn join_lines(text: &mut Vec<u8>)
+    ensures { text.new.items ≡ map space_for_newline text.old.items }
+{
+    space_newlines(text.as_mut_slice());
+}
+
+fn space_newlines(text: &mut [u8])
+    ensures { text.new ≡ map space_for_newline text.old }
+{
+    for byte in text.iter_mut() {
+        *byte = space_for_newline(*byte);
+    }
+}
+
+// A space in the place of a newline, and each other byte as it is.
+fn space_for_newline(byte: u8) -> u8
+    ensures { result ≡ space_for_newline byte }
+{
+    if byte == b'\n' { b' ' } else { byte }
+}
