@@ -82,35 +82,23 @@ module _ (net : Net) (sound : IsSound net) where
       let both = told_twice (words (spaced (change_parts net number one))) (edition_said number one, one) (edition_said other two, two) (told number one range) (same_told number other one two range ranged same) in
       (ap (λ (t : Told). t.1) both, ap (λ (t : Told). t.0) both)
 
-  -- a line is its text and a newline, and what is read of it
-  line_is : (line text rest : List ℕ) → lines line ≡ text ∷ lines rest → length rest ≡ 0 → line ≡ text ++ 10 ∷ []
-  line_is line text [] is none = text_from_first_line line text [] is
-  line_is line text (b ∷ rest) is none = absurd (omega arith)
+  -- what is read of a line that is a text and a newline
+  line_is : (line text : List ℕ) → lines line ≡ text ∷ [] ∷ [] → line ≡ text ++ 10 ∷ []
+  line_is line text is = text_from_first_line line text [] is
 
-  pub heard_line : (line text rest : List ℕ) (said : Told) → lines line ≡ text ∷ lines rest → length rest ≡ 0 → told_in net (words text) ≡ Some said
+  heard_line : (line text : List ℕ) (said : Told) → lines line ≡ text ∷ [] ∷ [] → told_in net (words text) ≡ Some said
       → (line ≡ change_line net said.0.0 said.1) × IsChangeInRange net said.0.0 said.1 × (said.0 ≡ edition_said said.0.0 said.1)
-  heard_line line text rest said is none read =
-      let here = heard text said (first_line_lacks line text (lines rest) is) read in
-      (line_is line text rest is none ∙ ap (λ t. t ++ 10 ∷ []) here.spelled, here.range, here.edition)
+  heard_line line text said is read =
+      let here = heard text said (first_line_lacks line text ([] ∷ []) is) read in
+      (line_is line text is ∙ ap (λ t. t ++ 10 ∷ []) here.spelled, here.range, here.edition)
 
-  -- the line of a change has its newline, nothing behind it, and is read
-  own_lines : (line : List ℕ) (number : ℕ) (one : Change) → IsChangeInRange net number one → line ≡ change_line net number one → lines line ≡ spaced (change_parts net number one) ∷ [] ∷ []
+  -- the line of a change is one, and is read
+  pub own_lines : (line : List ℕ) (number : ℕ) (one : Change) → IsChangeInRange net number one → line ≡ change_line net number one → lines line ≡ spaced (change_parts net number one) ∷ [] ∷ []
   own_lines line number one range is = ap lines (is ∙ sym (append-nil (change_line net number one))) ∙ cut number one [] range
 
-  pub no_newline : (line : List ℕ) (number : ℕ) (one : Change) → lines line ≡ line ∷ [] → IsChangeInRange net number one → line ≡ change_line net number one → ⊥
-  no_newline line number one alone range is = let two = sym alone ∙ own_lines line number one range is in absurd cc
-
-  pub more_behind : (line text rest : List ℕ) (number : ℕ) (one : Change) → lines line ≡ text ∷ lines rest → 0 < length rest → IsChangeInRange net number one → line ≡ change_line net number one → ⊥
-  more_behind line text rest number one first some range is =
-      let both : text ∷ lines rest ≡ spaced (change_parts net number one) ∷ [] ∷ [] = sym first ∙ own_lines line number one range is in
-      let last : lines rest ≡ [] ∷ [] = cc in
-      let none : rest ≡ [] = sym (join_with_byte-slice_split 10 rest) ∙ ap (join_with_byte 10) last in
-      let length_is = ap length none in
-      omega arith
-
-  pub not_told : (line text rest : List ℕ) (number : ℕ) (one : Change) → lines line ≡ text ∷ lines rest → told_in net (words text) ≡ None → IsChangeInRange net number one → line ≡ change_line net number one → ⊥
-  not_told line text rest number one first none range is =
-      let both : text ∷ lines rest ≡ spaced (change_parts net number one) ∷ [] ∷ [] = sym first ∙ own_lines line number one range is in
+  not_told : (line text : List ℕ) (number : ℕ) (one : Change) → lines line ≡ text ∷ [] ∷ [] → told_in net (words text) ≡ None → IsChangeInRange net number one → line ≡ change_line net number one → ⊥
+  not_told line text number one first none range is =
+      let both : text ∷ [] ∷ [] ≡ spaced (change_parts net number one) ∷ [] ∷ [] = sym first ∙ own_lines line number one range is in
       let same : text ≡ spaced (change_parts net number one) = cc in
       let read = sym none ∙ (ap (λ t. told_in net (words t)) same ∙ told number one range) in
       absurd cc
@@ -122,13 +110,25 @@ module _ (net : Net) (sound : IsSound net) where
     pub edition : IfOk result (λ said. said.0 ≡ edition_said said.0.0 said.1)
     pub bad : IsErrOf result Bad → (number : ℕ) (one : Change) → IsChangeInRange net number one → line ≡ change_line net number one → ⊥
 
-  pub answered : (line text rest : List ℕ) (result : Result Told LineFault) → lines line ≡ text ∷ lines rest → length rest ≡ 0 → Answers result (told_in net (words text)) → IsAnswer line result
-  answered line text rest (Ok said) is none read =
-      let here = heard_line line text rest said is none read in
+  pub answered : (line text : List ℕ) (result : Result Told LineFault) → lines line ≡ text ∷ [] ∷ [] → Answers result (told_in net (words text)) → IsAnswer line result
+  answered line text (Ok said) is read =
+      let here = heard_line line text said is read in
       record { line_is = here.0; range = here.1; edition = here.2; bad = λ h. absurd cc }
-  answered line text rest (Err Bad) is none read = record { line_is = tt; range = tt; edition = tt; bad = λ h number one range same. not_told line text rest number one is read range same }
-  answered line text rest (Err OutOfMemory) is none read = record { line_is = tt; range = tt; edition = tt; bad = λ h. absurd cc }
+  answered line text (Err Bad) is read = record { line_is = tt; range = tt; edition = tt; bad = λ h number one range same. not_told line text number one is read range same }
+  answered line text (Err OutOfMemory) is read = record { line_is = tt; range = tt; edition = tt; bad = λ h. absurd cc }
 
-  -- a line is longer than its text
-  pub longer : (line text rest : List ℕ) → lines line ≡ text ∷ lines rest → length text + 1 ≤ length line
-  longer line text rest is = omega (arith, ap length (text_from_first_line line text rest is), length-append text (10 ∷ rest))
+-- a line is longer than its text
+pub longer : (line text : List ℕ) → lines line ≡ text ∷ [] ∷ [] → length text + 1 ≤ length line
+longer line text is = omega (arith, ap length (text_from_first_line line text [] is), length-append text (10 ∷ []))
+
+-- a text is empty where its lines are one empty line
+pub no_text : (text : List ℕ) → lines text ≡ [] ∷ [] → text ≡ []
+no_text text is = sym (join_with_byte-slice_split 10 text) ∙ ap (join_with_byte 10) is
+
+-- no text and a newline is a line with more behind its newline
+pub more_behind : (line first rest text : List ℕ) → lines line ≡ first ∷ lines rest → 0 < length rest → lines line ≡ text ∷ [] ∷ [] → ⊥
+more_behind line first rest text is some whole =
+    let both : first ∷ lines rest ≡ text ∷ [] ∷ [] = sym is ∙ whole in
+    let last : lines rest ≡ [] ∷ [] = cc in
+    let none = ap length (no_text rest last) in
+    omega arith

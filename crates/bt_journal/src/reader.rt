@@ -1,7 +1,7 @@
 // Reading the line of a change.
-ghost use Rattle.std.specs.Prelude.{◌≡◌, ◌≤◌, ◌<◌, ◌+◌, ℕ, IfOk, IsErrOf, IfSome, drop, length, Option};
+ghost use Rattle.std.specs.Prelude.{◌≡◌, ◌≤◌, ◌<◌, ◌+◌, ◌∷◌, [], ℕ, List, IfOk, IsErrOf, IfSome, IfNone, drop, length};
 ghost use Rattle.std.specs.Option.{option_map};
-ghost use Rattle.bt_text.specs.Text.{words};
+ghost use Rattle.bt_text.specs.Text.{words, lines};
 ghost use Rattle.bt_net.specs.Terminals.{IsTerminal};
 ghost use Rattle.bt_journal.specs.declared.call.Change.{Change};
 ghost use Rattle.bt_journal.specs.JournalLines.{change_line, edition_said, IsChangeInRange};
@@ -33,13 +33,19 @@ pub fn read_change(
         → IsChangeInRange net.now number change → line.now ≡ change_line net.now number change → ⊥ }
 {
     let _sound = net.beam_count();
-    let Some((text, rest)) = first_line(line) else {
+    let Some(text) = text_of(line) else {
         return Err(LineFault::Bad);
     };
-    if !rest.is_empty() {
-        return Err(LineFault::Bad);
-    }
     told_in(alloc, net, text)
+}
+
+// The text of a line, whose only newline is its last byte.
+fn text_of(line: &[u8]) -> Option<&[u8]>
+    ensures text { IfSome result (λ text. lines line.now ≡ text.now ∷ [] ∷ []) }
+    ensures none { IfNone result ((text : List ℕ) → lines line.now ≡ text ∷ [] ∷ [] → ⊥) }
+{
+    let (text, rest) = first_line(line)?;
+    if rest.is_empty() { Some(text) } else { None }
 }
 
 // The change of a line, its newline left out.
