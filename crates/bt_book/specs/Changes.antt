@@ -17,11 +17,7 @@ use Rattle.bt_air.specs.Orders.{command_of}
 use Rattle.bt_journal.specs.declared.call.Edit.TheVariants.{Add, Drop, Move}
 use Rattle.bt_journal.specs.declared.call.Change.{Change}
 use Rattle.bt_journal.specs.declared.call.Change.TheVariants as change
-
--- how many edits a change is
-abbrev pub edits_in : Change → ℕ
-edits_in (change.Edit _) = 1
-edits_in _ = 0
+pub use Rattle.bt_journal.specs.JournalLines.{edits_in}
 
 -- the edition after these changes: how many edits are among them
 abbrev pub edition : List Change → ℕ
