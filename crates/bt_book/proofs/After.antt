@@ -52,12 +52,12 @@ pub slots_after-more : (changes : List Change) (links : List Link) (edit : Edit)
 slots_after-more changes links edit adds test =
     omega (arith, adds test, given-more test changes edit, taken-more test changes edit)
 
-given-other : (test : TermNo → TermNo → Bool) (one : Change) → edits_in one ≡ 0 → given test one ≡ 0
+pub given-other : (test : TermNo → TermNo → Bool) (one : Change) → edits_in one ≡ 0 → given test one ≡ 0
 given-other test (change.Edit _) none = absurd (omega (arith, none))
 given-other test (change.Install _) none = refl
 given-other test (change.Order _) none = refl
 
-taken-other : (test : TermNo → TermNo → Bool) (one : Change) → edits_in one ≡ 0 → taken_from test one ≡ 0
+pub taken-other : (test : TermNo → TermNo → Bool) (one : Change) → edits_in one ≡ 0 → taken_from test one ≡ 0
 taken-other test (change.Edit _) none = absurd (omega (arith, none))
 taken-other test (change.Install _) none = refl
 taken-other test (change.Order _) none = refl

@@ -11,3 +11,6 @@ pub mod OfNetwork
 pub mod Flying
 pub mod TurnLock
 pub mod Demands
+pub mod Strays
+pub mod Opened
+pub mod Replayed

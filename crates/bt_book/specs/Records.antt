@@ -1,6 +1,6 @@
 -- For bodies alone: what contracts see of the machine and of the occupancy of its frame, and what is kept beside the
 -- changes.
-use Rattle.std.specs.Prelude.{◌≡◌, ◌≢◌, ◌⊎◌, ℕ, ◌+◌, ◌≤◌, ◌<◌, Bool, true, false, List, ◌++◌, length, sum_by, Option, Some, None}
+use Rattle.std.specs.Prelude.{◌≡◌, ◌≢◌, ◌⊎◌, ℕ, ◌+◌, ◌≤◌, ◌<◌, Bool, true, false, List, [], ◌∷◌, ◌++◌, length, sum_by, Option, Some, None}
 use Rattle.std.specs.List.{list_any}
 use Rattle.bt_frame.specs.declared.numbers.TermNo.{TermNo}
 use Rattle.bt_frame.specs.declared.limits.TheConstants.{MOST_SLOTS}
@@ -17,13 +17,17 @@ use Rattle.bt_journal.specs.declared.entry.Entry.{Entry}
 use Rattle.bt_journal.specs.declared.call.Edit.{Edit}
 use Rattle.bt_journal.specs.declared.call.Edit.TheVariants.{Add, Drop, Move}
 use Rattle.bt_journal.specs.Journal.{NamesTerminals, is_refusal, is_fault, change_made}
+use Rattle.bt_journal.specs.JournalLines.{IsChangeInRange, change_line, edits_in}
 use Rattle.bt_journal.specs.declared.reply.Reply.{Reply}
 use Rattle.bt_journal.specs.declared.reply.Reply.TheVariants.{NotThere, RowFull, ColumnFull, BookFull}
+use Rattle.bt_book.specs.declared.fault.RecoverFault.{RecoverFault}
+use Rattle.bt_book.specs.declared.fault.RecoverFault.TheVariants.{J1, J2, StoreFault, TooLong, OutOfMemory}
 use Rattle.bt_book.specs.declared.lines.Lines.{Lines}
 use Rattle.bt_book.specs.Changes.{given, taken_from, edition, matrix_after, held_after, plans, orders}
 use Rattle.bt_book.specs.EditCauses.{GainsFrom, GainsTo, with_edit, HasEnds, IsGoodEdit}
-use Rattle.bt_book.specs.Causes.{Follows, IsGood, IsCause}
-use Rattle.bt_book.specs.Machine.{State, most_changes, CanMake}
+use Rattle.bt_book.specs.Causes.{Follows, IsChangeOn, IsGood, IsCause}
+use Rattle.bt_book.specs.Machine.{State, most_changes, CanMake, running}
+use Rattle.bt_book.specs.Recovery.{IsFirstNoLine, IsFirstStray, IsNoLine, IsStray}
 
 -- a network, and the links of the demand on it
 pub record Occupied : Type 0 where
@@ -177,3 +181,28 @@ pub record CanRedo (net : Net) (links : List Link) (edit : Edit) : Type 0 where
 pub record RedoesOne (old : List Link) (edit : Edit) (left : ℕ) (new : List Link) (after : ℕ) : Type 0 where
   pub made : 0 < left → EditsLinks old edit new × (after + 1 ≡ left)
   pub past : left ≡ 0 → (new ≡ old) × (after ≡ 0)
+
+-- the line, its newline included, is of a change that follows these, and the machine has made it too
+pub record TakesLine (net : Net) (before : List Change) (line : List ℕ) (new : State) : Type 0 where
+  pub one : Change
+  pub range : IsChangeInRange net (edition before + edits_in one) one
+  pub spelled : line ≡ change_line net (edition before + edits_in one) one
+  pub on : IsChangeOn net one
+  pub good : IsGood net before one
+  pub after : new ≡ running (before ++ one ∷ [])
+
+-- what is wrong with the line behind those of these changes
+abbrev pub IsLineFault : Net → List Change → List ℕ → RecoverFault → Type 0
+IsLineFault net before line (J1 number) = (number ≡ length before + 1) × IsNoLine net line
+IsLineFault net before line (J2 number) = (number ≡ length before + 1) × IsStray net before line
+IsLineFault net before line StoreFault = ⊥
+IsLineFault net before line TooLong = ⊥
+IsLineFault net before line OutOfMemory = Unit {0}
+
+-- why the bytes tell no changes
+abbrev pub IsTextFault : Net → List ℕ → RecoverFault → Type 0
+IsTextFault net bytes (J1 number) = IsFirstNoLine net bytes number
+IsTextFault net bytes (J2 number) = IsFirstStray net bytes number
+IsTextFault net bytes StoreFault = ⊥
+IsTextFault net bytes TooLong = ⊥
+IsTextFault net bytes OutOfMemory = Unit {0}

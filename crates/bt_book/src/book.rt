@@ -1,10 +1,15 @@
 // The book of changes, with the store of its records.
-ghost use Rattle.std.specs.Prelude.{◌≡◌, ◌<◌, ◌≤◌, ◌++◌, ◌∷◌, [], length, slice_index_or, IfOk, IfErr, OnErr};
+ghost use Rattle.std.specs.Prelude.{◌≡◌, ◌<◌, ◌≤◌, ◌++◌, ◌∷◌, [], length, slice_index_or, option_map, IfOk, IfErr, IfSome, OnErr};
 ghost use Rattle.std.specs.List.{HoldsAt};
 ghost use Rattle.bt_book.specs.Changes.{edition, empty_plan, newest, orders, plans, IsDemandAfter, IsDemandAt};
+ghost use Rattle.bt_book.specs.Causes.{Follows};
 ghost use Rattle.bt_book.specs.Machine.{running, IsOfNetwork, Step};
+ghost use Rattle.bt_book.specs.Recovery.{IsRecoverFault, Recovered, whole};
+ghost use Rattle.bt_journal.specs.JournalLines.{Keeps};
 
+use crate::RecoverFault;
 use crate::machine::Machine;
+use crate::recover::recover_machine;
 use bt_air::Order;
 use bt_base::Keeper;
 use bt_demand::{Demand, Plan};
@@ -46,6 +51,29 @@ impl<K: Keeper> Book<K> {
         ensures back { IfErr result (λ fault. fault.0 ≡ store) }
     {
         match Machine::open(alloc, net) {
+            Ok(machine) => Ok(Book { machine, store }),
+            Err(fault) => Err((store, fault)),
+        }
+    }
+
+    /// The book that its store's journal tells, with no call yet. Bytes behind the last newline are cut, by one call on the
+    /// store, once all lines were tested.
+    ///
+    /// The store is handed back with the fault: its bytes are as they were, unless the store failed or memory ran out when
+    /// they were being cut, and then maybe the tail is cut.
+    pub fn recover(alloc: Global, net: &Network, mut store: K) -> Result<Book<K>, (K, RecoverFault)>
+        ensures net { IfOk result (λ book. book.net ≡ net.now) }
+        ensures history { IfOk result (λ book. book.history ≡ []) }
+        ensures state { IfOk result (λ book. book.state ≡ running book.state.changes) }
+        ensures changes { IfOk result (λ book. IfSome (K.told store) (λ bytes. Recovered net.now bytes book.state.changes)) }
+        ensures follows { IfOk result (λ book. Follows net.now book.state.changes) }
+        ensures told { IfOk result (λ book. K.told book.store ≡ option_map whole (K.told store)) }
+        ensures keeps { IfOk result (λ book. IfSome (K.told book.store) (λ bytes. Keeps net.now bytes book.state.changes)) }
+        ensures later { IfOk result (λ book. K.fault_count store ≤ K.fault_count book.store) }
+        ensures fault { IfErr result (λ end. IsRecoverFault net.now (K.told store) (K.told end.0) (K.fault_count store) (K.fault_count end.0) end.1) }
+        ensures fault_later { IfErr result (λ end. K.fault_count store ≤ K.fault_count end.0) }
+    {
+        match recover_machine(alloc, net, &mut store) {
             Ok(machine) => Ok(Book { machine, store }),
             Err(fault) => Err((store, fault)),
         }

@@ -48,7 +48,11 @@ impl Machine {
     }
 
     /// The first cause of a refusal in the plan itself.
-    fn cause_of_install(&self, alloc: Global, plan: &Plan) -> Result<Option<Reply>, OutOfMemory>
+    pub(crate) fn cause_of_install(
+        &self,
+        alloc: Global,
+        plan: &Plan,
+    ) -> Result<Option<Reply>, OutOfMemory>
         requires { IsPlanOn self.now.net plan.now }
         ensures { IfOk result (λ cause. IsFirstCause self.now.net self.now.state.changes (change.Install plan.now) cause) }
     {

@@ -4,8 +4,9 @@
 //! It stands on the network, the demand, the checker of plans and the journal's calls and replies, and is handed a store.
 //! These are promises: `specs/Changes.antt`, what a list of changes made, with each sum taken afresh;
 //! `specs/EditCauses.antt` and `specs/Causes.antt`, why a change is refused; `specs/Machine.antt`, the machine as a
-//! relation over the list of changes; `specs/Book.antt`, what contracts see of a book, which a turn lock may hand round.
-//! `specs/Records.antt` is for bodies alone. `laws.rt` has what holds of all histories.
+//! relation over the list of changes; `specs/Recovery.antt`, what a journal tells, and its first line that tells nothing;
+//! `specs/Book.antt`, what contracts see of a book, which a turn lock may hand round. `specs/Faults.antt` and
+//! `specs/Records.antt` are for bodies alone. `laws.rt` has what holds of all histories.
 #![tactic(auto)]
 
 mod apply;
@@ -13,6 +14,7 @@ mod book;
 mod cause;
 mod demand_laws;
 mod earlier;
+mod fault;
 mod install;
 mod laws;
 mod lines;
@@ -20,10 +22,13 @@ mod machine;
 mod object;
 mod occupancy;
 mod place;
+mod recover;
+mod replay;
 mod tell;
 
 pub use book::Book;
 pub use demand_laws::demands_fit_the_frame;
+pub use fault::RecoverFault;
 pub use laws::{
     histories_grow_by_steps, installed_plans_can_be_flown, legal_changes_follow,
     locked_books_are_legal, replies_name_beams_of_the_network,

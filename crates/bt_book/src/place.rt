@@ -47,7 +47,7 @@ impl Machine {
     }
 
     /// The first cause of a refusal in the order itself.
-    fn cause_of_order(&self, order: &Order) -> Option<Reply>
+    pub(crate) fn cause_of_order(&self, order: &Order) -> Option<Reply>
         ensures { IsFirstCause self.now.net self.now.state.changes (change.Order order.now) result }
     {
         let (command, edition) = parts_of(order);

@@ -1,0 +1,267 @@
+-- Lines whose changes were made again, one after the other.
+use Rattle.std.proofs.Common.{◌≡◌, ℕ, ◌+◌, ◌-◌, ◌*◌, ◌<◌, ◌≤◌, codes, decimal, List, [], ◌∷◌, ◌++◌, length, map, take, slice_index_or, refl, sym, ap, ◌∙◌, subst, arith, append_assoc, length-append}
+use Rattle.std.proofs.lemmas.Fmt.{decimal_nonempty}
+use Rattle.std.proofs.lemmas.List.{append-nil}
+use Rattle.std.proofs.lemmas.List.Sums.{sum_by-cons}
+use Rattle.std.proofs.Math.Seq.{take-append_seam}
+use native.Mathlib.Numerals.{unary_clauses}
+use Rattle.bt_base.specs.declared.keeper.TheConstants.{STORE_LAST}
+use Rattle.bt_text.specs.Text.{lines, spaced}
+use Rattle.bt_text.proofs.FirstLine.{HasFirst, lines-HasFirst}
+use Rattle.bt_text.proofs.TextLines.{first_line_lacks, text_from_first_line}
+use Rattle.bt_net.specs.Network.{Net}
+use Rattle.bt_net.specs.Terminals.{name_at}
+use Rattle.bt_plan.specs.PlanSpelling.{burst_line, edition_line}
+use Rattle.bt_plan.specs.ScheduleSpelling.{critical_line, length_line, mode_line}
+use Rattle.bt_air.specs.declared.order.Order.TheVariants.{Load, Arm}
+use Rattle.bt_journal.specs.declared.call.Edit.TheVariants.{Add, Drop, Move}
+use Rattle.bt_journal.specs.declared.call.Change.{Change}
+use Rattle.bt_journal.specs.declared.call.Change.TheVariants as change
+use Rattle.bt_journal.specs.JournalLines.{IsChangeInRange, change_line, edits_in, journal_lines, lines_from}
+use Rattle.bt_book.specs.declared.fault.RecoverFault.{RecoverFault}
+use Rattle.bt_book.specs.declared.fault.RecoverFault.TheVariants.{J1, J2, StoreFault, TooLong, OutOfMemory}
+use Rattle.bt_book.specs.Causes.{Follows, IsChangeOn}
+use Rattle.bt_book.specs.Changes.{edition}
+use Rattle.bt_book.specs.Machine.{State, most_changes, running}
+use Rattle.bt_book.specs.Records.{IsLineFault, IsTextFault, Records, TakesLine}
+use Rattle.bt_book.specs.Recovery.{AreInRange, IsFirst, IsNoLine, IsNumbered, IsStray, Recovered, tail_of, whole}
+use Rattle.bt_book.proofs.Histories.{FollowFrom-grows}
+
+-- a change in range is one on the network
+pub range_on : (net : Net) (number : ℕ) (one : Change) → IsChangeInRange net number one → IsChangeOn net one
+range_on net number (change.Edit edit) range = range.terminals
+range_on net number (change.Install plan) range = record {
+  bursts = λ k d within. let burst = range.bursts k d within in (burst.sends, burst.receives);
+  critical = range.schedule.critical;
+}
+range_on net number (change.Order (Load command edition)) range = tt
+range_on net number (change.Order (Arm command edition due)) range = range.3
+
+-- a change that follows is spelled with the edition that it makes
+pub range_next : (net : Net) (before : List Change) (number : ℕ) (one : Change) → IsNumbered before number one → IsChangeInRange net number one
+    → IsChangeInRange net (edition before + edits_in one) one
+range_next net before number (change.Edit edit) is range = subst (λ (n : ℕ). IsChangeInRange net n (change.Edit edit)) is range
+range_next net before number (change.Install plan) is range = range
+range_next net before number (change.Order order) is range = range
+
+pub line_next : (net : Net) (before : List Change) (number : ℕ) (one : Change) → IsNumbered before number one → change_line net number one ≡ change_line net (edition before + edits_in one) one
+line_next net before number (change.Edit edit) is = ap (λ (n : ℕ). change_line net n (change.Edit edit)) is
+line_next net before number (change.Install plan) is = refl
+line_next net before number (change.Order order) is = refl
+
+-- one line more
+lines_from-push : (net : Net) (edits : ℕ) (changes : List Change) (one : Change) (number : ℕ) → number ≡ edits + edition changes + edits_in one
+    → lines_from net edits (changes ++ one ∷ []) ≡ lines_from net edits changes ++ change_line net number one
+lines_from-push net edits [] one number is =
+    append-nil (change_line net (edits + edits_in one) one) ∙ ap (λ (n : ℕ). change_line net n one) (omega (arith, is))
+lines_from-push net edits (first ∷ changes) one number is =
+    let line = change_line net (edits + edits_in first) first in
+    ap (λ (bytes : List ℕ). line ++ bytes)
+    (lines_from-push net (edits + edits_in first) changes one number (omega (arith, is, sum_by-cons edits_in first changes)))
+    ∙ sym (append_assoc line (lines_from net (edits + edits_in first) changes) (change_line net number one))
+
+pub journal_lines-push : (net : Net) (changes : List Change) (one : Change)
+    → journal_lines net (changes ++ one ∷ []) ≡ journal_lines net changes ++ change_line net (edition changes + edits_in one) one
+journal_lines-push net changes one = lines_from-push net 0 changes one (edition changes + edits_in one) (omega arith)
+
+in_range-push : (net : Net) (edits : ℕ) (changes : List Change) (one : Change) (number : ℕ) → number ≡ edits + edition changes + edits_in one → AreInRange net edits changes
+    → IsChangeInRange net number one → AreInRange net edits (changes ++ one ∷ [])
+in_range-push net edits [] one number is ranges range = (subst (λ (n : ℕ). IsChangeInRange net n one) (omega (arith, is)) range, tt)
+in_range-push net edits (first ∷ changes) one number is ranges range = (
+  ranges.0,
+  in_range-push net (edits + edits_in first) changes one number (omega (arith, is, sum_by-cons edits_in first changes)) ranges.1 range,
+)
+
+pub AreInRange-push : (net : Net) (changes : List Change) (one : Change) → AreInRange net 0 changes → IsChangeInRange net (edition changes + edits_in one) one
+    → AreInRange net 0 (changes ++ one ∷ [])
+AreInRange-push net changes one ranges range = in_range-push net 0 changes one (edition changes + edits_in one) (omega arith) ranges range
+
+-- a line of words is as long as its first two, at least
+two_words : (first second : List ℕ) (rest : List (List ℕ)) → length first + length second + 1 ≤ length (spaced (first ∷ second ∷ rest))
+two_words first second [] = omega (arith, length-append first (32 ∷ second))
+two_words first second (third ∷ rest) =
+    omega (arith, length-append first (32 ∷ (second ++ 32 ∷ spaced (third ∷ rest))), length-append second (32 ∷ spaced (third ∷ rest)))
+
+three_words : (first second third : List ℕ) (rest : List (List ℕ)) → length first + length second + length third + 2 ≤ length (spaced (first ∷ second ∷ third ∷ rest))
+three_words first second third rest =
+    omega (arith, length-append first (32 ∷ spaced (second ∷ third ∷ rest)), two_words second third rest)
+
+-- what a newline behind a line makes of its length
+ended_length : (line : List ℕ) → length (line ++ 10 ∷ []) ≡ length line + 1
+ended_length line = length-append line (10 ∷ [])
+
+long_edit : (number : ℕ) (word : List ℕ) (rest : List (List ℕ)) → 3 ≤ length word → 9 ≤ length (spaced (codes "edit" ∷ decimal number ∷ word ∷ rest) ++ 10 ∷ [])
+long_edit number word rest long =
+    let name : length (codes "edit") ≡ 4 = refl in
+    omega (arith, ended_length (spaced (codes "edit" ∷ decimal number ∷ word ∷ rest)), three_words (codes "edit") (decimal number) word rest, name, long)
+
+some_digit : (n : ℕ) → n ≤ 4294967295 → 0 < length (decimal n)
+some_digit n few = decimal_nonempty n (omega (arith, few))
+
+-- a line has 9 bytes at least
+long_line : (net : Net) (number : ℕ) (one : Change) → IsChangeInRange net number one → 9 ≤ length (change_line net number one)
+long_line net number (change.Edit (Add from to units)) range = long_edit number (codes "add") (name_at net from ∷ name_at net to ∷ decimal units ∷ []) (omega arith)
+long_line net number (change.Edit (Drop from to units)) range = long_edit number (codes "drop") (name_at net from ∷ name_at net to ∷ decimal units ∷ []) (omega arith)
+long_line net number (change.Edit (Move from to new_from new_to units)) range =
+    long_edit number (codes "move") (name_at net from ∷ name_at net to ∷ name_at net new_from ∷ name_at net new_to ∷ decimal units ∷ []) (omega arith)
+long_line net number (change.Install plan) range =
+    let edition = edition_line plan.edition in
+    let slots = length_line plan.schedule.length in
+    let rest = critical_line plan.schedule.critical ∷ (map mode_line plan.schedule.modes ++ (map (burst_line net) plan.bursts ++ codes "end" ∷ [])) in
+    let plan_word : length (codes "plan") ≡ 4 = refl in
+    let length_word : length (codes "length") ≡ 6 = refl in
+    omega (
+      arith,
+      ended_length (spaced (edition ∷ slots ∷ rest)),
+      two_words edition slots rest,
+      two_words (codes "plan") (decimal plan.edition.0) [],
+      two_words (codes "length") (decimal plan.schedule.length) [],
+      plan_word,
+      length_word,
+    )
+long_line net number (change.Order (Load command edition)) range =
+    let name : length (codes "load") ≡ 4 = refl in
+    omega (
+      arith,
+      ended_length (spaced (codes "load" ∷ decimal command.0 ∷ decimal edition.0 ∷ [])),
+      three_words (codes "load") (decimal command.0) (decimal edition.0) [],
+      name,
+      some_digit command.0 range.1,
+      some_digit edition.0 range.2,
+    )
+long_line net number (change.Order (Arm command edition due)) range =
+    let name : length (codes "arm") ≡ 3 = refl in
+    let rest = spaced (decimal command.0 ∷ decimal edition.0 ∷ decimal due.0 ∷ []) in
+    omega (
+      arith,
+      ended_length (spaced (codes "arm" ∷ decimal command.0 ∷ decimal edition.0 ∷ decimal due.0 ∷ [])),
+      length-append (codes "arm") (32 ∷ rest),
+      three_words (decimal command.0) (decimal edition.0) (decimal due.0) [],
+      name,
+      some_digit command.0 range.1,
+      some_digit edition.0 range.2,
+      some_digit due.0 (omega (arith, range.3.1)),
+    )
+
+long_lines : (net : Net) (edits : ℕ) (changes : List Change) → AreInRange net edits changes → 9 * length changes ≤ length (lines_from net edits changes)
+long_lines net edits [] ranges = omega arith
+long_lines net edits (first ∷ changes) ranges =
+    omega (
+      arith,
+      length-append (change_line net (edits + edits_in first) first) (lines_from net (edits + edits_in first) changes),
+      long_line net (edits + edits_in first) first ranges.0,
+      long_lines net (edits + edits_in first) changes ranges.1,
+    )
+
+-- how the loop stands: the changes of the lines so far were made again, and the rest is to come
+pub record Stands (net : Net) (text rest : List ℕ) (machine : Records) : Type 0 where
+  pub net_is : machine.net ≡ net
+  pub no_call : machine.history ≡ []
+  pub runs : machine.state ≡ running machine.state.changes
+  pub text_is : text ≡ journal_lines net machine.state.changes ++ rest
+  pub tail_is : tail_of text ≡ tail_of rest
+  pub ranges : AreInRange net 0 machine.state.changes
+  pub follow : Follows net machine.state.changes
+
+pub Stands-start : (net : Net) (text : List ℕ) (machine : Records) → machine.net ≡ net → machine.state ≡ running [] → machine.history ≡ [] → Stands net text text machine
+Stands-start net text machine net_is state_is no_call =
+    let none : machine.state.changes ≡ [] = ap (λ (s : State). s.changes) state_is in
+    record {
+      net_is = net_is;
+      no_call = no_call;
+      runs = state_is ∙ ap running (sym none);
+      text_is = ap (λ (c : List Change). journal_lines net c ++ text) (sym none);
+      tail_is = refl;
+      ranges = subst (AreInRange net 0) (sym none) tt;
+      follow = subst (Follows net) (sym none) tt;
+    }
+
+tail-cons : (line : List ℕ) (ls : List (List ℕ)) → HasFirst ls → slice_index_or (line ∷ ls) (length (line ∷ ls) - 1) [] ≡ slice_index_or ls (length ls - 1) []
+tail-cons line ls (first, rest, is) = rw is (simp unary_clauses)
+
+-- the next line, with its newline, is what is read
+pub line_read : (rest line after : List ℕ) → lines rest ≡ line ∷ lines after → take (length line + 1) rest ≡ line ++ 10 ∷ []
+line_read rest line after is =
+    let parts : rest ≡ (line ++ 10 ∷ []) ++ after = text_from_first_line rest line after is ∙ sym (append_assoc line (10 ∷ []) after) in
+    let size : length line + 1 ≡ length (line ++ 10 ∷ []) = sym (ended_length line) in
+    ap (λ (k : ℕ). take k rest) size ∙ (ap (λ (t : List ℕ). take (length (line ++ 10 ∷ [])) t) parts ∙ take-append_seam (line ++ 10 ∷ []) after)
+
+pub length-line_read : (rest line after : List ℕ) → lines rest ≡ line ∷ lines after → length line + 1 ≡ length (take (length line + 1) rest)
+length-line_read rest line after is = sym (ap length (line_read rest line after is) ∙ ended_length line)
+
+-- few changes have been made so far
+pub few_so_far : (net : Net) (text rest : List ℕ) (machine : Records) → Stands net text rest machine → length text ≤ STORE_LAST → length machine.state.changes < most_changes
+few_so_far net text rest machine stands short =
+    omega (arith, short, ap length stands.text_is, length-append (journal_lines net machine.state.changes) rest, long_lines net 0 machine.state.changes stands.ranges)
+
+-- the change of one line more was made again
+pub Stands-line : (net : Net) (text rest line after read : List ℕ) (old new : Records) → Stands net text rest old → lines rest ≡ line ∷ lines after → read ≡ take (length line + 1) rest
+    → TakesLine old.net old.state.changes read new.state → new.net ≡ old.net → new.history ≡ [] → Stands net text after new
+Stands-line net text rest line after read old new stands cut read_is takes net_is no_call =
+    let before = old.state.changes in
+    let taken = subst (λ (n : Net). TakesLine n before read new.state) stands.net_is takes in
+    let now : new.state.changes ≡ before ++ taken.one ∷ [] = ap (λ (s : State). s.changes) taken.after in
+    let spelled : line ++ 10 ∷ [] ≡ change_line net (edition before + edits_in taken.one) taken.one = sym (line_read rest line after cut) ∙ (sym read_is ∙ taken.spelled) in
+    let rest_is : rest ≡ change_line net (edition before + edits_in taken.one) taken.one ++ after =
+    text_from_first_line rest line after cut ∙ (sym (append_assoc line (10 ∷ []) after) ∙ ap (λ (l : List ℕ). l ++ after) spelled) in
+    record {
+      net_is = net_is ∙ stands.net_is;
+      no_call = no_call;
+      runs = taken.after ∙ ap running (sym now);
+      text_is = stands.text_is ∙ (ap (λ (r : List ℕ). journal_lines net before ++ r) rest_is
+          ∙ (sym (append_assoc (journal_lines net before) (change_line net (edition before + edits_in taken.one) taken.one) after)
+          ∙ ap (λ (l : List ℕ). l ++ after) (sym (journal_lines-push net before taken.one) ∙ ap (journal_lines net) (sym now))));
+      tail_is = stands.tail_is ∙ (ap (λ (ls : List (List ℕ)). slice_index_or ls (length ls - 1) []) cut ∙ tail-cons line (lines after) (lines-HasFirst after));
+      ranges = subst (AreInRange net 0) (sym now) (AreInRange-push net before taken.one stands.ranges taken.range);
+      follow = subst (Follows net) (sym now) (FollowFrom-grows net [] before taken.one stands.follow taken.on taken.good);
+    }
+
+-- where the rest has no newline, all lines were replayed
+pub record Told (net : Net) (text : List ℕ) (kept : ℕ) (changes : List Change) : Type 0 where
+  pub recovered : Recovered net text changes
+  pub kept_is : take kept text ≡ whole text
+
+pub Stands-end : (net : Net) (text rest : List ℕ) (machine : Records) → Stands net text rest machine → lines rest ≡ rest ∷ [] → Told net text (length text - length rest) machine.state.changes
+Stands-end net text rest machine stands last =
+    let tail : tail_of text ≡ rest = stands.tail_is ∙ ap (λ (ls : List (List ℕ)). slice_index_or ls (length ls - 1) []) last in
+    let kept : take (length text - length rest) text ≡ whole text = ap (λ (t : List ℕ). take (length text - length t) text) (sym tail) in
+    let told = journal_lines net machine.state.changes in
+    let size : length text - length rest ≡ length told = omega (arith, ap length stands.text_is, length-append told rest) in
+    record {
+      recovered = record {
+        lines = sym kept ∙ (ap (λ (k : ℕ). take k text) size ∙ (ap (λ (t : List ℕ). take (length told) t) stands.text_is ∙ take-append_seam told rest));
+        ranges = stands.ranges;
+        follow = stands.follow;
+      };
+      kept_is = kept;
+    }
+
+first_at : (net : Net) (text rest line after : List ℕ) (machine : Records) (number : ℕ) (IsWrong : List Change → List ℕ → Type 0) → Stands net text rest machine
+    → lines rest ≡ line ∷ lines after → number ≡ length machine.state.changes + 1 → IsWrong machine.state.changes (line ++ 10 ∷ []) → IsFirst net text number IsWrong
+first_at net text rest line after machine number IsWrong stands cut counted wrong = record {
+  before = machine.state.changes;
+  ranges = stands.ranges;
+  follow = stands.follow;
+  line = line;
+  rest = after;
+  there = stands.text_is ∙ ap (λ (r : List ℕ). journal_lines net machine.state.changes ++ r) (text_from_first_line rest line after cut);
+  ends = first_line_lacks rest line (lines after) cut;
+  counted = counted;
+  wrong = wrong;
+}
+
+fault_at : (net : Net) (text rest line after : List ℕ) (machine : Records) (fault : RecoverFault) → Stands net text rest machine → lines rest ≡ line ∷ lines after
+    → IsLineFault net machine.state.changes (line ++ 10 ∷ []) fault → IsTextFault net text fault
+fault_at net text rest line after machine (J1 number) stands cut wrong = first_at net text rest line after machine number (λ _ l. IsNoLine net l) stands cut wrong.0 wrong.1
+fault_at net text rest line after machine (J2 number) stands cut wrong = first_at net text rest line after machine number (IsStray net) stands cut wrong.0 wrong.1
+fault_at net text rest line after machine StoreFault stands cut wrong = absurd wrong
+fault_at net text rest line after machine TooLong stands cut wrong = absurd wrong
+fault_at net text rest line after machine OutOfMemory stands cut wrong = tt
+
+-- a line that is wrong is the first
+pub Stands-fault : (net : Net) (text rest line after read : List ℕ) (machine : Records) (fault : RecoverFault) → Stands net text rest machine → lines rest ≡ line ∷ lines after
+    → read ≡ take (length line + 1) rest → IsLineFault machine.net machine.state.changes read fault → IsTextFault net text fault
+Stands-fault net text rest line after read machine fault stands cut read_is wrong =
+    fault_at net text rest line after machine fault stands cut
+    (subst (λ (l : List ℕ). IsLineFault net machine.state.changes l fault) (read_is ∙ line_read rest line after cut)
+    (subst (λ (n : Net). IsLineFault n machine.state.changes read fault) stands.net_is wrong))

@@ -1,0 +1,24 @@
+use Rattle.std.proofs.Common.{◌∙◌, ap, sym, subst}
+use Rattle.bt_journal.specs.declared.call.Change.TheVariants as change
+use Rattle.bt_journal.specs.Journal.{NamesTerminals}
+use Rattle.bt_book.specs.Machine.{CanMake}
+use Rattle.bt_book.specs.Records.{Records}
+use Rattle.bt_book.proofs.Opened.{kept_edit, state_opened, with_more}
+use Rattle.bt_book.proofs.machine.Machine.edit_again.Goals as goal
+
+-- the changes at the opening have the edit, and all is kept beside them
+pub invariant_of-self-2 : goal.invariant_of-self-2
+invariant_of-self-2 c =
+    let names = subst (λ (r : Records). NamesTerminals r.net c.args.edit) (sym c.self.view_is) c.requires.on in
+    let can = subst (λ (r : Records). CanMake r.net r.state (change.Edit c.args.edit)) (sym c.self.view_is) c.requires.can in
+    kept_edit c.self.inside.occupancy.net c.edit.new.self.net c.self.inside.opening.items c.reserve.new.self.items c.push.new.self.items c.self.inside.history.items
+    c.self.inside.occupancy.links c.edit.new.self.links c.self.inside.count c.self.inside.edits c.self.inside.plans.items c.self.inside.orders.items c.args.edit
+    c.edit.ensures.net (ap (λ (r : Records). r.history) c.self.view_is ∙ c.requires.history) c.reserve.ensures.items c.in-Ok.ensures.items c.self.invariant
+    c.slots-slots.ensures.sound names can c.in_ok-edit.ensures.ok
+
+-- and so has the state
+pub returns-clause-state : goal.returns-clause-state
+returns-clause-state c =
+    state_opened c.self.inside.opening.items c.reserve.new.self.items c.push.new.self.items c.self.inside.history.items (change.Edit c.args.edit)
+    (ap (λ (r : Records). r.history) c.self.view_is ∙ c.requires.history) c.reserve.ensures.items c.in-Ok.ensures.items c.self.invariant.3
+    ∙ with_more _ c.args.self.now (change.Edit c.args.edit) c.self.view_is

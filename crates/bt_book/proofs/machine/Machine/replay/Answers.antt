@@ -1,0 +1,25 @@
+use Rattle.std.proofs.Common.{◌+◌, length, take, refl}
+use Rattle.std.proofs.lemmas.Result.{err_from_is_err_and}
+use Rattle.bt_book.proofs.Replayed.{Stands-line, Stands-fault, few_so_far, length-line_read}
+use Rattle.bt_book.proofs.machine.Machine.replay.Goals as goal
+
+-- the line is read with its newline
+pub slice_bounds-take_line-end : goal.slice_bounds-take_line-end
+slice_bounds-take_line-end c = length-line_read c.loop-line.rest.now c.in-Some.line.now c.in-Some.after.now c.in-Some.ensures.line
+
+-- its change is not one too many
+pub take_line-requires-clause-few : goal.take_line-requires-clause-few
+take_line-requires-clause-few c = few_so_far c.args.net.now c.args.text.now c.loop-line.rest.now c.loop-line.machine c.loop-line.invariant c.requires
+
+-- the line that stopped the loop is the first that is wrong
+pub returns-in_err-take_line-clause-err : goal.returns-in_err-take_line-clause-err
+returns-in_err-take_line-clause-err c =
+    let p = err_from_is_err_and c.from_residual-in_err-take_line.result c.from_residual-in_err-take_line.ensures.1 in
+    rw (p.1, p.2) (Stands-fault c.args.net.now c.args.text.now c.loop-line.rest.now c.in-Some.line.now c.in-Some.after.now (take (length c.in-Some.line.now + 1) c.loop-line.rest.now)
+    c.loop-line.machine _ c.loop-line.invariant c.in-Some.ensures.line refl c.in_err-take_line.ensures.fault)
+
+-- its change was made again
+pub loop-line-preserved : goal.loop-line-preserved
+loop-line-preserved c =
+    Stands-line c.args.net.now c.args.text.now c.loop-line.rest.now c.in-Some.line.now c.in-Some.after.now (take (length c.in-Some.line.now + 1) c.loop-line.rest.now)
+    c.loop-line.machine c.take_line.new.self c.loop-line.invariant c.in-Some.ensures.line refl c.in_ok-take_line.ensures.taken c.in_ok-take_line.ensures.net c.in_ok-take_line.ensures.history

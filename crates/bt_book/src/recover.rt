@@ -1,0 +1,55 @@
+// A machine is recovered from a store of records.
+ghost use Rattle.std.specs.Prelude.{◌≡◌, ◌≤◌, [], length, take, IfOk, IfErr, IfSome, IsErrOf, OnErr, OnOk, option_map};
+ghost use Rattle.bt_base.specs.Told.{Gives, HasCause};
+ghost use Rattle.bt_book.specs.Causes.{Follows};
+ghost use Rattle.bt_book.specs.Machine.{running};
+ghost use Rattle.bt_book.specs.Recovery.{IsRecoverFault, MaybeCut, Recovered, whole};
+
+use crate::RecoverFault;
+use crate::machine::Machine;
+use bt_base::{KeepFault, Keeper};
+use bt_net::Network;
+use std::alloc::Global;
+
+/// Reads the store, makes the changes of all its lines again, and then cuts what stands behind the last newline.
+pub(crate) fn recover_machine<K: Keeper>(
+    alloc: Global,
+    net: &Network,
+    store: &mut K,
+) -> Result<Machine, RecoverFault>
+    ensures net { IfOk result (λ machine. machine.net ≡ net.now) }
+    ensures history { IfOk result (λ machine. machine.history ≡ []) }
+    ensures state { IfOk result (λ machine. machine.state ≡ running machine.state.changes) }
+    ensures changes { IfOk result (λ machine. IfSome (K.told store.old) (λ bytes. Recovered net.now bytes machine.state.changes)) }
+    ensures follows { IfOk result (λ machine. Follows net.now machine.state.changes) }
+    ensures told { IfOk result (λ machine. K.told store.new ≡ option_map whole (K.told store.old)) }
+    ensures later { K.fault_count store.old ≤ K.fault_count store.new }
+    ensures fault { IfErr result (IsRecoverFault net.now (K.told store.old) (K.told store.new) (K.fault_count store.old) (K.fault_count store.new)) }
+{
+    let bytes = store.read_all(alloc)?;
+    let (machine, kept) = Machine::replay(alloc, net, bytes.as_slice())?;
+    cut_tail(alloc, store, bytes.as_slice(), kept)?;
+    Ok(machine)
+}
+
+/// Cuts a store after that many of its bytes, by one call, where it has more.
+fn cut_tail<K: Keeper>(
+    alloc: Global,
+    store: &mut K,
+    bytes: &[u8],
+    kept: usize,
+) -> Result<(), KeepFault>
+    requires held { Gives (K.told store.old) bytes.now }
+    requires kept { take kept bytes.now ≡ whole bytes.now }
+    requires within { kept ≤ length bytes.now }
+    ensures ok { OnOk result (K.told store.new ≡ option_map whole (K.told store.old)) }
+    ensures err { OnErr result (MaybeCut (K.told store.old) (K.told store.new)) }
+    ensures not_too_long { IsErrOf result KeepFault.TooLong → ⊥ }
+    ensures cause { HasCause KeepFault.Failed (K.fault_count store.old) (K.fault_count store.new) result }
+{
+    if kept < bytes.len() {
+        store.cut(alloc, kept as u64)
+    } else {
+        Ok(())
+    }
+}

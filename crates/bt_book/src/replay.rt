@@ -1,0 +1,182 @@
+// The lines of a journal, whose changes are made again one after the other.
+ghost use Rattle.std.specs.Prelude.{◌≡◌, ◌↔◌, ◌<◌, ◌≤◌, ◌++◌, ◌∷◌, [], length, take, IfOk, IfErr, IsTrue, OnOk, OnErr};
+ghost use Rattle.bt_base.specs.declared.keeper.TheConstants.{STORE_LAST};
+ghost use Rattle.bt_book.specs.Causes.{IsChangeOn};
+ghost use Rattle.bt_book.specs.Machine.{CanMake, most_changes, running};
+ghost use Rattle.bt_book.specs.Records.{IsFirstCause, IsLineFault, IsTextFault, TakesLine};
+ghost use Rattle.bt_book.specs.Recovery.{IsNext, IsNumbered, Recovered, whole};
+
+use crate::RecoverFault;
+use crate::machine::Machine;
+use bt_air::Order;
+use bt_demand::Plan;
+use bt_frame::{EditionNo, OutOfMemory};
+use bt_journal::{Change, Edit, LineFault, Reply, read_change};
+use bt_net::Network;
+use bt_text::first_line;
+use std::alloc::Global;
+
+impl Machine {
+    /// The machine that the lines of a text tell, and how many bytes these lines have. What stands behind the last
+    /// newline is passed over.
+    pub(crate) fn replay(
+        alloc: Global,
+        net: &Network,
+        text: &[u8],
+    ) -> Result<(Machine, usize), RecoverFault>
+        requires { length text.now ≤ STORE_LAST }
+        ensures net { IfOk result (λ told. told.0.net ≡ net.now) }
+        ensures history { IfOk result (λ told. told.0.history ≡ []) }
+        ensures state { IfOk result (λ told. told.0.state ≡ running told.0.state.changes) }
+        ensures changes { IfOk result (λ told. Recovered net.now text.now told.0.state.changes) }
+        ensures whole { IfOk result (λ told. take told.1 text.now ≡ whole text.now) }
+        ensures within { IfOk result (λ told. told.1 ≤ length text.now) }
+        ensures err { IfErr result (IsTextFault net.now text.now) }
+    {
+        let mut machine = Machine::open(alloc, net)?;
+        let mut rest = text;
+        while let Some((line, after)) = first_line(rest) {
+            machine.take_line(alloc, &rest[..line.len() + 1])?;
+            rest = after;
+        }
+        let kept = text.len() - rest.len();
+        Ok((machine, kept))
+    }
+
+    /// Makes the change of the next line again. The line has its newline.
+    fn take_line(&mut self, alloc: Global, line: &[u8]) -> Result<(), RecoverFault>
+        requires history { self.old.history ≡ [] }
+        requires few { length self.old.state.changes < most_changes }
+        requires short { length line.now ≤ STORE_LAST }
+        ensures taken { OnOk result (TakesLine self.old.net self.old.state.changes line.now self.new.state) }
+        ensures net { self.new.net ≡ self.old.net }
+        ensures history { self.new.history ≡ [] }
+        ensures fault { IfErr result (IsLineFault self.old.net self.old.state.changes line.now) }
+    {
+        let number = self.count + 1;
+        match read_change(alloc, self.network(), line) {
+            Ok((edition, change)) => {
+                if !self.is_next(alloc, edition, &change)? {
+                    return Err(RecoverFault::J2 { line: number });
+                }
+                self.make_again(alloc, change)?;
+                Ok(())
+            }
+            Err(LineFault::Bad) => Err(RecoverFault::J1 { line: number }),
+            Err(LineFault::OutOfMemory) => Err(RecoverFault::OutOfMemory),
+        }
+    }
+
+    /// Whether a change follows those made so far, an edit by that number too.
+    fn is_next(
+        &self,
+        alloc: Global,
+        edition: EditionNo,
+        change: &Change,
+    ) -> Result<bool, OutOfMemory>
+        requires { IsChangeOn self.now.net change.now }
+        ensures { IfOk result (λ next. IsTrue next ↔ IsNext self.now.net self.now.state.changes edition.0 change.now) }
+    {
+        if !self.is_numbered(edition, change) {
+            return Ok(false);
+        }
+        Ok(self.cause_again(alloc, change)?.is_none())
+    }
+
+    /// Whether an edit makes that edition. Other changes make none.
+    fn is_numbered(&self, edition: EditionNo, change: &Change) -> bool
+        ensures { IsTrue result ↔ IsNumbered self.now.state.changes edition.0 change.now }
+    {
+        match change {
+            Change::Edit(_) => edition.0 == self.edits + 1,
+            _ => true,
+        }
+    }
+
+    /// The first cause of a refusal in a change, as a call that asks for it would be told.
+    fn cause_again(&self, alloc: Global, change: &Change) -> Result<Option<Reply>, OutOfMemory>
+        requires { IsChangeOn self.now.net change.now }
+        ensures { IfOk result (λ cause. IsFirstCause self.now.net self.now.state.changes change.now cause) }
+    {
+        match change {
+            Change::Edit(edit) => Ok(self.cause_of(edit)),
+            Change::Install(plan) => self.cause_of_install(alloc, plan),
+            Change::Order(order) => Ok(self.cause_of_order(order)),
+        }
+    }
+
+    /// Makes a change again, before any call: it joins those at the opening.
+    fn make_again(&mut self, alloc: Global, change: Change) -> Result<(), OutOfMemory>
+        requires history { self.old.history ≡ [] }
+        requires on { IsChangeOn self.old.net change }
+        requires can { CanMake self.old.net self.old.state change }
+        ensures state { OnOk result (self.new.state ≡ running (self.old.state.changes ++ change ∷ [])) }
+        ensures net { self.new.net ≡ self.old.net }
+        ensures history { self.new.history ≡ [] }
+        ensures err { OnErr result (self.new ≡ self.old) }
+    {
+        match change {
+            Change::Edit(edit) => self.edit_again(alloc, edit),
+            Change::Install(plan) => self.install_again(alloc, plan),
+            Change::Order(order) => self.place_again(alloc, order),
+        }
+    }
+
+    fn edit_again(&mut self, alloc: Global, edit: Edit) -> Result<(), OutOfMemory>
+        requires history { self.old.history ≡ [] }
+        requires on { IsChangeOn self.old.net (Change.Edit edit) }
+        requires can { CanMake self.old.net self.old.state (Change.Edit edit) }
+        ensures state { OnOk result (self.new.state ≡ running (self.old.state.changes ++ Change.Edit edit ∷ [])) }
+        ensures net { self.new.net ≡ self.old.net }
+        ensures history { self.new.history ≡ [] }
+        ensures err { OnErr result (self.new ≡ self.old) }
+    {
+        // This is there for what holds of each network: its terminals have beams, and its frame at most 4096 slots.
+        let _slots = self.occupancy.slots();
+        self.opening.reserve(1)?;
+        self.occupancy.edit(alloc, &edit)?;
+        self.count += 1;
+        self.edits += 1;
+        let Ok(()) = self.opening.push(Change::Edit(edit)) else {
+            unreachable!();
+        };
+        Ok(())
+    }
+
+    fn install_again(&mut self, alloc: Global, plan: Plan) -> Result<(), OutOfMemory>
+        requires history { self.old.history ≡ [] }
+        requires on { IsChangeOn self.old.net (Change.Install plan) }
+        requires can { CanMake self.old.net self.old.state (Change.Install plan) }
+        ensures state { OnOk result (self.new.state ≡ running (self.old.state.changes ++ Change.Install plan ∷ [])) }
+        ensures net { self.new.net ≡ self.old.net }
+        ensures history { self.new.history ≡ [] }
+        ensures err { OnErr result (self.new ≡ self.old) }
+    {
+        let kept = plan.copy(alloc)?;
+        self.opening.reserve(1)?;
+        self.plans.push(kept)?;
+        self.count += 1;
+        let Ok(()) = self.opening.push(Change::Install(plan)) else {
+            unreachable!();
+        };
+        Ok(())
+    }
+
+    fn place_again(&mut self, _: Global, order: Order) -> Result<(), OutOfMemory>
+        requires history { self.old.history ≡ [] }
+        requires on { IsChangeOn self.old.net (Change.Order order) }
+        requires can { CanMake self.old.net self.old.state (Change.Order order) }
+        ensures state { OnOk result (self.new.state ≡ running (self.old.state.changes ++ Change.Order order ∷ [])) }
+        ensures net { self.new.net ≡ self.old.net }
+        ensures history { self.new.history ≡ [] }
+        ensures err { OnErr result (self.new ≡ self.old) }
+    {
+        self.opening.reserve(1)?;
+        self.orders.push(order)?;
+        self.count += 1;
+        let Ok(()) = self.opening.push(Change::Order(order)) else {
+            unreachable!();
+        };
+        Ok(())
+    }
+}
