@@ -51,7 +51,7 @@ fn read_within<R: rt::Files>(
 ) -> Result<Vec<u8>, FileFault>
     ensures short { IfOk result (λ bytes. vec_len bytes ≤ limit) }
 {
-    match read_one_past(rt, alloc, name, limit) {
+    match read_file(rt, alloc, name, limit) {
         Ok(bytes) if bytes.len() as u64 <= limit => Ok(bytes),
         Ok(_) => Err(FileFault::TooLong),
         Err(e) if e.kind() == ErrorKind::OutOfMemory => Err(FileFault::OutOfMemory),
@@ -59,17 +59,20 @@ fn read_within<R: rt::Files>(
     }
 }
 
-/// The file up to one byte past the limit, so that its end shows where it is no longer.
-fn read_one_past<R: rt::Files>(
-    rt: &R,
+/// The file up to one byte past the limit.
+fn read_file<R: rt::Files>(rt: &R, alloc: Global, name: &str, limit: u64) -> io::Result<Vec<u8>> {
+    let file = File::open(rt, name)?;
+    read_one_past(alloc, file, limit)
+}
+
+/// What is left of a file up to one byte past the limit, so that its end shows where it is no longer.
+pub(crate) fn read_one_past<F: Read + Drop>(
     alloc: Global,
-    name: &str,
+    file: F,
     limit: u64,
 ) -> io::Result<Vec<u8>> {
     let mut bytes = Vec::new(alloc);
-    File::open(rt, name)?
-        .take(limit.saturating_add(1))
-        .read_to_end(&mut bytes)?;
+    file.take(limit.saturating_add(1)).read_to_end(&mut bytes)?;
     Ok(bytes)
 }
 

@@ -7,6 +7,7 @@
 
 mod dir_files;
 mod fail;
+mod file_keeper;
 mod files;
 mod keeper;
 mod mem_files;
@@ -26,6 +27,7 @@ pub use bt_frame::{
 pub use bt_text::{next_line, number_text};
 pub use dir_files::DirFiles;
 pub use fail::Fail;
+pub use file_keeper::FileKeeper;
 pub use files::{FileFault, Files};
 pub use keeper::{KeepFault, Keeper, STORE_LAST};
 pub use mem_files::MemFiles;

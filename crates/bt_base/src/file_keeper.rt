@@ -1,0 +1,168 @@
+// A file of the system as a store.
+ghost use Rattle.std.specs.Prelude.{◌≡◌, ◌≤◌, None, IfOk, vec_len};
+ghost use Rattle.bt_base.specs.Told.{Rose};
+
+use crate::dir_files::read_one_past;
+use crate::{KeepFault, Keeper, STORE_LAST};
+use std::alloc::Global;
+use std::fs::{OpenFile, OpenOptions};
+use std::io::{ErrorKind, Write};
+use std::{io, rt};
+
+/// The store over a file of the system. What the file holds is not told. A missing file is made at the first call.
+///
+/// A piece is on the disk, as far as the system says, where `append` or `cut` answers Ok. Whatever stands in the place of
+/// that is `Failed`, and each answer but Ok and want of memory counts as a fault.
+#[derive(Drop)]
+pub struct FileKeeper<'a, R> {
+    rt: &'a R,
+    path: &'a str,
+    faults: u64,
+}
+
+impl<'a, R: rt::Files> FileKeeper<'a, R> {
+    /// The store over the file of that path, as this runtime reaches it. Nothing is opened yet.
+    pub fn new(rt: &'a R, path: &'a str) -> FileKeeper<'a, R>
+        ensures { ⟦<FileKeeper<'a, R> as Keeper>⟧.fault_count result ≡ 0 }
+    {
+        FileKeeper {
+            rt,
+            path,
+            faults: 0,
+        }
+    }
+
+    /// The same fault, counted where it is not want of memory.
+    fn counted(&mut self, fault: KeepFault) -> KeepFault
+        ensures same { result ≡ fault }
+        ensures same_count { fault ≡ KeepFault.OutOfMemory → self.new.faults ≡ self.old.faults }
+        ensures later { self.old.faults ≤ self.new.faults }
+        ensures rose { fault ≡ KeepFault.Failed → Rose self.old.faults self.new.faults }
+    {
+        if fault != KeepFault::OutOfMemory {
+            self.faults = self.faults.saturating_add(1);
+        }
+        fault
+    }
+}
+
+impl<R: rt::Files> Keeper for FileKeeper<'_, R> {
+    ghost told = { λ _. None };
+
+    ghost fault_count = { λ keeper. keeper.faults };
+
+    fn faults(&self) -> u64 {
+        self.faults
+    }
+
+    fn append(&mut self, _alloc: Global, piece: &[u8]) -> Result<(), KeepFault> {
+        match append_and_sync(self.rt, self.path, piece) {
+            Ok(()) => Ok(()),
+            Err(_) => Err(self.counted(KeepFault::Failed)),
+        }
+    }
+
+    fn read_all(&mut self, alloc: Global) -> Result<Vec<u8>, KeepFault> {
+        match read_store(self.rt, alloc, self.path) {
+            Ok(bytes) => Ok(bytes),
+            Err(fault) => Err(self.counted(fault)),
+        }
+    }
+
+    fn cut(&mut self, _alloc: Global, length: u64) -> Result<(), KeepFault> {
+        match cut_and_sync(self.rt, self.path, length) {
+            Ok(()) => Ok(()),
+            Err(_) => Err(self.counted(KeepFault::Failed)),
+        }
+    }
+}
+
+/// The file, opened for reading and for writing at its end; an empty one where it is missing.
+fn open<R: rt::Files>(rt: &R, path: &str) -> io::Result<R::File> {
+    OpenOptions::new()
+        .read(true)
+        .append(true)
+        .create(true)
+        .open(rt, path)
+}
+
+/// Writes the piece at the end of the file, and returns once the system says that it is on the disk.
+fn append_and_sync<R: rt::Files>(rt: &R, path: &str, piece: &[u8]) -> io::Result<()> {
+    let mut file = open(rt, path)?;
+    file.write_all(piece)?;
+    file.sync_all()
+}
+
+/// Leaves the first `length` bytes of the file, and returns once the system says that the disk has no others.
+fn cut_and_sync<R: rt::Files>(rt: &R, path: &str, length: u64) -> io::Result<()> {
+    let file = open(rt, path)?;
+    file.set_len(length)?;
+    file.sync_all()
+}
+
+/// The bytes of the file, as many as are read from a store.
+fn read_store<R: rt::Files>(rt: &R, alloc: Global, path: &str) -> Result<Vec<u8>, KeepFault>
+    ensures short { IfOk result (λ bytes. vec_len bytes ≤ STORE_LAST) }
+{
+    match read_past_last(rt, alloc, path) {
+        Ok(bytes) if bytes.len() as u64 <= STORE_LAST => Ok(bytes),
+        Ok(_) => Err(KeepFault::TooLong),
+        Err(e) if e.kind() == ErrorKind::OutOfMemory => Err(KeepFault::OutOfMemory),
+        Err(_) => Err(KeepFault::Failed),
+    }
+}
+
+/// The bytes of the file, and one more than are read from a store where it has more.
+fn read_past_last<R: rt::Files>(rt: &R, alloc: Global, path: &str) -> io::Result<Vec<u8>> {
+    let file = open(rt, path)?;
+    read_one_past(alloc, file, STORE_LAST)
+}
+
+#[cfg(test)]
+mod tests {
+    use super::*;
+    use std::{env, fs, process, test};
+
+    fn append<K: Keeper>(keeper: &mut K, alloc: Global, piece: &str) -> Result<(), KeepFault> {
+        keeper.append(alloc, piece.as_bytes())
+    }
+
+    fn read<K: Keeper>(keeper: &mut K, alloc: Global) -> Result<Vec<u8>, KeepFault> {
+        keeper.read_all(alloc)
+    }
+
+    #[test]
+    fn a_real_store_is_made_and_grows_and_is_cut(rt: HostRuntime) -> Result<(), test::Fail> {
+        let id = process::id(rt.process());
+        let name = format!(in rt.alloc(); "bt_base-store-{id}")?;
+        let folder = env::temp_dir(&rt)?;
+        let path = folder.join(rt.alloc(), name.as_str())?;
+
+        let mut keeper = FileKeeper::new(&rt, path.as_str());
+        assert_eq!(rt; read(&mut keeper, rt.alloc())?.as_slice(), [].as_slice());
+        append(&mut keeper, rt.alloc(), "load 1 1\n")?;
+        append(&mut keeper, rt.alloc(), "load 2 1\n")?;
+        let kept = read(&mut keeper, rt.alloc())?;
+        assert_eq!(rt; kept.as_slice(), "load 1 1\nload 2 1\n".as_bytes());
+        keeper.cut(rt.alloc(), 9)?;
+        append(&mut keeper, rt.alloc(), "load")?;
+        let kept = read(&mut keeper, rt.alloc())?;
+        assert_eq!(rt; kept.as_slice(), "load 1 1\nload".as_bytes());
+        assert_eq!(rt; keeper.faults(), 0);
+        fs::remove_file(&rt, path.as_str())?;
+
+        // A folder is no store.
+        let mut keeper = FileKeeper::new(&rt, folder.as_str());
+        assert_eq!(rt;
+            append(&mut keeper, rt.alloc(), "load"),
+            Err(KeepFault::Failed)
+        );
+        assert_eq!(rt;
+            read(&mut keeper, rt.alloc()).err(),
+            Some(KeepFault::Failed)
+        );
+        assert_eq!(rt; keeper.cut(rt.alloc(), 0), Err(KeepFault::Failed));
+        assert_eq!(rt; keeper.faults(), 3);
+        Ok(())
+    }
+}
