@@ -1,5 +1,5 @@
 pub mod Spaces
 pub mod PlanWords
 pub mod Words
-pub mod Said
-pub mod Heard
+pub mod Spelled
+pub mod ChangeLines

@@ -30,7 +30,7 @@ use Rattle.bt_plan.proofs.OnePlan.{plan_spelled}
 use Rattle.bt_plan.proofs.PlanReadBack.{plan_read}
 use Rattle.bt_plan.proofs.ReadBack.{mode_numbers-small}
 use Rattle.bt_journal.specs.declared.call.Change.TheVariants as change
-use Rattle.bt_journal.specs.LineReading.{words_behind, in_lines, install_of, told_plan, Told, space_for_newline}
+use Rattle.bt_journal.specs.LineReading.{words_behind, in_lines, install_of, said_plan, Said, space_for_newline}
 use Rattle.bt_journal.proofs.Spaces.{Line, words_of, bytes_of, space-text, space-in_lines, in_lines-words_of, spaced-bytes_of}
 
 -- each line by its words
@@ -160,8 +160,8 @@ module _ (net : Net) (sound : IsSound net) where
       ∙ words-spaced (words_of (plan_words net plan)) (omega arith) (words-lack net sound 32 refl refl (plan_words net plan) (plan-lacks net sound 32 refl refl plan range))
 
   -- it is read as that plan
-  pub plan_told : (plan : Plan) → IsPlanInRange net plan → told_plan net (words_of (plan_words net plan)) ≡ Some (plan.edition, change.Install plan)
-  plan_told plan range =
+  pub install_change_read : (plan : Plan) → IsPlanInRange net plan → said_plan net (words_of (plan_words net plan)) ≡ Some (plan.edition, change.Install plan)
+  install_change_read plan range =
       ap (λ text. install_of (plan_of net text)) (in_lines-words_of (length net.beams) (plan_words net plan) (plan-counted net plan range) ∙ ap ended (plan-bytes net plan))
       ∙ ap install_of (plan_read net sound plan range)
 
@@ -169,13 +169,13 @@ module _ (net : Net) (sound : IsSound net) where
   space-plan plan range = space-text (plan_lines net plan) (omega arith) (plan_lines-lack plan range)
 
   -- no other line is
-  pub record IsInstall (text : List ℕ) (said : Told) : Type 0 where
+  pub record IsInstall (text : List ℕ) (said : Said) : Type 0 where
     pub plan : Plan
     pub change_is : said ≡ (plan.edition, change.Install plan)
     pub range : IsPlanInRange net plan
     pub spelled : text ≡ spaced (plan_lines net plan)
 
-  install_read : (reading : Reading Plan) (said : Told) → install_of reading ≡ Some said → (plan : Plan) × (reading ≡ Ok plan) × (said ≡ (plan.edition, change.Install plan))
+  install_read : (reading : Reading Plan) (said : Said) → install_of reading ≡ Some said → (plan : Plan) × (reading ≡ Ok plan) × (said ≡ (plan.edition, change.Install plan))
   install_read (Ok plan) said is = (plan, refl, sym (same_Some _ said is))
   install_read (Err fault) said is = absurd cc
 
@@ -188,8 +188,8 @@ module _ (net : Net) (sound : IsSound net) where
       ∙ ap (λ ws. spaced ws ++ 32 ∷ []) (sym are)
       ∙ ap (λ t. t ++ 32 ∷ []) (spaced-words text)
 
-  pub plan_said : (text : List ℕ) (said : Told) → lacks 10 text ≡ true → told_plan net (words text) ≡ Some said → IsInstall text said
-  plan_said text said none is =
+  pub install_spelled : (text : List ℕ) (said : Said) → lacks 10 text ≡ true → said_plan net (words text) ≡ Some said → IsInstall text said
+  install_spelled text said none is =
       let in_its_lines = in_lines (length net.beams) 0 (words text) in
       let (plan, read, said_is) = install_read (plan_of net in_its_lines) said is in
       let (spelled, range) = plan_spelled net in_its_lines plan sound.beams.count.1 read in

@@ -17,7 +17,7 @@ use Rattle.bt_journal.specs.declared.call.Change.TheVariants as change
 use Rattle.bt_journal.specs.declared.call.Edit.{Edit}
 use Rattle.bt_journal.specs.declared.call.Edit.TheVariants.{Add, Drop, Move}
 use Rattle.bt_journal.specs.JournalLines.{edit_words, order_words, change_parts, edition_said, IsEditInRange, IsOrderInRange}
-use Rattle.bt_journal.specs.LineReading.{number_from, ends_in, link_in, links_in, edit_in, told_in}
+use Rattle.bt_journal.specs.LineReading.{number_from, ends_in, link_in, links_in, edit_in, said_in}
 
 module _ (net : Net) (sound : IsSound net) where
   -- a byte that is no digit and stands in no name stands in none of the words
@@ -60,12 +60,12 @@ module _ (net : Net) (sound : IsSound net) where
   edit_read number (Drop from to units) range = rw (link_read from to units range.terminals range.units range.few) refl
   edit_read number (Move from to new_from new_to units) range = rw (links_read from to new_from new_to units range.terminals.0 range.terminals.1 range.units range.few) refl
 
-  pub edit_told : (number : ℕ) (edit : Edit) → IsEditInRange net number edit → told_in net (change_parts net number (change.Edit edit)) ≡ Some (edition_said number (change.Edit edit), change.Edit edit)
-  edit_told number edit range =
+  pub edit_change_read : (number : ℕ) (edit : Edit) → IsEditInRange net number edit → said_in net (change_parts net number (change.Edit edit)) ≡ Some (edition_said number (change.Edit edit), change.Edit edit)
+  edit_change_read number edit range =
       rw (number_read 1 4294967295 number (edit_words net edit) range.some range.number (lit< tt), edit_read number edit range) refl
 
-  pub order_told : (number : ℕ) (order : Order) → IsOrderInRange order → told_in net (order_words order) ≡ Some (edition_said number (change.Order order), change.Order order)
-  order_told number (Load command edition) range =
+  pub order_change_read : (number : ℕ) (order : Order) → IsOrderInRange order → said_in net (order_words order) ≡ Some (edition_said number (change.Order order), change.Order order)
+  order_change_read number (Load command edition) range =
       rw (number_read 1 4294967295 command.0 (decimal edition.0 ∷ []) range.0 range.1 (lit< tt), number_read 0 4294967295 edition.0 [] (omega arith) range.2 (lit< tt)) refl
-  order_told number (Arm command edition due) range =
+  order_change_read number (Arm command edition due) range =
       rw (number_read 1 4294967295 command.0 (decimal edition.0 ∷ decimal due.0 ∷ []) range.0 range.1 (lit< tt), number_read 0 4294967295 edition.0 (decimal due.0 ∷ []) (omega arith) range.2 (lit< tt), number_read 1 4000000000 due.0 [] range.3.0 range.3.1 (lit< tt)) refl

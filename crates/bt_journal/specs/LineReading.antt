@@ -1,4 +1,4 @@
--- How the line of a change is read, word by word. All of it is for bodies alone.
+-- How the line of a change is read, word by word, and how the lines of a text are put into one. All of it is for bodies alone.
 use Rattle.std.specs.Prelude.{◌≡◌, ℕ, zero, suc, ◌+◌, ◌==◌, ◌||◌, if◌then◌else◌, nat_le, codes, length, drop, List, [], ◌∷◌, ◌++◌, Option, Some, None, option_map, option_and_then, Result, Ok, Err}
 use Rattle.bt_text.specs.Text.{is_word}
 use Rattle.bt_text.specs.WordReader.{first_word, number_to}
@@ -60,27 +60,27 @@ edit_in net [] = None
 edit_in net (kind ∷ rest) = edit_of net kind rest
 
 -- a change with the edition that its line says
-abbrev pub Told : Type 0
-Told = EditionNo × Change
+abbrev pub Said : Type 0
+Said = EditionNo × Change
 
 -- the words behind `edit`
-abbrev pub told_edit : Net → List (List ℕ) → Option Told
-told_edit net ws = option_and_then (λ number. option_map (λ edit. (record { 0 = number }, change.Edit edit)) (edit_in net (drop 1 ws))) (number_from 1 4294967295 ws)
+abbrev pub said_edit : Net → List (List ℕ) → Option Said
+said_edit net ws = option_and_then (λ number. option_map (λ edit. (record { 0 = number }, change.Edit edit)) (edit_in net (drop 1 ws))) (number_from 1 4294967295 ws)
 
 -- the words behind `load`
-abbrev pub told_load : List (List ℕ) → Option Told
-told_load ws = option_and_then (λ command. option_and_then (λ edition. at_end (drop 1 (drop 1 ws)) (record { 0 = edition }, change.Order (Load (record { 0 = command }) (record { 0 = edition })))) (number_from 0 4294967295 (drop 1 ws))) (number_from 1 4294967295 ws)
+abbrev pub said_load : List (List ℕ) → Option Said
+said_load ws = option_and_then (λ command. option_and_then (λ edition. at_end (drop 1 (drop 1 ws)) (record { 0 = edition }, change.Order (Load (record { 0 = command }) (record { 0 = edition })))) (number_from 0 4294967295 (drop 1 ws))) (number_from 1 4294967295 ws)
 
 -- the words behind `arm`
-abbrev pub told_arm : List (List ℕ) → Option Told
-told_arm ws = option_and_then (λ command. option_and_then (λ edition. option_and_then (λ due. at_end (drop 1 (drop 1 (drop 1 ws))) (record { 0 = edition }, change.Order (Arm (record { 0 = command }) (record { 0 = edition }) (record { 0 = due })))) (number_from 1 LAST_MARK (drop 1 (drop 1 ws)))) (number_from 0 4294967295 (drop 1 ws))) (number_from 1 4294967295 ws)
+abbrev pub said_arm : List (List ℕ) → Option Said
+said_arm ws = option_and_then (λ command. option_and_then (λ edition. option_and_then (λ due. at_end (drop 1 (drop 1 (drop 1 ws))) (record { 0 = edition }, change.Order (Arm (record { 0 = command }) (record { 0 = edition }) (record { 0 = due })))) (number_from 1 LAST_MARK (drop 1 (drop 1 ws)))) (number_from 0 4294967295 (drop 1 ws))) (number_from 1 4294967295 ws)
 
 -- a change of one of the kinds but a plan, by its first word and the words behind
-abbrev pub told_small : Net → List ℕ → List (List ℕ) → Option Told
-told_small net kind rest =
-    if is_word (codes "edit") kind then told_edit net rest
-    else (if is_word (codes "load") kind then told_load rest
-    else (if is_word (codes "arm") kind then told_arm rest
+abbrev pub said_small : Net → List ℕ → List (List ℕ) → Option Said
+said_small net kind rest =
+    if is_word (codes "edit") kind then said_edit net rest
+    else (if is_word (codes "load") kind then said_load rest
+    else (if is_word (codes "arm") kind then said_arm rest
     else None))
 
 -- how many words stand behind this one where it begins a line of a plan's text
@@ -109,22 +109,22 @@ in_lines beams left [] = []
 in_lines beams left (word ∷ rest) = word ++ separator (left_behind beams left word) ∷ in_lines beams (left_behind beams left word) rest
 
 -- the change that installs the plan, where one was read
-abbrev pub install_of : Reading Plan → Option Told
+abbrev pub install_of : Reading Plan → Option Said
 install_of (Ok plan) = Some (plan.edition, change.Install plan)
 install_of (Err fault) = None
 
 -- the words of a plan's line
-abbrev pub told_plan : Net → List (List ℕ) → Option Told
-told_plan net ws = install_of (plan_of net (in_lines (length net.beams) 0 ws))
+abbrev pub said_plan : Net → List (List ℕ) → Option Said
+said_plan net ws = install_of (plan_of net (in_lines (length net.beams) 0 ws))
 
 -- the words of a line
-abbrev pub told_in : Net → List (List ℕ) → Option Told
-told_in net [] = None
-told_in net (kind ∷ rest) = if is_word (codes "plan") kind then told_plan net (kind ∷ rest) else told_small net kind rest
+abbrev pub said_in : Net → List (List ℕ) → Option Said
+said_in net [] = None
+said_in net (kind ∷ rest) = if is_word (codes "plan") kind then said_plan net (kind ∷ rest) else said_small net kind rest
 
 -- the answer is what the line says, unless memory ran out
-abbrev pub Answers : Result Told LineFault → Option Told → Type 0
-Answers (Ok told) said = said ≡ Some told
+abbrev pub Answers : Result Said LineFault → Option Said → Type 0
+Answers (Ok change_read) said = said ≡ Some change_read
 Answers (Err Bad) said = said ≡ None
 Answers (Err OutOfMemory) said = Unit {0}
 

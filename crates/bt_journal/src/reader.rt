@@ -5,7 +5,7 @@ ghost use Rattle.bt_text.specs.Text.{words, lines};
 ghost use Rattle.bt_net.specs.Terminals.{IsTerminal};
 ghost use Rattle.bt_journal.specs.declared.call.Change.{Change};
 ghost use Rattle.bt_journal.specs.JournalLines.{change_line, edition_said, IsChangeInRange};
-ghost use Rattle.bt_journal.specs.LineReading.{number_from, terminal_in, ends_in, units_in, link_in, links_in, edit_of, edit_in, told_edit, told_load, told_arm, told_small, told_plan, told_in, words_behind, left_behind, separator, in_lines, at_end, Answers};
+ghost use Rattle.bt_journal.specs.LineReading.{number_from, terminal_in, ends_in, units_in, link_in, links_in, edit_of, edit_in, said_edit, said_load, said_arm, said_small, said_plan, said_in, words_behind, left_behind, separator, in_lines, at_end, Answers};
 
 use crate::{Change, Edit, LineFault};
 use bt_air::Order;
@@ -36,7 +36,7 @@ pub fn read_change(
     let Some(text) = text_of(line) else {
         return Err(LineFault::Bad);
     };
-    told_in(alloc, net, text)
+    said_in(alloc, net, text)
 }
 
 // The text of a line, whose only newline is its last byte.
@@ -49,38 +49,38 @@ fn text_of(line: &[u8]) -> Option<&[u8]>
 }
 
 // The change of a line, its newline left out.
-fn told_in(alloc: Global, net: &Network, text: &[u8]) -> Result<(EditionNo, Change), LineFault>
+fn said_in(alloc: Global, net: &Network, text: &[u8]) -> Result<(EditionNo, Change), LineFault>
     requires short { length text.now + 1 ≤ 67108864 }
-    ensures { Answers result (told_in net.now (words text.now)) }
+    ensures { Answers result (said_in net.now (words text.now)) }
 {
     let mut words = WordReader::of(text);
     let Some(kind) = words.next() else {
         return Err(LineFault::Bad);
     };
     if is_word(kind, b"plan") {
-        return told_plan(alloc, net, text);
+        return said_plan(alloc, net, text);
     }
-    told_small(net, kind, words).ok_or(LineFault::Bad)
+    said_small(net, kind, words).ok_or(LineFault::Bad)
 }
 
 // A change of one of the kinds but a plan, by its first word and the words behind.
-fn told_small(net: &Network, kind: &[u8], words: WordReader<'_>) -> Option<(EditionNo, Change)>
-    ensures { result ≡ told_small net.now kind.now words.entry }
+fn said_small(net: &Network, kind: &[u8], words: WordReader<'_>) -> Option<(EditionNo, Change)>
+    ensures { result ≡ said_small net.now kind.now words.entry }
 {
     if is_word(kind, b"edit") {
-        told_edit(net, words)
+        said_edit(net, words)
     } else if is_word(kind, b"load") {
-        told_load(words)
+        said_load(words)
     } else if is_word(kind, b"arm") {
-        told_arm(words)
+        said_arm(words)
     } else {
         None
     }
 }
 
 // What the words behind `edit` say.
-fn told_edit(net: &Network, mut words: WordReader<'_>) -> Option<(EditionNo, Change)>
-    ensures { result ≡ told_edit net.now words.entry }
+fn said_edit(net: &Network, mut words: WordReader<'_>) -> Option<(EditionNo, Change)>
+    ensures { result ≡ said_edit net.now words.entry }
 {
     let number = number_from(1, LAST_NUMBER, &mut words)?;
     let edit = edit_in(net, words)?;
@@ -180,8 +180,8 @@ fn number_from(least: u32, most: u32, words: &mut WordReader<'_>) -> Option<u32>
 }
 
 // What the words behind `load` say.
-fn told_load(mut words: WordReader<'_>) -> Option<(EditionNo, Change)>
-    ensures { result ≡ told_load words.entry }
+fn said_load(mut words: WordReader<'_>) -> Option<(EditionNo, Change)>
+    ensures { result ≡ said_load words.entry }
 {
     let command = number_from(1, LAST_NUMBER, &mut words)?;
     let edition = number_from(0, LAST_NUMBER, &mut words)?;
@@ -194,8 +194,8 @@ fn told_load(mut words: WordReader<'_>) -> Option<(EditionNo, Change)>
 }
 
 // What the words behind `arm` say.
-fn told_arm(mut words: WordReader<'_>) -> Option<(EditionNo, Change)>
-    ensures { result ≡ told_arm words.entry }
+fn said_arm(mut words: WordReader<'_>) -> Option<(EditionNo, Change)>
+    ensures { result ≡ said_arm words.entry }
 {
     let command = number_from(1, LAST_NUMBER, &mut words)?;
     let edition = number_from(0, LAST_NUMBER, &mut words)?;
@@ -212,9 +212,9 @@ fn told_arm(mut words: WordReader<'_>) -> Option<(EditionNo, Change)>
 }
 
 // What a line says that begins with `plan`.
-fn told_plan(alloc: Global, net: &Network, text: &[u8]) -> Result<(EditionNo, Change), LineFault>
+fn said_plan(alloc: Global, net: &Network, text: &[u8]) -> Result<(EditionNo, Change), LineFault>
     requires short { length text.now + 1 ≤ 67108864 }
-    ensures { Answers result (told_plan net.now (words text.now)) }
+    ensures { Answers result (said_plan net.now (words text.now)) }
 {
     let plan = in_lines(alloc, net.beam_count(), text)?;
     match read_plan(alloc, net, plan.as_slice()) {

@@ -1,5 +1,5 @@
 -- where the line of a change ends
-use Rattle.bt_journal.proofs.Heard.{once, cut}
+use Rattle.bt_journal.proofs.ChangeLines.{once, cut}
 use Rattle.bt_journal.proofs.laws.lines_end_once.Goals as goal
 
 pub returns-clause-once : goal.returns-clause-once

@@ -1,5 +1,5 @@
 -- two changes with one line
-use Rattle.bt_journal.proofs.Heard.{same_change}
+use Rattle.bt_journal.proofs.ChangeLines.{same_change}
 use Rattle.bt_journal.proofs.laws.lines_tell_changes.Goals as goal
 
 pub returns-clause-change : goal.returns-clause-change

@@ -1,7 +1,7 @@
 -- a line with more behind its newline
 use Rattle.std.proofs.Common.{◌<◌, length, arith}
 use Rattle.std.proofs.lemmas.Bool.Decides.{nat_tests}
-use Rattle.bt_journal.proofs.Heard.{more_behind}
+use Rattle.bt_journal.proofs.ChangeLines.{more_behind}
 use Rattle.bt_journal.proofs.reader.text_of.Goals as goal
 
 pub returns-else-is_empty-clause-none : goal.returns-else-is_empty-clause-none

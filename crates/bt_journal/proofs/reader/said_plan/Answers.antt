@@ -1,7 +1,7 @@
 -- the plan's text is as long as the line
 use Rattle.std.proofs.Common.{length, ap, arith}
 use Rattle.bt_journal.proofs.Spaces.{length-text_in_lines}
-use Rattle.bt_journal.proofs.reader.told_plan.Goals as goal
+use Rattle.bt_journal.proofs.reader.said_plan.Goals as goal
 
 pub read_plan-requires : goal.read_plan-requires
 read_plan-requires c = record {

@@ -15,10 +15,10 @@ use Rattle.bt_air.specs.declared.order.Order.TheVariants.{Load, Arm}
 use Rattle.bt_journal.specs.declared.line_fault.LineFault.{LineFault}
 use Rattle.bt_journal.specs.declared.line_fault.LineFault.TheVariants.{Bad, OutOfMemory}
 use Rattle.bt_journal.specs.JournalLines.{order_words, change_parts, change_line, edition_said, IsChangeInRange}
-use Rattle.bt_journal.specs.LineReading.{told_plan, told_small, told_in, Told, Answers}
-use Rattle.bt_journal.proofs.PlanWords.{plan_lines-lack, plan-words, plan_told, plan_said}
-use Rattle.bt_journal.proofs.Words.{edit-lacks, order-lacks, edit_told, order_told}
-use Rattle.bt_journal.proofs.Said.{small_said}
+use Rattle.bt_journal.specs.LineReading.{said_plan, said_small, said_in, Said, Answers}
+use Rattle.bt_journal.proofs.PlanWords.{plan_lines-lack, plan-words, install_change_read, install_spelled}
+use Rattle.bt_journal.proofs.Words.{edit-lacks, order-lacks, edit_change_read, order_change_read}
+use Rattle.bt_journal.proofs.Spelled.{small_spelled}
 
 module _ (net : Net) (sound : IsSound net) where
   -- no newline stands in the line
@@ -33,88 +33,88 @@ module _ (net : Net) (sound : IsSound net) where
       ap lines (append_assoc text (10 ∷ []) rest) ∙ slice_split-next 10 text rest (once number one range)
 
   -- a change in range is read from its line
-  pub told : (number : ℕ) (one : Change) → IsChangeInRange net number one → told_in net (words (spaced (change_parts net number one))) ≡ Some (edition_said number one, one)
-  told number (change.Edit edit) range =
-      ap (told_in net) (words-spaced (change_parts net number (change.Edit edit)) (omega arith) (edit-lacks net sound 32 refl refl number edit range)) ∙ edit_told net sound number edit range
-  told number (change.Install plan) range = ap (told_in net) (plan-words net sound plan range) ∙ plan_told net sound plan range
-  told number (change.Order (Load command edition)) range =
-      ap (told_in net) (words-spaced (order_words (Load command edition)) (omega arith) (order-lacks net sound 32 refl refl (Load command edition) range)) ∙ order_told net sound number (Load command edition) range
-  told number (change.Order (Arm command edition due)) range =
-      ap (told_in net) (words-spaced (order_words (Arm command edition due)) (omega arith) (order-lacks net sound 32 refl refl (Arm command edition due) range)) ∙ order_told net sound number (Arm command edition due) range
+  pub change_read : (number : ℕ) (one : Change) → IsChangeInRange net number one → said_in net (words (spaced (change_parts net number one))) ≡ Some (edition_said number one, one)
+  change_read number (change.Edit edit) range =
+      ap (said_in net) (words-spaced (change_parts net number (change.Edit edit)) (omega arith) (edit-lacks net sound 32 refl refl number edit range)) ∙ edit_change_read net sound number edit range
+  change_read number (change.Install plan) range = ap (said_in net) (plan-words net sound plan range) ∙ install_change_read net sound plan range
+  change_read number (change.Order (Load command edition)) range =
+      ap (said_in net) (words-spaced (order_words (Load command edition)) (omega arith) (order-lacks net sound 32 refl refl (Load command edition) range)) ∙ order_change_read net sound number (Load command edition) range
+  change_read number (change.Order (Arm command edition due)) range =
+      ap (said_in net) (words-spaced (order_words (Arm command edition due)) (omega arith) (order-lacks net sound 32 refl refl (Arm command edition due) range)) ∙ order_change_read net sound number (Arm command edition due) range
 
   -- what is read is spelled as it is, and in range
-  pub record IsHeard (text : List ℕ) (said : Told) : Type 0 where
+  pub record IsSpelledText (text : List ℕ) (said : Said) : Type 0 where
     pub spelled : text ≡ spaced (change_parts net said.0.0 said.1)
     pub range : IsChangeInRange net said.0.0 said.1
     pub edition : said.0 ≡ edition_said said.0.0 said.1
 
-  heard_by : (text kind : List ℕ) (rest : List (List ℕ)) (said : Told) (plan : Bool) → lacks 10 text ≡ true → words text ≡ kind ∷ rest
-      → cond plan (told_plan net (kind ∷ rest)) (told_small net kind rest) ≡ Some said → IsHeard text said
-  heard_by text kind rest said true none are is =
-      let here = plan_said net sound text said none (ap (told_plan net) are ∙ is) in
-      let plain : IsHeard text (here.plan.edition, change.Install here.plan) = record { spelled = here.spelled; range = here.range; edition = refl } in
-      subst (IsHeard text) (sym here.change_is) plain
-  heard_by text kind rest said false none are is =
-      let here = small_said net kind rest said is in
+  text_spelled_by : (text kind : List ℕ) (rest : List (List ℕ)) (said : Said) (plan : Bool) → lacks 10 text ≡ true → words text ≡ kind ∷ rest
+      → cond plan (said_plan net (kind ∷ rest)) (said_small net kind rest) ≡ Some said → IsSpelledText text said
+  text_spelled_by text kind rest said true none are is =
+      let here = install_spelled net sound text said none (ap (said_plan net) are ∙ is) in
+      let plain : IsSpelledText text (here.plan.edition, change.Install here.plan) = record { spelled = here.spelled; range = here.range; edition = refl } in
+      subst (IsSpelledText text) (sym here.change_is) plain
+  text_spelled_by text kind rest said false none are is =
+      let here = small_spelled net kind rest said is in
       record { spelled = sym (spaced-words text) ∙ ap spaced (are ∙ here.spelled); range = here.range; edition = here.edition }
 
-  heard_from : (ws : List (List ℕ)) (kind : List ℕ) (rest : List (List ℕ)) (said : Told) → ws ≡ kind ∷ rest → told_in net ws ≡ Some said → told_in net (kind ∷ rest) ≡ Some said
-  heard_from ws kind rest said are is = ap (told_in net) (sym are) ∙ is
+  said_from : (ws : List (List ℕ)) (kind : List ℕ) (rest : List (List ℕ)) (said : Said) → ws ≡ kind ∷ rest → said_in net ws ≡ Some said → said_in net (kind ∷ rest) ≡ Some said
+  said_from ws kind rest said are is = ap (said_in net) (sym are) ∙ is
 
-  pub heard : (text : List ℕ) (said : Told) → lacks 10 text ≡ true → told_in net (words text) ≡ Some said → IsHeard text said
-  heard text said none is =
+  pub text_spelled : (text : List ℕ) (said : Said) → lacks 10 text ≡ true → said_in net (words text) ≡ Some said → IsSpelledText text said
+  text_spelled text said none is =
       let (kind, rest, are) = words-HasFirst text in
-      heard_by text kind rest said (is_word (codes "plan") kind) none are (heard_from (words text) kind rest said are is)
+      text_spelled_by text kind rest said (is_word (codes "plan") kind) none are (said_from (words text) kind rest said are is)
 
   -- two changes with one line are one
-  told_twice : (ws : List (List ℕ)) (said again : Told) → told_in net ws ≡ Some said → told_in net ws ≡ Some again → said ≡ again
-  told_twice ws said again first second = same_Some said again (sym first ∙ second)
+  read_twice : (ws : List (List ℕ)) (said again : Said) → said_in net ws ≡ Some said → said_in net ws ≡ Some again → said ≡ again
+  read_twice ws said again first second = same_Some said again (sym first ∙ second)
 
-  same_told : (number other : ℕ) (one two : Change) → IsChangeInRange net number one → IsChangeInRange net other two → change_line net number one ≡ change_line net other two
-      → told_in net (words (spaced (change_parts net number one))) ≡ Some (edition_said other two, two)
-  same_told number other one two range ranged same =
+  same_read : (number other : ℕ) (one two : Change) → IsChangeInRange net number one → IsChangeInRange net other two → change_line net number one ≡ change_line net other two
+      → said_in net (words (spaced (change_parts net number one))) ≡ Some (edition_said other two, two)
+  same_read number other one two range ranged same =
       let text = append_cancel_right (spaced (change_parts net number one)) (spaced (change_parts net other two)) (10 ∷ []) same in
-      ap (λ t. told_in net (words t)) text ∙ told other two ranged
+      ap (λ t. said_in net (words t)) text ∙ change_read other two ranged
 
   pub same_change : (number other : ℕ) (one two : Change) → IsChangeInRange net number one → IsChangeInRange net other two → change_line net number one ≡ change_line net other two
       → (one ≡ two) × (edition_said number one ≡ edition_said other two)
   same_change number other one two range ranged same =
-      let both = told_twice (words (spaced (change_parts net number one))) (edition_said number one, one) (edition_said other two, two) (told number one range) (same_told number other one two range ranged same) in
-      (ap (λ (t : Told). t.1) both, ap (λ (t : Told). t.0) both)
+      let both = read_twice (words (spaced (change_parts net number one))) (edition_said number one, one) (edition_said other two, two) (change_read number one range) (same_read number other one two range ranged same) in
+      (ap (λ (t : Said). t.1) both, ap (λ (t : Said). t.0) both)
 
   -- what is read of a line that is a text and a newline
   line_is : (line text : List ℕ) → lines line ≡ text ∷ [] ∷ [] → line ≡ text ++ 10 ∷ []
   line_is line text is = text_from_first_line line text [] is
 
-  heard_line : (line text : List ℕ) (said : Told) → lines line ≡ text ∷ [] ∷ [] → told_in net (words text) ≡ Some said
+  line_spelled : (line text : List ℕ) (said : Said) → lines line ≡ text ∷ [] ∷ [] → said_in net (words text) ≡ Some said
       → (line ≡ change_line net said.0.0 said.1) × IsChangeInRange net said.0.0 said.1 × (said.0 ≡ edition_said said.0.0 said.1)
-  heard_line line text said is read =
-      let here = heard text said (first_line_lacks line text ([] ∷ []) is) read in
+  line_spelled line text said is read =
+      let here = text_spelled text said (first_line_lacks line text ([] ∷ []) is) read in
       (line_is line text is ∙ ap (λ t. t ++ 10 ∷ []) here.spelled, here.range, here.edition)
 
   -- the line of a change is one, and is read
   pub own_lines : (line : List ℕ) (number : ℕ) (one : Change) → IsChangeInRange net number one → line ≡ change_line net number one → lines line ≡ spaced (change_parts net number one) ∷ [] ∷ []
   own_lines line number one range is = ap lines (is ∙ sym (append-nil (change_line net number one))) ∙ cut number one [] range
 
-  not_told : (line text : List ℕ) (number : ℕ) (one : Change) → lines line ≡ text ∷ [] ∷ [] → told_in net (words text) ≡ None → IsChangeInRange net number one → line ≡ change_line net number one → ⊥
-  not_told line text number one first none range is =
+  not_said : (line text : List ℕ) (number : ℕ) (one : Change) → lines line ≡ text ∷ [] ∷ [] → said_in net (words text) ≡ None → IsChangeInRange net number one → line ≡ change_line net number one → ⊥
+  not_said line text number one first none range is =
       let both : text ∷ [] ∷ [] ≡ spaced (change_parts net number one) ∷ [] ∷ [] = sym first ∙ own_lines line number one range is in
       let same : text ≡ spaced (change_parts net number one) = cc in
-      let read = sym none ∙ (ap (λ t. told_in net (words t)) same ∙ told number one range) in
+      let read = sym none ∙ (ap (λ t. said_in net (words t)) same ∙ change_read number one range) in
       absurd cc
 
   -- the answer to a line
-  pub record IsAnswer (line : List ℕ) (result : Result Told LineFault) : Type 0 where
+  pub record IsAnswer (line : List ℕ) (result : Result Said LineFault) : Type 0 where
     pub line_is : IfOk result (λ said. line ≡ change_line net said.0.0 said.1)
     pub range : IfOk result (λ said. IsChangeInRange net said.0.0 said.1)
     pub edition : IfOk result (λ said. said.0 ≡ edition_said said.0.0 said.1)
     pub bad : IsErrOf result Bad → (number : ℕ) (one : Change) → IsChangeInRange net number one → line ≡ change_line net number one → ⊥
 
-  pub answered : (line text : List ℕ) (result : Result Told LineFault) → lines line ≡ text ∷ [] ∷ [] → Answers result (told_in net (words text)) → IsAnswer line result
+  pub answered : (line text : List ℕ) (result : Result Said LineFault) → lines line ≡ text ∷ [] ∷ [] → Answers result (said_in net (words text)) → IsAnswer line result
   answered line text (Ok said) is read =
-      let here = heard_line line text said is read in
+      let here = line_spelled line text said is read in
       record { line_is = here.0; range = here.1; edition = here.2; bad = λ h. absurd cc }
-  answered line text (Err Bad) is read = record { line_is = tt; range = tt; edition = tt; bad = λ h number one range same. not_told line text number one is read range same }
+  answered line text (Err Bad) is read = record { line_is = tt; range = tt; edition = tt; bad = λ h number one range same. not_said line text number one is read range same }
   answered line text (Err OutOfMemory) is read = record { line_is = tt; range = tt; edition = tt; bad = λ h. absurd cc }
 
 -- a line is longer than its text
