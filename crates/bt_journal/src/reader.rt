@@ -1,11 +1,9 @@
 // Reading the line of a change.
-ghost use Rattle.std.specs.Prelude.{◌≡◌, ◌≤◌, ◌<◌, ◌+◌, ◌∷◌, [], ℕ, List, IfOk, IsErrOf, IfSome, IfNone, drop, length};
-ghost use Rattle.std.specs.Option.{option_map};
+ghost use Rattle.std.specs.Prelude.{◌≡◌, ◌≤◌, ◌+◌, ◌∷◌, [], ℕ, List, IfOk, IsErrOf, IfSome, IfNone, drop, length};
 ghost use Rattle.bt_text.specs.Text.{words, lines};
-ghost use Rattle.bt_net.specs.Terminals.{IsTerminal};
 ghost use Rattle.bt_journal.specs.declared.call.Change.{Change};
 ghost use Rattle.bt_journal.specs.JournalLines.{change_line, edition_said, IsChangeInRange};
-ghost use Rattle.bt_journal.specs.LineReading.{number_from, terminal_in, ends_in, units_in, link_in, links_in, edit_of, edit_in, said_edit, said_load, said_arm, said_small, said_plan, said_in, words_behind, left_behind, separator, in_lines, at_end, Answers};
+ghost use Rattle.bt_journal.specs.LineReading.{number_from, terminal_in, ends_in, units_in, link_in, links_in, edit_of, edit_in, said_edit, said_load, said_arm, said_small, said_plan, said_in, words_behind, left_behind, separator, in_lines, Answers};
 
 use crate::{Change, Edit, LineFault};
 use bt_air::Order;
@@ -32,7 +30,7 @@ pub fn read_change(
     ensures bad { IsErrOf result LineFault.Bad → (number : ℕ) → (change : Change)
         → IsChangeInRange net.now number change → line.now ≡ change_line net.now number change → ⊥ }
 {
-    let _sound = net.beam_count();
+    let _beams = net.beam_count();
     let Some(text) = text_of(line) else {
         return Err(LineFault::Bad);
     };

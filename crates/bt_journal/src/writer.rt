@@ -1,5 +1,5 @@
 // Writing the line of a change.
-ghost use Rattle.std.specs.Prelude.{◌≡◌, ◌<◌, ◌++◌, ◌∷◌, [], IfOk, OnOk, length, decimal, map};
+ghost use Rattle.std.specs.Prelude.{◌≡◌, ◌++◌, ◌∷◌, IfOk, OnOk, decimal, map};
 ghost use Rattle.bt_text.specs.Text.{spaced};
 ghost use Rattle.bt_net.specs.Terminals.{name_at, IsBetweenTerminals};
 ghost use Rattle.bt_plan.specs.PlanSpelling.{plan_lines, IsPlanInRange};
@@ -144,7 +144,7 @@ fn install_text(alloc: Global, net: &Network, plan: &Plan) -> Result<Vec<u8>, Ou
     requires range { IsPlanInRange net.now plan.now }
     ensures { IfOk result (λ text. text.items ≡ spaced (plan_lines net.now plan.now)) }
 {
-    let _sound = net.beam_count();
+    let _beams = net.beam_count();
     let mut text = plan_text(alloc, net, plan)?;
     join_lines(&mut text);
     let _last = text.pop();
