@@ -14,3 +14,4 @@ pub mod Demands
 pub mod Strays
 pub mod Opened
 pub mod Replayed
+pub mod OneJournal

@@ -24,7 +24,7 @@ use Rattle.bt_book.proofs.Histories.{as_list, changes_of-cons, FollowFrom-grows}
 use Rattle.bt_book.proofs.Start.{KeepsUp-start}
 
 -- of changes that follow, each is on the network, and good after those before it
-FollowFrom-at : (net : Net) (from before : List Change) (one : Change) (after : List Change) → FollowFrom net from (before ++ one ∷ after)
+pub FollowFrom-at : (net : Net) (from before : List Change) (one : Change) (after : List Change) → FollowFrom net from (before ++ one ∷ after)
     → IsChangeOn net one × IsGood net (from ++ before) one
 FollowFrom-at net from [] one after follow = (follow.0, subst (λ (c : List Change). IsGood net c one) (sym (append-nil from)) follow.1)
 FollowFrom-at net from (first ∷ rest) one after follow =

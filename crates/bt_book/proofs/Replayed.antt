@@ -87,7 +87,7 @@ three_words first second third rest =
     omega (arith, length-append first (32 ∷ spaced (second ∷ third ∷ rest)), two_words second third rest)
 
 -- what a newline behind a line makes of its length
-ended_length : (line : List ℕ) → length (line ++ 10 ∷ []) ≡ length line + 1
+pub ended_length : (line : List ℕ) → length (line ++ 10 ∷ []) ≡ length line + 1
 ended_length line = length-append line (10 ∷ [])
 
 long_edit : (number : ℕ) (word : List ℕ) (rest : List (List ℕ)) → 3 ≤ length word → 9 ≤ length (spaced (codes "edit" ∷ decimal number ∷ word ∷ rest) ++ 10 ∷ [])
@@ -176,7 +176,7 @@ Stands-start net text machine net_is state_is no_call =
       follow = subst (Follows net) (sym none) tt;
     }
 
-tail-cons : (line : List ℕ) (ls : List (List ℕ)) → HasFirst ls → slice_index_or (line ∷ ls) (length (line ∷ ls) - 1) [] ≡ slice_index_or ls (length ls - 1) []
+pub tail-cons : (line : List ℕ) (ls : List (List ℕ)) → HasFirst ls → slice_index_or (line ∷ ls) (length (line ∷ ls) - 1) [] ≡ slice_index_or ls (length ls - 1) []
 tail-cons line ls (first, rest, is) = rw is (simp unary_clauses)
 
 -- the next line, with its newline, is what is read

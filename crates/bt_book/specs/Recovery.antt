@@ -83,3 +83,11 @@ IsRecoverFault net old new before now (J2 number) = (new ≡ old) × IfSome old 
 IsRecoverFault net old new before now StoreFault = MaybeCut old new × Rose before now
 IsRecoverFault net old new before now TooLong = (new ≡ old) × IsLonger old STORE_LAST
 IsRecoverFault net old new before now OutOfMemory = MaybeCut old new
+
+-- the fault says nothing of the lines: the store failed or holds too much, or memory ran out
+abbrev pub IsOutside : RecoverFault → Type 0
+IsOutside (J1 _) = ⊥
+IsOutside (J2 _) = ⊥
+IsOutside StoreFault = Unit {0}
+IsOutside TooLong = Unit {0}
+IsOutside OutOfMemory = Unit {0}

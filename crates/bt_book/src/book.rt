@@ -1,10 +1,11 @@
 // The book of changes, with the store of its records.
-ghost use Rattle.std.specs.Prelude.{◌≡◌, ◌<◌, ◌≤◌, ◌++◌, ◌∷◌, [], length, slice_index_or, option_map, IfOk, IfErr, IfSome, OnErr};
+ghost use Rattle.std.specs.Prelude.{◌≡◌, ◌<◌, ◌≤◌, ◌++◌, ◌∷◌, [], length, slice_index_or, option_map, IfOk, IfErr, IfSome, IsErrAnd, MatchResult, OnErr, List, ℕ, ◌⊎◌};
 ghost use Rattle.std.specs.List.{HoldsAt};
 ghost use Rattle.bt_book.specs.Changes.{edition, empty_plan, newest, orders, plans, IsDemandAfter, IsDemandAt};
 ghost use Rattle.bt_book.specs.Causes.{Follows};
 ghost use Rattle.bt_book.specs.Machine.{running, IsOfNetwork, Step};
-ghost use Rattle.bt_book.specs.Recovery.{IsRecoverFault, Recovered, whole};
+ghost use Rattle.bt_book.specs.Recovery.{IsFirstNoLine, IsFirstStray, IsOutside, IsRecoverFault, Recovered, whole};
+ghost use Rattle.bt_journal.specs.declared.call.Change.{Change};
 ghost use Rattle.bt_journal.specs.JournalLines.{Keeps};
 
 use crate::RecoverFault;
@@ -14,7 +15,7 @@ use bt_air::Order;
 use bt_base::Keeper;
 use bt_demand::{Demand, Plan};
 use bt_frame::{EditionNo, OutOfMemory};
-use bt_journal::{Call, Entry, Reply};
+use bt_journal::{Call, Entry, Reply, lines_end_once, lines_tell_changes};
 use bt_net::Network;
 use std::alloc::Global;
 use std::marker::Model;
@@ -71,8 +72,18 @@ impl<K: Keeper> Book<K> {
         ensures keeps { IfOk result (λ book. IfSome (K.told book.store) (λ bytes. Keeps net.now bytes book.state.changes)) }
         ensures later { IfOk result (λ book. K.fault_count store ≤ K.fault_count book.store) }
         ensures fault { IfErr result (λ end. IsRecoverFault net.now (K.told store) (K.told end.0) (K.fault_count store) (K.fault_count end.0) end.1) }
+        ensures exact_changes { IfSome (K.told store) (λ bytes. (changes : List Change) → Recovered net.now bytes changes
+            → MatchResult result (λ book. book.state.changes ≡ changes) (λ end. IsOutside end.1)) }
+        ensures exact_no_line { IfSome (K.told store) (λ bytes. (number : ℕ) → IsFirstNoLine net.now bytes number
+            → IsErrAnd result (λ end. (end.1 ≡ RecoverFault.J1 number) ⊎ IsOutside end.1)) }
+        ensures exact_stray { IfSome (K.told store) (λ bytes. (number : ℕ) → IsFirstStray net.now bytes number
+            → IsErrAnd result (λ end. (end.1 ≡ RecoverFault.J2 number) ⊎ IsOutside end.1)) }
         ensures fault_later { IfErr result (λ end. K.fault_count store ≤ K.fault_count end.0) }
     {
+        // These are there for what holds of each network, and of the lines of changes.
+        let _beams = net.beam_count();
+        lines_end_once();
+        lines_tell_changes();
         match recover_machine(alloc, net, &mut store) {
             Ok(machine) => Ok(Book { machine, store }),
             Err(fault) => Err((store, fault)),

@@ -6,7 +6,8 @@
 //! `specs/EditCauses.antt` and `specs/Causes.antt`, why a change is refused; `specs/Machine.antt`, the machine as a
 //! relation over the list of changes; `specs/Recovery.antt`, what a journal tells, and its first line that tells nothing;
 //! `specs/Book.antt`, what contracts see of a book, which a turn lock may hand round. `specs/Faults.antt` and
-//! `specs/Records.antt` are for bodies alone. `laws.rt` has what holds of all histories.
+//! `specs/Records.antt` are for bodies alone. `laws.rt` and `journal_laws.rt` have what
+//! holds of all histories and of all journals.
 #![tactic(auto)]
 
 mod apply;
@@ -16,6 +17,7 @@ mod demand_laws;
 mod earlier;
 mod fault;
 mod install;
+mod journal_laws;
 mod laws;
 mod lines;
 mod machine;
@@ -29,6 +31,7 @@ mod tell;
 pub use book::Book;
 pub use demand_laws::demands_fit_the_frame;
 pub use fault::RecoverFault;
+pub use journal_laws::journals_tell_one_thing;
 pub use laws::{
     histories_grow_by_steps, installed_plans_can_be_flown, legal_changes_follow,
     locked_books_are_legal, replies_name_beams_of_the_network,
