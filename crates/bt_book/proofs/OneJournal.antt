@@ -291,9 +291,9 @@ pub fault_changes : (net : Net) (are : AreLines net) (old new : Option (List ℕ
     → IfSome old (λ bytes. (changes : List Change) → Recovered net bytes changes → IsOutside fault)
 fault_changes net are None new before now fault is = tt
 fault_changes net are (Some bytes) new before now (J1 number) is =
-    λ changes told. absurd (told_not_wrong net are bytes changes number (λ _ line. IsNoLine net line) (no_line_Wrongs net) told is.1)
+    λ changes told. absurd (told_not_wrong net are bytes changes number (λ _ line. IsNoLine net line) (no_line_Wrongs net) told is.2)
 fault_changes net are (Some bytes) new before now (J2 number) is =
-    λ changes told. absurd (told_not_wrong net are bytes changes number (IsStray net) (stray_Wrongs net are) told is.1)
+    λ changes told. absurd (told_not_wrong net are bytes changes number (IsStray net) (stray_Wrongs net are) told is.2)
 fault_changes net are (Some bytes) new before now StoreFault is = λ _ _. tt
 fault_changes net are (Some bytes) new before now TooLong is = λ _ _. tt
 fault_changes net are (Some bytes) new before now OutOfMemory is = λ _ _. tt
@@ -303,8 +303,8 @@ pub fault_no_line : (net : Net) (are : AreLines net) (old new : Option (List ℕ
     → IfSome old (λ bytes. (number : ℕ) → IsFirstNoLine net bytes number → (fault ≡ J1 number) ⊎ IsOutside fault)
 fault_no_line net are None new before now fault is = tt
 fault_no_line net are (Some bytes) new before now (J1 found) is =
-    λ number first. inl (ap J1 (one_number net are bytes found number (λ _ line. IsNoLine net line) (no_line_Wrongs net) is.1 first))
-fault_no_line net are (Some bytes) new before now (J2 found) is = λ number first. absurd (not_both net are bytes number found first is.1)
+    λ number first. inl (ap J1 (one_number net are bytes found number (λ _ line. IsNoLine net line) (no_line_Wrongs net) is.2 first))
+fault_no_line net are (Some bytes) new before now (J2 found) is = λ number first. absurd (not_both net are bytes number found first is.2)
 fault_no_line net are (Some bytes) new before now StoreFault is = λ _ _. inr tt
 fault_no_line net are (Some bytes) new before now TooLong is = λ _ _. inr tt
 fault_no_line net are (Some bytes) new before now OutOfMemory is = λ _ _. inr tt
@@ -312,9 +312,9 @@ fault_no_line net are (Some bytes) new before now OutOfMemory is = λ _ _. inr t
 pub fault_stray : (net : Net) (are : AreLines net) (old new : Option (List ℕ)) (before now : ℕ) (fault : RecoverFault) → IsRecoverFault net old new before now fault
     → IfSome old (λ bytes. (number : ℕ) → IsFirstStray net bytes number → (fault ≡ J2 number) ⊎ IsOutside fault)
 fault_stray net are None new before now fault is = tt
-fault_stray net are (Some bytes) new before now (J1 found) is = λ number first. absurd (not_both net are bytes found number is.1 first)
+fault_stray net are (Some bytes) new before now (J1 found) is = λ number first. absurd (not_both net are bytes found number is.2 first)
 fault_stray net are (Some bytes) new before now (J2 found) is =
-    λ number first. inl (ap J2 (one_number net are bytes found number (IsStray net) (stray_Wrongs net are) is.1 first))
+    λ number first. inl (ap J2 (one_number net are bytes found number (IsStray net) (stray_Wrongs net are) is.2 first))
 fault_stray net are (Some bytes) new before now StoreFault is = λ _ _. inr tt
 fault_stray net are (Some bytes) new before now TooLong is = λ _ _. inr tt
 fault_stray net are (Some bytes) new before now OutOfMemory is = λ _ _. inr tt

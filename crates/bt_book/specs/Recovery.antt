@@ -1,5 +1,5 @@
 -- What a journal tells: the changes of its lines, or the first line that is of no change, or whose change does not follow.
-use Rattle.std.specs.Prelude.{◌≡◌, ◌≢◌, ◌⊎◌, ℕ, ◌+◌, ◌-◌, true, List, [], ◌∷◌, ◌++◌, length, take, slice_index_or, Option, IfSome, option_map}
+use Rattle.std.specs.Prelude.{◌≡◌, ◌≢◌, ◌⊎◌, ℕ, ◌+◌, ◌-◌, ◌≤◌, true, List, [], ◌∷◌, ◌++◌, length, take, slice_index_or, Option, IfSome, option_map}
 use Rattle.bt_base.specs.declared.keeper.TheConstants.{STORE_LAST}
 use Rattle.bt_base.specs.Told.{IsLonger, Rose}
 use Rattle.bt_text.specs.Text.{lines, lacks}
@@ -76,10 +76,14 @@ IsFirstStray net bytes number = IsFirst net bytes number (IsStray net)
 abbrev pub MaybeCut : Option (List ℕ) → Option (List ℕ) → Type 0
 MaybeCut old new = (new ≡ old) ⊎ (new ≡ option_map whole old)
 
+-- no more bytes are told than are read from a store
+abbrev pub IsReadable : Option (List ℕ) → Type 0
+IsReadable told = IfSome told (λ bytes. length bytes ≤ STORE_LAST)
+
 -- what a recovery that failed says of the bytes told before it, and what is told after it, with the counts of faults
 abbrev pub IsRecoverFault : Net → Option (List ℕ) → Option (List ℕ) → ℕ → ℕ → RecoverFault → Type 0
-IsRecoverFault net old new before now (J1 number) = (new ≡ old) × IfSome old (λ bytes. IsFirstNoLine net bytes number)
-IsRecoverFault net old new before now (J2 number) = (new ≡ old) × IfSome old (λ bytes. IsFirstStray net bytes number)
+IsRecoverFault net old new before now (J1 number) = (new ≡ old) × IsReadable old × IfSome old (λ bytes. IsFirstNoLine net bytes number)
+IsRecoverFault net old new before now (J2 number) = (new ≡ old) × IsReadable old × IfSome old (λ bytes. IsFirstStray net bytes number)
 IsRecoverFault net old new before now StoreFault = MaybeCut old new × Rose before now
 IsRecoverFault net old new before now TooLong = (new ≡ old) × IsLonger old STORE_LAST
 IsRecoverFault net old new before now OutOfMemory = MaybeCut old new

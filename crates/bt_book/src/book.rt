@@ -4,7 +4,7 @@ ghost use Rattle.std.specs.List.{HoldsAt};
 ghost use Rattle.bt_book.specs.Changes.{edition, empty_plan, newest, orders, plans, IsDemandAfter, IsDemandAt};
 ghost use Rattle.bt_book.specs.Causes.{Follows};
 ghost use Rattle.bt_book.specs.Machine.{running, IsOfNetwork, Step};
-ghost use Rattle.bt_book.specs.Recovery.{IsFirstNoLine, IsFirstStray, IsOutside, IsRecoverFault, Recovered, whole};
+ghost use Rattle.bt_book.specs.Recovery.{IsFirstNoLine, IsFirstStray, IsOutside, IsReadable, IsRecoverFault, Recovered, whole};
 ghost use Rattle.bt_journal.specs.declared.call.Change.{Change};
 ghost use Rattle.bt_journal.specs.JournalLines.{Keeps};
 
@@ -67,6 +67,7 @@ impl<K: Keeper> Book<K> {
         ensures history { IfOk result (λ book. book.history ≡ []) }
         ensures state { IfOk result (λ book. book.state ≡ running book.state.changes) }
         ensures changes { IfOk result (λ book. IfSome (K.told store) (λ bytes. Recovered net.now bytes book.state.changes)) }
+        ensures readable { IfOk result (λ _. IsReadable (K.told store)) }
         ensures follows { IfOk result (λ book. Follows net.now book.state.changes) }
         ensures told { IfOk result (λ book. K.told book.store ≡ option_map whole (K.told store)) }
         ensures keeps { IfOk result (λ book. IfSome (K.told book.store) (λ bytes. Keeps net.now bytes book.state.changes)) }
