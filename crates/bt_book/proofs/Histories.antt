@@ -147,6 +147,21 @@ AreSteps-grow net old (first ∷ rest) entry after (between, one, more) step =
     let here = subst (λ (s : State). Step net s entry.call entry.reply after) (state_from-first old first rest ∙ ap (λ (s : State). state_from s rest) (sym is)) step in
     (between, one, AreSteps-grow net between rest entry after more here)
 
+-- steps, and more from the state that they come to
+pub AreSteps-append : (net : Net) (old : State) (first more : List Entry) → AreSteps net old first → AreSteps net (state_from old first) more → AreSteps net old (first ++ more)
+AreSteps-append net old [] more steps later = subst (λ (s : State). AreSteps net s more) (state_from-none old) later
+AreSteps-append net old (one ∷ rest) more (between, step, steps) later =
+    let is = Step-adds net old one.call one.reply between step in
+    let here = subst (λ (s : State). AreSteps net s more) (state_from-first old one rest ∙ ap (λ (s : State). state_from s rest) (sym is)) later in
+    (between, step, AreSteps-append net between rest more steps here)
+
+pub state_from-append : (old : State) (first more : List Entry) → state_from old (first ++ more) ≡ state_from (state_from old first) more
+state_from-append old [] more = ap (λ (s : State). state_from s more) (sym (state_from-none old))
+state_from-append old (one ∷ rest) more =
+    state_from-first old one (rest ++ more)
+    ∙ state_from-append (after_call old one.call one.reply) rest more
+    ∙ ap (λ (s : State). state_from s more) (sym (state_from-first old one rest))
+
 pub Legal-grows : (net : Net) (changes : List Change) (history : List Entry) (entry : Entry) (after : State) → Legal net changes history
     → Step net (state_after changes history) entry.call entry.reply after → Legal net changes (history ++ entry ∷ [])
 Legal-grows net changes history entry after legal step = AreSteps-grow net (running changes) history entry after legal step

@@ -12,7 +12,7 @@ ghost use Rattle.bt_line.specs.Legal as line_legal;
 ghost use Rattle.bt_book.specs.Book.{Books, book_steps, journal_entry};
 ghost use Rattle.bt_book.specs.Changes.{newest, plans};
 ghost use Rattle.bt_book.specs.Causes.{Follows};
-ghost use Rattle.bt_book.specs.Machine.{running, State, state_after, Legal, NamesBeams, Step};
+ghost use Rattle.bt_book.specs.Machine.{State, state_after, Legal, NamesBeams, Step};
 
 use bt_base::Keeper;
 
@@ -41,17 +41,27 @@ pub fn installed_plans_can_be_flown()
         → IsFlyable net (newest changes) }
 {}
 
-/// The history that a turn lock makes of a book's calls is one of the machine: legal from the changes at its start, and
-/// it leads to the state of the book at its end. The network and the store stay.
+/// What a turn lock makes of the calls on a book with a legal history lengthens that history: with the entries of these
+/// calls behind it, it is legal from its opening changes on, and leads to the state of the book at the end. The network
+/// and the store stay.
 pub fn locked_books_are_legal<K: Keeper>()
-    ensures legal { (start end : Books K) (opening : List Change) (log : List (line.Entry Call Reply))
-        → start.state ≡ running opening → line_legal.Legal book_steps start log end
-        → Legal start.net opening (map journal_entry log) }
-    ensures state { (start end : Books K) (opening : List Change) (log : List (line.Entry Call Reply))
-        → start.state ≡ running opening → line_legal.Legal book_steps start log end
-        → end.state ≡ state_after opening (map journal_entry log) }
+    ensures legal { (start end : Books K) (opening : List Change) (history : List Entry) (log : List (line.Entry Call Reply))
+        → Legal start.net opening history → start.state ≡ state_after opening history → line_legal.Legal book_steps start log end
+        → Legal start.net opening (history ++ map journal_entry log) }
+    ensures state { (start end : Books K) (opening : List Change) (history : List Entry) (log : List (line.Entry Call Reply))
+        → start.state ≡ state_after opening history → line_legal.Legal book_steps start log end
+        → end.state ≡ state_after opening (history ++ map journal_entry log) }
     ensures kept { (start end : Books K) (log : List (line.Entry Call Reply)) → line_legal.Legal book_steps start log end
         → (end.net ≡ start.net) × (end.store ≡ start.store) }
+{}
+
+/// Each call that a turn lock makes on a book with a legal history is answered by a step of the machine, after changes
+/// that follow.
+pub fn locked_calls_are_steps<K: Keeper>()
+    ensures { (start end : Books K) (opening : List Change) (history : List Entry) (before : List (line.Entry Call Reply)) (entry : line.Entry Call Reply)
+        → Follows start.net opening → Legal start.net opening history → start.state ≡ state_after opening history
+        → line_legal.Legal book_steps start (before ++ entry ∷ []) end
+        → (old : State) × (new : State) × Follows start.net old.changes × Step start.net old entry.call entry.reply new }
 {}
 
 /// The beams that a reply names are the network's.

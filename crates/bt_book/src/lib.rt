@@ -34,5 +34,5 @@ pub use fault::RecoverFault;
 pub use journal_laws::journals_tell_one_thing;
 pub use laws::{
     histories_grow_by_steps, installed_plans_can_be_flown, legal_changes_follow,
-    locked_books_are_legal, replies_name_beams_of_the_network,
+    locked_books_are_legal, locked_calls_are_steps, replies_name_beams_of_the_network,
 };
