@@ -15,3 +15,4 @@ pub mod Strays
 pub mod Opened
 pub mod Replayed
 pub mod OneJournal
+mod GoodPlans

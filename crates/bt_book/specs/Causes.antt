@@ -5,6 +5,7 @@ use Rattle.bt_net.specs.Network.{Net}
 use Rattle.bt_demand.specs.declared.demand.Link.{Link}
 use Rattle.bt_demand.specs.declared.plan.Plan.{Plan}
 use Rattle.bt_demand.specs.Apart.{AreBetweenTerminals}
+use Rattle.bt_demand.specs.Plan.{IsGoodPlan}
 use Rattle.bt_air.specs.declared.order.Order.{Order}
 use Rattle.bt_air.specs.declared.order.Order.TheVariants.{Load, Arm}
 use Rattle.bt_air.specs.Orders.{command_of}
@@ -33,6 +34,12 @@ pub record GetsVerdict (net : Net) (changes : List Change) (plan : Plan) (verdic
   pub links : List Link
   pub demand : IsDemandAt changes plan.edition.0 links
   pub checked : IsPlanVerdict net links plan verdict
+
+-- the plan carries exactly the demand of its edition, in the least length
+pub record IsGoodForItsEdition (net : Net) (changes : List Change) (plan : Plan) : Type 0 where
+  pub links : List Link
+  pub demand : IsDemandAt changes plan.edition.0 links
+  pub good : IsGoodPlan net links plan
 
 -- the plan has no cause of a refusal of its own
 abbrev pub IsGoodInstall : Net → List Change → Plan → Type 0

@@ -75,9 +75,13 @@ abbrev pub plan_in : Change → Option Plan
 plan_in (change.Install plan) = Some plan
 plan_in _ = None
 
+-- the plans that the changes installed, in order
+abbrev pub installs : List Change → List Plan
+installs changes = filter_map plan_in changes
+
 -- the installed plans: the empty one, and then those that the changes installed, in order
 abbrev pub plans : List Change → List Plan
-plans changes = empty_plan ∷ filter_map plan_in changes
+plans changes = empty_plan ∷ installs changes
 
 -- the newest plan: the last that is installed
 abbrev pub newest : List Change → Plan

@@ -10,8 +10,8 @@ ghost use Rattle.bt_journal.specs.Journal.{changes_of};
 ghost use Rattle.bt_line.specs.declared.object.Entry as line;
 ghost use Rattle.bt_line.specs.Legal as line_legal;
 ghost use Rattle.bt_book.specs.Book.{Books, book_steps, journal_entry};
-ghost use Rattle.bt_book.specs.Changes.{newest, plans};
-ghost use Rattle.bt_book.specs.Causes.{Follows};
+ghost use Rattle.bt_book.specs.Changes.{installs, newest, plans};
+ghost use Rattle.bt_book.specs.Causes.{Follows, IsGoodForItsEdition};
 ghost use Rattle.bt_book.specs.Machine.{State, state_after, Legal, NamesBeams, Step};
 
 use bt_base::Keeper;
@@ -62,6 +62,12 @@ pub fn locked_calls_are_steps<K: Keeper>()
         → Follows start.net opening → Legal start.net opening history → start.state ≡ state_after opening history
         → line_legal.Legal book_steps start (before ++ entry ∷ []) end
         → (old : State) × (new : State) × Follows start.net old.changes × Step start.net old entry.call entry.reply new }
+{}
+
+/// Each plan that changes that follow install carries exactly the demand of its edition, in the least length.
+pub fn installed_plans_are_good()
+    ensures { (net : Net) (changes : List Change) → Follows net changes
+        → All (IsGoodForItsEdition net changes) (installs changes) }
 {}
 
 /// The beams that a reply names are the network's.

@@ -33,6 +33,7 @@ pub use demand_laws::demands_fit_the_frame;
 pub use fault::RecoverFault;
 pub use journal_laws::journals_tell_one_thing;
 pub use laws::{
-    histories_grow_by_steps, installed_plans_can_be_flown, legal_changes_follow,
-    locked_books_are_legal, locked_calls_are_steps, replies_name_beams_of_the_network,
+    histories_grow_by_steps, installed_plans_are_good, installed_plans_can_be_flown,
+    legal_changes_follow, locked_books_are_legal, locked_calls_are_steps,
+    replies_name_beams_of_the_network,
 };
