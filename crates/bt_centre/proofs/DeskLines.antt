@@ -5,7 +5,6 @@ use Rattle.std.proofs.Math.Seq.{take-suc}
 use Rattle.std.proofs.lemmas.Grind.{flat_map-append}
 use Rattle.std.proofs.lemmas.List.{append-nil, map-append}
 use Rattle.std.proofs.lemmas.List.Elements.{All-append, All-nil, All-cons, filter_map-append}
-use Rattle.bt_lists.proofs.Pairs.{AllPairs-append}
 use Rattle.bt_frame.specs.declared.numbers.TermNo.{TermNo}
 use Rattle.bt_net.specs.Network.{Net}
 use Rattle.bt_demand.specs.declared.plan.Plan.{Plan}
@@ -105,24 +104,27 @@ desk_text-append net desk (desk_line.Show terminal ∷ lines) more entries other
     (desk_text-append net desk lines more entries others shown later calls (omega (arith, counted)))
     ∙ sym (append_assoc (show_lines net desk plan terminal) (desk_text net desk lines entries shown) (desk_text net desk more others later))
 
+-- the plan is the one shown in the round
+abbrev pub IsShowing : Plan → Plan → Type 0
+IsShowing showing plan = plan ≡ showing
+
 -- no lines yet
-pub desk_begins : (net : Net) (desk : ℕ) (history : List Entry) (text : List ℕ) → DeskDone net desk [] history history text text
-desk_begins net desk history text = record {
+pub desk_begins : (net : Net) (desk : ℕ) (showing : Plan) (history : List Entry) (text : List ℕ) → DeskDone net desk showing [] history history text text
+desk_begins net desk showing history text = record {
   own = [];
   shown = [];
   calls = refl;
   callers = All-nil (IsBy (desk + 1));
   counted = refl;
-  seen = All-nil (IsShownBetween history history);
-  ascend = λ i j d less within. absurd (omega (arith, within));
+  seen = All-nil (IsShowing showing);
   kept = sym (append-nil history);
   printed = sym (append-nil text);
 }
 
 -- more lines
-desk_goes_on : (net : Net) (desk : ℕ) (lines more : List DeskLine) (h0 h1 h2 : List Entry) (t0 t1 t2 : List ℕ) → Follows net (changes_of h1) → Follows net (changes_of h2)
-    → DeskDone net desk lines h0 h1 t0 t1 → DeskDone net desk more h1 h2 t1 t2 → DeskDone net desk (lines ++ more) h0 h2 t0 t2
-desk_goes_on net desk lines more h0 h1 h2 t0 t1 t2 sooner later one two = record {
+desk_goes_on : (net : Net) (desk : ℕ) (showing : Plan) (lines more : List DeskLine) (h0 h1 h2 : List Entry) (t0 t1 t2 : List ℕ)
+    → DeskDone net desk showing lines h0 h1 t0 t1 → DeskDone net desk showing more h1 h2 t1 t2 → DeskDone net desk showing (lines ++ more) h0 h2 t0 t2
+desk_goes_on net desk showing lines more h0 h1 h2 t0 t1 t2 one two = record {
   own = one.own ++ two.own;
   shown = one.shown ++ two.shown;
   calls = map-append call_in one.own two.own
@@ -138,51 +140,45 @@ desk_goes_on net desk lines more h0 h1 h2 t0 t1 t2 sooner later one two = record
     ap length (flat_map-append shown_by_line lines more),
     length-append (flat_map shown_by_line lines) (flat_map shown_by_line more),
   );
-  seen = All-append (IsShownBetween h0 h2) one.shown two.shown
-      (λ k d within. shown_sooner net h0 h1 h2 two.own (get_or one.shown k d) two.kept later (one.seen k d within))
-      (λ k d within. shown_later net h0 h1 h2 one.own (get_or two.shown k d) one.kept sooner (two.seen k d within));
-  ascend = AllPairs-append IsNotNewer one.shown two.shown one.ascend two.ascend
-      (λ k d within j e inside. omega (arith, (one.seen k d within).last, (two.seen j e inside).fresh));
+  seen = All-append (IsShowing showing) one.shown two.shown one.seen two.seen;
   kept = two_pieces h0 one.own two.own h1 h2 one.kept two.kept;
   printed = two_pieces t0 (desk_text net desk lines one.own one.shown) (desk_text net desk more two.own two.shown) t1 t2 one.printed two.printed
       ∙ ap (λ (x : List ℕ). t0 ++ x) (sym (desk_text-append net desk lines more one.own two.own one.shown two.shown one.calls one.counted));
 }
 
 -- one line more, as a loop takes them
-pub desk_turn : (net : Net) (desk : ℕ) (lines : List DeskLine) (index : ℕ) (line : DeskLine) (h0 h1 h2 : List Entry) (t0 t1 t2 : List ℕ) → index < length lines
-    → line ≡ get_or lines index line → Follows net (changes_of h1) → Follows net (changes_of h2) → DeskDone net desk (take index lines) h0 h1 t0 t1
-    → DeskDone net desk (line ∷ []) h1 h2 t1 t2 → DeskDone net desk (take (index + 1) lines) h0 h2 t0 t2
-desk_turn net desk lines index line h0 h1 h2 t0 t1 t2 within is sooner later so one =
+pub desk_turn : (net : Net) (desk : ℕ) (showing : Plan) (lines : List DeskLine) (index : ℕ) (line : DeskLine) (h0 h1 h2 : List Entry) (t0 t1 t2 : List ℕ) → index < length lines
+    → line ≡ get_or lines index line → DeskDone net desk showing (take index lines) h0 h1 t0 t1
+    → DeskDone net desk showing (line ∷ []) h1 h2 t1 t2 → DeskDone net desk showing (take (index + 1) lines) h0 h2 t0 t2
+desk_turn net desk showing lines index line h0 h1 h2 t0 t1 t2 within is so one =
     let next : take (index + 1) lines ≡ take index lines ++ line ∷ [] =
     ap (λ n. take n lines) (one_more index) ∙ take-suc lines index line within ∙ ap (λ (x : DeskLine). take index lines ++ x ∷ []) (sym is) in
-    subst (λ (l : List DeskLine). DeskDone net desk l h0 h2 t0 t2) (sym next) (desk_goes_on net desk (take index lines) (line ∷ []) h0 h1 h2 t0 t1 t2 sooner later so one)
+    subst (λ (l : List DeskLine). DeskDone net desk showing l h0 h2 t0 t2) (sym next) (desk_goes_on net desk showing (take index lines) (line ∷ []) h0 h1 h2 t0 t1 t2 so one)
 
 -- an edit was asked, and its line printed
-pub desk_edited : (net : Net) (desk : ℕ) (edit : Edit) (entry : Entry) (h0 h1 : List Entry) (t0 t1 : List ℕ) → entry.caller ≡ desk + 1 → entry.call ≡ call.Edit edit
-    → h1 ≡ h0 ++ entry ∷ [] → t1 ≡ t0 ++ entry_line net (Some desk) entry → DeskDone net desk (desk_line.Edit edit ∷ []) h0 h1 t0 t1
-desk_edited net desk edit entry h0 h1 t0 t1 caller asked kept printed = record {
+pub desk_edited : (net : Net) (desk : ℕ) (showing : Plan) (edit : Edit) (entry : Entry) (h0 h1 : List Entry) (t0 t1 : List ℕ) → entry.caller ≡ desk + 1 → entry.call ≡ call.Edit edit
+    → h1 ≡ h0 ++ entry ∷ [] → t1 ≡ t0 ++ entry_line net (Some desk) entry → DeskDone net desk showing (desk_line.Edit edit ∷ []) h0 h1 t0 t1
+desk_edited net desk showing edit entry h0 h1 t0 t1 caller asked kept printed = record {
   own = entry ∷ [];
   shown = [];
   calls = ap (λ (c : Call). c ∷ []) asked;
   callers = All-cons (IsBy (desk + 1)) entry [] caller (All-nil (IsBy (desk + 1)));
   counted = refl;
-  seen = All-nil (IsShownBetween h0 h1);
-  ascend = λ i j d less within. absurd (omega (arith, within));
+  seen = All-nil (IsShowing showing);
   kept = kept;
   printed = printed ∙ ap (λ (l : List ℕ). t0 ++ l) (sym (append-nil (entry_line net (Some desk) entry)));
 }
 
--- the newest plan was shown
-pub desk_shown : (net : Net) (desk : ℕ) (terminal : TermNo) (plan : Plan) (history : List Entry) (t0 t1 : List ℕ) → plan ≡ newest (changes_of history)
-    → t1 ≡ t0 ++ show_lines net desk plan terminal → DeskDone net desk (desk_line.Show terminal ∷ []) history history t0 t1
-desk_shown net desk terminal plan history t0 t1 is printed = record {
+-- a plan was shown
+pub desk_shown : (net : Net) (desk : ℕ) (showing : Plan) (terminal : TermNo) (history : List Entry) (t0 t1 : List ℕ)
+    → t1 ≡ t0 ++ show_lines net desk showing terminal → DeskDone net desk showing (desk_line.Show terminal ∷ []) history history t0 t1
+desk_shown net desk showing terminal history t0 t1 printed = record {
   own = [];
-  shown = plan ∷ [];
+  shown = showing ∷ [];
   calls = refl;
   callers = All-nil (IsBy (desk + 1));
   counted = refl;
-  seen = All-cons (IsShownBetween history history) plan [] (shown_now history plan is) (All-nil (IsShownBetween history history));
-  ascend = λ i j d less within. absurd (omega (arith, less, within));
+  seen = All-cons (IsShowing showing) showing [] refl (All-nil (IsShowing showing));
   kept = sym (append-nil history);
-  printed = printed ∙ ap (λ (l : List ℕ). t0 ++ l) (sym (append-nil (show_lines net desk plan terminal)));
+  printed = printed ∙ ap (λ (l : List ℕ). t0 ++ l) (sym (append-nil (show_lines net desk showing terminal)));
 }

@@ -11,10 +11,6 @@ use Rattle.bt_demand.specs.Plan.{IsGoodPlan}
 use Rattle.bt_demand.specs.Traffic.{AreOfNetwork, HasSumsTo, matrix_of}
 use Rattle.bt_journal.specs.declared.call.Change.{Change}
 use Rattle.bt_journal.specs.declared.call.Change.TheVariants as change
-use Rattle.bt_journal.specs.declared.entry.Entry.{Entry}
-use Rattle.bt_journal.specs.Journal.{changes_of}
-use Rattle.bt_book.specs.Machine.{State}
-use Rattle.bt_centre.specs.Progress.{HasLegalHistory}
 use Rattle.bt_book.specs.Causes.{FollowFrom, Follows, IsChangeOn, IsGood}
 use Rattle.bt_book.specs.Changes.{IsDemandAfter, empty_plan, newest, plan_in, plans}
 
@@ -70,8 +66,3 @@ pub newest-flies : DemandLaws → (net : Net) (changes : List Change) → IsSoun
 newest-flies laws net changes sound follow =
     let all = all-fly laws net [] changes sound tt follow (All-cons (IsFlyable net) empty_plan [] (empty-flies net) (All-nil (IsFlyable net))) in
     All-get_or (IsFlyable net) (plans changes) (length (plans changes) - 1) empty_plan (omega arith) all
-
--- so can that of a book with a legal history
-pub book-flies : DemandLaws → (net : Net) (state : State) (history : List Entry) → IsSound net → HasLegalHistory net state history → IsFlyable net (newest state.changes)
-book-flies laws net state history sound so =
-    subst (λ (s : State). IsFlyable net (newest s.changes)) (sym so.reached) (newest-flies laws net (changes_of history) sound so.follows)

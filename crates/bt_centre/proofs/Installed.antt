@@ -6,11 +6,11 @@ use Rattle.std.proofs.lemmas.List.{append-nil, get_or_default}
 use Rattle.std.proofs.lemmas.List.Elements.{filter_map-append, Contains-append_left, All-nil, All-cons, All-get_or}
 use Rattle.bt_net.specs.Network.{Net}
 use Rattle.bt_demand.specs.declared.plan.Plan.{Plan}
-use Rattle.bt_demand.specs.Apart.{AreBetweenTerminals}
 use Rattle.bt_journal.specs.declared.call.Change.{Change}
 use Rattle.bt_journal.specs.declared.call.Change.TheVariants as change
 use Rattle.bt_book.specs.Causes.{FollowFrom, Follows, IsGood}
 use Rattle.bt_book.specs.Changes.{empty_plan, newest, plan_in, plans}
+use Rattle.bt_centre.specs.Planning.{IsBetween}
 
 -- the plans of more changes stand behind the others
 pub plans-append : (a b : List Change) → plans (a ++ b) ≡ plans a ++ filter_map plan_in b
@@ -58,10 +58,6 @@ follow_on net before (first ∷ rest) b follow =
 -- with more changes the newest plan is no older
 pub newest_ascends : (net : Net) (a b : List Change) → Follows net (a ++ b) → (newest a).edition.0 ≤ (newest (a ++ b)).edition.0
 newest_ascends net a b follow = ascends_from net a b (follow_on net [] a b follow)
-
--- the bursts of the plan are between terminals of the network
-abbrev pub IsBetween : Net → Plan → Type 0
-IsBetween net plan = AreBetweenTerminals net plan.bursts
 
 between_from : (net : Net) (before more : List Change) → FollowFrom net before more → All (IsBetween net) (filter_map plan_in more)
 between_from net before [] follow = All-nil (IsBetween net)

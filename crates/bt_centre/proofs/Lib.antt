@@ -1,9 +1,12 @@
 pub mod OnOk
-pub mod LegalHistories
+pub mod Asking
 pub mod Installed
 pub mod DeskLines
 pub mod PlannerLines
+pub mod DeskSeats
+pub mod Seating
 pub mod Rounds
+pub mod Closing
 pub mod FromNumber
 pub mod Terminals
 pub mod Sending

@@ -17,20 +17,21 @@ use Rattle.bt_demand.specs.Traffic.{matrix_of}
 use Rattle.bt_demand.proofs.Matrices.{length-matrix_of}
 use Rattle.bt_verdict.specs.declared.verdict.Verdict.{Verdict}
 use Rattle.bt_verdict.specs.declared.verdict.Verdict.TheVariants.{Good, V1, V2, V3, V4, V5, V6, V7, V8}
+use Rattle.bt_journal.specs.declared.call.Call.{Call}
 use Rattle.bt_journal.specs.declared.call.Call.TheVariants as call
 use Rattle.bt_journal.specs.declared.call.Change.{Change}
 use Rattle.bt_journal.specs.declared.call.Change.TheVariants as change
 use Rattle.bt_journal.specs.declared.entry.Entry.{Entry}
 use Rattle.bt_journal.specs.declared.reply.Reply.{Reply}
 use Rattle.bt_journal.specs.declared.reply.Reply.TheVariants.{Done, SameTerminal, NotThere, RowFull, ColumnFull, BookFull, NotNewer, NoSuchEdition, NotGood, OutOfTurn, NotInstalled, Demand, Installed, Newest, Placed, StoreFault, Stopped}
-use Rattle.bt_journal.specs.Journal.{changes_of}
 use Rattle.bt_book.specs.Causes.{IsCause, IsPlanOn}
 use Rattle.bt_book.specs.Changes.{IsDemandAfter}
-use Rattle.bt_book.specs.Machine.{State, Step, ChangeStep, IsSnapshot, NamesBeams, Tells}
+use Rattle.bt_book.specs.Machine.{State, Step, ChangeStep, NamesBeams, Tells}
 use Rattle.bt_timeline.specs.Timeline.{AnswersInstall, entry_line}
 use Rattle.bt_timeline.specs.Verdicts.{CanName}
 use Rattle.bt_centre.specs.Planning.{PlansOnce, planner_line, planner_text}
-use Rattle.bt_centre.specs.Progress.{HasLegalHistory, PlannerDone}
+use Rattle.bt_centre.specs.Callers.{IsAnswered}
+use Rattle.bt_centre.specs.Progress.{PlannerDone}
 use Rattle.bt_centre.proofs.DeskLines.{IsBy, two_pieces}
 
 -- the links of a reply that tells a demand
@@ -38,14 +39,13 @@ abbrev links_in : Reply → List Link
 links_in (Demand edition newest links) = links
 links_in _ = []
 
--- a snapshot tells the demand after the changes so far
-pub seen_demand : (net : Net) (state after : State) (history : List Entry) (reply : Reply) (edition newest : EditionNo) (links : List Link) → HasLegalHistory net state history
-    → Step net state call.Snapshot reply after → reply ≡ Demand edition newest links → IsDemandAfter (changes_of history) links
-seen_demand net state after history reply edition newest links so step is =
-    let seen : IsSnapshot state reply = step.answered.0 in
-    let told : seen.links ≡ links = ap links_in (sym seen.told ∙ is) in
-    let now : state.changes ≡ changes_of history = ap (λ (s : State). s.changes) so.reached in
-    subst (λ (l : List Link). IsDemandAfter (changes_of history) l) told (subst (λ (c : List Change). IsDemandAfter c seen.links) now seen.demand)
+-- what the planner saw is the demand after the changes then
+pub seen_demand : (net : Net) (seen : Entry) (edition newest : EditionNo) (links : List Link) (so : IsAnswered net seen) → seen.call ≡ call.Snapshot
+    → seen.reply ≡ Demand edition newest links → IsDemandAfter so.old.changes links
+seen_demand net seen edition newest links so asked is =
+    let step : Step net so.old call.Snapshot seen.reply so.new = subst (λ (c : Call). Step net so.old c seen.reply so.new) asked so.step in
+    let told : step.answered.0.links ≡ links = ap links_in (sym step.answered.0.told ∙ is) in
+    subst (λ (l : List Link). IsDemandAfter so.old.changes l) told step.answered.0.demand
 
 -- a plan that was made for the network names terminals and beams of it
 pub plan_is_on : (net : Net) (links : List Link) (plan : Plan) → AreBetweenTerminals net plan.bursts
@@ -111,6 +111,13 @@ answers_install net old new plan reply (inr (inl refused)) names = install_refus
 answers_install net old new plan reply (inr (inr (inl full))) names = subst (AnswersInstall net) (sym full.told) tt
 answers_install net old new plan reply (inr (inr (inr (inl done)))) names = install_told net new.changes plan reply done.told
 answers_install net old new plan reply (inr (inr (inr (inr lost)))) names = subst (AnswersInstall net) (sym lost.told) tt
+
+-- and so is that of an entry
+pub install_answered : (net : Net) (entry : Entry) (plan : Plan) (so : IsAnswered net entry) → entry.call ≡ call.Install plan → NamesBeams net entry.reply
+    → AnswersInstall net entry.reply
+install_answered net entry plan so asked names =
+    let step : Step net so.old (call.Install plan) entry.reply so.new = subst (λ (c : Call). Step net so.old c entry.reply so.new) asked so.step in
+    answers_install net so.old so.new plan entry.reply step.answered names
 
 -- such a reply is always printed
 always_printed : (net : Net) (reply : Reply) (line : List ℕ) → AnswersInstall net reply → planner_line net reply line ≡ line

@@ -8,14 +8,15 @@ use Rattle.bt_net.specs.Network.{Net}
 use Rattle.bt_demand.specs.declared.plan.Plan.{Plan}
 use Rattle.bt_air.specs.declared.order.Order.{Order}
 use Rattle.bt_book.specs.Changes.{newest}
-use Rattle.bt_book.specs.Machine.{State, Step, newer_than}
+use Rattle.bt_book.specs.Machine.{Step, newer_than}
+use Rattle.bt_journal.specs.declared.call.Call.{Call}
 use Rattle.bt_journal.specs.declared.call.Call.TheVariants as call
 use Rattle.bt_journal.specs.declared.entry.Entry.{Entry}
-use Rattle.bt_journal.specs.declared.reply.Reply.{Reply}
 use Rattle.bt_journal.specs.declared.reply.Reply.TheVariants as replies
 use Rattle.bt_timeline.specs.Air.{order_line, turn_line}
 use Rattle.bt_world.specs.World.{wanted}
 use Rattle.bt_centre.specs.AirLines.{AirState, PlaysOrder, PlaysTurn, PlaysTurning, answer_text, happened, having, installing, mark_of, newest_in, once_answered, sends_text, turning}
+use Rattle.bt_centre.specs.Callers.{IsAnswered}
 use Rattle.bt_centre.specs.Worker.{Asks}
 
 -- nothing is asked where no order is wanted
@@ -63,9 +64,11 @@ same-newer : (a b : Option Plan) → replies.Newest a ≡ replies.Newest b → a
 same-newer a b e = cc
 
 -- what the book lends after that edition
-pub lent-newer : (net : Net) (old new : State) (after : EditionNo) (reply : Reply) (newer : Option Plan) → reply ≡ replies.Newest newer → Step net old (call.Newest after) reply new
-    → newer ≡ newer_than after (newest old.changes)
-lent-newer net old new after reply newer is step = same-newer newer (newer_than after (newest old.changes)) (sym is ∙ step.answered.0)
+pub lent-newer : (net : Net) (entry : Entry) (after : EditionNo) (newer : Option Plan) (so : IsAnswered net entry) → entry.call ≡ call.Newest after
+    → entry.reply ≡ replies.Newest newer → newer ≡ newer_than after (newest so.old.changes)
+lent-newer net entry after newer so asked is =
+    let step : Step net so.old (call.Newest after) entry.reply so.new = subst (λ (c : Call). Step net so.old c entry.reply so.new) asked so.step in
+    same-newer newer (newer_than after (newest so.old.changes)) (sym is ∙ step.answered.0)
 
 -- the book was asked, the plan joined, the centre had its turn, and the order was asked to be placed
 pub turn-done : (net : Net) (air there now after : AirState) (asked : Entry) (newer : Option Plan) (h0 h1 h2 : List Entry) (t0 t1 t2 : List ℕ)

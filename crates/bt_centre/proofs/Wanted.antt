@@ -9,12 +9,15 @@ use Rattle.bt_air.specs.declared.sent.Act.{Act}
 use Rattle.bt_air.specs.declared.sent.Act.TheVariants.{Quiet, RepeatLoad, RepeatArm, Want}
 use Rattle.bt_book.specs.Causes.{CanCome, IsCause}
 use Rattle.bt_book.specs.Machine.{ChangeStep, State, Step, Tells}
+use Rattle.bt_journal.specs.declared.call.Call.{Call}
 use Rattle.bt_journal.specs.declared.call.Call.TheVariants as call
 use Rattle.bt_journal.specs.declared.call.Change.{Change}
 use Rattle.bt_journal.specs.declared.call.Change.TheVariants as change
+use Rattle.bt_journal.specs.declared.entry.Entry.{Entry}
 use Rattle.bt_journal.specs.declared.reply.Reply.{Reply}
 use Rattle.bt_journal.specs.declared.reply.Reply.TheVariants as replies
 use Rattle.bt_timeline.specs.Air.{IsUnplaced}
+use Rattle.bt_centre.specs.Callers.{IsAnswered}
 use Rattle.bt_centre.specs.Worker.{AnswersOrder}
 use Rattle.std.proofs.lemmas.Bool.{leb-true}
 use Rattle.bt_frame.specs.declared.numbers.Command.{Command}
@@ -95,5 +98,7 @@ change-answers net old new order reply (inr (inr (inr (inl done)))) = inl (tells
 change-answers net old new order reply (inr (inr (inr (inr lost)))) = inr (subst IsUnplaced (sym lost.told) tt)
 
 -- a reply to an order says that it is placed, or what keeps it from that
-pub order-answers : (net : Net) (old new : State) (order : Order) (reply : Reply) → Step net old (call.Place order) reply new → AnswersOrder reply
-order-answers net old new order reply step = change-answers net old new order reply step.answered
+pub order-answers : (net : Net) (entry : Entry) (order : Order) (so : IsAnswered net entry) → entry.call ≡ call.Place order → AnswersOrder entry.reply
+order-answers net entry order so asked =
+    let step : Step net so.old (call.Place order) entry.reply so.new = subst (λ (c : Call). Step net so.old c entry.reply so.new) asked so.step in
+    change-answers net so.old so.new order entry.reply step.answered

@@ -6,4 +6,7 @@ pub mod Progress
 pub mod AirLines
 pub mod Waiting
 pub mod Worker
+pub mod Callers
+pub mod Workers
+pub mod Seats
 pub mod Run

@@ -5,12 +5,17 @@ use Rattle.bt_frame.specs.declared.numbers.EditionNo.{EditionNo}
 use Rattle.bt_net.specs.Network.{Net}
 use Rattle.bt_demand.specs.declared.demand.Link.{Link}
 use Rattle.bt_demand.specs.declared.plan.Plan.{Plan}
+use Rattle.bt_demand.specs.Apart.{AreBetweenTerminals}
 use Rattle.bt_demand.specs.Plan.{IsGoodPlan}
 use Rattle.bt_journal.specs.declared.call.Call.TheVariants as call
 use Rattle.bt_journal.specs.declared.entry.Entry.{Entry}
 use Rattle.bt_journal.specs.declared.reply.Reply.{Reply}
 use Rattle.bt_journal.specs.declared.reply.Reply.TheVariants as reply
 use Rattle.bt_timeline.specs.Timeline.{entry_line}
+
+-- the bursts of the plan are between terminals of the network
+abbrev pub IsBetween : Net → Plan → Type 0
+IsBetween net plan = AreBetweenTerminals net plan.bursts
 
 -- A good plan of the demand that was seen is installed, where that edition has none; else there is nothing to plan.
 abbrev pub PlansEdition : Net → EditionNo → EditionNo → List Link → List Entry → Type 0

@@ -38,16 +38,16 @@ pub record IsShownBetween (history after : List Entry) (plan : Plan) : Type 0 wh
   pub fresh : newest_after history ≤ plan.edition.0
   pub last : plan.edition.0 ≤ newest_after after
 
--- lines of a desk were done: its entries stand behind the history, and what is printed of them behind the text
-pub record DeskDone (net : Net) (desk : ℕ) (lines : List DeskLine) (history after : List Entry) (text written : List ℕ) : Type 0 where
+-- Lines of a desk were done while one plan was shown: its entries stand behind those before, and what is printed of them behind
+-- the text.
+pub record DeskDone (net : Net) (desk : ℕ) (showing : Plan) (lines : List DeskLine) (before after : List Entry) (text written : List ℕ) : Type 0 where
   pub own : List Entry
   pub shown : List Plan
   pub calls : map (λ entry. entry.call) own ≡ flat_map asked_by_line lines
   pub callers : All (λ (entry : Entry). entry.caller ≡ desk + 1) own
   pub counted : length shown ≡ length (flat_map shown_by_line lines)
-  pub seen : All (IsShownBetween history after) shown
-  pub ascend : AllPairs (λ (a b : Plan). a.edition.0 ≤ b.edition.0) shown
-  pub kept : after ≡ history ++ own
+  pub seen : All (λ (plan : Plan). plan ≡ showing) shown
+  pub kept : after ≡ before ++ own
   pub printed : written ≡ text ++ desk_text net desk lines own shown
 
 -- so many lines of the planner were done
@@ -57,49 +57,6 @@ pub record PlannerDone (net : Net) (count : ℕ) (history after : List Entry) (t
   pub callers : All (λ (entry : Entry). entry.caller ≡ 1) own
   pub kept : after ≡ history ++ own
   pub printed : written ≡ text ++ planner_text net own
-
--- A desk in a round: its lines, its entries and the plans that it was shown.
-pub record DeskPart : Type 0 where
-  pub desk : ℕ
-  pub lines : List DeskLine
-  pub own : List Entry
-  pub shown : List Plan
-
--- the desk with its lines
-abbrev pub lines_in : DeskPart → ℕ × List DeskLine
-lines_in part = (part.desk, part.lines)
-
--- what the desk was shown
-abbrev pub sights_in : DeskPart → List Sight
-sights_in part = map (λ (plan : Plan). record { desk = part.desk; plan = plan }) part.shown
-
--- the entries of these desks
-abbrev pub entries_of : List DeskPart → List Entry
-entries_of parts = flat_map (λ (part : DeskPart). part.own) parts
-
--- what these desks were shown
-abbrev pub sights_of : List DeskPart → List Sight
-sights_of parts = flat_map sights_in parts
-
--- the text of these desks
-abbrev pub text_of : Net → List DeskPart → List ℕ
-text_of net parts = flat_map (λ (part : DeskPart). desk_text net part.desk part.lines part.own part.shown) parts
-
--- the entries are the desk's own, one for each edit of it, and a plan was shown for each show
-pub record IsPart (part : DeskPart) : Type 0 where
-  pub calls : map (λ entry. entry.call) part.own ≡ flat_map asked_by_line part.lines
-  pub callers : All (λ (entry : Entry). entry.caller ≡ part.desk + 1) part.own
-  pub counted : length part.shown ≡ length (flat_map shown_by_line part.lines)
-
--- the lines of desks were done, desk by desk
-pub record DesksDone (net : Net) (desks : List (ℕ × List DeskLine)) (history after : List Entry) (text written : List ℕ) : Type 0 where
-  pub parts : List DeskPart
-  pub desks_are : map lines_in parts ≡ desks
-  pub each : All IsPart parts
-  pub seen : All (λ (sight : Sight). IsShownBetween history after sight.plan) (sights_of parts)
-  pub ascend : AllPairs (λ (a b : Sight). a.plan.edition.0 ≤ b.plan.edition.0) (sights_of parts)
-  pub kept : after ≡ history ++ entries_of parts
-  pub printed : written ≡ text ++ text_of net parts
 
 -- the lines of a round were done: of each desk its edits were asked, of the planner and of the centre's worker what their lines
 -- ask, and all was printed

@@ -1,67 +1,101 @@
 // A caller of the book in a round.
 ghost use Rattle.std.specs.Prelude.{◌≡◌, ◌++◌, ◌∷◌, [], IfOk, OnErr};
-ghost use Rattle.bt_book.specs.Machine.{IsOfNetwork, Step};
+ghost use Rattle.bt_line.specs.Legal.{Legal};
+ghost use Rattle.bt_line.specs.Passes.{IsOfLine, seen_at};
+ghost use Rattle.bt_book.specs.Book.{Books, book_steps};
+ghost use Rattle.bt_book.specs.Machine.{IsOfNetwork};
+ghost use Rattle.bt_centre.specs.Callers.{Calling, IsAnswered, IsSameCaller, number_of, own_of};
 ghost use Rattle.bt_centre.specs.Progress.{HasLegalHistory};
 
 use crate::Gate;
 use bt_base::Keeper;
-use bt_book::{Book, histories_grow_by_steps, legal_changes_follow};
+use bt_book::{Book, locked_calls_are_steps};
 use bt_frame::OutOfMemory;
-use bt_journal::{Call, Entry};
+use bt_journal::{Call, Entry, Reply};
+use bt_line::{Line, Object, Pass};
 use bt_net::Network;
 use std::alloc::Global;
+use std::marker::Model;
+use std::sync::Wait;
 
-/// A caller of the book in a round, and the gate that is told of its calls.
+/// A caller of the book in a round: its pass of the book's line, and the gate that is told of its calls.
+///
+/// Contracts see its table, the book as the line started, and its place in the line. A book of any keeper is such an
+/// object; a type with a pass of it has to say so.
 #[derive(Drop)]
-pub(crate) struct Caller<'a, G: Gate> {
+pub(crate) struct Caller<'a, G: Gate, K: Keeper>
+where
+    Book<K>: Object<Call = Call, Reply = Reply>,
+{
     gate: &'a G,
-    number: u32,
+    line: &'a Line<Book<K>>,
+    pass: Pass<Book<K>>,
     /// How many calls it made in this round; past the last value of its type they are counted from 0 again.
     calls: u32,
 }
 
-impl<'a, G: Gate> Caller<'a, G> {
-    /// The caller of this number, which has made no call yet.
-    pub(crate) fn new(gate: &'a G, number: u32) -> Caller<'a, G>
-        ensures { result.number ≡ number }
+impl<'a, G: Gate, K: Keeper> Model for Caller<'a, G, K>
+where
+    Book<K>: Object<Call = Call, Reply = Reply>,
+{
+    ghost use Rattle.bt_centre.specs.Callers.{Calling, IsCalling};
+
+    ghost Value = { Calling K };
+
+    ghost view = { λ a. record { table = a.line.now.table.shared.table_id; start = a.line.now.table.shared.key.value; place = a.pass.place } };
+
+    ghost invariant = { λ a. IsCalling (record { table = a.line.now.table.shared.table_id; start = a.line.now.table.shared.key.value; place = a.pass.place }) };
+}
+
+impl<'a, G: Gate, K: Keeper> Caller<'a, G, K> {
+    /// The caller of a pass, which has made no call yet.
+    pub(crate) fn new(gate: &'a G, line: &'a Line<Book<K>>, pass: Pass<Book<K>>) -> Caller<'a, G, K>
+        requires of_line { IsOfLine line.now.table.shared.table_id line.now.table.shared.key.value pass.place }
+        requires begins { HasLegalHistory line.now.table.shared.key.value.net line.now.table.shared.key.value.state line.now.table.shared.key.value.history }
+        requires legal { (end : Books K) × Legal book_steps line.now.table.shared.key.value (seen_at pass.place) end }
+        ensures { result ≡ record { table = line.now.table.shared.table_id; start = line.now.table.shared.key.value; place = pass.place } }
     {
         Caller {
             gate,
-            number,
+            line,
+            pass,
             calls: 0,
         }
     }
 
-    /// Makes a call on the book, and gives its entry. Where memory runs out the book is as it was.
-    pub(crate) fn ask<K: Keeper>(
+    /// Its pass, once it makes no call any more.
+    pub(crate) fn into_pass(self) -> Pass<Book<K>>
+        ensures { result.place ≡ self.entry.place }
+    {
+        self.pass
+    }
+
+    /// Makes a call on the book when its turn comes, and gives its entry. Others may have called meanwhile. Where memory
+    /// runs out it has no entry.
+    pub(crate) fn ask<R: Wait>(
         &mut self,
+        rt: &R,
         alloc: Global,
         net: &Network,
-        book: &mut Book<K>,
         call: Call,
     ) -> Result<Entry, OutOfMemory>
-        requires network { book.old.net ≡ net.now }
+        requires network { self.old.start.net ≡ net.now }
         requires terminals { IsOfNetwork net.now call }
-        requires legal { HasLegalHistory net.now book.old.state book.old.history }
-        ensures same { self.new.number ≡ self.old.number }
-        ensures caller { IfOk result (λ entry. entry.caller ≡ self.old.number) }
+        ensures same { IsSameCaller self.old self.new }
+        ensures caller { IfOk result (λ entry. entry.caller ≡ number_of self.old) }
         ensures call { IfOk result (λ entry. entry.call ≡ call) }
-        ensures step { IfOk result (λ entry. Step net.now book.old.state call entry.reply book.new.state) }
-        ensures kept { IfOk result (λ entry. book.new.history ≡ book.old.history ++ entry ∷ []) }
-        ensures network { book.new.net ≡ net.now }
-        ensures legal { HasLegalHistory net.now book.new.state book.new.history }
-        ensures store { book.new.store ≡ book.old.store }
-        ensures err { OnErr result (book.new ≡ book.old) }
+        ensures answered { IfOk result (λ entry. IsAnswered net.now entry) }
+        ensures kept { IfOk result (λ entry. own_of self.new ≡ own_of self.old ++ entry ∷ []) }
+        ensures err { OnErr result (own_of self.new ≡ own_of self.old) }
     {
-        histories_grow_by_steps();
-        legal_changes_follow();
+        locked_calls_are_steps::<K>();
         let asked = call.copy(alloc)?;
-        self.gate.before(self.number, self.calls);
-        let reply = book.apply(alloc, self.number, call)?;
-        self.gate.after(self.number, self.calls);
+        self.gate.before(self.pass.number, self.calls);
+        let reply = self.line.call(rt, alloc, &mut self.pass, call)?;
+        self.gate.after(self.pass.number, self.calls);
         self.calls = self.calls.wrapping_add(1);
         Ok(Entry {
-            caller: self.number,
+            caller: self.pass.number,
             call: asked,
             reply,
         })

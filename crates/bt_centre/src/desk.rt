@@ -1,71 +1,73 @@
 // A desk in a round: its edits are asked, and its shows are shown.
 ghost use Rattle.std.specs.Prelude.{◌≡◌, ◌+◌, ◌∷◌, [], All, OnOk};
 ghost use Rattle.bt_script.specs.Named.{IsLineFor};
-ghost use Rattle.bt_centre.specs.Progress.{DeskDone, HasLegalHistory};
+ghost use Rattle.bt_centre.specs.Callers.{Calling, IsSameCaller, number_of, own_of};
+ghost use Rattle.bt_centre.specs.Planning.{IsBetween};
+ghost use Rattle.bt_centre.specs.Progress.{DeskDone};
 
 use crate::Gate;
 use crate::caller::Caller;
 use bt_base::Keeper;
-use bt_book::{Book, replies_name_beams_of_the_network};
+use bt_book::replies_name_beams_of_the_network;
+use bt_demand::Plan;
 use bt_frame::OutOfMemory;
 use bt_journal::Call;
 use bt_net::Network;
-use bt_script::{DeskLine, DeskLines};
+use bt_script::DeskLine;
 use bt_timeline::{entry_text, show_text};
 use std::alloc::Global;
+use std::sync::Wait;
 
-/// Does the lines of a desk in order, and appends what is printed of them.
-pub(crate) fn run_desk<K: Keeper, G: Gate>(
+/// Does the lines of a desk in order, and appends what is printed of them. A show gives the plan `showing`.
+pub(crate) fn run_desk<R: Wait, G: Gate, K: Keeper>(
+    rt: &R,
     alloc: Global,
     net: &Network,
-    gate: &G,
-    desk: &(u8, DeskLines),
-    book: &mut Book<K>,
+    caller: &mut Caller<'_, G, K>,
+    desk: u8,
+    showing: &Plan,
+    lines: &[DeskLine],
     text: &mut Vec<u8>,
 ) -> Result<(), OutOfMemory>
-    requires network { book.old.net ≡ net.now }
-    requires terminals { All (IsLineFor net.now) desk.now.1 }
-    requires legal { HasLegalHistory net.now book.old.state book.old.history }
-    ensures network { book.new.net ≡ net.now }
-    ensures done { OnOk result (DeskDone net.now desk.now.0 desk.now.1 book.old.history book.new.history text.old.items text.new.items) }
-    ensures legal { HasLegalHistory net.now book.new.state book.new.history }
-    ensures store { book.new.store ≡ book.old.store }
+    requires network { caller.old.start.net ≡ net.now }
+    requires number { number_of caller.old ≡ desk + 1 }
+    requires showing { IsBetween net.now showing.now }
+    requires terminals { All (IsLineFor net.now) lines.now }
+    ensures same { IsSameCaller caller.old caller.new }
+    ensures done { OnOk result (DeskDone net.now desk showing.now lines.now (own_of caller.old) (own_of caller.new) text.old.items text.new.items) }
 {
-    let mut caller = Caller::new(gate, u32::from(desk.0) + 1);
-    for line in desk.1.as_slice() {
-        run_line(alloc, net, &mut caller, desk.0, line, book, text)?;
+    for line in lines {
+        run_line(rt, alloc, net, caller, desk, showing, line, text)?;
     }
     Ok(())
 }
 
 /// Does a line of a desk, and appends what is printed of it.
-fn run_line<K: Keeper, G: Gate>(
+fn run_line<R: Wait, G: Gate, K: Keeper>(
+    rt: &R,
     alloc: Global,
     net: &Network,
-    caller: &mut Caller<'_, G>,
+    caller: &mut Caller<'_, G, K>,
     desk: u8,
+    showing: &Plan,
     line: &DeskLine,
-    book: &mut Book<K>,
     text: &mut Vec<u8>,
 ) -> Result<(), OutOfMemory>
-    requires network { book.old.net ≡ net.now }
-    requires caller { caller.old.number ≡ desk + 1 }
+    requires network { caller.old.start.net ≡ net.now }
+    requires number { number_of caller.old ≡ desk + 1 }
+    requires showing { IsBetween net.now showing.now }
     requires terminals { IsLineFor net.now line.now }
-    requires legal { HasLegalHistory net.now book.old.state book.old.history }
-    ensures network { book.new.net ≡ net.now }
-    ensures caller { caller.new.number ≡ caller.old.number }
-    ensures done { OnOk result (DeskDone net.now desk (line.now ∷ []) book.old.history book.new.history text.old.items text.new.items) }
-    ensures legal { HasLegalHistory net.now book.new.state book.new.history }
-    ensures store { book.new.store ≡ book.old.store }
+    ensures same { IsSameCaller caller.old caller.new }
+    ensures done { OnOk result (DeskDone net.now desk showing.now (line.now ∷ []) (own_of caller.old) (own_of caller.new) text.old.items text.new.items) }
 {
     // This is there for what holds of each network: its terminals are in beams.
     let _beams = net.beam_count();
     replies_name_beams_of_the_network();
     match line {
         DeskLine::Edit(edit) => {
-            let entry = caller.ask(alloc, net, book, Call::Edit(*edit))?;
+            let entry = caller.ask(rt, alloc, net, Call::Edit(*edit))?;
             entry_text(alloc, net, Some(desk), &entry, text)
         }
-        DeskLine::Show(terminal) => { show_text(alloc, net, desk, book.newest(), *terminal, text) }
+        DeskLine::Show(terminal) => show_text(alloc, net, desk, showing, *terminal, text),
     }
 }

@@ -1,66 +1,60 @@
 // The planner in a round: it plans the last edition.
 ghost use Rattle.std.specs.Prelude.{◌≡◌, OnOk};
-ghost use Rattle.bt_centre.specs.Progress.{HasLegalHistory, PlannerDone};
+ghost use Rattle.bt_centre.specs.Callers.{Calling, IsSameCaller, number_of, own_of};
+ghost use Rattle.bt_centre.specs.Progress.{PlannerDone};
 
 use crate::Gate;
 use crate::caller::Caller;
 use bt_base::Keeper;
-use bt_book::{Book, demands_fit_the_frame, replies_name_beams_of_the_network};
+use bt_book::{demands_fit_the_frame, replies_name_beams_of_the_network};
 use bt_cut::make_plan;
 use bt_frame::OutOfMemory;
 use bt_journal::{Call, Reply};
 use bt_net::Network;
 use bt_timeline::entry_text;
 use std::alloc::Global;
-
-/// The number of the planner as a caller.
-const PLANNER: u32 = 1;
+use std::sync::Wait;
 
 /// Does so many lines of the planner, and appends what is printed of them.
-pub(crate) fn run_planner<K: Keeper, G: Gate>(
+pub(crate) fn run_planner<R: Wait, G: Gate, K: Keeper>(
+    rt: &R,
     alloc: Global,
     net: &Network,
-    gate: &G,
+    caller: &mut Caller<'_, G, K>,
     plans: u32,
-    book: &mut Book<K>,
     text: &mut Vec<u8>,
 ) -> Result<(), OutOfMemory>
-    requires network { book.old.net ≡ net.now }
-    requires legal { HasLegalHistory net.now book.old.state book.old.history }
-    ensures network { book.new.net ≡ net.now }
-    ensures done { OnOk result (PlannerDone net.now plans book.old.history book.new.history text.old.items text.new.items) }
-    ensures legal { HasLegalHistory net.now book.new.state book.new.history }
-    ensures store { book.new.store ≡ book.old.store }
+    requires network { caller.old.start.net ≡ net.now }
+    requires number { number_of caller.old ≡ 1 }
+    ensures same { IsSameCaller caller.old caller.new }
+    ensures done { OnOk result (PlannerDone net.now plans (own_of caller.old) (own_of caller.new) text.old.items text.new.items) }
 {
-    let mut caller = Caller::new(gate, PLANNER);
     for _ in 0..plans {
-        plan_once(alloc, net, &mut caller, book, text)?;
+        plan_once(rt, alloc, net, caller, text)?;
     }
     Ok(())
 }
 
 /// Sees the last edition, plans it where it has no plan, and appends what is printed of that.
-fn plan_once<K: Keeper, G: Gate>(
+///
+/// Others may call between what it sees and its install, so that the edition may be planned by then.
+fn plan_once<R: Wait, G: Gate, K: Keeper>(
+    rt: &R,
     alloc: Global,
     net: &Network,
-    caller: &mut Caller<'_, G>,
-    book: &mut Book<K>,
+    caller: &mut Caller<'_, G, K>,
     text: &mut Vec<u8>,
 ) -> Result<(), OutOfMemory>
-    requires network { book.old.net ≡ net.now }
-    requires caller { caller.old.number ≡ 1 }
-    requires legal { HasLegalHistory net.now book.old.state book.old.history }
-    ensures network { book.new.net ≡ net.now }
-    ensures caller { caller.new.number ≡ caller.old.number }
-    ensures done { OnOk result (PlannerDone net.now 1 book.old.history book.new.history text.old.items text.new.items) }
-    ensures legal { HasLegalHistory net.now book.new.state book.new.history }
-    ensures store { book.new.store ≡ book.old.store }
+    requires network { caller.old.start.net ≡ net.now }
+    requires number { number_of caller.old ≡ 1 }
+    ensures same { IsSameCaller caller.old caller.new }
+    ensures done { OnOk result (PlannerDone net.now 1 (own_of caller.old) (own_of caller.new) text.old.items text.new.items) }
 {
     // This is there for what holds of each network: its frame has at most 4096 slots.
     let _beams = net.beam_count();
     demands_fit_the_frame();
     replies_name_beams_of_the_network();
-    let seen = caller.ask(alloc, net, book, Call::Snapshot)?;
+    let seen = caller.ask(rt, alloc, net, Call::Snapshot)?;
     let Reply::Demand {
         edition,
         newest,
@@ -73,6 +67,6 @@ fn plan_once<K: Keeper, G: Gate>(
         return entry_text(alloc, net, None, &seen, text);
     }
     let plan = make_plan(alloc, net, demand, *edition)?;
-    let entry = caller.ask(alloc, net, book, Call::Install(plan))?;
+    let entry = caller.ask(rt, alloc, net, Call::Install(plan))?;
     entry_text(alloc, net, None, &entry, text)
 }

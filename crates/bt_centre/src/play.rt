@@ -6,7 +6,7 @@ ghost use Rattle.bt_centre.specs.AirLines.{AirState};
 ghost use Rattle.bt_centre.specs.Progress.{HasLegalHistory, ItemDone, RestartDone, RoundDone, rounds_with};
 
 use crate::Gate;
-use crate::round::run_round;
+use crate::round::{Station, run_round};
 use crate::worker::CentreWorker;
 use bt_base::Keeper;
 use bt_book::Book;
@@ -15,58 +15,70 @@ use bt_net::Network;
 use bt_script::{Item, Round};
 use bt_timeline::{restart_text, round_text, start_text};
 use std::alloc::Global;
+use std::sync::Wait;
+use std::thread::Threads;
 
-/// Plays a part of a script behind so many rounds, and gives its text.
-pub(crate) fn play_item<K: Keeper, G: Gate>(
+/// Plays a part of a script behind so many rounds, and gives its text. The station comes back, also where memory runs
+/// out.
+pub(crate) fn play_item<R: Threads + Wait + Sync, G: Gate + Sync, K: Keeper + Send>(
+    rt: &R,
     alloc: Global,
     net: &Network,
     gate: &G,
     rounds: u64,
     item: &Item,
-    book: &mut Book<K>,
-    centre: &mut CentreWorker,
-) -> Result<Vec<u8>, OutOfMemory>
+    station: Station<K>,
+) -> (Station<K>, Result<Vec<u8>, OutOfMemory>)
     requires few { rounds < 9223372036854775808 }
-    requires network { book.old.net ≡ net.now }
-    requires air_network { centre.old.life.opening.net ≡ net.now }
+    requires network { station.book.net ≡ net.now }
+    requires air_network { station.centre.life.opening.net ≡ net.now }
     requires terminals { IsItemFor net.now item.now }
-    requires legal { HasLegalHistory net.now book.old.state book.old.history }
-    ensures network { book.new.net ≡ net.now }
-    ensures opening { centre.new.life.opening ≡ centre.old.life.opening }
-    ensures done { IfOk result (λ text. ItemDone net.now item.now rounds centre.old centre.new book.old.history book.new.history text.items) }
-    ensures legal { HasLegalHistory net.now book.new.state book.new.history }
-    ensures store { book.new.store ≡ book.old.store }
+    requires legal { HasLegalHistory net.now station.book.state station.book.history }
+    ensures network { result.0.book.net ≡ net.now }
+    ensures opening { result.0.centre.life.opening ≡ station.centre.life.opening }
+    ensures done { IfOk result.1 (λ text. ItemDone net.now item.now rounds station.centre result.0.centre station.book.history result.0.book.history text.items) }
+    ensures legal { HasLegalHistory net.now result.0.book.state result.0.book.history }
+    ensures store { result.0.book.store ≡ station.book.store }
 {
     match item {
-        Item::Round(round) => play_round(alloc, net, gate, rounds + 1, round, book, centre),
-        Item::Restart => play_restart(alloc, net, book, centre),
+        Item::Round(round) => play_round(rt, alloc, net, gate, rounds + 1, round, station),
+        Item::Restart => {
+            let Station { book, mut centre } = station;
+            let text = play_restart(alloc, net, &book, &mut centre);
+            (Station { book, centre }, text)
+        }
     }
 }
 
 /// Plays a round of that number, and gives its text.
-fn play_round<K: Keeper, G: Gate>(
+fn play_round<R: Threads + Wait + Sync, G: Gate + Sync, K: Keeper + Send>(
+    rt: &R,
     alloc: Global,
     net: &Network,
     gate: &G,
     number: u64,
     round: &Round,
-    book: &mut Book<K>,
-    centre: &mut CentreWorker,
-) -> Result<Vec<u8>, OutOfMemory>
-    requires network { book.old.net ≡ net.now }
-    requires air_network { centre.old.life.opening.net ≡ net.now }
+    station: Station<K>,
+) -> (Station<K>, Result<Vec<u8>, OutOfMemory>)
+    requires network { station.book.net ≡ net.now }
+    requires air_network { station.centre.life.opening.net ≡ net.now }
     requires terminals { IsRoundFor net.now round.now }
-    requires legal { HasLegalHistory net.now book.old.state book.old.history }
-    ensures network { book.new.net ≡ net.now }
-    ensures opening { centre.new.life.opening ≡ centre.old.life.opening }
-    ensures done { IfOk result (λ text. RoundDone net.now round.now centre.old centre.new book.old.history book.new.history (round_line number) text.items) }
-    ensures legal { HasLegalHistory net.now book.new.state book.new.history }
-    ensures store { book.new.store ≡ book.old.store }
+    requires legal { HasLegalHistory net.now station.book.state station.book.history }
+    ensures network { result.0.book.net ≡ net.now }
+    ensures opening { result.0.centre.life.opening ≡ station.centre.life.opening }
+    ensures done { IfOk result.1 (λ text. RoundDone net.now round.now station.centre result.0.centre station.book.history result.0.book.history (round_line number) text.items) }
+    ensures legal { HasLegalHistory net.now result.0.book.state result.0.book.history }
+    ensures store { result.0.book.store ≡ station.book.store }
 {
     let mut text = Vec::new(alloc);
-    round_text(alloc, number, &mut text)?;
-    run_round(alloc, net, gate, round, book, centre, &mut text)?;
-    Ok(text)
+    if round_text(alloc, number, &mut text).is_err() {
+        return (station, Err(OutOfMemory));
+    }
+    let (station, ended) = run_round(rt, alloc, net, gate, round, station, &mut text);
+    match ended {
+        Ok(()) => (station, Ok(text)),
+        Err(fault) => (station, Err(fault)),
+    }
 }
 
 /// Restarts the centre over the book, which is what it recovers, and gives the text of it.

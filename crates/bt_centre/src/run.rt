@@ -8,12 +8,13 @@ ghost use Rattle.bt_centre.specs.Run.{at_start};
 
 use crate::Gate;
 use crate::play::{play_item, rounds_with};
-use crate::worker::CentreWorker;
+use crate::round::Station;
 use bt_base::{Keeper, Sink, SinkFault};
-use bt_book::Book;
 use bt_net::Network;
 use bt_script::Item;
 use std::alloc::Global;
+use std::sync::Wait;
+use std::thread::Threads;
 
 /// Why a run stops before its end.
 #[derive(Clone, Copy, Debug, PartialEq, Eq)]
@@ -24,39 +25,44 @@ pub(crate) enum Stop {
     WriteFailed,
 }
 
-/// Plays the parts of a script in order, and writes the text of each when it is over.
-pub(crate) fn play_items<G: Gate, O: Sink, K: Keeper>(
+/// Plays the parts of a script in order, and writes the text of each when it is over. The station comes back, also where
+/// the run stops.
+pub(crate) fn play_items<R: Threads + Wait + Sync, G: Gate + Sync, O: Sink, K: Keeper + Send>(
+    rt: &R,
     alloc: Global,
     net: &Network,
     gate: &G,
     items: &[Item],
-    book: &mut Book<K>,
-    centre: &mut CentreWorker,
+    mut station: Station<K>,
     out: &mut O,
-) -> Result<(), Stop>
-    requires network { book.old.net ≡ net.now }
-    requires begins { centre.old ≡ (at_start net.now).air }
+) -> (Station<K>, Result<(), Stop>)
+    requires network { station.book.net ≡ net.now }
+    requires begins { station.centre ≡ (at_start net.now).air }
     requires terminals { All (IsItemFor net.now) items.now }
-    requires none { book.old.history ≡ [] }
-    requires legal { HasLegalHistory net.now book.old.state book.old.history }
-    ensures network { book.new.net ≡ net.now }
-    ensures opening { centre.new.life.opening ≡ centre.old.life.opening }
-    ensures ok { OnOk result (AllWritten net.now items.now book.new.history centre.new (O.told out.old) (O.told out.new)) }
-    ensures failed { IsErrOf result Stop.WriteFailed → PartlyWritten net.now items.now book.new.history centre.new (O.told out.old) (O.told out.new) }
-    ensures cause { IsErrOf result Stop.WriteFailed → Rose (O.fault_count out.old) (O.fault_count out.new) }
+    requires none { station.book.history ≡ [] }
+    requires legal { HasLegalHistory net.now station.book.state station.book.history }
+    ensures opening { result.0.centre.life.opening ≡ station.centre.life.opening }
+    ensures ok { OnOk result.1 (AllWritten net.now items.now result.0.book.history result.0.centre (O.told out.old) (O.told out.new)) }
+    ensures failed { IsErrOf result.1 Stop.WriteFailed → PartlyWritten net.now items.now result.0.book.history result.0.centre (O.told out.old) (O.told out.new) }
+    ensures cause { IsErrOf result.1 Stop.WriteFailed → Rose (O.fault_count out.old) (O.fault_count out.new) }
     ensures later { O.fault_count out.old ≤ O.fault_count out.new }
-    ensures legal { HasLegalHistory net.now book.new.state book.new.history }
-    ensures store { book.new.store ≡ book.old.store }
+    ensures legal { HasLegalHistory net.now result.0.book.state result.0.book.history }
+    ensures store { result.0.book.store ≡ station.book.store }
 {
     let mut rounds = 0u64;
     for item in items {
-        let Ok(text) = play_item(alloc, net, gate, rounds, item, book, centre) else {
-            return Err(Stop::OutOfMemory);
+        let (next, played) = play_item(rt, alloc, net, gate, rounds, item, station);
+        station = next;
+        let Ok(text) = played else {
+            return (station, Err(Stop::OutOfMemory));
         };
         rounds = rounds_with(rounds, item);
-        write(alloc, text.as_slice(), out)?;
+        match write(alloc, text.as_slice(), out) {
+            Ok(()) => {}
+            Err(stop) => return (station, Err(stop)),
+        }
     }
-    Ok(())
+    (station, Ok(()))
 }
 
 /// Writes a text behind what was written before.

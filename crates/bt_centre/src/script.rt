@@ -9,6 +9,7 @@ ghost use Rattle.bt_centre.specs.Lines.{total_of};
 ghost use Rattle.bt_centre.specs.Progress.{HasLegalHistory, StoppedEarly, WrittenBehind};
 ghost use Rattle.bt_centre.specs.Run.{RunsTo, at_start, opening_on};
 
+use crate::round::Station;
 use crate::run::{Stop, play_items, write};
 use crate::total::add_total;
 use crate::worker::CentreWorker;
@@ -23,6 +24,8 @@ use bt_script::Script;
 use bt_timeline::start_text;
 use bt_world::World;
 use std::alloc::Global;
+use std::sync::Wait;
+use std::thread::Threads;
 
 /// What a run gives back.
 #[derive(Debug, Drop)]
@@ -40,8 +43,10 @@ pub struct RunEnd<K> {
 /// Runs a script on its network from a book without changes and a world with the empty plan, and prints what was
 /// answered and what happened: each part of the script when it is over.
 ///
-/// The gate is called round each call on the book.
-pub fn run_script<G: Gate, O: Sink, K: Keeper>(
+/// In a round its desks, its planner and the centre's worker run at once, each on a thread of its own where one can be
+/// made. The gate is called round each call on the book, by the thread that makes the call.
+pub fn run_script<R: Threads + Wait + Sync, G: Gate + Sync, O: Sink, K: Keeper + Send>(
+    rt: &R,
     alloc: Global,
     net: &Network,
     script: &Script,
@@ -56,7 +61,7 @@ pub fn run_script<G: Gate, O: Sink, K: Keeper>(
     ensures store { result.store ≡ store }
 {
     match Begun::open(alloc, net, store) {
-        Ok(begun) => begun.run(alloc, net, script, gate, out),
+        Ok(begun) => begun.run(rt, alloc, net, script, gate, out),
         Err(store) => RunEnd {
             status: OUT_OF_MEMORY,
             store,
@@ -75,20 +80,19 @@ const WRITE_FAILED: u8 = 6;
 /// A run at its start.
 #[derive(Drop)]
 struct Begun<K: Keeper> {
-    book: Book<K>,
-    centre: CentreWorker,
+    station: Station<K>,
     histories: Vec<History>,
 }
 
-impl<K: Keeper> Begun<K> {
+impl<K: Keeper + Send> Begun<K> {
     /// A book without changes, a world on the empty plan, and room for a history. Where memory runs out the store is
     /// handed back.
     fn open(alloc: Global, net: &Network, store: K) -> Result<Begun<K>, K>
-        ensures network { IfOk result (λ begun. begun.book.net ≡ net.now) }
-        ensures state { IfOk result (λ begun. begun.book.state ≡ running []) }
-        ensures history { IfOk result (λ begun. begun.book.history ≡ []) }
-        ensures store { IfOk result (λ begun. begun.book.store ≡ store) }
-        ensures air { IfOk result (λ begun. begun.centre ≡ (at_start net.now).air) }
+        ensures network { IfOk result (λ begun. begun.station.book.net ≡ net.now) }
+        ensures state { IfOk result (λ begun. begun.station.book.state ≡ running []) }
+        ensures history { IfOk result (λ begun. begun.station.book.history ≡ []) }
+        ensures store { IfOk result (λ begun. begun.station.book.store ≡ store) }
+        ensures air { IfOk result (λ begun. begun.station.centre ≡ (at_start net.now).air) }
         ensures room { IfOk result (λ begun. (begun.histories.items ≡ []) × (1 ≤ vec_capacity begun.histories)) }
         ensures back { IfErr result (λ back. back ≡ store) }
     {
@@ -101,8 +105,10 @@ impl<K: Keeper> Begun<K> {
         };
         match open_world(alloc, net, &book) {
             Ok(world) => Ok(Begun {
-                book,
-                centre: CentreWorker::new(alloc, world),
+                station: Station {
+                    book,
+                    centre: CentreWorker::new(alloc, world),
+                },
                 histories,
             }),
             Err(_) => Err(book.into_parts().0),
@@ -110,31 +116,32 @@ impl<K: Keeper> Begun<K> {
     }
 
     /// Runs the script, and gives what came of it.
-    fn run<G: Gate, O: Sink>(
+    fn run<R: Threads + Wait + Sync, G: Gate + Sync, O: Sink>(
         self,
+        rt: &R,
         alloc: Global,
         net: &Network,
         script: &Script,
         gate: &G,
         out: &mut O,
     ) -> RunEnd<K>
-        requires network { self.book.net ≡ net.now }
-        requires state { self.book.state ≡ running [] }
-        requires history { self.book.history ≡ [] }
-        requires air { self.centre ≡ (at_start net.now).air }
+        requires network { self.station.book.net ≡ net.now }
+        requires state { self.station.book.state ≡ running [] }
+        requires history { self.station.book.history ≡ [] }
+        requires air { self.station.centre ≡ (at_start net.now).air }
         requires room { (self.histories.items ≡ []) × (1 ≤ vec_capacity self.histories) }
         requires terminals { All (IsItemFor net.now) script.now.items }
         ensures ends { RunsTo net.now script.now
             (record { before = O.told out.old; after = O.told out.new; faults_before = O.fault_count out.old; faults_after = O.fault_count out.new })
             result.status result.histories result.events.items }
-        ensures store { result.store ≡ self.book.store }
+        ensures store { result.store ≡ self.station.book.store }
     {
         let Begun {
-            mut book,
-            mut centre,
+            station,
             mut histories,
         } = self;
-        let played = play_script(alloc, net, script, gate, &mut book, &mut centre, out);
+        let (station, played) = play_script(rt, alloc, net, script, gate, station, out);
+        let Station { book, centre } = station;
         let (store, entries) = book.into_parts();
         let events = centre.into_events();
         let status = status_of(write_total(alloc, played, entries.as_slice(), out));
@@ -166,31 +173,34 @@ fn open_world<K: Keeper>(alloc: Global, net: &Network, book: &Book<K>) -> Result
     World::start(alloc, net, plans, Vec::new(alloc))
 }
 
-/// Writes the first line of a run, and then plays the parts of the script and writes the lines of each.
-fn play_script<G: Gate, O: Sink, K: Keeper>(
+/// Writes the first line of a run, and then plays the parts of the script and writes the lines of each. The station
+/// comes back, also where the run stops.
+fn play_script<R: Threads + Wait + Sync, G: Gate + Sync, O: Sink, K: Keeper + Send>(
+    rt: &R,
     alloc: Global,
     net: &Network,
     script: &Script,
     gate: &G,
-    book: &mut Book<K>,
-    centre: &mut CentreWorker,
+    station: Station<K>,
     out: &mut O,
-) -> Result<(), Stop>
-    requires network { book.old.net ≡ net.now }
-    requires begins { centre.old ≡ (at_start net.now).air }
+) -> (Station<K>, Result<(), Stop>)
+    requires network { station.book.net ≡ net.now }
+    requires begins { station.centre ≡ (at_start net.now).air }
     requires terminals { All (IsItemFor net.now) script.now.items }
-    requires none { book.old.history ≡ [] }
-    requires legal { HasLegalHistory net.now book.old.state book.old.history }
-    ensures opening { centre.new.life.opening ≡ centre.old.life.opening }
-    ensures ok { OnOk result (WrittenBehind net.now script.now.items book.new.history centre.new (O.told out.old) (O.told out.new)) }
-    ensures failed { IsErrOf result Stop.WriteFailed → StoppedEarly net.now script.now.items book.new.history centre.new (O.told out.old) (O.told out.new) }
-    ensures cause { IsErrOf result Stop.WriteFailed → Rose (O.fault_count out.old) (O.fault_count out.new) }
+    requires none { station.book.history ≡ [] }
+    requires legal { HasLegalHistory net.now station.book.state station.book.history }
+    ensures opening { result.0.centre.life.opening ≡ station.centre.life.opening }
+    ensures ok { OnOk result.1 (WrittenBehind net.now script.now.items result.0.book.history result.0.centre (O.told out.old) (O.told out.new)) }
+    ensures failed { IsErrOf result.1 Stop.WriteFailed → StoppedEarly net.now script.now.items result.0.book.history result.0.centre (O.told out.old) (O.told out.new) }
+    ensures cause { IsErrOf result.1 Stop.WriteFailed → Rose (O.fault_count out.old) (O.fault_count out.new) }
     ensures later { O.fault_count out.old ≤ O.fault_count out.new }
-    ensures legal { HasLegalHistory net.now book.new.state book.new.history }
-    ensures store { book.new.store ≡ book.old.store }
+    ensures legal { HasLegalHistory net.now result.0.book.state result.0.book.history }
+    ensures store { result.0.book.store ≡ station.book.store }
 {
-    write_start(alloc, out)?;
-    play_items(alloc, net, gate, script.items.as_slice(), book, centre, out)
+    match write_start(alloc, out) {
+        Ok(()) => play_items(rt, alloc, net, gate, script.items.as_slice(), station, out),
+        Err(stop) => (station, Err(stop)),
+    }
 }
 
 /// Writes the first line of a run, of a book without changes and a world at its start.

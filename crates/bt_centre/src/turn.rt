@@ -5,7 +5,7 @@ ghost use Rattle.bt_timeline.specs.Air.{order_line, turn_line};
 ghost use Rattle.bt_world.specs.Event.{Ordered};
 ghost use Rattle.bt_world.specs.World.{wanted};
 ghost use Rattle.bt_centre.specs.AirLines.{AirState, PlaysOrder, PlaysTurn, answer_text, happened, having, installing, mark_of, newest_in, once_answered, sends_text, turning};
-ghost use Rattle.bt_centre.specs.Progress.{HasLegalHistory};
+ghost use Rattle.bt_centre.specs.Callers.{Calling, IsSameCaller, number_of, own_of};
 ghost use Rattle.bt_centre.specs.Worker.{AnswersOrder, Asks};
 
 use crate::Gate;
@@ -13,48 +13,45 @@ use crate::caller::Caller;
 use crate::worker::CentreWorker;
 use bt_air::{Event, Order};
 use bt_base::Keeper;
-use bt_book::{Book, demands_fit_the_frame};
+use bt_book::demands_fit_the_frame;
 use bt_demand::{Plan, good_plans_are_flyable};
 use bt_frame::OutOfMemory;
 use bt_journal::{Call, Entry, Reply};
 use bt_net::Network;
 use bt_timeline::{order_text, turn_text, unplaced_text};
 use std::alloc::Global;
+use std::sync::Wait;
 
 impl CentreWorker {
     /// The book is asked for a plan newer than those of the world. Then the centre has its turn, and the order that it
     /// wants is asked to be placed.
-    pub(crate) fn turn<K: Keeper, G: Gate>(
+    pub(crate) fn turn<R: Wait, G: Gate, K: Keeper>(
         &mut self,
+        rt: &R,
         alloc: Global,
         net: &Network,
-        caller: &mut Caller<'_, G>,
-        book: &mut Book<K>,
+        caller: &mut Caller<'_, G, K>,
         text: &mut Vec<u8>,
     ) -> Result<(), OutOfMemory>
         requires network { self.old.life.opening.net ≡ net.now }
-        requires book_network { book.old.net ≡ net.now }
-        requires caller { caller.old.number ≡ 0 }
-        requires legal { HasLegalHistory net.now book.old.state book.old.history }
-        ensures played { OnOk result (Asks (PlaysTurn net.now self.old) self.new book.old.history book.new.history text.old.items text.new.items) }
+        requires caller_network { caller.old.start.net ≡ net.now }
+        requires number { number_of caller.old ≡ 0 }
+        ensures played { OnOk result (Asks (PlaysTurn net.now self.old) self.new (own_of caller.old) (own_of caller.new) text.old.items text.new.items) }
         ensures opening { self.new.life.opening ≡ self.old.life.opening }
-        ensures book_network { book.new.net ≡ net.now }
-        ensures caller { caller.new.number ≡ caller.old.number }
-        ensures legal { HasLegalHistory net.now book.new.state book.new.history }
-        ensures store { book.new.store ≡ book.old.store }
+        ensures same { IsSameCaller caller.old caller.new }
     {
         demands_fit_the_frame();
         good_plans_are_flyable();
         // This is there for what holds of each network.
         let _beams = net.beam_count();
         let after = self.newest();
-        let Entry { reply, .. } = caller.ask(alloc, net, book, Call::Newest { after })?;
+        let Entry { reply, .. } = caller.ask(rt, alloc, net, Call::Newest { after })?;
         let Reply::Newest { newer } = reply else {
             unreachable!();
         };
         self.install(alloc, net, newer)?;
         self.take_turn(alloc, net, text)?;
-        self.place_wanted(alloc, net, caller, book, text)
+        self.place_wanted(rt, alloc, net, caller, text)
     }
 
     /// A plan that is newer than those of the world joins them.
@@ -96,31 +93,27 @@ impl CentreWorker {
     }
 
     /// The order that the centre wants, if any, is asked to be placed. Where it is placed, it joins the orders.
-    fn place_wanted<K: Keeper, G: Gate>(
+    fn place_wanted<R: Wait, G: Gate, K: Keeper>(
         &mut self,
+        rt: &R,
         alloc: Global,
         net: &Network,
-        caller: &mut Caller<'_, G>,
-        book: &mut Book<K>,
+        caller: &mut Caller<'_, G, K>,
         text: &mut Vec<u8>,
     ) -> Result<(), OutOfMemory>
         requires network { self.old.life.opening.net ≡ net.now }
-        requires book_network { book.old.net ≡ net.now }
-        requires caller { caller.old.number ≡ 0 }
-        requires legal { HasLegalHistory net.now book.old.state book.old.history }
-        ensures played { OnOk result (Asks (PlaysOrder net.now self.old (wanted (happened self.old))) self.new book.old.history book.new.history text.old.items text.new.items) }
+        requires caller_network { caller.old.start.net ≡ net.now }
+        requires number { number_of caller.old ≡ 0 }
+        ensures played { OnOk result (Asks (PlaysOrder net.now self.old (wanted (happened self.old))) self.new (own_of caller.old) (own_of caller.new) text.old.items text.new.items) }
         ensures opening { self.new.life.opening ≡ self.old.life.opening }
-        ensures book_network { book.new.net ≡ net.now }
-        ensures caller { caller.new.number ≡ caller.old.number }
-        ensures legal { HasLegalHistory net.now book.new.state book.new.history }
-        ensures store { book.new.store ≡ book.old.store }
+        ensures same { IsSameCaller caller.old caller.new }
     {
         // This is there for what holds of each network: a change has a lead.
         let _lead = net.lead();
         let Some(order) = self.world.wanted() else {
             return Ok(());
         };
-        let entry = caller.ask(alloc, net, book, Call::Place(order))?;
+        let entry = caller.ask(rt, alloc, net, Call::Place(order))?;
         self.tell_answer(alloc, net, order, &entry.reply, text)
     }
 

@@ -10,9 +10,12 @@ use bt_base::{Files, Keeper, Sink};
 use bt_centre::{NoGate, run_script};
 use bt_net::Network;
 use std::alloc::Global;
+use std::sync::Wait;
+use std::thread::Threads;
 
 /// Runs the script in a file on the network in a file, and prints what was answered and what happened on the air.
-pub fn run_files<F: Files, O: Sink, K: Keeper>(
+pub fn run_files<R: Threads + Wait + Sync, F: Files, O: Sink, K: Keeper + Send>(
+    rt: &R,
     alloc: Global,
     net: &str,
     script: &str,
@@ -25,12 +28,13 @@ pub fn run_files<F: Files, O: Sink, K: Keeper>(
         (record { status = result.status; histories = result.histories; events = result.events.items; given = store; left = result.store }) }
 {
     match load_network(alloc, files, net) {
-        Ok(net) => run_script_file(alloc, &net, script, files, out, store),
+        Ok(net) => run_script_file(rt, alloc, &net, script, files, out, store),
         Err(stop) => Ended::without_run(alloc, print(alloc, out, Err(stop)), store),
     }
 }
 
-fn run_script_file<F: Files, O: Sink, K: Keeper>(
+fn run_script_file<R: Threads + Wait + Sync, F: Files, O: Sink, K: Keeper + Send>(
+    rt: &R,
     alloc: Global,
     net: &Network,
     script: &str,
@@ -44,7 +48,7 @@ fn run_script_file<F: Files, O: Sink, K: Keeper>(
     ensures later { F.fault_count files.old ≤ F.fault_count files.new }
 {
     match load_script(alloc, files, script, net) {
-        Ok(script) => Ended::of_run(run_script(alloc, net, &script, &NoGate, out, store)),
+        Ok(script) => Ended::of_run(run_script(rt, alloc, net, &script, &NoGate, out, store)),
         Err(stop) => Ended::without_run(alloc, print(alloc, out, Err(stop)), store),
     }
 }

@@ -76,7 +76,7 @@ impl<K> Ended<K> {
 /// | 9 | the verdict of `check` is not good |
 /// | 10 | a file is longer than 4,194,304 bytes |
 pub fn centre_main<R: Threads + Wait + Sync, F: Files, O: Sink, K: Keeper + Send>(
-    _rt: &R,
+    rt: &R,
     alloc: Global,
     words: &[String],
     files: &mut F,
@@ -90,7 +90,7 @@ pub fn centre_main<R: Threads + Wait + Sync, F: Files, O: Sink, K: Keeper + Send
 {
     let status = match command_of(words) {
         Command::RunScript { net, script, .. } => {
-            return run_files(alloc, net, script, files, out, store);
+            return run_files(rt, alloc, net, script, files, out, store);
         }
         _ => answer(alloc, words, files, out),
     };

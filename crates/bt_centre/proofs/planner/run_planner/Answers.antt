@@ -1,22 +1,24 @@
 -- one line more
-use Rattle.std.proofs.Common.{◌∙◌, refl}
+use Rattle.std.proofs.Common.{◌∙◌}
+use Rattle.bt_centre.specs.Callers.{own_of}
+use Rattle.bt_centre.proofs.Asking.{same_as_now, same_network, still_same}
 use Rattle.bt_centre.proofs.PlannerLines.{planner_begins, planner_goes_on}
 use Rattle.bt_centre.proofs.planner.run_planner.Goals as goal
 
 pub loop-init : goal.loop-init
 loop-init g c = record {
-  network = c.requires.network;
-  caller = c.new-caller.ensures;
-  legal = c.requires.legal;
-  store = refl;
-  done = planner_begins c.args.net.now c.args.book.now.history c.args.text.now.items;
+  same = same_as_now c.args.caller.now;
+  done = planner_begins c.args.net.now (own_of c.args.caller.now) c.args.text.now.items;
 }
+
+pub plan_once-requires-clause-network : goal.plan_once-requires-clause-network
+plan_once-requires-clause-network g c = same_network c.args.caller.now c.loop.caller c.args.net.now c.loop.invariant.same c.requires.network
+
+pub plan_once-requires-clause-number : goal.plan_once-requires-clause-number
+plan_once-requires-clause-number g c = c.loop.invariant.same.place.number_is ∙ c.requires.number
 
 pub loop-preserved : goal.loop-preserved
 loop-preserved g c = record {
-  network = c.plan_once.ensures.network;
-  caller = c.plan_once.ensures.caller ∙ c.loop.invariant.caller;
-  legal = c.plan_once.ensures.legal;
-  store = c.plan_once.ensures.store ∙ c.loop.invariant.store;
+  same = still_same c.args.caller.now c.loop.caller c.plan_once.new.caller c.loop.invariant.same c.plan_once.ensures.same;
   done = planner_goes_on c.args.net.now c.loop.counter 1 _ _ _ _ _ _ c.loop.invariant.done c.in_ok-plan_once.ensures.done;
 }
