@@ -1,38 +1,62 @@
 -- Commands that run nothing.
-use Rattle.std.proofs.Common.{◌≡◌, ℕ, List, Bor, refl, sym, subst}
+use Rattle.std.proofs.Common.{◌≡◌, ℕ, List, [], Option, Bor, refl, sym, subst}
 use Rattle.bt_cli.specs.declared.request.Command.{Command}
 use Rattle.bt_cli.specs.declared.request.Command.TheVariants as command
 use Rattle.bt_cli.specs.Command.{asked}
 use Rattle.bt_centre.specs.Output.{Output}
 use Rattle.bt_cli.specs.Outcome.{Input}
-use Rattle.bt_cli.specs.Request.{Request, Faulty, CheckModes, CheckPlan, PlanModes, PlanDemand, RunScript}
+use Rattle.bt_cli.specs.Request.{Request, Faulty, CheckModes, CheckPlan, PlanModes, PlanDemand, RunScript, ReplayJournal}
+use Rattle.bt_cli.specs.Replay.{EndsReplayWords, Stored}
 use Rattle.bt_cli.specs.Run.{End, RunsNothing}
 use Rattle.bt_cli.specs.Top.{Answered, Ends, RunsNone}
 
-none_asked : (read : Command) → ((net script journal : Bor (List ℕ)) → read ≡ command.RunScript net script journal → ⊥) → RunsNone (asked read)
-none_asked command.Faulty other = tt
-none_asked (command.CheckModes _ _) other = tt
-none_asked (command.CheckPlan _ _ _) other = tt
-none_asked (command.PlanModes _) other = tt
-none_asked (command.PlanDemand _ _) other = tt
-none_asked (command.RunScript net script journal) other = absurd (other net script journal refl)
+none_asked : (read : Command) → ((net script journal : Bor (List ℕ)) → read ≡ command.RunScript net script journal → ⊥)
+    → ((net journal : Bor (List ℕ)) → read ≡ command.ReplayJournal net journal → ⊥) → RunsNone (asked read)
+none_asked command.Faulty no_run no_replay = tt
+none_asked (command.CheckModes _ _) no_run no_replay = tt
+none_asked (command.CheckPlan _ _ _) no_run no_replay = tt
+none_asked (command.PlanModes _) no_run no_replay = tt
+none_asked (command.PlanDemand _ _) no_run no_replay = tt
+none_asked (command.RunScript net script journal) no_run no_replay = absurd (no_run net script journal refl)
+none_asked (command.ReplayJournal net journal) no_run no_replay = absurd (no_replay net journal refl)
 
--- words that are not read as a run ask for none
-pub runs_none : (read : Command) (request : Request) → asked read ≡ request → ((net script journal : Bor (List ℕ)) → read ≡ command.RunScript net script journal → ⊥) → RunsNone request
-runs_none read request is other = subst RunsNone is (none_asked read other)
+-- words that are not read as a run or a replay ask for none
+pub runs_none : (read : Command) (request : Request) → asked read ≡ request → ((net script journal : Bor (List ℕ)) → read ≡ command.RunScript net script journal → ⊥)
+    → ((net journal : Bor (List ℕ)) → read ≡ command.ReplayJournal net journal → ⊥) → RunsNone request
+runs_none read request is no_run no_replay = subst RunsNone is (none_asked read no_run no_replay)
 
 -- and words that are read as a run ask for one
 pub runs_one : (net script journal : List ℕ) (request : Request) → RunScript net script journal ≡ request → RunsNone request → ⊥
 runs_one net script journal request is none = subst RunsNone (sym is) none
 
-ends_so : {Store : Type 0} (input : Input) (output : Output) (request : Request) (end : End Store) → RunsNone request → RunsNothing end → Answered input output request end.status → Ends input output request end
-ends_so input output Faulty end none nothing so = (nothing, so)
-ends_so input output (CheckModes _ _) end none nothing so = (nothing, so)
-ends_so input output (CheckPlan _ _ _) end none nothing so = (nothing, so)
-ends_so input output (PlanModes _) end none nothing so = (nothing, so)
-ends_so input output (PlanDemand _ _) end none nothing so = (nothing, so)
-ends_so input output (RunScript _ _ _) end none nothing so = absurd none
+ends_so : {Store : Type 0} (input : Input) (output : Output) (stored : Stored) (request : Request) (end : End Store) → RunsNone request → RunsNothing end → Answered input output request end.status
+    → Ends input output stored request end
+ends_so input output stored Faulty end none nothing so = (nothing, so)
+ends_so input output stored (CheckModes _ _) end none nothing so = (nothing, so)
+ends_so input output stored (CheckPlan _ _ _) end none nothing so = (nothing, so)
+ends_so input output stored (PlanModes _) end none nothing so = (nothing, so)
+ends_so input output stored (PlanDemand _ _) end none nothing so = (nothing, so)
+ends_so input output stored (RunScript _ _ _) end none nothing so = absurd none
+ends_so input output stored (ReplayJournal _ _) end none nothing so = absurd none
 
 -- a command that runs nothing ends so
-pub ends_alone : {Store : Type 0} (input : Input) (output : Output) (request : Request) (end : End Store) (status : ℕ) → RunsNone request → RunsNothing end → end.status ≡ status → Answered input output request status → Ends input output request end
-ends_alone input output request end status none nothing is so = ends_so input output request end none nothing (subst (λ s. Answered input output request s) (sym is) so)
+pub ends_alone : {Store : Type 0} (input : Input) (output : Output) (stored : Stored) (request : Request) (end : End Store) (status : ℕ) → RunsNone request → RunsNothing end
+    → end.status ≡ status → Answered input output request status → Ends input output stored request end
+ends_alone input output stored request end status none nothing is so = ends_so input output stored request end none nothing (subst (λ s. Answered input output request s) (sym is) so)
+
+-- what a store tells between two calls
+abbrev pub stored_of : {Store : Type 0} → (Store → Option (List ℕ)) → (Store → ℕ) → Store → Store → Stored
+stored_of tell count given left = record { before = tell given; after = tell left; faults_before = count given; faults_after = count left }
+
+-- a replay ends so, with the store and the status that its call gave back
+pub ends_replay : {Store : Type 0} (tell : Store → Option (List ℕ)) (count : Store → ℕ) (input : Input) (output : Output) (back : Store) (status : ℕ) (net journal : List ℕ)
+    (request : Request) (end : End Store) → ReplayJournal net journal ≡ request → end.histories ≡ [] → end.events ≡ [] → end.left ≡ back → end.status ≡ status
+    → EndsReplayWords input output (stored_of tell count end.given back) request status → Ends input output (stored_of tell count end.given end.left) request end
+ends_replay {Store} tell count input output back status net journal request end is no_histories no_events left ended so =
+    let Left : Store → Type 0 = λ store. EndsReplayWords input output (stored_of tell count end.given store) request status in
+    let stored = stored_of tell count end.given end.left in
+    let Ended : ℕ → Type 0 = λ n. EndsReplayWords input output stored request n in
+    let Asked : Request → Type 0 = λ r. EndsReplayWords input output stored r end.status in
+    let replayed = subst Asked (sym is) (subst Ended (sym ended) (subst Left (sym left) so)) in
+    let How : Request → Type 0 = λ r. Ends input output stored r end in
+    subst How is (record { histories = no_histories; events = no_events; ends = replayed })

@@ -2,6 +2,8 @@ pub mod Loads
 pub mod Others
 pub mod Words
 pub mod OneAnswer
+pub mod OneReplay
+pub mod OneAnswerWith
 pub mod Printed
 pub mod Misspelt
 pub mod Named

@@ -10,8 +10,8 @@ use Rattle.bt_cli.specs.Kinds.{demand_file, plan_file}
 use Rattle.bt_cli.specs.Fitting.{Fits, WhereItFits}
 use Rattle.bt_cli.specs.CheckPlan.{ChecksPlanText, ChecksDemand, JudgesPlan}
 use Rattle.bt_centre.specs.Output.{Output}
-use Rattle.bt_cli.specs.Printing.{CameTo}
-use Rattle.bt_cli.specs.Outcome.{Outcome, Kind, IsLoaded, CannotRead, Loads, StopsAtLoad, PrintsOneOf}
+use Rattle.bt_cli.specs.Printing.{CameTo, EndsWith}
+use Rattle.bt_cli.specs.Outcome.{Outcome, Kind, IsLoaded, CannotRead, Loads, StopsAtLoad, PrintsOneOf, text_alone}
 
 -- a count that rose since a later moment rose since an earlier one
 pub Rose-sooner : (before between now : ℕ) → before ≤ between → Rose between now → Rose before now
@@ -23,6 +23,14 @@ pub CameTo-among : (P Q : Outcome → Type 0) → ((outcome : Outcome) → P out
 CameTo-among P Q among (Ok answer) came = among _ came
 CameTo-among P Q among (Err (Early answer)) came = among _ came
 CameTo-among P Q among (Err OutOfMemory) came = tt
+
+-- what came to one of these outcomes, and was printed, was one of them
+pub came_printed : (output : Output) (Outcomes : Outcome → Type 0) (result : Result Answer Stop) (status : ℕ) → CameTo Outcomes result → EndsWith output result status → PrintsOneOf output Outcomes status
+came_printed output Outcomes (Ok answer) status came (inl none) = inl none
+came_printed output Outcomes (Ok answer) status came (inr printed) = inr (text_alone answer.text.items answer.status, came, printed)
+came_printed output Outcomes (Err (Early answer)) status came (inl none) = inl none
+came_printed output Outcomes (Err (Early answer)) status came (inr printed) = inr (text_alone answer.text.items answer.status, came, printed)
+came_printed output Outcomes (Err OutOfMemory) status came none = inl none
 
 -- what was printed of one of these outcomes was one of those
 pub PrintsOneOf-among : (output : Output) (P Q : Outcome → Type 0) → ((outcome : Outcome) → P outcome → Q outcome) → (status : ℕ) → PrintsOneOf output P status → PrintsOneOf output Q status

@@ -22,7 +22,7 @@ use Rattle.bt_cli.specs.Kinds.{matrix_file, schedule_file, network_file, demand_
 use Rattle.bt_cli.specs.Run.{RunsScript, PrintsRun}
 use Rattle.bt_cli.specs.Check.{ChecksSchedule, Judges, verdict_status}
 use Rattle.bt_cli.specs.Modes.{PrintsSchedule}
-use Rattle.bt_cli.specs.Request.{Request, Faulty, CheckModes, CheckPlan, PlanModes, PlanDemand, RunScript}
+use Rattle.bt_cli.specs.Request.{Request, Faulty, CheckModes, CheckPlan, PlanModes, PlanDemand, RunScript, ReplayJournal}
 use Rattle.bt_cli.specs.Top.{Answers, IsTold, AreTold, IsOneAnswer}
 
 -- a told file has one content
@@ -193,3 +193,4 @@ Answers-same laws told (PlanDemand net traffic) (of_net, of_traffic) a b first s
     Loads-same AreAlike same_alike network_file told net of_net.0 of_net.1 (λ network. PlansDemand told ⊥ traffic network) (PlansDemand-same laws told traffic of_traffic) a b first second
 Answers-same laws told (RunScript net script _) (of_net, of_script) a b first second =
     Loads-same AreAlike same_alike network_file told net of_net.0 of_net.1 (λ network. RunsScript told ⊥ script network) (λ network. Loads-same AreAlike same_alike (script_file network) told script of_script.0 of_script.1 (λ read. PrintsRun network read) (λ read a b one other. done_alike a b one.1 other.1)) a b first second
+Answers-same laws told (ReplayJournal net _) of_net a b first second = absurd first

@@ -8,7 +8,9 @@ use Rattle.bt_cli.specs.declared.request.Command.{Command}
 use Rattle.bt_cli.specs.declared.request.Command.TheVariants as command
 use Rattle.bt_cli.specs.Answer.{AnswerIs}
 use Rattle.bt_cli.specs.Command.{asked, name_of}
-use Rattle.bt_cli.specs.Outcome.{Says}
+use Rattle.bt_centre.specs.Output.{Output}
+use Rattle.bt_cli.specs.Outcome.{Input, Says}
+use Rattle.bt_cli.specs.Replay.{EndsReplayWords, Stored}
 use Rattle.bt_cli.specs.Request.{Request, Faulty}
 use Rattle.bt_cli.specs.Top.{Answers}
 
@@ -27,6 +29,7 @@ faulty_check (command.CheckPlan net traffic plan) request first is named check o
 faulty_check (command.PlanDemand _ _) request first is named check other another = absurd (two_names (codes "plan") (codes "check") first refl named check)
 faulty_check (command.RunScript _ _ _) request first is named check other another = absurd (two_names (codes "run") (codes "check") first refl named check)
 faulty_check (command.PlanModes matrix) request first is named check other another = absurd (two_names (codes "modes") (codes "check") first refl named check)
+faulty_check (command.ReplayJournal _ _) request first is named check other another = absurd (two_names (codes "replay") (codes "check") first refl named check)
 
 pub faulty_modes : (read : Command) (request : Request) (first : Option (List ℕ)) → asked read ≡ request → IfSome (name_of read) (λ name. first ≡ Some name) → first ≡ Some (codes "modes") → ((matrix : Bor (List ℕ)) → read ≡ command.PlanModes matrix → ⊥) → request ≡ Faulty
 faulty_modes command.Faulty request first is named modes other = sym is
@@ -34,6 +37,7 @@ faulty_modes (command.CheckModes _ _) request first is named modes other = absur
 faulty_modes (command.CheckPlan _ _ _) request first is named modes other = absurd (two_names (codes "check") (codes "modes") first refl named modes)
 faulty_modes (command.PlanDemand _ _) request first is named modes other = absurd (two_names (codes "plan") (codes "modes") first refl named modes)
 faulty_modes (command.RunScript _ _ _) request first is named modes other = absurd (two_names (codes "run") (codes "modes") first refl named modes)
+faulty_modes (command.ReplayJournal _ _) request first is named modes other = absurd (two_names (codes "replay") (codes "modes") first refl named modes)
 faulty_modes (command.PlanModes matrix) request first is named modes other = absurd (other matrix refl)
 
 pub faulty_plan : (read : Command) (request : Request) (first : Option (List ℕ)) → asked read ≡ request → IfSome (name_of read) (λ name. first ≡ Some name) → first ≡ Some (codes "plan") → ((net traffic : Bor (List ℕ)) → read ≡ command.PlanDemand net traffic → ⊥) → request ≡ Faulty
@@ -42,8 +46,22 @@ faulty_plan (command.CheckModes _ _) request first is named plan other = absurd 
 faulty_plan (command.CheckPlan _ _ _) request first is named plan other = absurd (two_names (codes "check") (codes "plan") first refl named plan)
 faulty_plan (command.PlanModes _) request first is named plan other = absurd (two_names (codes "modes") (codes "plan") first refl named plan)
 faulty_plan (command.PlanDemand net traffic) request first is named plan other = absurd (other net traffic refl)
+faulty_plan (command.ReplayJournal _ _) request first is named plan other = absurd (two_names (codes "replay") (codes "plan") first refl named plan)
 faulty_plan (command.RunScript _ _ _) request first is named plan other = absurd (two_names (codes "run") (codes "plan") first refl named plan)
+
+pub faulty_replay : (read : Command) (request : Request) (first : Option (List ℕ)) → asked read ≡ request → IfSome (name_of read) (λ name. first ≡ Some name) → first ≡ Some (codes "replay") → ((net journal : Bor (List ℕ)) → read ≡ command.ReplayJournal net journal → ⊥) → request ≡ Faulty
+faulty_replay command.Faulty request first is named replay other = sym is
+faulty_replay (command.CheckModes _ _) request first is named replay other = absurd (two_names (codes "check") (codes "replay") first refl named replay)
+faulty_replay (command.CheckPlan _ _ _) request first is named replay other = absurd (two_names (codes "check") (codes "replay") first refl named replay)
+faulty_replay (command.PlanDemand _ _) request first is named replay other = absurd (two_names (codes "plan") (codes "replay") first refl named replay)
+faulty_replay (command.PlanModes matrix) request first is named replay other = absurd (two_names (codes "modes") (codes "replay") first refl named replay)
+faulty_replay (command.RunScript _ _ _) request first is named replay other = absurd (two_names (codes "run") (codes "replay") first refl named replay)
+faulty_replay (command.ReplayJournal net journal) request first is named replay other = absurd (other net journal refl)
 
 -- the answer to words of no command
 pub answers_faulty : (told : List ℕ → Option (List ℕ)) (failed : Type 0) (request : Request) (answer : Answer) → request ≡ Faulty → AnswerIs (Says (codes "fault" ∷ codes "words" ∷ []) 2) answer → AnswerIs (Answers told failed request) answer
 answers_faulty told failed request answer is says = subst (λ r. AnswerIs (Answers told failed r) answer) (sym is) says
+
+-- and how a replay's call ends on them
+pub replays_faulty : (input : Input) (output : Output) (stored : Stored) (request : Request) (status : ℕ) → request ≡ Faulty → EndsReplayWords input output stored Faulty status → EndsReplayWords input output stored request status
+replays_faulty input output stored request status is so = subst (λ r. EndsReplayWords input output stored r status) (sym is) so

@@ -7,9 +7,10 @@ use Rattle.bt_centre.specs.Output.{Output}
 use Rattle.bt_centre.specs.Run.{RunsTo}
 use Rattle.bt_cli.specs.Kinds.{network_file, script_file}
 use Rattle.bt_cli.specs.Outcome.{Outcome, Input, HasFailed, IsLoaded, StopsAtLoad, PrintsOneOf}
-use Rattle.bt_cli.specs.Request.{Request, Faulty, CheckModes, CheckPlan, PlanModes, PlanDemand, RunScript}
+use Rattle.bt_cli.specs.Request.{Request, Faulty, CheckModes, CheckPlan, PlanModes, PlanDemand, RunScript, ReplayJournal}
+use Rattle.bt_cli.specs.Replay.{EndsReplay, NamesRecoverFault, PrintsState, Replays, Stored}
 use Rattle.bt_cli.specs.Run.{End, EndsRun, EndsScript, HasRun, PrintsRun, Runs, RunsScript}
-use Rattle.bt_cli.specs.Top.{Answered, Ends}
+use Rattle.bt_cli.specs.Top.{Answered, AnswersWith, Ends}
 use Rattle.bt_cli.proofs.Loads.{PrintsOneOf-among, StopsAtLoad-moved}
 
 -- what the files tell, with their faults from one moment to another
@@ -49,11 +50,23 @@ runs_answered : {Store : Type 0} (input : Input) (output : Output) (net script j
 runs_answered input output net script journal ended (inl (nothing, stopped)) = inr (PrintsOneOf-among output (StopsAtLoad network_file input.told (HasFailed input) net) (Runs input.told (HasFailed input) net script) (λ outcome so. inl so) ended.status stopped)
 runs_answered input output net script journal ended (inr (network, loaded, so)) = among output (RunsScript input.told (HasFailed input) script network) (Runs input.told (HasFailed input) net script) (λ outcome so. inr (network, loaded, so)) ended.status (script_answered input output script network ended so)
 
--- so is what any command comes to
-pub ends_answered : {Store : Type 0} (input : Input) (output : Output) (request : Request) (ended : End Store) → Ends input output request ended → (ended.status ≡ 6) ⊎ Answered input output request ended.status
-ends_answered input output Faulty ended so = inr so.1
-ends_answered input output (CheckModes matrix modes) ended so = inr so.1
-ends_answered input output (CheckPlan net traffic plan) ended so = inr so.1
-ends_answered input output (PlanModes matrix) ended so = inr so.1
-ends_answered input output (PlanDemand net traffic) ended so = inr so.1
-ends_answered input output (RunScript net script journal) ended so = runs_answered input output net script journal ended so
+-- so is what a replay comes to
+replay_answered : (input : Input) (output : Output) (stored : Stored) (net : List ℕ) (status : ℕ) → EndsReplay input output stored net status
+    → PrintsOneOf output (Replays input.told (HasFailed input) stored net) status
+replay_answered input output stored net status (inl (kept, stopped)) =
+    PrintsOneOf-among output (StopsAtLoad network_file input.told (HasFailed input) net) (Replays input.told (HasFailed input) stored net) (λ outcome so. inl so) status stopped
+replay_answered input output stored net status (inr (network, loaded, (sound, inl (changes, recovered, printed)))) =
+    PrintsOneOf-among output (PrintsState network changes) (Replays input.told (HasFailed input) stored net) (λ outcome so. inr (network, loaded, (sound, inl (changes, recovered, so)))) status printed
+replay_answered input output stored net status (inr (network, loaded, (sound, inr (fault, failed, printed)))) =
+    PrintsOneOf-among output (NamesRecoverFault fault) (Replays input.told (HasFailed input) stored net) (λ outcome so. inr (network, loaded, (sound, inr (fault, failed, so)))) status printed
+
+-- and what any command comes to
+pub ends_answered : {Store : Type 0} (input : Input) (output : Output) (stored : Stored) (request : Request) (ended : End Store) → Ends input output stored request ended
+    → (ended.status ≡ 6) ⊎ PrintsOneOf output (AnswersWith input.told (HasFailed input) stored request) ended.status
+ends_answered input output stored Faulty ended so = inr so.1
+ends_answered input output stored (CheckModes matrix modes) ended so = inr so.1
+ends_answered input output stored (CheckPlan net traffic plan) ended so = inr so.1
+ends_answered input output stored (PlanModes matrix) ended so = inr so.1
+ends_answered input output stored (PlanDemand net traffic) ended so = inr so.1
+ends_answered input output stored (RunScript net script journal) ended so = runs_answered input output net script journal ended so
+ends_answered input output stored (ReplayJournal net journal) ended so = inr (replay_answered input output stored net ended.status so.ends)

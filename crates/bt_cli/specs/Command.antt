@@ -2,7 +2,7 @@
 use Rattle.std.specs.Prelude.{ℕ, List, codes, Option, Some, None}
 use Rattle.bt_cli.specs.declared.request.Command.{Command}
 use Rattle.bt_cli.specs.declared.request.Command.TheVariants as command
-use Rattle.bt_cli.specs.Request.{Request, Faulty, CheckModes, CheckPlan, PlanModes, PlanDemand, RunScript}
+use Rattle.bt_cli.specs.Request.{Request, Faulty, CheckModes, CheckPlan, PlanModes, PlanDemand, RunScript, ReplayJournal}
 
 -- what the command asks for
 abbrev pub asked : Command → Request
@@ -12,6 +12,7 @@ asked (command.CheckPlan net traffic plan) = CheckPlan net.now traffic.now plan.
 asked (command.PlanModes matrix) = PlanModes matrix.now
 asked (command.PlanDemand net traffic) = PlanDemand net.now traffic.now
 asked (command.RunScript net script journal) = RunScript net.now script.now journal.now
+asked (command.ReplayJournal net journal) = ReplayJournal net.now journal.now
 
 -- the name of the command
 abbrev pub name_of : Command → Option (List ℕ)
@@ -21,3 +22,4 @@ name_of (command.CheckPlan _ _ _) = Some (codes "check")
 name_of (command.PlanModes _) = Some (codes "modes")
 name_of (command.PlanDemand _ _) = Some (codes "plan")
 name_of (command.RunScript _ _ _) = Some (codes "run")
+name_of (command.ReplayJournal _ _) = Some (codes "replay")

@@ -12,4 +12,5 @@ pub mod Fitting
 pub mod Plans
 pub mod CheckPlan
 pub mod Run
+pub mod Replay
 pub mod Top

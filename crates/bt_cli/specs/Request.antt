@@ -10,6 +10,7 @@ pub data Request : Type 0 where
   PlanModes : List ℕ → Request
   PlanDemand : List ℕ → List ℕ → Request
   RunScript : List ℕ → List ℕ → List ℕ → Request
+  ReplayJournal : List ℕ → List ℕ → Request
 
 -- `check MATRIX MODES`; a word that names a file is not empty
 abbrev pub check_request : List ℕ → List ℕ → Request
@@ -35,6 +36,10 @@ plan_request net traffic = if nat_lt 0 (length net) && nat_lt 0 (length traffic)
 abbrev pub run_request : List ℕ → List ℕ → List ℕ → Request
 run_request net script journal = if are_words net script journal then RunScript net script journal else Faulty
 
+-- `replay NET JOURNAL`
+abbrev pub replay_request : List ℕ → List ℕ → Request
+replay_request net journal = if nat_lt 0 (length net) && nat_lt 0 (length journal) then ReplayJournal net journal else Faulty
+
 -- what a command with one word asks for
 abbrev pub asked_with_one : List ℕ → List ℕ → Request
 asked_with_one command first = if bytes_eq command (codes "modes") then modes_request first else Faulty
@@ -43,7 +48,8 @@ asked_with_one command first = if bytes_eq command (codes "modes") then modes_re
 abbrev pub asked_with_two : List ℕ → List ℕ → List ℕ → Request
 asked_with_two command first second =
     if bytes_eq command (codes "check") then check_request first second
-    else (if bytes_eq command (codes "plan") then plan_request first second else Faulty)
+    else (if bytes_eq command (codes "plan") then plan_request first second
+    else (if bytes_eq command (codes "replay") then replay_request first second else Faulty))
 
 -- what a command with three words asks for
 abbrev pub asked_with_three : List ℕ → List ℕ → List ℕ → List ℕ → Request

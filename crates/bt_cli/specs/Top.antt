@@ -2,14 +2,15 @@
 use Rattle.std.specs.Prelude.{◌≡◌, ℕ, ◌⊎◌, List, [], ◌∷◌, codes, Option, Some}
 use Rattle.bt_centre.specs.Output.{Output}
 use Rattle.bt_cli.specs.Outcome.{Outcome, Input, HasFailed, Says, PrintsOneOf}
-use Rattle.bt_cli.specs.Request.{Request, Faulty, CheckModes, CheckPlan, PlanModes, PlanDemand, RunScript}
+use Rattle.bt_cli.specs.Request.{Request, Faulty, CheckModes, CheckPlan, PlanModes, PlanDemand, RunScript, ReplayJournal}
 use Rattle.bt_cli.specs.Check.{ChecksModes}
 use Rattle.bt_cli.specs.CheckPlan.{ChecksPlan}
 use Rattle.bt_cli.specs.Modes.{PrintsModes}
 use Rattle.bt_cli.specs.Plans.{Plans}
+use Rattle.bt_cli.specs.Replay.{HasReplayed, IsSteady, Replays, Stored}
 use Rattle.bt_cli.specs.Run.{End, EndsRun, Runs, RunsNothing}
 
--- the outcome of what is asked, by the command
+-- the outcome of what is asked, by the command, but for a replay: what comes of that the store tells too
 abbrev pub Answers : (List ℕ → Option (List ℕ)) → Type 0 → Request → Outcome → Type 0
 Answers told failed Faulty = Says (codes "fault" ∷ codes "words" ∷ []) 2
 Answers told failed (CheckModes matrix modes) = ChecksModes told failed matrix modes
@@ -17,6 +18,17 @@ Answers told failed (CheckPlan net traffic plan) = ChecksPlan told failed net tr
 Answers told failed (PlanModes matrix) = PrintsModes told failed matrix
 Answers told failed (PlanDemand net traffic) = Plans told failed net traffic
 Answers told failed (RunScript net script _) = Runs told failed net script
+Answers told failed (ReplayJournal _ _) = λ _. ⊥
+
+-- the same where the store tells this
+abbrev pub AnswersWith : (List ℕ → Option (List ℕ)) → Type 0 → Stored → Request → Outcome → Type 0
+AnswersWith told failed stored Faulty = Answers told failed Faulty
+AnswersWith told failed stored (CheckModes matrix modes) = Answers told failed (CheckModes matrix modes)
+AnswersWith told failed stored (CheckPlan net traffic plan) = Answers told failed (CheckPlan net traffic plan)
+AnswersWith told failed stored (PlanModes matrix) = Answers told failed (PlanModes matrix)
+AnswersWith told failed stored (PlanDemand net traffic) = Answers told failed (PlanDemand net traffic)
+AnswersWith told failed stored (RunScript net script journal) = Answers told failed (RunScript net script journal)
+AnswersWith told failed stored (ReplayJournal net _) = Replays told failed stored net
 
 -- Memory ran out; or what is asked had one of its outcomes, and it was printed.
 abbrev pub Answered : Input → Output → Request → ℕ → Type 0
@@ -26,19 +38,21 @@ Answered input output request status = PrintsOneOf output (Answers input.told (H
 abbrev pub EndsAlone : {Store : Type 0} → Input → Output → Request → End Store → Type 0
 EndsAlone input output request end = RunsNothing end × Answered input output request end.status
 
--- what is asked runs no script
+-- what is asked runs no script and replays no journal
 abbrev pub RunsNone : Request → Type 0
 RunsNone (RunScript _ _ _) = ⊥
+RunsNone (ReplayJournal _ _) = ⊥
 RunsNone _ = Unit {0}
 
 -- How the program ends: by the command that is asked for.
-abbrev pub Ends : {Store : Type 0} → Input → Output → Request → End Store → Type 0
-Ends input output Faulty end = EndsAlone input output Faulty end
-Ends input output (CheckModes matrix modes) end = EndsAlone input output (CheckModes matrix modes) end
-Ends input output (CheckPlan net traffic plan) end = EndsAlone input output (CheckPlan net traffic plan) end
-Ends input output (PlanModes matrix) end = EndsAlone input output (PlanModes matrix) end
-Ends input output (PlanDemand net traffic) end = EndsAlone input output (PlanDemand net traffic) end
-Ends input output (RunScript net script _) end = EndsRun input output net script end
+abbrev pub Ends : {Store : Type 0} → Input → Output → Stored → Request → End Store → Type 0
+Ends input output stored Faulty end = EndsAlone input output Faulty end
+Ends input output stored (CheckModes matrix modes) end = EndsAlone input output (CheckModes matrix modes) end
+Ends input output stored (CheckPlan net traffic plan) end = EndsAlone input output (CheckPlan net traffic plan) end
+Ends input output stored (PlanModes matrix) end = EndsAlone input output (PlanModes matrix) end
+Ends input output stored (PlanDemand net traffic) end = EndsAlone input output (PlanDemand net traffic) end
+Ends input output stored (RunScript net script _) end = EndsRun input output net script end
+Ends input output stored (ReplayJournal net _) end = HasReplayed input output stored net end
 
 -- the file of that name is told
 abbrev pub IsTold : (List ℕ → Option (List ℕ)) → List ℕ → Type 0
@@ -52,6 +66,20 @@ AreTold told (CheckPlan net traffic plan) = IsTold told net × IsTold told traff
 AreTold told (PlanModes matrix) = IsTold told matrix
 AreTold told (PlanDemand net traffic) = IsTold told net × IsTold told traffic
 AreTold told (RunScript net script _) = IsTold told net × IsTold told script
+AreTold told (ReplayJournal net _) = IsTold told net
+
+-- the store tells the same bytes at the start of two calls, and fails in neither
+pub record IsOneStore (one other : Stored) : Type 0 where
+  pub held : List ℕ
+  pub told : one.before ≡ Some held
+  pub also : other.before ≡ Some held
+  pub steady : IsSteady one
+  pub steadily : IsSteady other
+
+-- a replay asks for its store, and nothing else does
+abbrev pub AreOneStore : Request → Stored → Stored → Type 0
+AreOneStore (ReplayJournal _ _) one other = IsOneStore one other
+AreOneStore _ one other = Unit {0}
 
 -- The same outcome; where a schedule or a plan is printed or a script is run, any good one and any run may stand in
 -- the other's place.
@@ -62,3 +90,4 @@ IsOneAnswer (CheckPlan _ _ _) a b = a ≡ b
 IsOneAnswer (PlanDemand _ _) a b = (a.status ≡ b.status) × ((a.status ≡ 0) ⊎ (a ≡ b))
 IsOneAnswer (PlanModes _) a b = (a.status ≡ b.status) × ((a.status ≡ 0) ⊎ (a ≡ b))
 IsOneAnswer (RunScript _ _ _) a b = (a.status ≡ b.status) × ((a.status ≡ 0) ⊎ (a ≡ b))
+IsOneAnswer (ReplayJournal _ _) a b = a ≡ b

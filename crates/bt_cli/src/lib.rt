@@ -16,6 +16,7 @@ mod load;
 mod modes;
 mod plan;
 mod print;
+mod replay;
 mod request;
 mod run;
 mod stops;
@@ -28,4 +29,5 @@ pub use laws::{
 };
 pub use modes::modes_command;
 pub use plan::plan_command;
+pub use replay::replay_command;
 pub use top::{Ended, centre_main};

@@ -1,7 +1,7 @@
 // What the words after the program's name ask for.
 ghost use Rattle.std.specs.Prelude.{◌≡◌, map, codes, IfSome};
 ghost use Rattle.std.specs.String.{string_bytes};
-ghost use Rattle.bt_cli.specs.Request.{asked_with_one, asked_with_three, asked_with_two, check_plan_request, check_request, first_word, modes_request, plan_request, request_of, run_request};
+ghost use Rattle.bt_cli.specs.Request.{asked_with_one, asked_with_three, asked_with_two, check_plan_request, check_request, first_word, modes_request, plan_request, replay_request, request_of, run_request};
 ghost use Rattle.bt_cli.specs.Command.{asked, name_of};
 
 /// A command with its words.
@@ -33,6 +33,11 @@ pub enum Command<'a> {
     RunScript {
         net: &'a str,
         script: &'a str,
+        journal: &'a str,
+    },
+    /// `replay NET JOURNAL`.
+    ReplayJournal {
+        net: &'a str,
         journal: &'a str,
     },
 }
@@ -71,6 +76,8 @@ fn with_two<'a>(command: &str, first: &'a str, second: &'a str) -> Command<'a>
         check_of(first, second)
     } else if command == "plan" {
         plan_of(first, second)
+    } else if command == "replay" {
+        replay_of(first, second)
     } else {
         Command::Faulty
     }
@@ -146,5 +153,16 @@ fn plan_of<'a>(net: &'a str, traffic: &'a str) -> Command<'a>
         Command::Faulty
     } else {
         Command::PlanDemand { net, traffic }
+    }
+}
+
+fn replay_of<'a>(net: &'a str, journal: &'a str) -> Command<'a>
+    ensures asked { asked result ≡ replay_request net.now journal.now }
+    ensures named { IfSome (name_of result) (λ name. name ≡ codes "replay") }
+{
+    if net.is_empty() || journal.is_empty() {
+        Command::Faulty
+    } else {
+        Command::ReplayJournal { net, journal }
     }
 }

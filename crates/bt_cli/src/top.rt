@@ -8,6 +8,7 @@ use crate::check::check_command;
 use crate::faulty::print_faulty_words;
 use crate::modes::modes_command;
 use crate::plan::plan_command;
+use crate::replay::replay_command;
 use crate::request::{Command, command_of};
 use crate::run::run_files;
 use bt_air::Event;
@@ -73,8 +74,10 @@ impl<K> Ended<K> {
 /// | 4 | a text leaves its grammar or its limits, or a demand does not fit the frame |
 /// | 5 | a file could not be read |
 /// | 6 | the output could not be written |
+/// | 7 | the store failed |
+/// | 8 | a line of the journal is of no change, or of one that does not follow |
 /// | 9 | the verdict of `check` is not good |
-/// | 10 | a file is longer than 4,194,304 bytes |
+/// | 10 | a file is longer than 4,194,304 bytes, or the store than 67,108,864 |
 pub fn centre_main<R: Threads + Wait + Sync, F: Files, O: Sink, K: Keeper + Send>(
     rt: &R,
     alloc: Global,
@@ -85,16 +88,20 @@ pub fn centre_main<R: Threads + Wait + Sync, F: Files, O: Sink, K: Keeper + Send
 ) -> Ended<K>
     ensures ends { Ends (record { told = F.told files.old; faults_before = F.fault_count files.old; faults_after = F.fault_count files.new })
         (record { before = O.told out.old; after = O.told out.new; faults_before = O.fault_count out.old; faults_after = O.fault_count out.new })
+        (record { before = K.told store; after = K.told result.store; faults_before = K.fault_count store; faults_after = K.fault_count result.store })
         (request_of (map string_bytes words.now))
         (record { status = result.status; histories = result.histories; events = result.events.items; given = store; left = result.store }) }
 {
-    let status = match command_of(words) {
+    match command_of(words) {
         Command::RunScript { net, script, .. } => {
-            return run_files(rt, alloc, net, script, files, out, store);
+            run_files(rt, alloc, net, script, files, out, store)
         }
-        _ => answer(alloc, words, files, out),
-    };
-    Ended::without_run(alloc, status, store)
+        Command::ReplayJournal { .. } => {
+            let (status, store) = replay_command(alloc, words, files, out, store);
+            Ended::without_run(alloc, status, store)
+        }
+        _ => Ended::without_run(alloc, answer(alloc, words, files, out), store),
+    }
 }
 
 /// Does what a command asks for that runs nothing, and gives the status to end with.
@@ -111,6 +118,6 @@ fn answer<F: Files, O: Sink>(alloc: Global, words: &[String], files: &mut F, out
         }
         Command::PlanModes { .. } => modes_command(alloc, words, files, out),
         Command::PlanDemand { .. } => plan_command(alloc, words, files, out),
-        Command::RunScript { .. } => unreachable!(),
+        Command::RunScript { .. } | Command::ReplayJournal { .. } => unreachable!(),
     }
 }

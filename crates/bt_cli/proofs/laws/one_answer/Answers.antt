@@ -1,10 +1,20 @@
-use Rattle.bt_cli.proofs.OneAnswer.{Answers-same}
+use Rattle.bt_cli.proofs.OneAnswerWith.{AnswersWith-same}
 use Rattle.bt_cli.proofs.laws.one_answer.Goals as goal
 
 pub returns : goal.returns
-returns c = Answers-same (record {
-  verdict = c.one_verdict.ensures;
-  plan_verdict = c.one_plan_verdict.ensures;
-  line = c.one_line_is_heaviest.ensures.line;
-  sum = c.one_line_is_heaviest.ensures.sum;
-})
+returns c = AnswersWith-same
+    (record {
+      verdict = c.one_verdict.ensures;
+      plan_verdict = c.one_plan_verdict.ensures;
+      line = c.one_line_is_heaviest.ensures.line;
+      sum = c.one_line_is_heaviest.ensures.sum;
+    })
+    (record {
+      demand = c.links_tell_demands.ensures;
+      changes = c.journals_tell_one_thing.ensures.changes;
+      no_line = c.journals_tell_one_thing.ensures.changes_or_no_line;
+      stray = c.journals_tell_one_thing.ensures.changes_or_stray;
+      either = c.journals_tell_one_thing.ensures.no_line_or_stray;
+      no_lines = c.journals_tell_one_thing.ensures.no_line;
+      strays = c.journals_tell_one_thing.ensures.stray;
+    })

@@ -1,0 +1,100 @@
+// `replay NET JOURNAL`.
+ghost use Rattle.std.specs.Prelude.{◌≡◌, map, codes};
+ghost use Rattle.std.specs.String.{string_bytes};
+ghost use Rattle.bt_book.specs.Causes.{Follows};
+ghost use Rattle.bt_cli.specs.Printing.{CameTo};
+ghost use Rattle.bt_cli.specs.Replay.{EndsRecovery, EndsReplay, EndsReplayWords, PrintsState};
+ghost use Rattle.bt_cli.specs.Request.{first_word, request_of};
+
+use crate::answer::{Answer, Stop};
+use crate::faulty::print_faulty_words;
+use crate::load::load_network;
+use crate::print::print;
+use crate::request::{Command, command_of};
+use crate::stops::recover_stop;
+use bt_base::{Files, Keeper, Sink};
+use bt_book::{Book, demands_fit_the_frame};
+use bt_net::Network;
+use bt_timeline::replay_text;
+use std::alloc::Global;
+
+/// Prints what the journal in a store comes to: the last edition of the demand, the newest plan, the number of orders,
+/// and the links of the demand. What stands behind the journal's last newline is cut from the store.
+///
+/// The words are those after the program's name, of which the first is `replay`. The status is 0 where all that is
+/// printed; the refusals are those of the top call. The store comes back with the status.
+pub fn replay_command<F: Files, O: Sink, K: Keeper>(
+    alloc: Global,
+    words: &[String],
+    files: &mut F,
+    out: &mut O,
+    store: K,
+) -> (u8, K)
+    requires { first_word (map string_bytes words.now) ≡ Some (codes "replay") }
+    ensures { EndsReplayWords (record { told = F.told files.old; faults_before = F.fault_count files.old; faults_after = F.fault_count files.new })
+        (record { before = O.told out.old; after = O.told out.new; faults_before = O.fault_count out.old; faults_after = O.fault_count out.new })
+        (record { before = K.told store; after = K.told result.1; faults_before = K.fault_count store; faults_after = K.fault_count result.1 })
+        (request_of (map string_bytes words.now)) result.0 }
+{
+    match command_of(words) {
+        Command::ReplayJournal { net, .. } => replay_files(alloc, net, files, out, store),
+        _ => (print_faulty_words(alloc, out), store),
+    }
+}
+
+/// Replays the store over the network in a file.
+fn replay_files<F: Files, O: Sink, K: Keeper>(
+    alloc: Global,
+    net: &str,
+    files: &mut F,
+    out: &mut O,
+    store: K,
+) -> (u8, K)
+    ensures { EndsReplay (record { told = F.told files.old; faults_before = F.fault_count files.old; faults_after = F.fault_count files.new })
+        (record { before = O.told out.old; after = O.told out.new; faults_before = O.fault_count out.old; faults_after = O.fault_count out.new })
+        (record { before = K.told store; after = K.told result.1; faults_before = K.fault_count store; faults_after = K.fault_count result.1 }) net.now result.0 }
+{
+    match load_network(alloc, files, net) {
+        Ok(net) => replay_store(alloc, &net, out, store),
+        Err(stop) => (print(alloc, out, Err(stop)), store),
+    }
+}
+
+/// Replays the store over the network.
+fn replay_store<O: Sink, K: Keeper>(alloc: Global, net: &Network, out: &mut O, store: K) -> (u8, K)
+    ensures { EndsRecovery net.now
+        (record { before = O.told out.old; after = O.told out.new; faults_before = O.fault_count out.old; faults_after = O.fault_count out.new })
+        (record { before = K.told store; after = K.told result.1; faults_before = K.fault_count store; faults_after = K.fault_count result.1 }) result.0 }
+{
+    // This is there for what holds of each network.
+    let _beams = net.beam_count();
+    match Book::recover(alloc, net, store) {
+        Ok(book) => {
+            let status = print(alloc, out, state_answer(alloc, net, &book));
+            (status, book.into_parts().0)
+        }
+        Err((store, fault)) => (print(alloc, out, Err(recover_stop(alloc, fault))), store),
+    }
+}
+
+/// The text of what the changes of a book come to.
+fn state_answer<K: Keeper>(alloc: Global, net: &Network, book: &Book<K>) -> Result<Answer, Stop>
+    requires follow { Follows net.now book.now.state.changes }
+    ensures { CameTo (PrintsState net.now book.now.state.changes) result }
+{
+    // This is there for what holds of each network.
+    let _beams = net.beam_count();
+    demands_fit_the_frame();
+    let (edition, newest, orders) = (book.edition(), book.newest(), book.order_count());
+    let mut text = Vec::new(alloc);
+    replay_text(
+        alloc,
+        net,
+        edition,
+        newest,
+        orders,
+        book.demand(),
+        &mut text,
+    )?;
+    Ok(Answer { text, status: 0 })
+}
