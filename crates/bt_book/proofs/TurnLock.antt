@@ -60,11 +60,11 @@ last_step start end (first ∷ rest) entry (next, (step, more)) =
     let last = last_step next end rest entry more in
     (last.0, (next, (step, last.1)), last.2)
 
--- and so one of the machine, after changes that follow
+-- and so one of the machine, from the state that the others led to, after changes that follow
 pub answered : {S : Type 0} (start end : Books S) (opening : List Change) (history : List Entry) (before : List (line.Entry Call Reply)) (entry : line.Entry Call Reply)
     → Follows start.net opening → Legal start.net opening history → start.state ≡ state_after opening history
     → line_legal.Legal book_steps start (before ++ entry ∷ []) end
-    → (old : State) × (new : State) × Follows start.net old.changes × Step start.net old entry.call entry.reply new
+    → (old : State) × (new : State) × (old ≡ state_from start.state (map journal_entry before)) × Follows start.net old.changes × Step start.net old entry.call entry.reply new
 answered start end opening history before entry follow legal is line =
     let last = last_step start end before entry line in
     let all = history ++ map journal_entry before in
@@ -72,6 +72,7 @@ answered start end opening history before entry follow legal is line =
     let net = (kept_by_line start last.0 before last.1).0 in (
       last.0.state,
       end.state,
+      from_line start last.0 before last.1,
       subst (λ (s : State). Follows start.net s.changes) (sym at)
           (Legal-follows start.net opening all follow (Legal-line start last.0 opening history before legal is last.1)),
       subst (λ (n : Net). Step n last.0.state entry.call entry.reply end.state) net last.2.step,

@@ -12,7 +12,7 @@ ghost use Rattle.bt_line.specs.Legal as line_legal;
 ghost use Rattle.bt_book.specs.Book.{Books, book_steps, journal_entry};
 ghost use Rattle.bt_book.specs.Changes.{installs, newest, plans};
 ghost use Rattle.bt_book.specs.Causes.{Follows, IsGoodForItsEdition};
-ghost use Rattle.bt_book.specs.Machine.{State, state_after, Legal, NamesBeams, Step};
+ghost use Rattle.bt_book.specs.Machine.{State, state_after, state_from, Legal, NamesBeams, Step};
 
 use bt_base::Keeper;
 
@@ -55,13 +55,14 @@ pub fn locked_books_are_legal<K: Keeper>()
         → (end.net ≡ start.net) × (end.store ≡ start.store) }
 {}
 
-/// Each call that a turn lock makes on a book with a legal history is answered by a step of the machine, after changes
-/// that follow.
+/// Each call that a turn lock makes on a book with a legal history is answered by a step of the machine, from the state
+/// that the calls before it led to, and after changes that follow.
 pub fn locked_calls_are_steps<K: Keeper>()
     ensures { (start end : Books K) (opening : List Change) (history : List Entry) (before : List (line.Entry Call Reply)) (entry : line.Entry Call Reply)
         → Follows start.net opening → Legal start.net opening history → start.state ≡ state_after opening history
         → line_legal.Legal book_steps start (before ++ entry ∷ []) end
-        → (old : State) × (new : State) × Follows start.net old.changes × Step start.net old entry.call entry.reply new }
+        → (old : State) × (new : State) × (old ≡ state_from start.state (map journal_entry before))
+        × Follows start.net old.changes × Step start.net old entry.call entry.reply new }
 {}
 
 /// Each plan that changes that follow install carries exactly the demand of its edition, in the least length.

@@ -87,7 +87,8 @@ abbrev pub AreAnswered : Type 0 → Type 0
 AreAnswered S = (start end : Books S) (opening : List Change) (history : List Entry) (before : List (line.Entry Call Reply)) (entry : line.Entry Call Reply)
     → Follows start.net opening → machine.Legal start.net opening history → start.state ≡ machine.state_after opening history
     → Legal book_steps start (before ++ entry ∷ []) end
-    → (old : machine.State) × (new : machine.State) × Follows start.net old.changes × machine.Step start.net old entry.call entry.reply new
+    → (old : machine.State) × (new : machine.State) × (old ≡ machine.state_from start.state (map journal_entry before))
+    × Follows start.net old.changes × machine.Step start.net old entry.call entry.reply new
 
 -- so the entry of a call is one that was answered
 pub answered_by_step : {S : Type 0} → AreAnswered S → (net : Net) (start : Books S) (old new : List (line.Entry Call Reply)) (number : ℕ) (asked : Call) (entry : Entry)
@@ -98,10 +99,10 @@ answered_by_step law net start old new number asked entry same so is gains =
     let legal : Legal book_steps start (gains.before ++ last ∷ []) gains.legal.0 =
     subst (λ (log : List (line.Entry Call Reply)). Legal book_steps start log gains.legal.0) gains.ends gains.legal.1 in
     let step = law start gains.legal.0 [] start.history gains.before last tt so.legal so.reached legal in
-    let there : machine.Step net step.0 asked entry.reply step.1 = subst (λ (n : Net). machine.Step n step.0 asked entry.reply step.1) same step.3 in
+    let there : machine.Step net step.0 asked entry.reply step.1 = subst (λ (n : Net). machine.Step n step.0 asked entry.reply step.1) same step.4 in
     record {
       old = step.0;
       new = step.1;
-      follows = subst (λ (n : Net). Follows n step.0.changes) same step.2;
+      follows = subst (λ (n : Net). Follows n step.0.changes) same step.3;
       step = subst (λ (c : Call). machine.Step net step.0 c entry.reply step.1) (sym is) there;
     }
