@@ -11,7 +11,6 @@ pub mod FromNumber
 pub mod Terminals
 pub mod Sending
 pub mod Running
-pub mod OnAir
 pub mod Marks
 pub mod Flowing
 pub mod Totals

@@ -1,7 +1,7 @@
 // Lines that bursts stand under: what a desk is shown of a plan, and what is on the air in a frame.
 ghost use Rattle.std.specs.Prelude.{◌≡◌, ◌++◌, OnOk, OnErr, IfOk, map};
-ghost use Rattle.bt_demand.specs.Apart.{AreBetweenTerminals, bursts_from};
-ghost use Rattle.bt_net.specs.Terminals.{IsTerminal};
+ghost use Rattle.bt_demand.specs.Apart.{bursts_from};
+ghost use Rattle.bt_net.specs.Terminals.{name_at};
 ghost use Rattle.bt_timeline.specs.Air.{frame_lines};
 ghost use Rattle.bt_timeline.specs.Lines.{line_of, word_bytes};
 ghost use Rattle.bt_timeline.specs.Timeline.{burst_line, burst_lines, show_lines};
@@ -24,7 +24,6 @@ pub fn show_text(
     terminal: TermNo,
     out: &mut Vec<u8>,
 ) -> Result<(), OutOfMemory>
-    requires { AreBetweenTerminals net.now plan.now.bursts }
     ensures added { OnOk result (out.new.items ≡ out.old.items ++ show_lines net.now desk plan.now terminal) }
     ensures unchanged { OnErr result (out.new.items ≡ out.old.items) }
 {
@@ -50,7 +49,6 @@ pub fn frame_text(
     frame: &AirFrame,
     out: &mut Vec<u8>,
 ) -> Result<(), OutOfMemory>
-    requires { AreBetweenTerminals net.now frame.now.bursts }
     ensures added { OnOk result (out.new.items ≡ out.old.items ++ frame_lines net.now frame.now) }
     ensures unchanged { OnErr result (out.new.items ≡ out.old.items) }
 {
@@ -85,7 +83,6 @@ fn list_text(
     bursts: &[Burst],
     out: &mut Vec<u8>,
 ) -> Result<(), OutOfMemory>
-    requires { AreBetweenTerminals net.now bursts.now }
     ensures added { OnOk result (out.new.items ≡ out.old.items ++ line_of (map word_bytes words.now) ++ burst_lines net.now name.now bursts.now) }
     ensures unchanged { OnErr result (out.new.items ≡ out.old.items) }
 {
@@ -107,7 +104,6 @@ fn add_list(
     bursts: &[Burst],
     out: &mut Vec<u8>,
 ) -> Result<(), OutOfMemory>
-    requires { AreBetweenTerminals net.now bursts.now }
     ensures added { OnOk result (out.new.items ≡ out.old.items ++ line_of (map word_bytes words.now) ++ burst_lines net.now name.now bursts.now) }
     ensures kept { Extends out.old.items out.new.items }
 {
@@ -124,7 +120,6 @@ fn add_bursts(
     bursts: &[Burst],
     out: &mut Vec<u8>,
 ) -> Result<(), OutOfMemory>
-    requires { AreBetweenTerminals net.now bursts.now }
     ensures added { OnOk result (out.new.items ≡ out.old.items ++ burst_lines net.now name.now bursts.now) }
     ensures kept { Extends out.old.items out.new.items }
 {
@@ -142,8 +137,6 @@ fn burst_text(
     burst: Burst,
     out: &mut Vec<u8>,
 ) -> Result<(), OutOfMemory>
-    requires sends { IsTerminal net.now burst.from }
-    requires receives { IsTerminal net.now burst.to }
     ensures added { OnOk result (out.new.items ≡ out.old.items ++ burst_line net.now name.now burst) }
     ensures unchanged { OnErr result (out.new.items ≡ out.old.items) }
 {
@@ -151,8 +144,19 @@ fn burst_text(
         Word::Text(name),
         Word::number(burst.start),
         Word::number(burst.length),
-        Word::Text(net.name_of(burst.from)),
-        Word::Text(net.name_of(burst.to)),
+        Word::Text(name_at(net, burst.from)),
+        Word::Text(name_at(net, burst.to)),
     ];
     add_line(alloc, &words, out)
+}
+
+/// The name of a terminal, and nothing where the network has none of that number.
+fn name_at(net: &Network, terminal: TermNo) -> &str
+    ensures { result.now ≡ name_at net.now terminal }
+{
+    if u32::from(terminal.0) < net.terminal_count() {
+        net.name_of(terminal)
+    } else {
+        ""
+    }
 }
