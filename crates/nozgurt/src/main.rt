@@ -3,7 +3,7 @@
 
 mod pages;
 
-use bt_base::{DirFiles, Sink, SinkFault, StdSink, SureKeeper};
+use bt_base::{DirFiles, FileKeeper, Sink, SinkFault, StdSink, SureKeeper};
 use bt_cli::centre_main;
 use std::alloc::{AllocError, Global};
 use std::env::Env;
@@ -24,8 +24,16 @@ fn main(rt: HostRuntime) -> ExitCode {
             Some(page) => show(alloc, &mut out, page),
             None => {
                 let mut files = DirFiles::new(&rt);
-                let store = SureKeeper::new(Vec::new(alloc));
-                centre_main(&rt, alloc, &words, &mut files, &mut out, store).status
+                match journal_of(&words) {
+                    Some(journal) => {
+                        let store = FileKeeper::new(&rt, journal);
+                        centre_main(&rt, alloc, &words, &mut files, &mut out, store).status
+                    }
+                    None => {
+                        let store = SureKeeper::new(Vec::new(alloc));
+                        centre_main(&rt, alloc, &words, &mut files, &mut out, store).status
+                    }
+                }
             }
         },
         Err(_) => OUT_OF_MEMORY,
@@ -43,6 +51,16 @@ fn words<R: Env + Alloc<A = Global>>(rt: &R, alloc: Global) -> Result<Vec<String
         Ok(words) => words.skip(1).collect(alloc),
         Err(e) if e.kind() == io::ErrorKind::OutOfMemory => Err(AllocError),
         Err(_) => Ok(Vec::new(alloc)),
+    }
+}
+
+/// The file of the journal that is replayed; None where the words ask for no replay.
+fn journal_of(words: &[String]) -> Option<&str> {
+    match words {
+        [command, _, journal] if command.as_str() == "replay" && !journal.is_empty() => {
+            Some(journal.as_str())
+        }
+        _ => None,
     }
 }
 

@@ -52,6 +52,18 @@ commands
       example: nozgurt run examples/two-beams.net
                examples/calm-change.script journal
 
+  replay NET JOURNAL
+      Prints what the journal in the file JOURNAL comes to on the network in the
+      file NET: the last edition, the newest plan, how many orders were placed,
+      and each link of the demand with its slots. Bytes behind the last newline
+      are no line, and are cut off the file. Else the first line that is wrong
+      is named, as in `fault J2 3`, and nothing is cut:
+        J1 LINE               it is no line of a journal
+        J2 LINE               its change does not follow those before it
+      A file that is not there is made, and is an empty journal.
+      example: nozgurt replay examples/two-beams.net
+               examples/calm-change.journal
+
   --help      prints this page
   --version   prints the version
 
@@ -64,8 +76,11 @@ exit status
       the traffic does not fit the frame   fault T6 row BEAM SUM
   5   a file could not be read             fault read NAME
   6   the output could not be written
+  7   the journal could not be read or cut fault store
+  8   a line of the journal is wrong       fault CODE LINE
   9   check: the verdict is not good       the verdict's line
   10  a file is over 4,194,304 bytes long  fault too long NAME
+      the journal is over 67,108,864       fault too long store
 ";
 
 /// What `--version` prints.
@@ -94,7 +109,15 @@ pub fn reason_of(status: u8) -> Option<&'static str> {
         ),
         5 => Some("a file could not be read; the last line names it"),
         6 => Some("the output could not be written; at most a first part of it stands there"),
-        10 => Some("a file is longer than 4194304 bytes; the last line names it"),
+        7 => Some(
+            "the journal could not be read, or what stands behind its last newline could not be cut; look at its file and its folder",
+        ),
+        8 => Some(
+            "a line of the journal is none, or its change does not follow those before it; the last line has the fault and the number of the line",
+        ),
+        10 => Some(
+            "a file is longer than 4194304 bytes, or the journal than 67108864; the last line names it",
+        ),
         _ => None,
     }
 }
