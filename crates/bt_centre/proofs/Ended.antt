@@ -5,11 +5,15 @@ use Rattle.std.proofs.lemmas.List.{append-nil, take-append-drop}
 use Rattle.std.proofs.lemmas.List.Elements.{All-cons, All-nil}
 use Rattle.bt_base.specs.Told.{GainsPrefix, Rose, gained}
 use Rattle.bt_net.specs.Network.{Net}
+use Rattle.bt_demand.specs.declared.burst.Burst.{Burst}
 use Rattle.bt_air.specs.declared.event.Event.{Event}
 use Rattle.bt_journal.specs.declared.entry.Entry.{Entry}
+use Rattle.bt_journal.specs.Journal.{changes_of}
 use Rattle.bt_book.specs.Machine.{Legal, State}
-use Rattle.bt_world.specs.Event.{Opening}
+use Rattle.bt_world.specs.Air.{AreFlyable, IsAir, IsSafe, modes_in_front}
+use Rattle.bt_world.specs.Event.{Frame, Opening}
 use Rattle.bt_world.specs.Fits.{IsWorld}
+use Rattle.bt_world.specs.World.{log}
 use Rattle.bt_script.specs.declared.script.Item.{Item}
 use Rattle.bt_script.specs.declared.script.Script.{Script}
 use Rattle.bt_timeline.specs.Timeline.{start_line}
@@ -20,7 +24,7 @@ use Rattle.bt_centre.specs.AirLines.{AirState}
 use Rattle.bt_centre.specs.Lines.{total_of}
 use Rattle.bt_centre.specs.Output.{Output}
 use Rattle.bt_centre.specs.Progress.{AllWritten, HasLegalHistory, ItemsDone, PartlyWritten, StoppedEarly, WrittenBehind}
-use Rattle.bt_centre.specs.Run.{IsLegalHistory, IsRun, RunsTo, at_start, opening_on}
+use Rattle.bt_centre.specs.Run.{FramesAreSafe, IsLegalHistory, IsRun, PlansAreGood, RunsTo, at_start, opening_on}
 use Rattle.bt_centre.proofs.Played.{gained-append, items_begin}
 
 -- a first part of a text is a first part of a longer one
@@ -88,11 +92,29 @@ stopped_later net items read history air told between after same is so = record 
 abbrev one_history : List Entry → List History
 one_history history = record { before = 0; entries = history } ∷ []
 
+-- what happened before an event of a world is a world
+world_before : (opening : Opening) (later : List Event) (event : Event) (earlier : List Event) → IsWorld opening (later ++ event ∷ earlier) → IsWorld opening earlier
+world_before opening [] event earlier world = world.1
+world_before opening (last ∷ later) event earlier world = world_before opening later event earlier world.1
+
+-- the frames of a world can be flown, and are safe then
+abbrev pub AreFlown : Type 0
+AreFlown = (opening : Opening) (events : List Event) → IsWorld opening events → AreFlyable opening events
+
+abbrev pub AreSafe : Type 0
+AreSafe = (opening : Opening) (events : List Event) (bursts : List Burst) → AreFlyable opening events → IsAir opening (log opening events) bursts
+    → IsSafe opening.net (modes_in_front opening (log opening events)) bursts
+
+-- each frame of a world is safe
+pub frames_safe : AreFlown → AreSafe → (opening : Opening) (events : List Event) → IsWorld opening events → FramesAreSafe opening events
+frames_safe flown safe opening events world =
+    λ later earlier bursts is air. safe opening earlier bursts (flown opening earlier (world_before opening later Frame earlier (subst (IsWorld opening) is world))) air
+
 -- these parts were run
 run_of : (net : Net) (items : List Item) (history : List Entry) (air : AirState) (rounds : ℕ) (lines : List ℕ) (state : State) (histories : List History) (events : List Event)
-    → HasLegalHistory net state history → histories ≡ one_history history → events ≡ air.life.events → IsWorld (opening_on net) (reverse events) → ItemsDone net items history air rounds lines
-    → IsRun net items histories events (start_line 0 0 0 ++ lines ++ total_of history)
-run_of net items history air rounds lines state histories events legal one same world done = record {
+    → HasLegalHistory net state history → histories ≡ one_history history → events ≡ air.life.events → IsWorld (opening_on net) (reverse events) → PlansAreGood net (changes_of history) → FramesAreSafe (opening_on net) (reverse events)
+    → ItemsDone net items history air rounds lines → IsRun net items histories events (start_line 0 0 0 ++ lines ++ total_of history)
+run_of net items history air rounds lines state histories events legal one same world good safe done = record {
   end = done.end;
   lines = lines;
   played = done.played;
@@ -100,6 +122,8 @@ run_of net items history air rounds lines state histories events legal one same 
   legal = subst (λ (h : List Entry). Legal net [] h) (sym done.history_is) legal.legal;
   events_are = same ∙ ap (λ (a : AirState). a.life.events) (sym done.air_is);
   world = world;
+  good = subst (λ (h : List Entry). PlansAreGood net (changes_of h)) (sym done.history_is) good;
+  safe = safe;
   printed = ap (λ (h : List Entry). start_line 0 0 0 ++ lines ++ total_of h) (sym done.history_is);
 }
 
@@ -134,6 +158,8 @@ pub record Comes (net : Net) (history : List Entry) (air : AirState) (state : St
   pub one : histories ≡ one_history history
   pub same : events ≡ air.life.events
   pub world : IsWorld (opening_on net) (reverse events)
+  pub good : PlansAreGood net (changes_of history)
+  pub safe : FramesAreSafe (opening_on net) (reverse events)
 
 -- a failure is no success
 not_ok : (stop : Stop) → (let failed : Result (Unit {0}) Stop = Err stop in IsOk failed) → ⊥
@@ -166,7 +192,7 @@ whole net script history air state histories events t0 t1 t2 f0 f1 f2 (Ok done) 
       is,
       (
         start_line 0 0 0 ++ so.lines ++ total_of history,
-        run_of net script.items history air so.rounds so.lines state histories events comes.legal comes.one comes.same comes.world so.done,
+        run_of net script.items history air so.rounds so.lines state histories events comes.legal comes.one comes.same comes.world comes.good comes.safe so.done,
         wrote ∙ ap (λ (t : Option (List ℕ)). gained t (total_of history)) so.wrote ∙ gained-append t0 (start_line 0 0 0 ++ so.lines) (total_of history),
       ),
     ))
@@ -175,6 +201,7 @@ whole net script history air state histories events t0 t1 t2 f0 f1 f2 (Err stop)
 partly : (net : Net) (script : Script) (history : List Entry) (air : AirState) (state : State) (histories : List History) (events : List Event) (t0 t1 t2 : Option (List ℕ)) (f0 f1 f2 : ℕ)
     (played : Result (Unit {0}) Stop) (status : ℕ) → Comes net history air state histories events → Plays net script history air t0 t1 f0 f1 played → f1 ≤ f2 → status ≡ 6
     → (IsErrOf played WriteFailed × (t2 ≡ t1)) ⊎ (IsOk played × GainsPrefix t1 (total_of history) t2 × Rose f1 f2) → RunsTo net script (over t0 t2 f0 f2) status histories events
+unfolding run_of
 partly net script history air state histories events t0 t1 t2 f0 f1 f2 played status comes plays later is (inl (stopped, same)) =
     let so = plays.failed stopped in
     let gains : GainsPrefix t0 (start_line 0 0 0 ++ so.lines) t2 = subst (λ (t : Option (List ℕ)). GainsPrefix t0 (start_line 0 0 0 ++ so.lines) t) (sym same) so.wrote in
@@ -185,9 +212,8 @@ partly net script history air state histories events t0 t1 t2 f0 f1 f2 played st
         so.more,
         start_line 0 0 0 ++ so.lines ++ total_of history,
         so.parts,
-        run_of net so.first history air so.rounds so.lines state histories events comes.legal comes.one comes.same comes.world so.done,
         Rose-kept f0 f1 f2 later (plays.cause stopped),
-        prefix_longer t0 t2 (start_line 0 0 0 ++ so.lines) (total_of history) gains,
+        (run_of net so.first history air so.rounds so.lines state histories events comes.legal comes.one comes.same comes.world comes.good comes.safe so.done, inl gains),
       ),
     ))
 partly net script history air state histories events t0 t1 t2 f0 f1 f2 (Ok done) status comes plays later is (inr (ok, gains, rose)) =
@@ -199,9 +225,11 @@ partly net script history air state histories events t0 t1 t2 f0 f1 f2 (Ok done)
         [],
         start_line 0 0 0 ++ so.lines ++ total_of history,
         sym (append-nil script.items),
-        run_of net script.items history air so.rounds so.lines state histories events comes.legal comes.one comes.same comes.world so.done,
         Rose-longer f0 f1 f2 plays.later rose,
-        prefix_behind t0 t1 t2 (start_line 0 0 0 ++ so.lines) (total_of history) so.wrote gains,
+        (
+          run_of net script.items history air so.rounds so.lines state histories events comes.legal comes.one comes.same comes.world comes.good comes.safe so.done,
+          inr (refl, prefix_behind t0 t1 t2 (start_line 0 0 0 ++ so.lines) (total_of history) so.wrote gains),
+        ),
       ),
     ))
 partly net script history air state histories events t0 t1 t2 f0 f1 f2 (Err stop) status comes plays later is (inr (ok, gains, rose)) = absurd (not_ok stop ok)
@@ -220,5 +248,6 @@ ends net script history air state histories events t0 t1 t2 f0 f1 f2 played (Err
       (
         subst (λ (hs : List History). All (IsLegalHistory net []) hs) (sym comes.one) (All-cons (IsLegalHistory net []) (record { before = 0; entries = history }) [] (refl, comes.legal.legal) (All-nil (IsLegalHistory net []))),
         comes.world,
+        comes.safe,
       ),
     )

@@ -3,12 +3,16 @@ use Rattle.std.specs.Prelude.{◌≡◌, false, ◌⊎◌, ℕ, ◌+◌, ◌≤�
 use Rattle.bt_base.specs.Told.{GainsPrefix, gained}
 use Rattle.bt_net.specs.Network.{Net}
 use Rattle.bt_air.specs.declared.event.Event.{Event}
-use Rattle.bt_world.specs.Event.{Opening, RestartCentre}
+use Rattle.bt_demand.specs.declared.burst.Burst.{Burst}
+use Rattle.bt_world.specs.Air.{IsAir, IsSafe, modes_in_front}
+use Rattle.bt_world.specs.Event.{Frame, Opening, RestartCentre}
 use Rattle.bt_world.specs.Fits.{IsWorld, no_plan}
+use Rattle.bt_world.specs.World.{log}
 use Rattle.bt_journal.specs.declared.call.Change.{Change}
 use Rattle.bt_journal.specs.declared.entry.Entry.{Entry}
 use Rattle.bt_journal.specs.Journal.{calls_of, changes_of}
-use Rattle.bt_book.specs.Changes.{edition, newest, plans}
+use Rattle.bt_book.specs.Causes.{IsGoodForItsEdition}
+use Rattle.bt_book.specs.Changes.{edition, installs, newest, plans}
 use Rattle.bt_book.specs.Machine.{Legal}
 use Rattle.bt_script.specs.declared.script.Item.{Item}
 use Rattle.bt_script.specs.declared.script.Item.TheVariants as item
@@ -97,8 +101,18 @@ at_start net = record {
   sights = [];
 }
 
+-- Each frame of these events, the latest of them first, is safe: no two of its bursts meet at a beam, and the plan in front has
+-- a mode that makes the connection of each.
+abbrev pub FramesAreSafe : Opening → List Event → Type 0
+FramesAreSafe opening events = (later earlier : List Event) (bursts : List Burst) → events ≡ later ++ Frame ∷ earlier
+    → IsAir opening (log opening earlier) bursts → IsSafe opening.net (modes_in_front opening (log opening earlier)) bursts
+
+-- each plan that these changes install carries exactly the demand of its edition, in the least length
+abbrev pub PlansAreGood : Net → List Change → Type 0
+PlansAreGood net changes = All (IsGoodForItsEdition net changes) (installs changes)
+
 -- A run of these parts of a script: one legal history from no changes on, and the events of a world, by which each part is
--- played; and its text is just that of this history and of these events.
+-- played; each installed plan is good and each frame safe; and its text is just that of this history and of these events.
 pub record IsRun (net : Net) (items : List Item) (histories : List History) (events : List Event) (text : List ℕ) : Type 0 where
   pub end : Stand
   pub lines : List ℕ
@@ -107,17 +121,26 @@ pub record IsRun (net : Net) (items : List Item) (histories : List History) (eve
   pub legal : Legal net [] end.history
   pub events_are : events ≡ end.air.life.events
   pub world : IsWorld (opening_on net) (reverse events)
+  pub good : PlansAreGood net (changes_of end.history)
+  pub safe : FramesAreSafe (opening_on net) (reverse events)
   pub printed : text ≡ start_line 0 0 0 ++ lines ++ total_of end.history
 
--- memory ran out: what was asked and answered is legal, and what happened on the air is a world
+-- memory ran out: what was asked and answered is legal, and what happened on the air is a world, whose frames are safe
 abbrev pub BreaksOff : Net → List History → List Event → Type 0
-BreaksOff net histories events = All (IsLegalHistory net []) histories × IsWorld (opening_on net) (reverse events)
+BreaksOff net histories events =
+    All (IsLegalHistory net []) histories × IsWorld (opening_on net) (reverse events) × FramesAreSafe (opening_on net) (reverse events)
 
--- the sink failed over the text of a part: the parts up to that one were run, and a first part of their text was written
+-- a first part was written of the lines of the parts that were run; or of their whole text with the last line, where no part
+-- is left
+abbrev pub WritesPart : Output → List Item → List ℕ → List ℕ → Type 0
+WritesPart output more lines text = GainsPrefix output.before lines output.after ⊎ ((more ≡ []) × GainsPrefix output.before text output.after)
+
+-- the sink failed over the text of a part, or over the last line: the parts up to that one were run, and a first part of their
+-- text was written
 abbrev pub RunsPartly : Net → Script → Output → List History → List Event → Type 0
 RunsPartly net script output histories events =
-    (first : List Item) × (more : List Item) × (text : List ℕ) × (script.items ≡ first ++ more) × IsRun net first histories events text
-    × HasFailed output × GainsPrefix output.before text output.after
+    (first : List Item) × (more : List Item) × (text : List ℕ) × (script.items ≡ first ++ more) × HasFailed output
+    × ((run : IsRun net first histories events text) × WritesPart output more (start_line 0 0 0 ++ run.lines) text)
 
 -- the script was run, and its text written
 abbrev pub RunsWhole : Net → Script → Output → List History → List Event → Type 0

@@ -16,13 +16,13 @@ use crate::worker::CentreWorker;
 use crate::{Gate, Histories, History};
 use bt_air::Event;
 use bt_base::{Keeper, Sink};
-use bt_book::{Book, installed_plans_can_be_flown};
+use bt_book::{Book, installed_plans_are_good, installed_plans_can_be_flown};
 use bt_frame::OutOfMemory;
 use bt_journal::{Entries, Entry};
 use bt_net::Network;
 use bt_script::Script;
 use bt_timeline::start_text;
-use bt_world::World;
+use bt_world::{World, frames_are_safe};
 use std::alloc::Global;
 use std::sync::Wait;
 use std::thread::Threads;
@@ -136,6 +136,8 @@ impl<K: Keeper + Send> Begun<K> {
             result.status result.histories result.events.items }
         ensures store { result.store ≡ self.station.book.store }
     {
+        frames_are_safe();
+        installed_plans_are_good();
         let Begun {
             station,
             mut histories,
