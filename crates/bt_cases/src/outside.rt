@@ -1,9 +1,9 @@
 // Commands, and the outside that they meet.
 use crate::ending::Ending;
 use anyhow::{Result, bail};
-use bt_base::{Fail, Files, MemSink, Sink, SureKeeper, SureSink};
+use bt_base::{Fail, Files, MemKeeper, MemSink, Sink, SureKeeper, SureSink};
 use bt_case_text::{Part, Shelf, number_of};
-use bt_cli::{History, centre_main, check_command, modes_command, plan_command};
+use bt_cli::{History, centre_main, check_command, modes_command, plan_command, replay_command};
 use std::alloc::Global;
 use std::sync::Wait;
 use std::thread::Threads;
@@ -15,7 +15,7 @@ pub struct Meeting {
     pub reads: Vec<Fail>,
     pub writes: Vec<Fail>,
     pub keeps: Vec<Fail>,
-    /// Files and an output that do not fail at all.
+    /// Files, an output and a store that do not fail at all.
     pub is_sure: bool,
     /// The command's own call in place of the top call.
     pub is_alone: bool,
@@ -199,10 +199,10 @@ impl Outside {
         sink: &mut O,
         words: &[&str],
     ) -> Result<u8> {
-        if self.next.is_alone {
-            status_alone(alloc, files, sink, words)
-        } else {
-            self.status_from_top(rt, alloc, files, sink, words)
+        match words {
+            _ if !self.next.is_alone => self.status_from_top(rt, alloc, files, sink, words),
+            ["replay", net, journal] => self.replay_alone(alloc, files, sink, [net, journal]),
+            _ => status_alone(alloc, files, sink, words),
         }
     }
 
@@ -216,11 +216,38 @@ impl Outside {
         words: &[&str],
     ) -> Result<u8> {
         let owned = owned_words(alloc, words)?;
-        let store = SureKeeper::new(self.store.clone()?);
+        if self.next.is_sure {
+            let store = SureKeeper::new(self.store.clone()?);
+            let ended = centre_main(rt, alloc, &owned, files, sink, store);
+            self.store = ended.store.kept().to_vec(alloc)?;
+            self.keep_histories(ended.histories.as_slice())?;
+            return Ok(ended.status);
+        }
+        let store = MemKeeper::new(self.store.clone()?, self.next.keeps.clone()?);
         let ended = centre_main(rt, alloc, &owned, files, sink, store);
         self.store = ended.store.kept().to_vec(alloc)?;
         self.keep_histories(ended.histories.as_slice())?;
         Ok(ended.status)
+    }
+
+    /// The status of the call that replays the store.
+    fn replay_alone<F: Files, O: Sink>(
+        &mut self,
+        alloc: Global,
+        files: &mut F,
+        sink: &mut O,
+        names: [&str; 2],
+    ) -> Result<u8> {
+        let [net, journal] = names;
+        let words = vec![in alloc;
+            String::from_str(alloc, "replay")?,
+            String::from_str(alloc, net)?,
+            String::from_str(alloc, journal)?,
+        ]?;
+        let store = MemKeeper::new(self.store.clone()?, self.next.keeps.clone()?);
+        let (status, left) = replay_command(alloc, &words, files, sink, store);
+        self.store = left.kept().to_vec(alloc)?;
+        Ok(status)
     }
 
     /// Keeps of each history how many changes stood before it, and how many entries it has.
