@@ -1,8 +1,10 @@
 -- A run after the loads of its files.
-use Rattle.std.proofs.Common.{◌≡◌, ℕ, ◌≤◌, ◌⊎◌, inl, inr, refl, List, Option, subst}
+use Rattle.std.proofs.Common.{◌≡◌, ℕ, ◌≤◌, ◌⊎◌, inl, inr, refl, sym, List, Option, subst}
 use Rattle.bt_base.specs.Told.{Rose}
 use Rattle.bt_net.specs.Network.{Net}
+use Rattle.bt_air.specs.declared.event.Event.{Event}
 use Rattle.bt_script.specs.declared.script.Script.{Script}
+use Rattle.bt_centre.specs.declared.history.History.{History}
 use Rattle.bt_centre.specs.Output.{Output}
 use Rattle.bt_centre.specs.Run.{RunsTo}
 use Rattle.bt_cli.specs.Kinds.{network_file, script_file}
@@ -12,6 +14,14 @@ use Rattle.bt_cli.specs.Replay.{EndsReplay, NamesRecoverFault, PrintsState, Repl
 use Rattle.bt_cli.specs.Run.{End, EndsRun, EndsScript, HasRun, PrintsRun, Runs, RunsScript}
 use Rattle.bt_cli.specs.Top.{Answered, AnswersWith, Ends}
 use Rattle.bt_cli.proofs.Loads.{PrintsOneOf-among, StopsAtLoad-moved}
+
+-- a run that ended so, whatever names its status, its histories and its events
+pub runs_moved : (net : Net) (script : Script) (output : Output) (status ended : ℕ) (histories given : List History) (events happened : List Event)
+    → ended ≡ status → given ≡ histories → happened ≡ events → RunsTo net script output status histories events → RunsTo net script output ended given happened
+runs_moved net script output status ended histories given events happened same_status same_histories same_events runs =
+    subst (λ (n : ℕ). RunsTo net script output n given happened) (sym same_status)
+    (subst (λ (hs : List History). RunsTo net script output status hs happened) (sym same_histories)
+    (subst (λ (es : List Event). RunsTo net script output status histories es) (sym same_events) runs))
 
 -- what the files tell, with their faults from one moment to another
 abbrev input_from : (List ℕ → Option (List ℕ)) → ℕ → ℕ → Input
