@@ -1,5 +1,5 @@
 -- The first cause of a refusal, by the lines of the link that gains.
-use Rattle.std.proofs.Common.{◌≡◌, ℕ, ◌+◌, ◌-◌, ◌<◌, ◌≤◌, ◌==◌, ◌&&◌, if◌then◌else◌, true, false, List, length, Option, Some, None, sym, ap, ◌∙◌, subst, arith, refl, inl, inr}
+use Rattle.std.proofs.Common.{◌≡◌, ℕ, ◌+◌, ◌-◌, ◌<◌, ◌≤◌, ◌==◌, ◌&&◌, if◌then◌else◌, true, List, length, Option, Some, None, sym, ap, ◌∙◌, subst, arith, refl}
 use Rattle.bt_frame.specs.declared.numbers.BeamNo.{BeamNo}
 use Rattle.bt_frame.specs.declared.numbers.TermNo.{TermNo}
 use Rattle.bt_net.specs.Network.{Net}
@@ -18,9 +18,8 @@ use Rattle.bt_journal.specs.Journal.{is_refusal}
 use Rattle.bt_book.specs.declared.lines.Lines.{Lines}
 use Rattle.bt_book.specs.Changes.{matrix_after, held_after}
 use Rattle.bt_book.specs.EditCauses.{GainsFrom, GainsTo, with_edit, HasEnds, IsThere, FitsRow, FitsColumn}
-use Rattle.bt_book.specs.Causes.{IsGood, IsCause}
-use Rattle.bt_book.specs.Machine.{State}
-use Rattle.bt_book.specs.Records.{Records, KeepsUp, AreLinesAfter, IsFullLine, IsFirstEditCause, IsFirstCause, Refuses, IsBookFull, AddsUp}
+use Rattle.bt_book.specs.Causes.{IsCause}
+use Rattle.bt_book.specs.Records.{Records, KeepsUp, AreLinesAfter, IsFullLine, IsFirstEditCause, IsFirstCause, AddsUp}
 use Rattle.bt_book.proofs.After.{lines-Add, lines-Move, slots_after-AddsUp}
 
 -- a terminal is in one beam
@@ -177,18 +176,3 @@ pub cause_of_change : (net : Net) (changes : List Change) (edit : Edit) (result 
     → IsFirstCause net changes (change.Edit edit) result
 cause_of_change net changes edit None good = good
 cause_of_change net changes edit (Some reply) is = (refuses_edit net changes edit reply is, is)
-
--- a cause is the answer, and no change is made
-pub refused_by_cause : (net : Net) (old : State) (asked : Change) (reply : Reply) → old.stopped ≡ false → IsFirstCause net old.changes asked (Some reply)
-    → Refuses net old asked (Some reply)
-refused_by_cause net old asked reply runs is = record { runs = runs; refuses = is.0; why = inl is.1 }
-
--- a good change is refused where the book is full
-pub refused_by_book : (net : Net) (old : State) (asked : Change) (result : Option Reply) → old.stopped ≡ false → IsGood net old.changes asked
-    → IsBookFull old.changes result → Refuses net old asked result
-refused_by_book net old asked None runs good full = record { runs = runs; good = good; room = full }
-refused_by_book net old asked (Some reply) runs good full = record {
-  runs = runs;
-  refuses = ap is_refusal full.1;
-  why = inr (good, full.0, full.1);
-}

@@ -1,5 +1,5 @@
 -- What an edit that was done leaves.
-use Rattle.std.proofs.Common.{◌≡◌, ◌≢◌, ℕ, ◌<◌, ◌≤◌, ◌==◌, ◌&&◌, Bool, List, [], length, get_or, option_map, sym, ap, ◌∙◌, subst, arith, ⊎_elim}
+use Rattle.std.proofs.Common.{◌≡◌, ◌≢◌, ℕ, ◌<◌, ◌≤◌, ◌==◌, ◌&&◌, List, [], length, get_or, option_map, sym, ap, ◌∙◌, subst, arith, ⊎_elim}
 use Rattle.std.proofs.lemmas.Bool.{cases_eq}
 use Rattle.std.proofs.lemmas.Bool.Decides.{nat_tests}
 use Rattle.std.proofs.lemmas.Option.{slice_get-get_or}
@@ -18,7 +18,7 @@ use Rattle.bt_journal.specs.declared.call.Edit.TheVariants.{Add, Drop, Move}
 use Rattle.bt_journal.specs.declared.call.Change.{Change}
 use Rattle.bt_journal.specs.Journal.{NamesTerminals}
 use Rattle.bt_book.specs.EditCauses.{with_edit, IsThere, IsGoodEdit}
-use Rattle.bt_book.specs.Records.{AddsUp, KeepsUp, EditsLinks, GainsFirst, HoldsTaken, HoldsGiven}
+use Rattle.bt_book.specs.Records.{AddsUp, KeepsUp, EditsLinks, GainsFirst, HoldsTaken, HoldsGiven, SameUnits}
 use Rattle.bt_demand.proofs.Tables.{LinesExceed, table-LinesExceed, same_tables}
 use Rattle.bt_book.proofs.After.{AddsUp-Add, AddsUp-Drop, AddsUp-Move, matrix_after-AddsUp}
 use Rattle.bt_book.proofs.Causes.{held_after-units_of}
@@ -60,18 +60,15 @@ holds_given old half (Drop from to units) gains = tt
 holds_given old half (Move from to new_from new_to units) gains = has_gained old half new_from new_to units gains
 
 -- after the first half was taken back, each link has the slots that it had
-same_back : (old half back : List Link) (edit : Edit) → GainsFirst old edit half → GainsFirst back edit half → (test : TermNo → TermNo → Bool)
-    → units_where test back ≡ units_where test old
+pub same_back : (old half back : List Link) (edit : Edit) → GainsFirst old edit half → GainsFirst back edit half → SameUnits old back
 same_back old half back (Add from to units) gains again test = omega (arith, gains test, again test)
 same_back old half back (Drop from to units) gains again test = ap (units_where test) (sym again ∙ gains)
 same_back old half back (Move from to new_from new_to units) gains again test = omega (arith, gains test, again test)
 
 -- and all that is kept beside the changes stands
-pub keeps_back : (net : Net) (changes : List Change) (old half back : List Link) (edit : Edit) → GainsFirst old edit half → GainsFirst back edit half
-    → KeepsUp net changes old → KeepsUp net changes back
-keeps_back net changes old half back edit gains again keeps =
-    let same = same_back old half back edit gains again in
-    let rows : matrix_of net back ≡ matrix_of net old = same_tables (length net.beams) (units_between net old) (units_between net back)
+pub keeps_same : (net : Net) (changes : List Change) (old new : List Link) → SameUnits old new → KeepsUp net changes old → KeepsUp net changes new
+keeps_same net changes old new same keeps =
+    let rows : matrix_of net new ≡ matrix_of net old = same_tables (length net.beams) (units_between net old) (units_between net new)
     (λ i j. same (λ from to. is_in_beam net i from && is_in_beam net j to)) in
     record {
       adds_up = λ test. omega (arith, same test, keeps.adds_up test);

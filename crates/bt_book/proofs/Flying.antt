@@ -148,7 +148,7 @@ first_follow net from [] more follow = tt
 first_follow net from (first ∷ rest) more follow = (follow.0, follow.1, first_follow net (from ++ first ∷ []) rest more follow.2)
 
 -- a plan that was good to install can be flown
-install_flies : (net : Net) (before : List Change) (plan : Plan) → IsSound net → Follows net before → IsGoodInstall net before plan → IsFlyable net plan
+pub install_flies : (net : Net) (before : List Change) (plan : Plan) → IsSound net → Follows net before → IsGoodInstall net before plan → IsFlyable net plan
 install_flies net before plan sound follow good =
     let at = good.2.demand in
     let first = first_follow net [] at.before at.after (subst (Follows net) at.parts follow) in

@@ -198,7 +198,7 @@ call_follows net old (call.Place order) reply new follow on step = change_follow
 call_follows net old call.Snapshot reply new follow on step = subst (Follows net) (sym (same_changes old.changes call.Snapshot reply (ap is_made step.0.told))) follow
 call_follows net old (call.Newest after) reply new follow on step = subst (Follows net) (sym (same_changes old.changes (call.Newest after) reply (ap is_made step.0))) follow
 
-steps_follow : (net : Net) (old : State) (history : List Entry) → Follows net old.changes → AreSteps net old history → Follows net (old.changes ++ changes_of history)
+pub steps_follow : (net : Net) (old : State) (history : List Entry) → Follows net old.changes → AreSteps net old history → Follows net (old.changes ++ changes_of history)
 steps_follow net old [] follow steps = subst (Follows net) (sym (append-nil old.changes)) follow
 steps_follow net old (first ∷ rest) follow (between, one, more) =
     let is = ap (λ (s : State). s.changes) (Step-adds net old first.call first.reply between one) in

@@ -4,6 +4,7 @@ pub mod After
 pub mod Occupied
 pub mod Causes
 pub mod Done
+pub mod OneMore
 pub mod Histories
 pub mod Entries
 pub mod Redone
@@ -15,4 +16,7 @@ pub mod Strays
 pub mod Opened
 pub mod Replayed
 pub mod OneJournal
+pub mod Spelled
+pub mod Stored
+pub mod NextOpening
 mod GoodPlans

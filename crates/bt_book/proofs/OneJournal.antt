@@ -21,7 +21,8 @@ use Rattle.bt_book.specs.Changes.{edition}
 use Rattle.bt_book.specs.Causes.{Follows, IsGood}
 use Rattle.bt_book.specs.Recovery.{AreInRange, IsFirst, IsFirstNoLine, IsFirstStray, IsNoLine, IsNumbered, IsOutside, IsRecoverFault, IsStray, Recovered, tail_of, whole}
 use Rattle.bt_book.proofs.Redone.{FollowFrom-at}
-use Rattle.bt_book.proofs.Replayed.{ended_length, tail-cons}
+use Rattle.bt_book.proofs.OneMore.{ended_length}
+use Rattle.bt_book.proofs.Replayed.{tail-cons}
 
 -- what is known of the lines of changes in range: where one ends, and that no two changes have one
 pub record AreLines (net : Net) : Type 0 where
@@ -93,7 +94,7 @@ compare net are edits (x ∷ a) (y ∷ b) r s range also same =
     let so : GoesOn net edits (y ∷ b) (x ∷ a) s r = goes_on-cons net edits y x b a s r (sym one) (subst (λ (c : Change). GoesOn net (edits + edits_in c) b a s r) one on) in inr so)
     (compare net are (edits + edits_in x) a b r s range.1 ranges rest)
 
-in_range-behind : (net : Net) (edits : ℕ) (a more : List Change) → AreInRange net edits (a ++ more) → AreInRange net (edits + edition a) more
+pub in_range-behind : (net : Net) (edits : ℕ) (a more : List Change) → AreInRange net edits (a ++ more) → AreInRange net (edits + edition a) more
 in_range-behind net edits [] more ranges = subst (λ (n : ℕ). AreInRange net n more) (omega arith) ranges
 in_range-behind net edits (x ∷ a) more ranges =
     subst (λ (n : ℕ). AreInRange net n more) (omega (arith, sum_by-cons edits_in x a)) (in_range-behind net (edits + edits_in x) a more ranges.1)

@@ -1,31 +1,26 @@
 -- Lines whose changes were made again, one after the other.
-use Rattle.std.proofs.Common.{◌≡◌, ℕ, ◌+◌, ◌-◌, ◌*◌, ◌<◌, ◌≤◌, codes, decimal, List, [], ◌∷◌, ◌++◌, length, map, take, slice_index_or, refl, sym, ap, ◌∙◌, subst, arith, append_assoc, length-append}
-use Rattle.std.proofs.lemmas.Fmt.{decimal_nonempty}
-use Rattle.std.proofs.lemmas.List.{append-nil}
+use Rattle.std.proofs.Common.{◌≡◌, ℕ, ◌+◌, ◌-◌, ◌≤◌, List, [], ◌∷◌, ◌++◌, length, take, slice_index_or, refl, sym, ap, ◌∙◌, subst, arith, append_assoc, length-append}
 use Rattle.std.proofs.lemmas.List.Sums.{sum_by-cons}
 use Rattle.std.proofs.Math.Seq.{take-append_seam}
 use native.Mathlib.Numerals.{unary_clauses}
 use Rattle.bt_base.specs.declared.keeper.TheConstants.{STORE_LAST}
-use Rattle.bt_text.specs.Text.{lines, spaced}
+use Rattle.bt_text.specs.Text.{lines}
 use Rattle.bt_text.proofs.FirstLine.{HasFirst, lines-HasFirst}
 use Rattle.bt_text.proofs.TextLines.{first_line_lacks, text_from_first_line}
 use Rattle.bt_net.specs.Network.{Net}
-use Rattle.bt_net.specs.Terminals.{name_at}
-use Rattle.bt_plan.specs.PlanSpelling.{burst_line, edition_line}
-use Rattle.bt_plan.specs.ScheduleSpelling.{critical_line, length_line, mode_line}
 use Rattle.bt_air.specs.declared.order.Order.TheVariants.{Load, Arm}
-use Rattle.bt_journal.specs.declared.call.Edit.TheVariants.{Add, Drop, Move}
 use Rattle.bt_journal.specs.declared.call.Change.{Change}
 use Rattle.bt_journal.specs.declared.call.Change.TheVariants as change
-use Rattle.bt_journal.specs.JournalLines.{IsChangeInRange, change_line, edits_in, journal_lines, lines_from}
+use Rattle.bt_journal.specs.JournalLines.{IsChangeInRange, change_line, edits_in, journal_lines}
 use Rattle.bt_book.specs.declared.fault.RecoverFault.{RecoverFault}
 use Rattle.bt_book.specs.declared.fault.RecoverFault.TheVariants.{J1, J2, StoreFault, TooLong, OutOfMemory}
 use Rattle.bt_book.specs.Causes.{Follows, IsChangeOn}
 use Rattle.bt_book.specs.Changes.{edition}
-use Rattle.bt_book.specs.Machine.{State, most_changes, running}
+use Rattle.bt_book.specs.Machine.{State, bytes_of, running}
 use Rattle.bt_book.specs.Records.{IsLineFault, IsTextFault, Records, TakesLine}
 use Rattle.bt_book.specs.Recovery.{AreInRange, IsFirst, IsNoLine, IsNumbered, IsStray, Recovered, tail_of, whole}
 use Rattle.bt_book.proofs.Histories.{FollowFrom-grows}
+use Rattle.bt_book.proofs.OneMore.{ended_length, journal_lines-push}
 
 -- a change in range is one on the network
 pub range_on : (net : Net) (number : ℕ) (one : Change) → IsChangeInRange net number one → IsChangeOn net one
@@ -49,21 +44,6 @@ line_next net before number (change.Edit edit) is = ap (λ (n : ℕ). change_lin
 line_next net before number (change.Install plan) is = refl
 line_next net before number (change.Order order) is = refl
 
--- one line more
-lines_from-push : (net : Net) (edits : ℕ) (changes : List Change) (one : Change) (number : ℕ) → number ≡ edits + edition changes + edits_in one
-    → lines_from net edits (changes ++ one ∷ []) ≡ lines_from net edits changes ++ change_line net number one
-lines_from-push net edits [] one number is =
-    append-nil (change_line net (edits + edits_in one) one) ∙ ap (λ (n : ℕ). change_line net n one) (omega (arith, is))
-lines_from-push net edits (first ∷ changes) one number is =
-    let line = change_line net (edits + edits_in first) first in
-    ap (λ (bytes : List ℕ). line ++ bytes)
-    (lines_from-push net (edits + edits_in first) changes one number (omega (arith, is, sum_by-cons edits_in first changes)))
-    ∙ sym (append_assoc line (lines_from net (edits + edits_in first) changes) (change_line net number one))
-
-pub journal_lines-push : (net : Net) (changes : List Change) (one : Change)
-    → journal_lines net (changes ++ one ∷ []) ≡ journal_lines net changes ++ change_line net (edition changes + edits_in one) one
-journal_lines-push net changes one = lines_from-push net 0 changes one (edition changes + edits_in one) (omega arith)
-
 in_range-push : (net : Net) (edits : ℕ) (changes : List Change) (one : Change) (number : ℕ) → number ≡ edits + edition changes + edits_in one → AreInRange net edits changes
     → IsChangeInRange net number one → AreInRange net edits (changes ++ one ∷ [])
 in_range-push net edits [] one number is ranges range = (subst (λ (n : ℕ). IsChangeInRange net n one) (omega (arith, is)) range, tt)
@@ -75,83 +55,6 @@ in_range-push net edits (first ∷ changes) one number is ranges range = (
 pub AreInRange-push : (net : Net) (changes : List Change) (one : Change) → AreInRange net 0 changes → IsChangeInRange net (edition changes + edits_in one) one
     → AreInRange net 0 (changes ++ one ∷ [])
 AreInRange-push net changes one ranges range = in_range-push net 0 changes one (edition changes + edits_in one) (omega arith) ranges range
-
--- a line of words is as long as its first two, at least
-two_words : (first second : List ℕ) (rest : List (List ℕ)) → length first + length second + 1 ≤ length (spaced (first ∷ second ∷ rest))
-two_words first second [] = omega (arith, length-append first (32 ∷ second))
-two_words first second (third ∷ rest) =
-    omega (arith, length-append first (32 ∷ (second ++ 32 ∷ spaced (third ∷ rest))), length-append second (32 ∷ spaced (third ∷ rest)))
-
-three_words : (first second third : List ℕ) (rest : List (List ℕ)) → length first + length second + length third + 2 ≤ length (spaced (first ∷ second ∷ third ∷ rest))
-three_words first second third rest =
-    omega (arith, length-append first (32 ∷ spaced (second ∷ third ∷ rest)), two_words second third rest)
-
--- what a newline behind a line makes of its length
-pub ended_length : (line : List ℕ) → length (line ++ 10 ∷ []) ≡ length line + 1
-ended_length line = length-append line (10 ∷ [])
-
-long_edit : (number : ℕ) (word : List ℕ) (rest : List (List ℕ)) → 3 ≤ length word → 9 ≤ length (spaced (codes "edit" ∷ decimal number ∷ word ∷ rest) ++ 10 ∷ [])
-long_edit number word rest long =
-    let name : length (codes "edit") ≡ 4 = refl in
-    omega (arith, ended_length (spaced (codes "edit" ∷ decimal number ∷ word ∷ rest)), three_words (codes "edit") (decimal number) word rest, name, long)
-
-some_digit : (n : ℕ) → n ≤ 4294967295 → 0 < length (decimal n)
-some_digit n few = decimal_nonempty n (omega (arith, few))
-
--- a line has 9 bytes at least
-long_line : (net : Net) (number : ℕ) (one : Change) → IsChangeInRange net number one → 9 ≤ length (change_line net number one)
-long_line net number (change.Edit (Add from to units)) range = long_edit number (codes "add") (name_at net from ∷ name_at net to ∷ decimal units ∷ []) (omega arith)
-long_line net number (change.Edit (Drop from to units)) range = long_edit number (codes "drop") (name_at net from ∷ name_at net to ∷ decimal units ∷ []) (omega arith)
-long_line net number (change.Edit (Move from to new_from new_to units)) range =
-    long_edit number (codes "move") (name_at net from ∷ name_at net to ∷ name_at net new_from ∷ name_at net new_to ∷ decimal units ∷ []) (omega arith)
-long_line net number (change.Install plan) range =
-    let edition = edition_line plan.edition in
-    let slots = length_line plan.schedule.length in
-    let rest = critical_line plan.schedule.critical ∷ (map mode_line plan.schedule.modes ++ (map (burst_line net) plan.bursts ++ codes "end" ∷ [])) in
-    let plan_word : length (codes "plan") ≡ 4 = refl in
-    let length_word : length (codes "length") ≡ 6 = refl in
-    omega (
-      arith,
-      ended_length (spaced (edition ∷ slots ∷ rest)),
-      two_words edition slots rest,
-      two_words (codes "plan") (decimal plan.edition.0) [],
-      two_words (codes "length") (decimal plan.schedule.length) [],
-      plan_word,
-      length_word,
-    )
-long_line net number (change.Order (Load command edition)) range =
-    let name : length (codes "load") ≡ 4 = refl in
-    omega (
-      arith,
-      ended_length (spaced (codes "load" ∷ decimal command.0 ∷ decimal edition.0 ∷ [])),
-      three_words (codes "load") (decimal command.0) (decimal edition.0) [],
-      name,
-      some_digit command.0 range.1,
-      some_digit edition.0 range.2,
-    )
-long_line net number (change.Order (Arm command edition due)) range =
-    let name : length (codes "arm") ≡ 3 = refl in
-    let rest = spaced (decimal command.0 ∷ decimal edition.0 ∷ decimal due.0 ∷ []) in
-    omega (
-      arith,
-      ended_length (spaced (codes "arm" ∷ decimal command.0 ∷ decimal edition.0 ∷ decimal due.0 ∷ [])),
-      length-append (codes "arm") (32 ∷ rest),
-      three_words (decimal command.0) (decimal edition.0) (decimal due.0) [],
-      name,
-      some_digit command.0 range.1,
-      some_digit edition.0 range.2,
-      some_digit due.0 (omega (arith, range.3.1)),
-    )
-
-long_lines : (net : Net) (edits : ℕ) (changes : List Change) → AreInRange net edits changes → 9 * length changes ≤ length (lines_from net edits changes)
-long_lines net edits [] ranges = omega arith
-long_lines net edits (first ∷ changes) ranges =
-    omega (
-      arith,
-      length-append (change_line net (edits + edits_in first) first) (lines_from net (edits + edits_in first) changes),
-      long_line net (edits + edits_in first) first ranges.0,
-      long_lines net (edits + edits_in first) changes ranges.1,
-    )
 
 -- how the loop stands: the changes of the lines so far were made again, and the rest is to come
 pub record Stands (net : Net) (text rest : List ℕ) (machine : Records) : Type 0 where
@@ -189,10 +92,23 @@ line_read rest line after is =
 pub length-line_read : (rest line after : List ℕ) → lines rest ≡ line ∷ lines after → length line + 1 ≡ length (take (length line + 1) rest)
 length-line_read rest line after is = sym (ap length (line_read rest line after is) ∙ ended_length line)
 
--- few changes have been made so far
-pub few_so_far : (net : Net) (text rest : List ℕ) (machine : Records) → Stands net text rest machine → length text ≤ STORE_LAST → length machine.state.changes < most_changes
-few_so_far net text rest machine stands short =
-    omega (arith, short, ap length stands.text_is, length-append (journal_lines net machine.state.changes) rest, long_lines net 0 machine.state.changes stands.ranges)
+-- the lines so far, and the next, are not too long
+pub short_so_far : (net : Net) (text rest line after : List ℕ) (machine : Records) → Stands net text rest machine → length text ≤ STORE_LAST → lines rest ≡ line ∷ lines after
+    → bytes_of machine.net machine.state.changes + length (take (length line + 1) rest) ≤ STORE_LAST
+short_so_far net text rest line after machine stands short is =
+    let rest_is = text_from_first_line rest line after is in
+    let read = length-line_read rest line after is in
+    let sum : bytes_of machine.net machine.state.changes ≡ length (journal_lines net machine.state.changes) = ap (λ (n : Net). bytes_of n machine.state.changes) stands.net_is in
+    omega (
+      arith,
+      short,
+      sum,
+      read,
+      ap length stands.text_is,
+      length-append (journal_lines net machine.state.changes) rest,
+      ap length rest_is,
+      length-append line (10 ∷ after),
+    )
 
 -- the change of one line more was made again
 pub Stands-line : (net : Net) (text rest line after read : List ℕ) (old new : Records) → Stands net text rest old → lines rest ≡ line ∷ lines after → read ≡ take (length line + 1) rest

@@ -3,6 +3,7 @@ use Rattle.std.proofs.Common.{◌≡◌, ◌&&◌, Bool, true, false, refl, sym,
 use Rattle.bt_journal.specs.declared.reply.Reply.{Reply}
 use Rattle.bt_journal.specs.declared.reply.Reply.TheVariants.{Done, SameTerminal, NotThere, RowFull, ColumnFull, BookFull, NotNewer, NoSuchEdition, NotGood, OutOfTurn, NotInstalled, Demand, Installed, Newest, Placed, StoreFault, Stopped}
 use Rattle.bt_journal.specs.Journal.{is_made, is_refusal, is_fault}
+use Rattle.bt_book.specs.Store.{is_lost}
 
 -- no reply is of two kinds
 pub record IsOneKind (reply : Reply) : Type 0 where
@@ -43,3 +44,23 @@ refusal_not_made reply is = other (is_refusal reply) (is_made reply) is (one_kin
 -- nor tells of a fault
 pub refusal_no_fault : (reply : Reply) → is_refusal reply ≡ true → is_fault reply ≡ false
 refusal_no_fault reply is = other (is_refusal reply) (is_fault reply) is (one_kind reply).refusal_fault
+
+-- what tells of no fault lost no change
+pub no_fault_not_lost : (reply : Reply) → is_fault reply ≡ false → is_lost reply ≡ false
+no_fault_not_lost (Done _ _) none = refl
+no_fault_not_lost SameTerminal none = refl
+no_fault_not_lost (NotThere _) none = refl
+no_fault_not_lost (RowFull _ _) none = refl
+no_fault_not_lost (ColumnFull _ _) none = refl
+no_fault_not_lost (BookFull _) none = refl
+no_fault_not_lost (NotNewer _) none = refl
+no_fault_not_lost (NoSuchEdition _) none = refl
+no_fault_not_lost (NotGood _) none = refl
+no_fault_not_lost (OutOfTurn _) none = refl
+no_fault_not_lost (NotInstalled _) none = refl
+no_fault_not_lost (Demand _ _ _) none = refl
+no_fault_not_lost (Installed _) none = refl
+no_fault_not_lost (Newest _) none = refl
+no_fault_not_lost Placed none = refl
+no_fault_not_lost StoreFault none = absurd cc
+no_fault_not_lost Stopped none = refl

@@ -1,5 +1,5 @@
 -- What is kept before the first call.
-use Rattle.std.proofs.Common.{◌≡◌, ℕ, ◌<◌, List, [], ◌++◌, length, replicate, slice_index, refl, sym, ap, ◌∷◌, ◌∙◌, subst, arith}
+use Rattle.std.proofs.Common.{◌≡◌, ℕ, false, ◌<◌, List, [], ◌++◌, length, replicate, slice_index, refl, sym, ap, ◌∷◌, ◌∙◌, subst, arith}
 use Rattle.std.proofs.lemmas.List.{get_or-replicate, length-replicate}
 use Rattle.std.proofs.lemmas.List.Folds.{sum_by-replicate}
 use Rattle.bt_frame.specs.declared.schedule.Critical.TheVariants.{Row, Column}
@@ -42,24 +42,26 @@ KeepsUp-start net = record {
   follows = tt;
 }
 
-Counts-start : Counts [] 0 0
-Counts-start = record {
+Counts-start : (net : Net) → Counts net [] 0 0 0
+Counts-start net = record {
   counted = refl;
-  bounded = omega arith;
   edited = refl;
   fewer = omega arith;
+  summed = refl;
+  covered = omega arith;
+  readable = omega arith;
 }
 
 -- the same, as empty collections have it
 pub IsKept-open : (net : Net) (opening : List Change) (history : List Entry) (links : List Link) (installed none : List Plan) (placed : List Order) (one : Plan) → opening ≡ []
     → history ≡ [] → links ≡ [] → none ≡ [] → installed ≡ none ++ one ∷ [] → one ≡ empty_plan → placed ≡ []
-    → IsKept net opening history links 0 0 installed placed
+    → IsKept net opening history links 0 0 0 false installed placed
 IsKept-open net opening history links installed none placed one no_change no_entry no_link no_plan installs one_is no_order =
     let lists : Lists [] installed placed = record {
       installs = installs ∙ (ap (λ (all : List Plan). all ++ one ∷ []) no_plan ∙ ap (λ (p : Plan). p ∷ []) one_is);
       places = no_order;
     } in
-    rw (no_change, no_entry, no_link) (KeepsUp-start net, Counts-start, lists, refl)
+    rw (no_change, no_entry, no_link) (KeepsUp-start net, Counts-start net, lists, refl)
 
 -- and the state
 pub state-open : (opening : List Change) (history : List Entry) → opening ≡ [] → history ≡ [] → state_after opening history ≡ running []

@@ -5,4 +5,5 @@ pub mod Machine
 pub mod Book
 pub mod Faults
 pub mod Recovery
+pub mod Store
 pub mod Records

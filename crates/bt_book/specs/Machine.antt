@@ -1,6 +1,6 @@
 -- The desk machine: its state is the list of changes made so far, and whether it is stopped. `docs/machines.md` has its
 -- table.
-use Rattle.std.specs.Prelude.{◌≡◌, ◌⊎◌, ℕ, ◌<◌, ◌≤◌, ◌||◌, if◌then◌else◌, nat_lt, Bool, true, false, List, [], ◌∷◌, ◌++◌, length, Option, Some, None}
+use Rattle.std.specs.Prelude.{◌≡◌, ◌⊎◌, ℕ, ◌+◌, ◌<◌, ◌≤◌, ◌||◌, if◌then◌else◌, nat_lt, Bool, true, false, List, [], ◌∷◌, ◌++◌, length, Option, Some, None}
 use Rattle.std.specs.List.{list_any}
 use Rattle.bt_frame.specs.declared.numbers.EditionNo.{EditionNo}
 use Rattle.bt_frame.specs.declared.schedule.Critical.{Critical}
@@ -18,7 +18,8 @@ use Rattle.bt_journal.specs.declared.entry.Entry.{Entry}
 use Rattle.bt_journal.specs.declared.reply.Reply.{Reply}
 use Rattle.bt_journal.specs.declared.reply.Reply.TheVariants.{Done, RowFull, ColumnFull, BookFull, NotGood, Demand, Installed, Newest, Placed, StoreFault, Stopped}
 use Rattle.bt_journal.specs.Journal.{changes_of, is_made, is_refusal, is_fault}
-use Rattle.bt_book.specs.Changes.{edition, matrix_after, IsDemandAfter, newest}
+use Rattle.bt_journal.specs.JournalLines.{change_line, journal_lines}
+use Rattle.bt_book.specs.Changes.{edits_in, edition, matrix_after, IsDemandAfter, newest}
 use Rattle.bt_book.specs.Causes.{IsGood, IsCause, IsChangeOn}
 
 -- the changes made so far, and whether a fault of the store has stopped the machine
@@ -42,9 +43,17 @@ state_from old history = record { changes = old.changes ++ changes_of history; s
 abbrev pub state_after : List Change → List Entry → State
 state_after opening history = state_from (running opening) history
 
--- the most changes that a book makes
-abbrev pub most_changes : ℕ
-most_changes = 8000000
+-- the line of a change behind these changes, its newline included: that of an edit carries the edition that it makes
+abbrev pub line_behind : Net → List Change → Change → List ℕ
+line_behind net changes one = change_line net (edition changes + edits_in one) one
+
+-- how many bytes the lines of these changes have
+abbrev pub bytes_of : Net → List Change → ℕ
+bytes_of net changes = length (journal_lines net changes)
+
+-- how many bytes they have with the line of one change more
+abbrev pub bytes_with : Net → List Change → Change → ℕ
+bytes_with net changes one = bytes_of net changes + length (line_behind net changes one)
 
 -- the plan, where its edition is greater than this one
 abbrev pub newer_than : EditionNo → Plan → Option Plan
@@ -54,11 +63,11 @@ newer_than after plan = if nat_lt after.0 plan.edition.0 then Some plan else Non
 abbrev pub IsGreatestSum : Net → List Change → ℕ → Type 0
 IsGreatestSum net changes most = (line : Critical) × IsHeaviest (matrix_after net changes) line most
 
--- the change can be made: the machine runs, the change has no cause of a refusal, and the book has room for it
+-- the change can be made: the machine runs, the change has no cause of a refusal, and the journal has room for its line
 pub record CanMake (net : Net) (old : State) (asked : Change) : Type 0 where
   pub runs : old.stopped ≡ false
   pub good : IsGood net old.changes asked
-  pub room : length old.changes < most_changes
+  pub room : bytes_with net old.changes asked ≤ net.journal
 
 -- the change was made: it could be, and it stands behind the changes before it
 pub record Makes (net : Net) (old : State) (asked : Change) (new : State) : Type 0 where
@@ -85,12 +94,12 @@ pub record IsRefused (net : Net) (old : State) (asked : Change) (reply : Reply) 
   pub cause : IsCause net old.changes asked reply
   pub same : new ≡ old
 
--- the change has no cause of a refusal, but the book has no room, and nothing changes
+-- the change has no cause of a refusal, but the journal has no room for its line, and nothing changes
 pub record IsFull (net : Net) (old : State) (asked : Change) (reply : Reply) (new : State) : Type 0 where
   pub runs : old.stopped ≡ false
   pub good : IsGood net old.changes asked
-  pub no_room : most_changes ≤ length old.changes
-  pub told : reply ≡ BookFull (length old.changes)
+  pub no_room : net.journal < bytes_with net old.changes asked
+  pub told : reply ≡ BookFull (bytes_of net old.changes)
   pub same : new ≡ old
 
 -- the change is made

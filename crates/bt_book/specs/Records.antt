@@ -1,7 +1,8 @@
 -- For bodies alone: what contracts see of the machine and of the occupancy of its frame, and what is kept beside the
 -- changes.
-use Rattle.std.specs.Prelude.{◌≡◌, ◌≢◌, ◌⊎◌, ℕ, ◌+◌, ◌≤◌, ◌<◌, Bool, true, false, List, [], ◌∷◌, ◌++◌, length, sum_by, Option, Some, None}
+use Rattle.std.specs.Prelude.{◌≡◌, ◌≢◌, ℕ, ◌+◌, ◌≤◌, ◌<◌, Bool, true, false, List, [], ◌∷◌, ◌++◌, length, sum_by, Option, Some, None}
 use Rattle.std.specs.List.{list_any}
+use Rattle.bt_base.specs.declared.keeper.TheConstants.{STORE_LAST}
 use Rattle.bt_frame.specs.declared.numbers.TermNo.{TermNo}
 use Rattle.bt_frame.specs.declared.limits.TheConstants.{MOST_SLOTS}
 use Rattle.bt_net.specs.Network.{Net}
@@ -11,23 +12,27 @@ use Rattle.bt_demand.specs.declared.plan.Plan.{Plan}
 use Rattle.bt_demand.specs.Demand.{units_where, units_of, Gains}
 use Rattle.bt_demand.specs.Traffic.{matrix_of, HasSumsTo}
 use Rattle.bt_air.specs.declared.order.Order.{Order}
+use Rattle.bt_journal.specs.declared.call.Call.{Call}
+use Rattle.bt_journal.specs.declared.call.Call.TheVariants as call
 use Rattle.bt_journal.specs.declared.call.Change.{Change}
 use Rattle.bt_journal.specs.declared.call.Change.TheVariants as change
 use Rattle.bt_journal.specs.declared.entry.Entry.{Entry}
 use Rattle.bt_journal.specs.declared.call.Edit.{Edit}
 use Rattle.bt_journal.specs.declared.call.Edit.TheVariants.{Add, Drop, Move}
 use Rattle.bt_journal.specs.Journal.{NamesTerminals, is_refusal, is_fault, change_made}
-use Rattle.bt_journal.specs.JournalLines.{IsChangeInRange, change_line, edits_in}
+use Rattle.bt_journal.specs.JournalLines.{IsChangeInRange, edits_in}
 use Rattle.bt_journal.specs.declared.reply.Reply.{Reply}
-use Rattle.bt_journal.specs.declared.reply.Reply.TheVariants.{NotThere, RowFull, ColumnFull, BookFull}
+use Rattle.bt_journal.specs.declared.reply.Reply.TheVariants.{Done, NotThere, RowFull, ColumnFull, BookFull, Installed, Placed}
+use Rattle.bt_journal.specs.declared.reply.Reply.TheVariants.{StoreFault as store_fault}
 use Rattle.bt_book.specs.declared.fault.RecoverFault.{RecoverFault}
 use Rattle.bt_book.specs.declared.fault.RecoverFault.TheVariants.{J1, J2, StoreFault, TooLong, OutOfMemory}
 use Rattle.bt_book.specs.declared.lines.Lines.{Lines}
 use Rattle.bt_book.specs.Changes.{given, taken_from, edition, matrix_after, held_after, plans, orders}
 use Rattle.bt_book.specs.EditCauses.{GainsFrom, GainsTo, with_edit, HasEnds, IsGoodEdit}
 use Rattle.bt_book.specs.Causes.{Follows, IsChangeOn, IsGood, IsCause}
-use Rattle.bt_book.specs.Machine.{State, most_changes, CanMake, running}
+use Rattle.bt_book.specs.Machine.{State, bytes_of, bytes_with, line_behind, running}
 use Rattle.bt_book.specs.Recovery.{IsFirstNoLine, IsFirstStray, IsNoLine, IsStray}
+use Rattle.bt_book.specs.Store.{IsStored, StoreStep, lost_of}
 
 -- a network, and the links of the demand on it
 pub record Occupied : Type 0 where
@@ -51,20 +56,22 @@ pub record KeepsUp (net : Net) (changes : List Change) (links : List Link) : Typ
   pub follows : Follows net changes
 
 -- what holds of the numbers kept beside the changes
-pub record Counts (changes : List Change) (count edits : ℕ) : Type 0 where
+pub record Counts (net : Net) (changes : List Change) (count edits bytes : ℕ) : Type 0 where
   pub counted : count ≡ length changes
-  pub bounded : count ≤ most_changes
   pub edited : edits ≡ edition changes
   pub fewer : edits ≤ count
+  pub summed : bytes ≡ bytes_of net changes
+  pub covered : count ≤ bytes
+  pub readable : bytes ≤ STORE_LAST
 
 -- what holds of the lists kept beside the changes
 pub record Lists (changes : List Change) (installed : List Plan) (placed : List Order) : Type 0 where
   pub installs : installed ≡ plans changes
   pub places : placed ≡ orders changes
 
--- no entry tells of a fault of the store
-abbrev pub IsSure : List Entry → Type 0
-IsSure history = list_any (λ entry. is_fault entry.reply) history ≡ false
+-- whether an entry of the history tells of a fault of the store
+abbrev pub has_fault : List Entry → Bool
+has_fault history = list_any (λ entry. is_fault entry.reply) history
 
 -- the lines of the link that gains, with their slots after the edit
 pub record AreLinesAfter (net : Net) (changes : List Change) (edit : Edit) (lines : Lines) : Type 0 where
@@ -91,26 +98,54 @@ abbrev pub IsFirstEditCause : Net → List Change → Edit → Option Reply → 
 IsFirstEditCause net changes edit None = IsGoodEdit net changes edit
 IsFirstEditCause net changes edit (Some reply) = IsCause net changes (change.Edit edit) reply
 
--- the refusal where the book has made as many changes as it can, and none before
-abbrev pub IsBookFull : List Change → Option Reply → Type 0
-IsBookFull changes None = length changes < most_changes
-IsBookFull changes (Some reply) = (most_changes ≤ length changes) × (reply ≡ BookFull (length changes))
+-- the refusal where the journal has no room for a line of so many bytes, and none where it has
+abbrev pub IsBookFull : Net → List Change → ℕ → Option Reply → Type 0
+IsBookFull net changes size None = bytes_of net changes + size ≤ net.journal
+IsBookFull net changes size (Some reply) = (net.journal < bytes_of net changes + size) × (reply ≡ BookFull (bytes_of net changes))
 
 -- the first cause of a refusal in a change, or none where there is none
 abbrev pub IsFirstCause : Net → List Change → Change → Option Reply → Type 0
 IsFirstCause net changes asked None = IsGood net changes asked
 IsFirstCause net changes asked (Some reply) = (is_refusal reply ≡ true) × IsCause net changes asked reply
 
--- the refusal of a change, with the state of the machine: its first cause, or that the book is full
-pub record IsRefusal (net : Net) (old : State) (asked : Change) (reply : Reply) : Type 0 where
+-- the change can join the others: the machine runs, the change has no cause of a refusal, and the bytes with its line are
+-- no more than are read from a store
+pub record CanJoin (net : Net) (old : State) (asked : Change) : Type 0 where
   pub runs : old.stopped ≡ false
-  pub refuses : is_refusal reply ≡ true
-  pub why : IsCause net old.changes asked reply ⊎ (IsGood net old.changes asked × (most_changes ≤ length old.changes) × (reply ≡ BookFull (length old.changes)))
+  pub good : IsGood net old.changes asked
+  pub room : bytes_with net old.changes asked ≤ STORE_LAST
 
--- the refusal of a change, or none where it can be made
-abbrev pub Refuses : Net → State → Change → Option Reply → Type 0
-Refuses net old asked None = CanMake net old asked
-Refuses net old asked (Some reply) = IsRefusal net old asked reply
+-- the call that asks for a change
+abbrev pub call_of : Change → Call
+call_of (change.Edit edit) = call.Edit edit
+call_of (change.Install plan) = call.Install plan
+call_of (change.Order order) = call.Place order
+
+-- a line can spell the change behind these
+abbrev pub IsSpelled : Net → List Change → Change → Type 0
+IsSpelled net changes one = IsChangeInRange net (edition changes + edits_in one) one
+
+-- a line can spell the change where the store was asked to keep it
+abbrev pub IsSpelledIf : Net → List Change → Change → Reply → Type 0
+IsSpelledIf net changes one (Done _ _) = IsSpelled net changes one
+IsSpelledIf net changes one (Installed _) = IsSpelled net changes one
+IsSpelledIf net changes one Placed = IsSpelled net changes one
+IsSpelledIf net changes one store_fault = IsSpelled net changes one
+IsSpelledIf net changes one _ = Unit {0}
+
+-- what the store makes of a change that is asked for behind these
+pub record Stores (net : Net) (changes : List Change) (one : Change) (reply : Reply) (old new : Option (List ℕ)) (before now : ℕ) : Type 0 where
+  pub step : StoreStep (line_behind net changes one) reply old new before now
+  pub spelled : IsSpelledIf net changes one reply
+
+-- what holds of what the store of a book tells, beside its machine
+pub record Holds (machine : Records) (told : Option (List ℕ)) : Type 0 where
+  pub stored : IsStored machine.net told machine.state.changes (lost_of machine.history)
+  pub sure : machine.state.stopped ≡ false → lost_of machine.history ≡ []
+
+-- each link has as many slots as before
+abbrev pub SameUnits : List Link → List Link → Type 0
+SameUnits old new = (test : TermNo → TermNo → Bool) → units_where test new ≡ units_where test old
 
 -- the first half of an edit: the link that gains has its slots, and the one that loses has them still
 abbrev pub GainsFirst : List Link → Edit → List Link → Type 0
@@ -185,8 +220,8 @@ pub record RedoesOne (old : List Link) (edit : Edit) (left : ℕ) (new : List Li
 -- the line, its newline included, is of a change that follows these, and the machine has made it too
 pub record TakesLine (net : Net) (before : List Change) (line : List ℕ) (new : State) : Type 0 where
   pub one : Change
-  pub range : IsChangeInRange net (edition before + edits_in one) one
-  pub spelled : line ≡ change_line net (edition before + edits_in one) one
+  pub range : IsSpelled net before one
+  pub spelled : line ≡ line_behind net before one
   pub on : IsChangeOn net one
   pub good : IsGood net before one
   pub after : new ≡ running (before ++ one ∷ [])

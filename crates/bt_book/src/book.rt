@@ -1,9 +1,11 @@
-// The book of changes, with the store of its records.
+// The book of changes, with the store that keeps their lines.
 ghost use Rattle.std.specs.Prelude.{◌≡◌, ◌<◌, ◌≤◌, ◌++◌, ◌∷◌, [], length, slice_index_or, option_map, IfOk, IfErr, IfSome, IsErrAnd, MatchResult, OnErr, List, ℕ, ◌⊎◌};
 ghost use Rattle.std.specs.List.{HoldsAt};
 ghost use Rattle.bt_book.specs.Changes.{edition, empty_plan, newest, orders, plans, IsDemandAfter, IsDemandAt};
-ghost use Rattle.bt_book.specs.Causes.{Follows};
-ghost use Rattle.bt_book.specs.Machine.{running, IsOfNetwork, Step};
+ghost use Rattle.bt_book.specs.Causes.{Follows, IsChangeOn};
+ghost use Rattle.bt_book.specs.Machine.{line_behind, running, ChangeStep, IsOfNetwork, Step};
+ghost use Rattle.bt_book.specs.Records.{call_of};
+ghost use Rattle.bt_book.specs.Store.{IsStored, StoreStep, asked_line, lost_of};
 ghost use Rattle.bt_book.specs.Recovery.{IsFirstNoLine, IsFirstStray, IsOutside, IsReadable, IsRecoverFault, Recovered, whole};
 ghost use Rattle.bt_journal.specs.declared.call.Change.{Change};
 ghost use Rattle.bt_journal.specs.JournalLines.{Keeps};
@@ -15,12 +17,12 @@ use bt_air::Order;
 use bt_base::Keeper;
 use bt_demand::{Demand, Plan};
 use bt_frame::{EditionNo, OutOfMemory};
-use bt_journal::{Call, Entry, Reply, lines_end_once, lines_tell_changes};
+use bt_journal::{Call, Change, Entry, Reply, lines_end_once, lines_tell_changes};
 use bt_net::Network;
 use std::alloc::Global;
 use std::marker::Model;
 
-/// The book of changes of a network, and the store in which it keeps its records.
+/// The book of changes of a network, and the store in which it keeps the line of each.
 #[derive(Drop)]
 pub struct Book<K: Keeper> {
     machine: Machine,
@@ -29,34 +31,22 @@ pub struct Book<K: Keeper> {
 
 impl<K: Keeper> Model for Book<K> {
     ghost use Rattle.bt_book.specs.Book.{Books};
+    ghost use Rattle.bt_book.specs.Records.{Holds};
 
-    ghost Value = { Books K };
+    ghost Value = { Books };
 
     ghost view = { λ a. record {
       net = a.machine.net;
       state = a.machine.state;
       history = a.machine.history;
-      store = a.store;
+      told = K.told a.store;
+      faults = K.fault_count a.store;
     } };
+
+    ghost invariant = { λ a. Holds a.machine (K.told a.store) };
 }
 
 impl<K: Keeper> Book<K> {
-    /// The book without changes, its history empty and its store unread.
-    ///
-    /// Where memory runs out the store is handed back.
-    pub fn open(alloc: Global, net: &Network, store: K) -> Result<Book<K>, (K, OutOfMemory)>
-        ensures net { IfOk result (λ book. book.net ≡ net.now) }
-        ensures state { IfOk result (λ book. book.state ≡ running []) }
-        ensures history { IfOk result (λ book. book.history ≡ []) }
-        ensures store { IfOk result (λ book. book.store ≡ store) }
-        ensures back { IfErr result (λ fault. fault.0 ≡ store) }
-    {
-        match Machine::open(alloc, net) {
-            Ok(machine) => Ok(Book { machine, store }),
-            Err(fault) => Err((store, fault)),
-        }
-    }
-
     /// The book that its store's journal tells, with no call yet. Bytes behind the last newline are cut, by one call on the
     /// store, once all lines were tested.
     ///
@@ -69,9 +59,10 @@ impl<K: Keeper> Book<K> {
         ensures changes { IfOk result (λ book. IfSome (K.told store) (λ bytes. Recovered net.now bytes book.state.changes)) }
         ensures readable { IfOk result (λ _. IsReadable (K.told store)) }
         ensures follows { IfOk result (λ book. Follows net.now book.state.changes) }
-        ensures told { IfOk result (λ book. K.told book.store ≡ option_map whole (K.told store)) }
-        ensures keeps { IfOk result (λ book. IfSome (K.told book.store) (λ bytes. Keeps net.now bytes book.state.changes)) }
-        ensures later { IfOk result (λ book. K.fault_count store ≤ K.fault_count book.store) }
+        ensures told { IfOk result (λ book. book.told ≡ option_map whole (K.told store)) }
+        ensures keeps { IfOk result (λ book. IfSome book.told (λ bytes. Keeps net.now bytes book.state.changes)) }
+        ensures stored { IfOk result (λ book. IsStored net.now book.told book.state.changes []) }
+        ensures later { IfOk result (λ book. K.fault_count store ≤ book.faults) }
         ensures fault { IfErr result (λ end. IsRecoverFault net.now (K.told store) (K.told end.0) (K.fault_count store) (K.fault_count end.0) end.1) }
         ensures exact_changes { IfSome (K.told store) (λ bytes. (changes : List Change) → Recovered net.now bytes changes
             → MatchResult result (λ book. book.state.changes ≡ changes) (λ end. IsOutside end.1)) }
@@ -94,24 +85,74 @@ impl<K: Keeper> Book<K> {
     /// Answers a call, and keeps its entry. Each terminal and each beam of the call is one of the network's, and an Arm
     /// is due at a superframe from 1 to the last.
     ///
-    /// A refusal leaves the changes as they were, and want of memory leaves all as it was. Nothing is written to the
-    /// store yet, so no reply tells of a fault of it.
+    /// A change that is made has its line kept by one call on the store. A refusal leaves the changes as they were. Where the
+    /// store fails they are as they were too, and from then on each change that is asked for is answered Stopped. Want of
+    /// memory leaves all as it was.
     pub fn apply(&mut self, alloc: Global, caller: u32, call: Call) -> Result<Reply, OutOfMemory>
         requires terminals { IsOfNetwork self.old.net call }
         ensures step { IfOk result (λ reply. Step self.old.net self.old.state call reply self.new.state) }
         ensures entry { IfOk result (λ reply. self.new.history
             ≡ self.old.history ++ record { caller = caller; call = call; reply = reply } ∷ []) }
         ensures net { self.new.net ≡ self.old.net }
-        ensures store { self.new.store ≡ self.old.store }
+        ensures store { IfOk result (λ reply. StoreStep (asked_line self.old.net self.old.state.changes call) reply
+            self.old.told self.new.told self.old.faults self.new.faults) }
         ensures err { OnErr result (self.new ≡ self.old) }
     {
         match call {
-            Call::Snapshot => self.machine.snapshot(alloc, caller),
-            Call::Newest { after } => self.machine.newest_after(alloc, caller, after),
-            Call::Edit(edit) => self.machine.edit(alloc, caller, &edit),
-            Call::Install(plan) => self.machine.install(alloc, caller, plan),
-            Call::Place(order) => self.machine.place(alloc, caller, &order),
+            Call::Snapshot => self.snapshot(alloc, caller),
+            Call::Newest { after } => self.newest_after(alloc, caller, after),
+            Call::Edit(edit) => self.change(alloc, caller, Change::Edit(edit)),
+            Call::Install(plan) => self.change(alloc, caller, Change::Install(plan)),
+            Call::Place(order) => self.change(alloc, caller, Change::Order(order)),
         }
+    }
+
+    /// Tells the last edition, that of the newest plan, and the demand.
+    fn snapshot(&mut self, alloc: Global, caller: u32) -> Result<Reply, OutOfMemory>
+        ensures step { IfOk result (λ reply. Step self.old.net self.old.state Call.Snapshot reply self.new.state) }
+        ensures entry { IfOk result (λ reply. self.new.history
+            ≡ self.old.history ++ record { caller = caller; call = Call.Snapshot; reply = reply } ∷ []) }
+        ensures net { self.new.net ≡ self.old.net }
+        ensures store { IfOk result (λ reply. StoreStep [] reply self.old.told self.new.told self.old.faults self.new.faults) }
+        ensures err { OnErr result (self.new ≡ self.old) }
+    {
+        let reply = self.machine.snapshot(alloc, caller)?;
+        Ok(reply)
+    }
+
+    /// Lends the newest plan, where its edition is greater than that one.
+    fn newest_after(
+        &mut self,
+        alloc: Global,
+        caller: u32,
+        after: EditionNo,
+    ) -> Result<Reply, OutOfMemory>
+        ensures step { IfOk result (λ reply. Step self.old.net self.old.state (Call.Newest after) reply self.new.state) }
+        ensures entry { IfOk result (λ reply. self.new.history
+            ≡ self.old.history ++ record { caller = caller; call = Call.Newest after; reply = reply } ∷ []) }
+        ensures net { self.new.net ≡ self.old.net }
+        ensures store { IfOk result (λ reply. StoreStep [] reply self.old.told self.new.told self.old.faults self.new.faults) }
+        ensures err { OnErr result (self.new ≡ self.old) }
+    {
+        let reply = self.machine.newest_after(alloc, caller, after)?;
+        Ok(reply)
+    }
+
+    /// Answers a change that is asked for, and keeps its line where it is made.
+    fn change(&mut self, alloc: Global, caller: u32, asked: Change) -> Result<Reply, OutOfMemory>
+        requires { IsChangeOn self.old.net asked }
+        ensures step { IfOk result (λ reply. ChangeStep self.old.net self.old.state asked reply self.new.state) }
+        ensures entry { IfOk result (λ reply. self.new.history
+            ≡ self.old.history ++ record { caller = caller; call = call_of asked; reply = reply } ∷ []) }
+        ensures net { self.new.net ≡ self.old.net }
+        ensures store { IfOk result (λ reply. StoreStep (line_behind self.old.net self.old.state.changes asked) reply
+            self.old.told self.new.told self.old.faults self.new.faults) }
+        ensures err { OnErr result (self.new ≡ self.old) }
+    {
+        // This is there for what holds of each network.
+        let _net = self.machine.network();
+        let reply = self.machine.change(alloc, caller, asked, &mut self.store)?;
+        Ok(reply)
     }
 
     /// The last edition of the demand: how many edits were made.
@@ -167,7 +208,8 @@ impl<K: Keeper> Book<K> {
 
     /// How many orders were placed.
     pub fn order_count(&self) -> u32
-        ensures { result ≡ length (orders self.now.state.changes) }
+        ensures count { result ≡ length (orders self.now.state.changes) }
+        ensures few { result ≤ 67108864 }
     {
         self.machine.order_count()
     }
@@ -180,10 +222,13 @@ impl<K: Keeper> Book<K> {
         self.machine.order(place)
     }
 
-    /// The store, and the entries of all calls in order.
+    /// The store, and the entries of all calls in order. The next opening of the store has the book's changes, or these and
+    /// the one that it lost.
     pub fn into_parts(self) -> (K, Vec<Entry>)
-        ensures store { result.0 ≡ self.store }
+        ensures told { K.told result.0 ≡ self.told }
+        ensures faults { K.fault_count result.0 ≡ self.faults }
         ensures history { result.1.items ≡ self.history }
+        ensures kept { IsStored self.net self.told self.state.changes (lost_of self.history) }
     {
         (self.store, self.machine.into_history())
     }

@@ -1,44 +1,35 @@
-// The first cause for which an edit is refused. Nothing changes while it is looked for.
-ghost use Rattle.std.specs.Prelude.{◌≡◌, ◌==◌, ◌<◌, ◌≤◌, if◌then◌else◌, length};
+// The first cause for which a change is refused, and that of an edit. Nothing changes while it is looked for.
+ghost use Rattle.std.specs.Prelude.{◌≡◌, ◌==◌, ◌≤◌, if◌then◌else◌, IfOk};
 ghost use Rattle.bt_journal.specs.Journal.{NamesTerminals};
 ghost use Rattle.bt_book.specs.Changes.{held_after};
-ghost use Rattle.bt_book.specs.Records.{AreLinesAfter, IsBookFull, IsFirstEditCause, IsShortOf, Refuses};
+ghost use Rattle.bt_book.specs.Causes.{IsChangeOn};
+ghost use Rattle.bt_book.specs.Records.{AreLinesAfter, IsFirstCause, IsFirstEditCause, IsShortOf};
 
 use crate::lines::{Lines, full_line};
 use crate::machine::Machine;
-use bt_frame::{BeamNo, TermNo, Units};
+use bt_frame::{BeamNo, OutOfMemory, TermNo, Units};
 use bt_journal::{Change, Edit, Reply};
-
-/// The most changes that a book makes.
-const MOST_CHANGES: u32 = 8_000_000;
+use std::alloc::Global;
 
 impl Machine {
-    /// The refusal of an edit: its own first cause, or that the book is full.
-    pub(crate) fn refusal_of(&self, edit: &Edit) -> Option<Reply>
-        requires { NamesTerminals self.now.net edit.now }
-        ensures { Refuses self.now.net self.now.state (Change.Edit edit.now) result }
+    /// The first cause of a refusal in a change.
+    pub(crate) fn cause_in(
+        &self,
+        alloc: Global,
+        asked: &Change,
+    ) -> Result<Option<Reply>, OutOfMemory>
+        requires { IsChangeOn self.now.net asked.now }
+        ensures { IfOk result (λ cause. IsFirstCause self.now.net self.now.state.changes asked.now cause) }
     {
-        // This is there for what holds of each machine: no fault of the store has stopped it.
-        let _ = &self.count;
-        match self.cause_of(edit) {
-            Some(cause) => Some(cause),
-            None => self.book_full(),
-        }
-    }
-
-    /// The refusal of a good change where the book has as many changes as it can make.
-    pub(crate) fn book_full(&self) -> Option<Reply>
-        ensures { IsBookFull self.now.state.changes result }
-    {
-        if self.count < MOST_CHANGES {
-            None
-        } else {
-            Some(Reply::BookFull { length: self.count })
+        match asked {
+            Change::Edit(edit) => Ok(self.cause_of(edit)),
+            Change::Install(plan) => self.cause_of_install(alloc, plan),
+            Change::Order(order) => Ok(self.cause_of_order(order)),
         }
     }
 
     /// The first cause of a refusal in the edit itself.
-    pub(crate) fn cause_of(&self, edit: &Edit) -> Option<Reply>
+    fn cause_of(&self, edit: &Edit) -> Option<Reply>
         requires { NamesTerminals self.now.net edit.now }
         ensures { IsFirstEditCause self.now.net self.now.state.changes edit.now result }
     {

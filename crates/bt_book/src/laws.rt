@@ -1,5 +1,6 @@
 // What holds of histories, whatever the program does.
-ghost use Rattle.std.specs.Prelude.{◌≡◌, ◌++◌, ◌∷◌, [], All, List, map};
+ghost use Rattle.std.specs.Prelude.{◌≡◌, ◌++◌, ◌∷◌, [], All, List, length, map};
+ghost use Rattle.std.specs.Option.{is_some};
 ghost use Rattle.bt_net.specs.Network.{Net, IsSound};
 ghost use Rattle.bt_demand.specs.Flyable.{IsFlyable};
 ghost use Rattle.bt_journal.specs.declared.call.Call.{Call};
@@ -12,9 +13,8 @@ ghost use Rattle.bt_line.specs.Legal as line_legal;
 ghost use Rattle.bt_book.specs.Book.{Books, book_steps, journal_entry};
 ghost use Rattle.bt_book.specs.Changes.{installs, newest, plans};
 ghost use Rattle.bt_book.specs.Causes.{Follows, IsGoodForItsEdition};
+ghost use Rattle.bt_book.specs.Store.{RoseBy, lost_of};
 ghost use Rattle.bt_book.specs.Machine.{State, state_after, state_from, Legal, NamesBeams, Step};
-
-use bt_base::Keeper;
 
 /// A legal history stays legal with one step more, from the state that it came to; and the state after it is then
 /// the one after that step.
@@ -43,24 +43,36 @@ pub fn installed_plans_can_be_flown()
 
 /// What a turn lock makes of the calls on a book with a legal history lengthens that history: with the entries of these
 /// calls behind it, it is legal from its opening changes on, and leads to the state of the book at the end. The network
-/// and the store stay.
-pub fn locked_books_are_legal<K: Keeper>()
-    ensures legal { (start end : Books K) (opening : List Change) (history : List Entry) (log : List (line.Entry Call Reply))
+/// stays, and the store's count of faults rose at least as often as a change was lost.
+pub fn locked_books_are_legal()
+    ensures legal { (start end : Books) (opening : List Change) (history : List Entry) (log : List (line.Entry Call Reply))
         → Legal start.net opening history → start.state ≡ state_after opening history → line_legal.Legal book_steps start log end
         → Legal start.net opening (history ++ map journal_entry log) }
-    ensures state { (start end : Books K) (opening : List Change) (history : List Entry) (log : List (line.Entry Call Reply))
+    ensures state { (start end : Books) (opening : List Change) (history : List Entry) (log : List (line.Entry Call Reply))
         → start.state ≡ state_after opening history → line_legal.Legal book_steps start log end
         → end.state ≡ state_after opening (history ++ map journal_entry log) }
-    ensures kept { (start end : Books K) (log : List (line.Entry Call Reply)) → line_legal.Legal book_steps start log end
-        → (end.net ≡ start.net) × (end.store ≡ start.store) }
+    ensures net { (start end : Books) (log : List (line.Entry Call Reply)) → line_legal.Legal book_steps start log end
+        → end.net ≡ start.net }
+    ensures rose { (start end : Books) (log : List (line.Entry Call Reply)) → line_legal.Legal book_steps start log end
+        → RoseBy (length (lost_of (map journal_entry log))) start.faults end.faults }
 {}
 
-/// Each call that a turn lock makes on a book with a legal history is answered by a step of the machine, from the state
-/// that the calls before it led to, and after changes that follow.
-pub fn locked_calls_are_steps<K: Keeper>()
-    ensures { (start end : Books K) (opening : List Change) (history : List Entry) (before : List (line.Entry Call Reply)) (entry : line.Entry Call Reply)
-        → Follows start.net opening → Legal start.net opening history → start.state ≡ state_after opening history
-        → line_legal.Legal book_steps start (before ++ entry ∷ []) end
+/// A book that a turn lock handed round is in the state that its calls led to from the one at the start, and its changes
+/// follow where those at the start do.
+pub fn locked_books_go_on()
+    ensures state { (start end : Books) (log : List (line.Entry Call Reply)) → line_legal.Legal book_steps start log end
+        → end.state ≡ state_from start.state (map journal_entry log) }
+    ensures follow { (start end : Books) (log : List (line.Entry Call Reply)) → Follows start.net start.state.changes
+        → line_legal.Legal book_steps start log end → Follows start.net end.state.changes }
+    ensures tells { (start end : Books) (log : List (line.Entry Call Reply)) → line_legal.Legal book_steps start log end
+        → is_some end.told ≡ is_some start.told }
+{}
+
+/// Each call that a turn lock makes on a book is answered by a step of the machine, from the state that the calls before it
+/// led to, and after changes that follow where those at the start do.
+pub fn locked_calls_are_steps()
+    ensures { (start end : Books) (before : List (line.Entry Call Reply)) (entry : line.Entry Call Reply)
+        → Follows start.net start.state.changes → line_legal.Legal book_steps start (before ++ entry ∷ []) end
         → (old : State) × (new : State) × (old ≡ state_from start.state (map journal_entry before))
         × Follows start.net old.changes × Step start.net old entry.call entry.reply new }
 {}

@@ -1,7 +1,9 @@
 // The machine: the changes made so far, and what is kept beside them so that an edit looks at no earlier one.
-ghost use Rattle.std.specs.Prelude.{◌≡◌, ◌<◌, ℕ, [], length, IfOk, slice_index_or};
+ghost use Rattle.std.specs.Prelude.{◌≡◌, ◌<◌, ◌≤◌, ℕ, [], length, IfOk, slice_index_or};
 ghost use Rattle.std.specs.List.{HoldsAt};
+ghost use Rattle.bt_base.specs.declared.keeper.TheConstants.{STORE_LAST};
 ghost use Rattle.bt_frame.specs.declared.limits.TheConstants.{SUM_LAST};
+ghost use Rattle.bt_net.specs.Network.{IsSound};
 ghost use Rattle.bt_demand.specs.Traffic.{matrix_of, AreOfNetwork, HasSumsTo};
 ghost use Rattle.bt_book.specs.Changes.{edition, empty_plan, newest, orders, plans, IsDemandAfter};
 ghost use Rattle.bt_book.specs.Machine.{running};
@@ -16,7 +18,8 @@ use std::alloc::Global;
 use std::marker::Model;
 
 /// The network, the changes that the machine began with, the history of the calls, and what is kept beside these: the
-/// demand after them with its traffic, the plans that are installed and the orders that are placed.
+/// demand after them with its traffic, the plans that are installed, the orders that are placed, how many changes and how
+/// many edits there are, how many bytes their lines have, and whether a fault of the store has stopped the machine.
 #[derive(Drop)]
 pub(crate) struct Machine {
     pub(crate) occupancy: Occupancy,
@@ -26,13 +29,15 @@ pub(crate) struct Machine {
     pub(crate) orders: Vec<Order>,
     pub(crate) count: u32,
     pub(crate) edits: u32,
+    pub(crate) bytes: u32,
+    pub(crate) stopped: bool,
 }
 
 impl Model for Machine {
-    ghost use Rattle.std.specs.Prelude.{◌++◌};
+    ghost use Rattle.std.specs.Prelude.{◌≡◌, ◌++◌};
     ghost use Rattle.bt_journal.specs.Journal.{changes_of};
     ghost use Rattle.bt_book.specs.Machine.{state_after};
-    ghost use Rattle.bt_book.specs.Records.{Records, KeepsUp, Counts, Lists, IsSure};
+    ghost use Rattle.bt_book.specs.Records.{Records, KeepsUp, Counts, Lists, has_fault};
 
     ghost Value = { Records };
 
@@ -43,9 +48,9 @@ impl Model for Machine {
     } };
 
     ghost invariant = { λ a. KeepsUp a.occupancy.net (a.opening.items ++ changes_of a.history.items) a.occupancy.links
-        × Counts (a.opening.items ++ changes_of a.history.items) a.count a.edits
+        × Counts a.occupancy.net (a.opening.items ++ changes_of a.history.items) a.count a.edits a.bytes
         × Lists (a.opening.items ++ changes_of a.history.items) a.plans.items a.orders.items
-        × IsSure a.history.items };
+        × (a.stopped ≡ has_fault a.history.items) };
 }
 
 impl Machine {
@@ -65,6 +70,8 @@ impl Machine {
             orders: Vec::new(alloc),
             count: 0,
             edits: 0,
+            bytes: 0,
+            stopped: false,
         })
     }
 
@@ -84,7 +91,8 @@ impl Machine {
 
     /// The network.
     pub(crate) fn network(&self) -> &Network
-        ensures { result.now ≡ self.now.net }
+        ensures same { result.now ≡ self.now.net }
+        ensures sound { IsSound self.now.net }
     {
         self.occupancy.network()
     }
@@ -125,7 +133,8 @@ impl Machine {
 
     /// How many orders were placed.
     pub(crate) fn order_count(&self) -> u32
-        ensures { result ≡ length (orders self.now.state.changes) }
+        ensures count { result ≡ length (orders self.now.state.changes) }
+        ensures few { result ≤ STORE_LAST }
     {
         self.orders.as_slice().len() as u32
     }

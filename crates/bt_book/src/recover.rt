@@ -3,7 +3,7 @@ ghost use Rattle.std.specs.Prelude.{◌≡◌, ◌≤◌, [], length, take, IfOk
 ghost use Rattle.bt_base.specs.Told.{Gives, HasCause};
 ghost use Rattle.bt_book.specs.Causes.{Follows};
 ghost use Rattle.bt_book.specs.Machine.{running};
-ghost use Rattle.bt_book.specs.Recovery.{IsReadable, IsRecoverFault, MaybeCut, Recovered, whole};
+ghost use Rattle.bt_book.specs.Recovery.{AreInRange, IsReadable, IsRecoverFault, MaybeCut, Recovered, whole};
 
 use crate::RecoverFault;
 use crate::machine::Machine;
@@ -23,6 +23,7 @@ pub(crate) fn recover_machine<K: Keeper>(
     ensures changes { IfOk result (λ machine. IfSome (K.told store.old) (λ bytes. Recovered net.now bytes machine.state.changes)) }
     ensures readable { IfOk result (λ _. IsReadable (K.told store.old)) }
     ensures follows { IfOk result (λ machine. Follows net.now machine.state.changes) }
+    ensures ranges { IfOk result (λ machine. AreInRange net.now 0 machine.state.changes) }
     ensures told { IfOk result (λ machine. K.told store.new ≡ option_map whole (K.told store.old)) }
     ensures later { K.fault_count store.old ≤ K.fault_count store.new }
     ensures fault { IfErr result (IsRecoverFault net.now (K.told store.old) (K.told store.new) (K.fault_count store.old) (K.fault_count store.new)) }

@@ -1,9 +1,9 @@
 // The lines of a journal, whose changes are made again one after the other.
-ghost use Rattle.std.specs.Prelude.{◌≡◌, ◌↔◌, ◌<◌, ◌≤◌, ◌++◌, ◌∷◌, [], length, take, IfOk, IfErr, IsTrue, OnOk, OnErr};
+ghost use Rattle.std.specs.Prelude.{◌≡◌, ◌↔◌, ◌+◌, ◌≤◌, ◌++◌, ◌∷◌, [], length, take, IfOk, IfErr, IsTrue, OnOk, OnErr};
 ghost use Rattle.bt_base.specs.declared.keeper.TheConstants.{STORE_LAST};
 ghost use Rattle.bt_book.specs.Causes.{IsChangeOn};
-ghost use Rattle.bt_book.specs.Machine.{CanMake, most_changes, running};
-ghost use Rattle.bt_book.specs.Records.{IsFirstCause, IsLineFault, IsTextFault, TakesLine};
+ghost use Rattle.bt_book.specs.Machine.{bytes_of, line_behind, running};
+ghost use Rattle.bt_book.specs.Records.{CanJoin, IsLineFault, IsTextFault, TakesLine};
 ghost use Rattle.bt_book.specs.Recovery.{IsNext, IsNumbered, Recovered, whole};
 
 use crate::RecoverFault;
@@ -11,7 +11,7 @@ use crate::machine::Machine;
 use bt_air::Order;
 use bt_demand::Plan;
 use bt_frame::{EditionNo, OutOfMemory};
-use bt_journal::{Change, Edit, LineFault, Reply, read_change};
+use bt_journal::{Change, Edit, LineFault, read_change};
 use bt_net::Network;
 use bt_text::first_line;
 use std::alloc::Global;
@@ -46,8 +46,7 @@ impl Machine {
     /// Makes the change of the next line again. The line has its newline.
     fn take_line(&mut self, alloc: Global, line: &[u8]) -> Result<(), RecoverFault>
         requires history { self.old.history ≡ [] }
-        requires few { length self.old.state.changes < most_changes }
-        requires short { length line.now ≤ STORE_LAST }
+        requires short { bytes_of self.old.net self.old.state.changes + length line.now ≤ STORE_LAST }
         ensures taken { OnOk result (TakesLine self.old.net self.old.state.changes line.now self.new.state) }
         ensures net { self.new.net ≡ self.old.net }
         ensures history { self.new.history ≡ [] }
@@ -59,7 +58,7 @@ impl Machine {
                 if !self.is_next(alloc, edition, &change)? {
                     return Err(RecoverFault::J2 { line: number });
                 }
-                self.make_again(alloc, change)?;
+                self.make_again(alloc, change, line.len() as u32)?;
                 Ok(())
             }
             Err(LineFault::Bad) => Err(RecoverFault::J1 { line: number }),
@@ -80,7 +79,7 @@ impl Machine {
         if !self.is_numbered(edition, change) {
             return Ok(false);
         }
-        Ok(self.cause_again(alloc, change)?.is_none())
+        Ok(self.cause_in(alloc, change)?.is_none())
     }
 
     /// Whether an edit makes that edition. Other changes make none.
@@ -93,39 +92,29 @@ impl Machine {
         }
     }
 
-    /// The first cause of a refusal in a change, as a call that asks for it would be told.
-    fn cause_again(&self, alloc: Global, change: &Change) -> Result<Option<Reply>, OutOfMemory>
-        requires { IsChangeOn self.now.net change.now }
-        ensures { IfOk result (λ cause. IsFirstCause self.now.net self.now.state.changes change.now cause) }
-    {
-        match change {
-            Change::Edit(edit) => Ok(self.cause_of(edit)),
-            Change::Install(plan) => self.cause_of_install(alloc, plan),
-            Change::Order(order) => Ok(self.cause_of_order(order)),
-        }
-    }
-
-    /// Makes a change again, before any call: it joins those at the opening.
-    fn make_again(&mut self, alloc: Global, change: Change) -> Result<(), OutOfMemory>
+    /// Makes a change again, before any call: it joins those at the opening. Its line has so many bytes.
+    fn make_again(&mut self, alloc: Global, change: Change, line: u32) -> Result<(), OutOfMemory>
         requires history { self.old.history ≡ [] }
         requires on { IsChangeOn self.old.net change }
-        requires can { CanMake self.old.net self.old.state change }
+        requires can { CanJoin self.old.net self.old.state change }
+        requires line { line ≡ length (line_behind self.old.net self.old.state.changes change) }
         ensures state { OnOk result (self.new.state ≡ running (self.old.state.changes ++ change ∷ [])) }
         ensures net { self.new.net ≡ self.old.net }
         ensures history { self.new.history ≡ [] }
         ensures err { OnErr result (self.new ≡ self.old) }
     {
         match change {
-            Change::Edit(edit) => self.edit_again(alloc, edit),
-            Change::Install(plan) => self.install_again(alloc, plan),
-            Change::Order(order) => self.place_again(alloc, order),
+            Change::Edit(edit) => self.edit_again(alloc, edit, line),
+            Change::Install(plan) => self.install_again(alloc, plan, line),
+            Change::Order(order) => self.place_again(alloc, order, line),
         }
     }
 
-    fn edit_again(&mut self, alloc: Global, edit: Edit) -> Result<(), OutOfMemory>
+    fn edit_again(&mut self, alloc: Global, edit: Edit, line: u32) -> Result<(), OutOfMemory>
         requires history { self.old.history ≡ [] }
         requires on { IsChangeOn self.old.net (Change.Edit edit) }
-        requires can { CanMake self.old.net self.old.state (Change.Edit edit) }
+        requires can { CanJoin self.old.net self.old.state (Change.Edit edit) }
+        requires line { line ≡ length (line_behind self.old.net self.old.state.changes (Change.Edit edit)) }
         ensures state { OnOk result (self.new.state ≡ running (self.old.state.changes ++ Change.Edit edit ∷ [])) }
         ensures net { self.new.net ≡ self.old.net }
         ensures history { self.new.history ≡ [] }
@@ -136,6 +125,7 @@ impl Machine {
         self.opening.reserve(1)?;
         self.occupancy.edit(alloc, &edit)?;
         self.count += 1;
+        self.bytes += line;
         self.edits += 1;
         let Ok(()) = self.opening.push(Change::Edit(edit)) else {
             unreachable!();
@@ -143,10 +133,11 @@ impl Machine {
         Ok(())
     }
 
-    fn install_again(&mut self, alloc: Global, plan: Plan) -> Result<(), OutOfMemory>
+    fn install_again(&mut self, alloc: Global, plan: Plan, line: u32) -> Result<(), OutOfMemory>
         requires history { self.old.history ≡ [] }
         requires on { IsChangeOn self.old.net (Change.Install plan) }
-        requires can { CanMake self.old.net self.old.state (Change.Install plan) }
+        requires can { CanJoin self.old.net self.old.state (Change.Install plan) }
+        requires line { line ≡ length (line_behind self.old.net self.old.state.changes (Change.Install plan)) }
         ensures state { OnOk result (self.new.state ≡ running (self.old.state.changes ++ Change.Install plan ∷ [])) }
         ensures net { self.new.net ≡ self.old.net }
         ensures history { self.new.history ≡ [] }
@@ -156,16 +147,18 @@ impl Machine {
         self.opening.reserve(1)?;
         self.plans.push(kept)?;
         self.count += 1;
+        self.bytes += line;
         let Ok(()) = self.opening.push(Change::Install(plan)) else {
             unreachable!();
         };
         Ok(())
     }
 
-    fn place_again(&mut self, _: Global, order: Order) -> Result<(), OutOfMemory>
+    fn place_again(&mut self, _: Global, order: Order, line: u32) -> Result<(), OutOfMemory>
         requires history { self.old.history ≡ [] }
         requires on { IsChangeOn self.old.net (Change.Order order) }
-        requires can { CanMake self.old.net self.old.state (Change.Order order) }
+        requires can { CanJoin self.old.net self.old.state (Change.Order order) }
+        requires line { line ≡ length (line_behind self.old.net self.old.state.changes (Change.Order order)) }
         ensures state { OnOk result (self.new.state ≡ running (self.old.state.changes ++ Change.Order order ∷ [])) }
         ensures net { self.new.net ≡ self.old.net }
         ensures history { self.new.history ≡ [] }
@@ -174,6 +167,7 @@ impl Machine {
         self.opening.reserve(1)?;
         self.orders.push(order)?;
         self.count += 1;
+        self.bytes += line;
         let Ok(()) = self.opening.push(Change::Order(order)) else {
             unreachable!();
         };

@@ -1,31 +1,42 @@
--- How a run ends, from what its parts wrote.
-use Rattle.std.proofs.Common.{◌≡◌, ℕ, ◌+◌, ◌≤◌, ◌⊎◌, inl, inr, List, [], ◌∷◌, ◌++◌, length, take, drop, reverse, All, Option, Result, Ok, Err, IsOk, IsErrOf, OnOk, refl, sym, ap, ◌∙◌, subst, append_assoc, arith}
+-- How the parts of a script end, from what is left of the run and from what was written.
+use Rattle.std.proofs.Common.{◌≡◌, ◌≢◌, ◌⊎◌, ℕ, ◌+◌, ◌<◌, ◌≤◌, get_or, inl, inr, List, [], ◌∷◌, ◌++◌, length, take, drop, reverse, All, Option, Some, None, Result, Ok, Err, IsErrOf, refl, sym, ap, ◌∙◌, subst, append_assoc, arith}
+use Rattle.std.specs.Prelude.{IfSome}
+use Rattle.std.specs.Option.{is_some}
 use Rattle.std.proofs.Math.Seq.{take-append-add}
 use Rattle.std.proofs.lemmas.List.{append-nil, take-append-drop}
-use Rattle.std.proofs.lemmas.List.Elements.{All-cons, All-nil}
 use Rattle.bt_base.specs.Told.{GainsPrefix, Rose, gained}
 use Rattle.bt_net.specs.Network.{Net}
 use Rattle.bt_demand.specs.declared.burst.Burst.{Burst}
 use Rattle.bt_air.specs.declared.event.Event.{Event}
+use Rattle.bt_journal.specs.declared.call.Change.{Change}
 use Rattle.bt_journal.specs.declared.entry.Entry.{Entry}
-use Rattle.bt_journal.specs.Journal.{changes_of}
-use Rattle.bt_book.specs.Machine.{Legal, State}
+use Rattle.bt_book.specs.declared.fault.RecoverFault.{RecoverFault}
+use Rattle.bt_book.specs.declared.fault.RecoverFault.TheVariants.{OutOfMemory, StoreFault}
+use Rattle.bt_book.specs.Book.{Books}
+use Rattle.bt_book.specs.Causes.{Follows, IsGoodForItsEdition}
+use Rattle.bt_book.specs.Changes.{installs}
+use Rattle.bt_book.specs.Store.{IsKept, RoseBy, lost_of}
 use Rattle.bt_world.specs.Air.{AreFlyable, IsAir, IsSafe, modes_in_front}
 use Rattle.bt_world.specs.Event.{Frame, Opening}
 use Rattle.bt_world.specs.Fits.{IsWorld}
 use Rattle.bt_world.specs.World.{log}
 use Rattle.bt_script.specs.declared.script.Item.{Item}
-use Rattle.bt_script.specs.declared.script.Script.{Script}
-use Rattle.bt_timeline.specs.Timeline.{start_line}
+use Rattle.bt_script.specs.declared.script.Item.TheVariants as item
+use Rattle.bt_timeline.specs.Timeline.{restart_line}
+use Rattle.bt_centre.specs.declared.fault.Stop.{Stop}
+use Rattle.bt_centre.specs.declared.fault.Stop.TheVariants.{WriteFailed}
+use Rattle.bt_centre.specs.declared.fault.Stop.TheVariants.{OutOfMemory as out_of_memory}
 use Rattle.bt_centre.specs.declared.history.History.{History}
-use Rattle.bt_centre.specs.declared.run.Stop.{Stop}
-use Rattle.bt_centre.specs.declared.run.Stop.TheVariants.{OutOfMemory, WriteFailed}
-use Rattle.bt_centre.specs.AirLines.{AirState}
 use Rattle.bt_centre.specs.Lines.{total_of}
-use Rattle.bt_centre.specs.Output.{Output}
-use Rattle.bt_centre.specs.Progress.{AllWritten, HasLegalHistory, ItemsDone, PartlyWritten, StoppedEarly, WrittenBehind}
-use Rattle.bt_centre.specs.Run.{FramesAreSafe, IsLegalHistory, IsRun, PlansAreGood, RunsTo, at_start, opening_on}
-use Rattle.bt_centre.proofs.Played.{gained-append, items_begin}
+use Rattle.bt_centre.specs.Output.{Output, Prints}
+use Rattle.bt_centre.specs.Progress.{Hand, IsBegun, IsLeftAtRestart, IsLeftEarly, IsLeftOf, IsLegalHand, ItemFailed, ItemPlayed, ItemsDone, ItemsWritten, Left, PartsEnded, PrintsNamed, histories_in, start_of}
+use Rattle.bt_centre.specs.RecoverFaults.{recover_line, recover_status}
+use Rattle.bt_centre.specs.Run.{AreLegalTimes, BreaksOff, EndsFrom, FramesAreSafe, IsRun, LeavesStore, PlansAreGood, PrintsFault, RunsPartly, RunsToRestart, RunsWhole, Stand, at_start, changes_at, entries_of, first_line, histories_at, lost_in, opening_on, status_after, whole_text}
+use Rattle.bt_centre.specs.Stored.{Stored}
+use Rattle.bt_round.proofs.Closing.{ran_nothing}
+use Rattle.bt_centre.proofs.Going.{breaks_off, left_early, legal_times}
+use Rattle.bt_centre.proofs.Played.{changes_are, gained-append, item_goes_on, items_begin, next_parts, same_histories, start_is}
+use Rattle.bt_centre.proofs.Times.{rose_still}
 
 -- a first part of a text is a first part of a longer one
 prefix_longer : (told after : Option (List ℕ)) (text more : List ℕ) → GainsPrefix told text after → GainsPrefix told (text ++ more) after
@@ -42,212 +53,240 @@ prefix_behind told between after text more is (kept, wrote) = (
   wrote ∙ ap (λ (t : Option (List ℕ)). gained t (take kept more)) is ∙ gained-append told text (take kept more) ∙ ap (gained told) (sym (take-append-add text more kept)),
 )
 
--- the sink failed over the first line
-pub stopped_at_start : (net : Net) (items : List Item) (history : List Entry) (air : AirState) (told after : Option (List ℕ)) → history ≡ [] → air ≡ (at_start net).air
-    → GainsPrefix told (start_line 0 0 0) after → StoppedEarly net items history air told after
-stopped_at_start net items history air told after none begins gains =
-    let begun : ItemsDone net [] history air 0 [] =
-    subst (λ (a : AirState). ItemsDone net [] history a 0 []) (sym begins) (subst (λ (h : List Entry). ItemsDone net [] h (at_start net).air 0 []) (sym none) (items_begin net)) in
-    record {
-      first = [];
-      more = items;
-      parts = refl;
-      rounds = 0;
-      lines = [];
-      done = begun;
-      wrote = prefix_longer told after (start_line 0 0 0) [] gains;
-    }
+-- each plan that changes that follow install is good
+abbrev pub AreGood : Net → Type 0
+AreGood net = (changes : List Change) → Follows net changes → All (IsGoodForItsEdition net changes) (installs changes)
 
--- all parts were written behind it
-pub written_behind : (net : Net) (items : List Item) (history : List Entry) (air : AirState) (told between after : Option (List ℕ)) → between ≡ gained told (start_line 0 0 0)
-    → AllWritten net items history air between after → WrittenBehind net items history air told after
-written_behind net items history air told between after is (rounds, so) = record {
-  rounds = rounds;
-  lines = so.lines;
-  done = so.done;
-  wrote = so.wrote ∙ ap (λ (t : Option (List ℕ)). gained t so.lines) is ∙ gained-append told (start_line 0 0 0) so.lines;
-}
+-- what the output tells, and how often it failed, from the start of a run on
+abbrev pub output_of : Option (List ℕ) → Option (List ℕ) → ℕ → ℕ → Output
+output_of before after faults now = record { before = before; after = after; faults_before = faults; faults_after = now }
 
--- the same of an answer
-pub all_behind : (net : Net) (items read : List Item) (history : List Entry) (air : AirState) (told between after : Option (List ℕ)) (result : Result (Unit {0}) Stop) → read ≡ items
-    → between ≡ gained told (start_line 0 0 0) → OnOk result (AllWritten net read history air between after) → OnOk result (WrittenBehind net items history air told after)
-all_behind net items read history air told between after (Ok done) same is so =
-    subst (λ (i : List Item). WrittenBehind net i history air told after) same (written_behind net read history air told between after is so)
-all_behind net items read history air told between after (Err stop) same is so = tt
-
--- the sink failed over a part
-pub stopped_later : (net : Net) (items read : List Item) (history : List Entry) (air : AirState) (told between after : Option (List ℕ)) → read ≡ items → between ≡ gained told (start_line 0 0 0)
-    → PartlyWritten net read history air between after → StoppedEarly net items history air told after
-stopped_later net items read history air told between after same is so = record {
-  first = so.first;
-  more = so.more;
-  parts = sym same ∙ so.parts;
-  rounds = so.rounds;
-  lines = so.lines;
-  done = so.done;
-  wrote = prefix_behind told between after (start_line 0 0 0) so.lines is so.wrote;
-}
-
--- the history of a run
-abbrev one_history : List Entry → List History
-one_history history = record { before = 0; entries = history } ∷ []
-
--- what happened before an event of a world is a world
-world_before : (opening : Opening) (later : List Event) (event : Event) (earlier : List Event) → IsWorld opening (later ++ event ∷ earlier) → IsWorld opening earlier
-world_before opening [] event earlier world = world.1
-world_before opening (last ∷ later) event earlier world = world_before opening later event earlier world.1
-
--- the frames of a world can be flown, and are safe then
-abbrev pub AreFlown : Type 0
-AreFlown = (opening : Opening) (events : List Event) → IsWorld opening events → AreFlyable opening events
-
-abbrev pub AreSafe : Type 0
-AreSafe = (opening : Opening) (events : List Event) (bursts : List Burst) → AreFlyable opening events → IsAir opening (log opening events) bursts
-    → IsSafe opening.net (modes_in_front opening (log opening events)) bursts
-
--- each frame of a world is safe
-pub frames_safe : AreFlown → AreSafe → (opening : Opening) (events : List Event) → IsWorld opening events → FramesAreSafe opening events
-frames_safe flown safe opening events world =
-    λ later earlier bursts is air. safe opening earlier bursts (flown opening earlier (world_before opening later Frame earlier (subst (IsWorld opening) is world))) air
+-- what the store tells
+abbrev pub store_of : Books → Left → Stored
+store_of begun left = record { before = begun.told; after = left.told; faults_before = begun.faults; faults_after = left.faults }
 
 -- these parts were run
-run_of : (net : Net) (items : List Item) (history : List Entry) (air : AirState) (rounds : ℕ) (lines : List ℕ) (state : State) (histories : List History) (events : List Event)
-    → HasLegalHistory net state history → histories ≡ one_history history → events ≡ air.life.events → IsWorld (opening_on net) (reverse events) → PlansAreGood net (changes_of history) → FramesAreSafe (opening_on net) (reverse events)
-    → ItemsDone net items history air rounds lines → IsRun net items histories events (start_line 0 0 0 ++ lines ++ total_of history)
-run_of net items history air rounds lines state histories events legal one same world good safe done = record {
-  end = done.end;
-  lines = lines;
-  played = done.played;
-  history = one ∙ ap one_history (sym done.history_is);
-  legal = subst (λ (h : List Entry). Legal net [] h) (sym done.history_is) legal.legal;
-  events_are = same ∙ ap (λ (a : AirState). a.life.events) (sym done.air_is);
-  world = world;
-  good = subst (λ (h : List Entry). PlansAreGood net (changes_of h)) (sym done.history_is) good;
-  safe = safe;
-  printed = ap (λ (h : List Entry). start_line 0 0 0 ++ lines ++ total_of h) (sym done.history_is);
+run_of : (net : Net) (begun : Books) (items : List Item) (hand : Hand) (lines : List ℕ) (histories : List History) (events : List Event) → AreGood net
+    → (so : ItemsDone net begun items hand lines) → histories ≡ histories_in hand → events ≡ hand.air.life.events
+    → IsRun net (is_some begun.told) begun.state.changes items histories events lines
+run_of net begun items hand lines histories events good so all same = record {
+  end = so.end;
+  played = so.played;
+  history = all ∙ same_histories so.end hand (sym so.over_is) so.so_far.before (sym so.history_is);
+  legal = subst (AreLegalTimes net (is_some begun.told) begun.state.changes so.end.opening) (sym all) (legal_times net begun so.end.opening hand so.so_far);
+  events_are = same ∙ ap (λ (a : _). a.life.events) (sym so.air_is);
+  good = good (changes_at so.end) (subst (Follows net) (sym (changes_are net begun items hand lines so)) so.so_far.follow);
 }
 
-Rose-longer : (f0 f1 f2 : ℕ) → f0 ≤ f1 → Rose f1 f2 → Rose f0 f2
-Rose-longer f0 f1 f2 later (inl rose) = inl (omega arith)
-Rose-longer f0 f1 f2 later (inr last) = inr last
+-- the store is left as the book says
+left_of : (net : Net) (begun : Books) (items : List Item) (hand : Hand) (lines : List ℕ) (told : Option (List ℕ)) (faults : ℕ) (histories : List History)
+    → (so : ItemsDone net begun items hand lines) → told ≡ hand.book.told → faults ≡ hand.book.faults → histories ≡ histories_in hand
+    → IsKept hand.book.net hand.book.told hand.book.state.changes (lost_of hand.book.history)
+    → LeavesStore net (record { before = begun.told; after = told; faults_before = begun.faults; faults_after = faults }) histories so.end
+left_of net begun items hand lines told faults histories so told_is faults_are all kept = record {
+  bytes = subst (λ (t : Option (List ℕ)). IsKept net t (changes_at so.end) (lost_of so.end.history)) (sym told_is)
+      (subst (λ (h : List Entry). IsKept net hand.book.told (changes_at so.end) (lost_of h)) (sym so.history_is)
+      (subst (λ (c : List Change). IsKept net hand.book.told c (lost_of hand.book.history)) (sym (changes_are net begun items hand lines so))
+      (subst (λ (n : Net). IsKept n hand.book.told hand.book.state.changes (lost_of hand.book.history)) so.so_far.network kept)));
+  count = rose_still (length (lost_in (histories_in hand))) (length (lost_in histories)) begun.faults hand.book.faults faults (ap (λ (l : List History). length (lost_in l)) all) so.so_far.count
+      (omega (arith, faults_are));
+}
 
-Rose-kept : (f0 f1 f2 : ℕ) → f1 ≤ f2 → Rose f0 f1 → Rose f0 f2
-Rose-kept f0 f1 f2 later (inl rose) = inl (omega arith)
-Rose-kept f0 f1 f2 later (inr last) = inr (omega (arith, last, later))
+-- the world in which a run stops
+world_of : (net : Net) (begun : Books) (opening : List Change) (hand : Hand) (events : List Event) → IsLegalHand net begun opening hand → IsWorld hand.air.life.opening (reverse events)
+    → IsWorld (opening_on net begun.state.changes) (reverse events)
+world_of net begun opening hand events so world = subst (λ (o : Opening). IsWorld o (reverse events)) so.world world
 
--- what the sink told and counted, from before the run to its end
-abbrev over : Option (List ℕ) → Option (List ℕ) → ℕ → ℕ → Output
-over told after f0 f2 = record { before = told; after = after; faults_before = f0; faults_after = f2 }
+-- memory ran out
+ended_early : (net : Net) (items : List Item) (output : Output) (begun : Books) (opening : List Change) (old : Hand) (left : Left) (status : ℕ)
+    → IsLegalHand net begun opening old → IsLeftEarly old left → status ≡ 1 → PartsEnded net items output begun left status
+ended_early net items output begun opening old left status so is status_is = record {
+  world = world_of net begun opening old left.events so is.world;
+  ends = inl (breaks_off net begun opening old left status so is status_is);
+}
 
--- the outcome of the parts
-pub record Plays (net : Net) (script : Script) (history : List Entry) (air : AirState) (t0 t1 : Option (List ℕ)) (f0 f1 : ℕ) (played : Result (Unit {0}) Stop) : Type 0 where
-  pub ok : OnOk played (WrittenBehind net script.items history air t0 t1)
-  pub failed : IsErrOf played WriteFailed → StoppedEarly net script.items history air t0 t1
-  pub cause : IsErrOf played WriteFailed → Rose f0 f1
-  pub later : f0 ≤ f1
-
--- the outcome of the last line
-pub record Ends (history : List Entry) (t1 t2 : Option (List ℕ)) (f1 f2 : ℕ) (played ended : Result (Unit {0}) Stop) : Type 0 where
-  pub ok : OnOk ended (IsOk played × (t2 ≡ gained t1 (total_of history)))
-  pub failed : IsErrOf ended WriteFailed → (IsErrOf played WriteFailed × (t2 ≡ t1)) ⊎ (IsOk played × GainsPrefix t1 (total_of history) t2 × Rose f1 f2)
-  pub later : f1 ≤ f2
-
--- what came of a run
-pub record Comes (net : Net) (history : List Entry) (air : AirState) (state : State) (histories : List History) (events : List Event) : Type 0 where
-  pub legal : HasLegalHistory net state history
-  pub one : histories ≡ one_history history
-  pub same : events ≡ air.life.events
-  pub world : IsWorld (opening_on net) (reverse events)
-  pub good : PlansAreGood net (changes_of history)
-  pub safe : FramesAreSafe (opening_on net) (reverse events)
-
--- a failure is no success
-not_ok : (stop : Stop) → (let failed : Result (Unit {0}) Stop = Err stop in IsOk failed) → ⊥
-not_ok stop ok = cc
-
--- the entries of the last line are those of the history
-pub ends_of : (entries history : List Entry) (t1 t2 : Option (List ℕ)) (f1 f2 : ℕ) (played ended : Result (Unit {0}) Stop) → entries ≡ history → Ends entries t1 t2 f1 f2 played ended
-    → Ends history t1 t2 f1 f2 played ended
-ends_of entries history t1 t2 f1 f2 played ended same so = subst (λ (h : List Entry). Ends h t1 t2 f1 f2 played ended) same so
-
--- the one history that is given
-pub one_of : (given pushed before : List History) (entries history : List Entry) → given ≡ pushed → pushed ≡ before ++ record { before = 0; entries = entries } ∷ [] → before ≡ [] → entries ≡ history
-    → given ≡ one_history history
-one_of given pushed before entries history is push none same =
-    is ∙ push ∙ ap (λ (b : List History). b ++ record { before = 0; entries = entries } ∷ []) none ∙ ap one_history same
-
--- what happened is a world of the network on the empty plan
-pub world_of : (net : Net) (air begun : AirState) (events : List Event) → air.life.opening ≡ begun.life.opening → begun ≡ (at_start net).air → events ≡ air.life.events
-    → IsWorld air.life.opening (reverse air.life.events) → IsWorld (opening_on net) (reverse events)
-world_of net air begun events opening begins same world =
-    subst (λ (e : List Event). IsWorld (opening_on net) (reverse e)) (sym same)
-    (subst (λ (o : Opening). IsWorld o (reverse air.life.events)) (opening ∙ ap (λ (a : AirState). a.life.opening) begins) world)
-
-whole : (net : Net) (script : Script) (history : List Entry) (air : AirState) (state : State) (histories : List History) (events : List Event) (t0 t1 t2 : Option (List ℕ)) (f0 f1 f2 : ℕ)
-    (played : Result (Unit {0}) Stop) (status : ℕ) → Comes net history air state histories events → Plays net script history air t0 t1 f0 f1 played → IsOk played
-    → t2 ≡ gained t1 (total_of history) → status ≡ 0 → RunsTo net script (over t0 t2 f0 f2) status histories events
-whole net script history air state histories events t0 t1 t2 f0 f1 f2 (Ok done) status comes plays ok wrote is =
-    let so = plays.ok in
-    inr (inl (
-      is,
-      (
-        start_line 0 0 0 ++ so.lines ++ total_of history,
-        run_of net script.items history air so.rounds so.lines state histories events comes.legal comes.one comes.same comes.world comes.good comes.safe so.done,
-        wrote ∙ ap (λ (t : Option (List ℕ)). gained t (total_of history)) so.wrote ∙ gained-append t0 (start_line 0 0 0 ++ so.lines) (total_of history),
-      ),
-    ))
-whole net script history air state histories events t0 t1 t2 f0 f1 f2 (Err stop) status comes plays ok wrote is = absurd (not_ok stop ok)
-
-partly : (net : Net) (script : Script) (history : List Entry) (air : AirState) (state : State) (histories : List History) (events : List Event) (t0 t1 t2 : Option (List ℕ)) (f0 f1 f2 : ℕ)
-    (played : Result (Unit {0}) Stop) (status : ℕ) → Comes net history air state histories events → Plays net script history air t0 t1 f0 f1 played → f1 ≤ f2 → status ≡ 6
-    → (IsErrOf played WriteFailed × (t2 ≡ t1)) ⊎ (IsOk played × GainsPrefix t1 (total_of history) t2 × Rose f1 f2) → RunsTo net script (over t0 t2 f0 f2) status histories events
+-- the sink failed over a text
+ended_partly : (net : Net) (items first more : List Item) (output : Output) (begun : Books) (hand : Hand) (lines : List ℕ) (left : Left) (status : ℕ) → AreGood net
+    → items ≡ first ++ more → ItemsDone net begun first hand lines → IsLeftOf hand left → Rose output.faults_before output.faults_after
+    → GainsPrefix output.before (first_line net begun.state.changes ++ lines) output.after
+    ⊎ ((more ≡ []) × GainsPrefix output.before (whole_text net begun.state.changes lines left.histories) output.after)
+    → status ≡ 6 → PartsEnded net items output begun left status
 unfolding run_of
-partly net script history air state histories events t0 t1 t2 f0 f1 f2 played status comes plays later is (inl (stopped, same)) =
-    let so = plays.failed stopped in
-    let gains : GainsPrefix t0 (start_line 0 0 0 ++ so.lines) t2 = subst (λ (t : Option (List ℕ)). GainsPrefix t0 (start_line 0 0 0 ++ so.lines) t) (sym same) so.wrote in
-    inr (inr (
-      is,
-      (
-        so.first,
-        so.more,
-        start_line 0 0 0 ++ so.lines ++ total_of history,
-        so.parts,
-        Rose-kept f0 f1 f2 later (plays.cause stopped),
-        (run_of net so.first history air so.rounds so.lines state histories events comes.legal comes.one comes.same comes.world comes.good comes.safe so.done, inl gains),
-      ),
-    ))
-partly net script history air state histories events t0 t1 t2 f0 f1 f2 (Ok done) status comes plays later is (inr (ok, gains, rose)) =
-    let so = plays.ok in
-    inr (inr (
-      is,
-      (
-        script.items,
-        [],
-        start_line 0 0 0 ++ so.lines ++ total_of history,
-        sym (append-nil script.items),
-        Rose-longer f0 f1 f2 plays.later rose,
-        (
-          run_of net script.items history air so.rounds so.lines state histories events comes.legal comes.one comes.same comes.world comes.good comes.safe so.done,
-          inr (refl, prefix_behind t0 t1 t2 (start_line 0 0 0 ++ so.lines) (total_of history) so.wrote gains),
-        ),
-      ),
-    ))
-partly net script history air state histories events t0 t1 t2 f0 f1 f2 (Err stop) status comes plays later is (inr (ok, gains, rose)) = absurd (not_ok stop ok)
+ended_partly net items first more output begun hand lines left status good parts so is failed written status_is = record {
+  world = world_of net begun so.end.opening hand left.events so.so_far is.world;
+  ends = inr (inr (inl (record {
+    first = first;
+    more = more;
+    lines = lines;
+    parts = parts;
+    run = run_of net begun first hand lines left.histories left.events good so is.histories is.events;
+    left = left_of net begun first hand lines left.told left.faults left.histories so is.told is.faults is.histories is.kept;
+    failed = failed;
+    written = written;
+    status_is = status_is;
+  })));
+}
 
--- what came of a run, by its status
-pub ends : (net : Net) (script : Script) (history : List Entry) (air : AirState) (state : State) (histories : List History) (events : List Event) (t0 t1 t2 : Option (List ℕ)) (f0 f1 f2 : ℕ)
-    (played ended : Result (Unit {0}) Stop) (status : ℕ) → Comes net history air state histories events → Plays net script history air t0 t1 f0 f1 played → Ends history t1 t2 f1 f2 played ended
-    → OnOk ended (status ≡ 0) → (IsErrOf ended OutOfMemory → status ≡ 1) → (IsErrOf ended WriteFailed → status ≡ 6) → RunsTo net script (over t0 t2 f0 f2) status histories events
-ends net script history air state histories events t0 t1 t2 f0 f1 f2 played (Ok done) status comes plays finish ok memory failed =
-    whole net script history air state histories events t0 t1 t2 f0 f1 f2 played status comes plays finish.ok.0 finish.ok.1 ok
-ends net script history air state histories events t0 t1 t2 f0 f1 f2 played (Err WriteFailed) status comes plays finish ok memory failed =
-    partly net script history air state histories events t0 t1 t2 f0 f1 f2 played status comes plays finish.later (failed refl) (finish.failed refl)
-ends net script history air state histories events t0 t1 t2 f0 f1 f2 played (Err OutOfMemory) status comes plays finish ok memory failed =
-    inl (
-      memory refl,
-      (
-        subst (λ (hs : List History). All (IsLegalHistory net []) hs) (sym comes.one) (All-cons (IsLegalHistory net []) (record { before = 0; entries = history }) [] (refl, comes.legal.legal) (All-nil (IsLegalHistory net []))),
-        comes.world,
-        comes.safe,
-      ),
-    )
+-- a text was not written
+pub not_written : (net : Net) (items first more : List Item) (output : Output) (begun : Books) (hand : Hand) (lines : List ℕ) (left : Left) (stop : Stop) (status : ℕ) → AreGood net
+    → items ≡ first ++ more → ItemsDone net begun first hand lines → IsLeftOf hand left → (stop ≡ WriteFailed → Rose output.faults_before output.faults_after)
+    → (stop ≡ WriteFailed → GainsPrefix output.before (first_line net begun.state.changes ++ lines) output.after
+    ⊎ ((more ≡ []) × GainsPrefix output.before (whole_text net begun.state.changes lines left.histories) output.after))
+    → (stop ≡ out_of_memory → status ≡ 1) → (stop ≡ WriteFailed → status ≡ 6) → PartsEnded net items output begun left status
+not_written net items first more output begun hand lines left out_of_memory status good parts so is failed written early partly =
+    ended_early net items output begun so.end.opening hand left status so.so_far (left_early net hand left so.so_far.network so.so_far.follow is) (early refl)
+not_written net items first more output begun hand lines left WriteFailed status good parts so is failed written early partly =
+    ended_partly net items first more output begun hand lines left status good parts so is (failed refl) (written refl) (partly refl)
+
+-- all was written
+pub ended_whole : (net : Net) (items : List Item) (output : Output) (begun : Books) (hand : Hand) (lines : List ℕ) (left : Left) (status : ℕ) → AreGood net
+    → ItemsDone net begun items hand lines → IsLeftOf hand left → output.after ≡ gained output.before (whole_text net begun.state.changes lines left.histories)
+    → status ≡ status_after left.histories → PartsEnded net items output begun left status
+unfolding run_of
+ended_whole net items output begun hand lines left status good so is written status_is = record {
+  world = world_of net begun so.end.opening hand left.events so.so_far is.world;
+  ends = inr (inl (record {
+    lines = lines;
+    run = run_of net begun items hand lines left.histories left.events good so is.histories is.events;
+    left = left_of net begun items hand lines left.told left.faults left.histories so is.told is.faults is.histories is.kept;
+    written = written;
+    status_is = status_is;
+  }));
+}
+
+-- of a store that tells its bytes as another does, the same holds
+pub only_fault : (told other : Option (List ℕ)) (P : Type 0) → is_some told ≡ is_some other → IfSome told (λ _. P) → IfSome other (λ _. P)
+only_fault (Some bytes) (Some others) P same is = is
+only_fault None (Some others) P same is = absurd cc
+only_fault told None P same is = tt
+
+rose_from : (f0 f1 f2 : ℕ) → f0 ≤ f1 → Rose f1 f2 → Rose f0 f2
+rose_from f0 f1 f2 later (inl rose) = inl (omega (arith, later, rose))
+rose_from f0 f1 f2 later (inr end) = inr end
+
+text_is : (a b c d : List ℕ) → (a ++ b) ++ (c ++ d) ≡ a ++ b ++ c ++ d
+text_is a b c d = sym (append_assoc (a ++ b) c d)
+
+-- the parts before a restart, and those behind it
+parts_at : (items : List Item) (index : ℕ) (one : Item) → index < length items → one ≡ get_or items index one → one ≡ item.Restart
+    → items ≡ take index items ++ item.Restart ∷ drop (index + 1) items
+parts_at items index one within is restart =
+    sym (take-append-drop (index + 1) items)
+    ∙ ap (λ (l : List Item). l ++ drop (index + 1) items) (next_parts items index one within is)
+    ∙ append_assoc (take index items) (one ∷ []) (drop (index + 1) items)
+    ∙ ap (λ (x : Item). take index items ++ x ∷ drop (index + 1) items) restart
+
+-- the line of a fault stands behind what was written before
+prints_behind : (before between after : Option (List ℕ)) (f0 f1 f2 : ℕ) (front text : List ℕ) (wanted status : ℕ) → between ≡ gained before front → f0 ≤ f1
+    → Prints (output_of between after f1 f2) text wanted status → Prints (output_of before after f0 f2) (front ++ text) wanted status
+prints_behind before between after f0 f1 f2 front text wanted status is later (inl (wrote, same)) =
+    inl (wrote ∙ ap (λ (t : Option (List ℕ)). gained t text) is ∙ gained-append before front text, same)
+prints_behind before between after f0 f1 f2 front text wanted status is later (inr (failed, gains, same)) =
+    inr (rose_from f0 f1 f2 later failed, prefix_behind before between after front text is gains, same)
+
+-- the recovery at a restart failed
+ended_at_restart : (net : Net) (items : List Item) (index : ℕ) (begun : Books) (old : Hand) (left : Left) (before between after : Option (List ℕ)) (f0 f1 f2 : ℕ) (fault : RecoverFault) (status : ℕ)
+    → AreGood net → (parts : items ≡ take index items ++ item.Restart ∷ drop (index + 1) items) → ItemsWritten net begun (take index items) old before between → f0 ≤ f1
+    → IsLeftAtRestart net old left fault → PrintsNamed (output_of between after f1 f2) restart_line fault status
+    → PartsEnded net items (output_of before after f0 f2) begun left status
+unfolding run_of
+ended_at_restart net items index begun old left before between after f0 f1 f2 fault status good parts so later is (inl early) =
+    ended_early net items (output_of before after f0 f2) begun so.done.end.opening old left status so.done.so_far (record {
+      hand = old;
+      goes = record { over = refl; before = refl; ran = ran_nothing old.book (subst (λ (n : Net). Follows n old.book.state.changes) (sym so.done.so_far.network) so.done.so_far.follow); world = refl };
+      histories = is.histories;
+      later = is.later;
+      world = is.world;
+    }) early
+ended_at_restart net items index begun old left before between after f0 f1 f2 fault status good parts so later is (inr (named, printed)) =
+    let front = first_line net begun.state.changes in
+    record {
+      world = world_of net begun so.done.end.opening old left.events so.done.so_far is.world;
+      ends = inr (inr (inr (record {
+        first = take index items;
+        more = drop (index + 1) items;
+        lines = so.lines;
+        parts = parts;
+        run = run_of net begun (take index items) old so.lines left.histories left.events good so.done is.histories is.events;
+        told = old.book.told;
+        faults = old.book.faults;
+        left = left_of net begun (take index items) old so.lines old.book.told old.book.faults left.histories so.done refl refl is.histories is.kept;
+        fault = fault;
+        failed = is.failed;
+        later = is.later;
+        named = named;
+        only = only_fault old.book.told begun.told (fault ≡ StoreFault) so.done.so_far.tells is.only;
+        printed = subst (λ (t : List ℕ). Prints (output_of before after f0 f2) t (recover_status fault) status) (text_is front so.lines restart_line (recover_line fault))
+            (prints_behind before between after f0 f1 f2 (front ++ so.lines) (restart_line ++ recover_line fault) (recover_status fault) status so.wrote later printed);
+      })));
+    }
+
+-- a part could not be played
+pub not_played : (net : Net) (items : List Item) (index : ℕ) (one : Item) (begun : Books) (old : Hand) (left : Left) (before between after : Option (List ℕ)) (f0 f1 f2 : ℕ) (fault : RecoverFault) (status : ℕ)
+    → AreGood net → index < length items → one ≡ get_or items index one → ItemsWritten net begun (take index items) old before between → f0 ≤ f1
+    → ItemFailed net one old left fault → PrintsNamed (output_of between after f1 f2) restart_line fault status
+    → PartsEnded net items (output_of before after f0 f2) begun left status
+not_played net items index one begun old left before between after f0 f1 f2 fault status good within is so later (inl (memory, early)) (inl status_is) =
+    ended_early net items (output_of before after f0 f2) begun so.done.end.opening old left status so.done.so_far early status_is
+not_played net items index one begun old left before between after f0 f1 f2 fault status good within is so later (inl (memory, early)) (inr (named, printed)) = absurd (named memory)
+not_played net items index one begun old left before between after f0 f1 f2 fault status good within is so later (inr (restart, at)) printed =
+    ended_at_restart net items index begun old left before between after f0 f1 f2 fault status good (parts_at items index one within is restart) so later at printed
+
+-- the first line was not written
+pub not_begun : (net : Net) (items : List Item) (hand : Hand) (left : Left) (stop : Stop) (before after : Option (List ℕ)) (f0 f2 : ℕ) (status : ℕ) → AreGood net → IsBegun net hand → IsLeftOf hand left
+    → (stop ≡ WriteFailed → Rose f0 f2) → (stop ≡ WriteFailed → GainsPrefix before (start_of hand) after) → (stop ≡ out_of_memory → status ≡ 1) → (stop ≡ WriteFailed → status ≡ 6)
+    → PartsEnded net items (output_of before after f0 f2) hand.book left status
+not_begun net items hand left stop before after f0 f2 status good begun is failed gains early partly =
+    not_written net items [] items (output_of before after f0 f2) hand.book hand [] left stop status good refl (items_begin net hand begun) is failed
+    (λ so. inl (subst (λ (t : List ℕ). GainsPrefix before t after) (start_is net hand begun ∙ sym (append-nil (first_line net hand.book.state.changes))) (gains so))) early partly
+
+-- a part was played, and its text was not written
+pub not_shown : (net : Net) (items : List Item) (index : ℕ) (one : Item) (begun : Books) (old new : Hand) (own : List ℕ) (left : Left) (stop : Stop) (before between after : Option (List ℕ)) (f0 f1 f2 : ℕ) (status : ℕ)
+    → AreGood net → index < length items → one ≡ get_or items index one → ItemsWritten net begun (take index items) old before between → f0 ≤ f1 → ItemPlayed net one old new own → IsLeftOf new left
+    → (stop ≡ WriteFailed → Rose f1 f2) → (stop ≡ WriteFailed → GainsPrefix between own after) → (stop ≡ out_of_memory → status ≡ 1) → (stop ≡ WriteFailed → status ≡ 6)
+    → PartsEnded net items (output_of before after f0 f2) begun left status
+not_shown net items index one begun old new own left stop before between after f0 f1 f2 status good within is so later played left_is failed gains early partly =
+    let front = first_line net begun.state.changes in
+    not_written net items (take index items ++ one ∷ []) (drop (index + 1) items) (output_of before after f0 f2) begun new (so.lines ++ own) left stop status good
+    (sym (take-append-drop (index + 1) items) ∙ ap (λ (l : List Item). l ++ drop (index + 1) items) (next_parts items index one within is))
+    (item_goes_on net begun (take index items) one old new so.lines own so.done played) left_is (λ so. rose_from f0 f1 f2 later (failed so))
+    (λ stopped. inl (subst (λ (t : List ℕ). GainsPrefix before t after) (append_assoc front so.lines own) (prefix_behind before between after (front ++ so.lines) own so.wrote (gains stopped)))) early partly
+
+-- the last line was not written
+pub not_totalled : (net : Net) (items : List Item) (begun : Books) (hand : Hand) (left : Left) (stop : Stop) (before between after : Option (List ℕ)) (f0 f1 f2 : ℕ) (status : ℕ)
+    → AreGood net → ItemsWritten net begun items hand before between → f0 ≤ f1 → IsLeftOf hand left
+    → (stop ≡ WriteFailed → Rose f1 f2) → (stop ≡ WriteFailed → GainsPrefix between (total_of (entries_of left.histories)) after) → (stop ≡ out_of_memory → status ≡ 1) → (stop ≡ WriteFailed → status ≡ 6)
+    → PartsEnded net items (output_of before after f0 f2) begun left status
+not_totalled net items begun hand left stop before between after f0 f1 f2 status good so later left_is failed gains early partly =
+    let front = first_line net begun.state.changes in
+    let total = total_of (entries_of left.histories) in
+    not_written net items items [] (output_of before after f0 f2) begun hand so.lines left stop status good (sym (append-nil items)) so.done left_is (λ stopped. rose_from f0 f1 f2 later (failed stopped))
+    (λ stopped. inr (refl, prefix_behind before between after (front ++ so.lines) total so.wrote (gains stopped))) early partly
+
+-- it was
+pub totalled : (net : Net) (items : List Item) (begun : Books) (hand : Hand) (left : Left) (before between after : Option (List ℕ)) (f0 f2 : ℕ) (status : ℕ)
+    → AreGood net → ItemsWritten net begun items hand before between → IsLeftOf hand left → after ≡ gained between (total_of (entries_of left.histories)) → status ≡ status_after left.histories
+    → PartsEnded net items (output_of before after f0 f2) begun left status
+totalled net items begun hand left before between after f0 f2 status good so left_is wrote status_is =
+    let front = first_line net begun.state.changes in
+    let total = total_of (entries_of left.histories) in
+    ended_whole net items (output_of before after f0 f2) begun hand so.lines left status good so.done left_is
+    (wrote ∙ ap (λ (t : Option (List ℕ)). gained t total) so.wrote ∙ gained-append before (front ++ so.lines) total) status_is
+
+-- the same of what is given back
+pub same_end : (net : Net) (items : List Item) (output : Output) (begun : Books) (left : Left) (told : Option (List ℕ)) (faults : ℕ) (histories : List History) (events : List Event) (status s : ℕ)
+    → told ≡ left.told → faults ≡ left.faults → histories ≡ left.histories → events ≡ left.events → status ≡ s → PartsEnded net items output begun left s
+    → PartsEnded net items output begun (record { told = told; faults = faults; histories = histories; events = events }) status
+same_end net items output begun left told faults histories events status s told_is faults_are all same status_is ended =
+    subst (λ (n : ℕ). PartsEnded net items output begun (record { told = told; faults = faults; histories = histories; events = events }) n) (sym status_is)
+    (subst (λ (l : Left). PartsEnded net items output begun l s) (sym (
+    ap (λ (t : Option (List ℕ)). let l : Left = record { told = t; faults = faults; histories = histories; events = events } in l) told_is
+    ∙ ap (λ (f : ℕ). let l : Left = record { told = left.told; faults = f; histories = histories; events = events } in l) faults_are
+    ∙ ap (λ (h : List History). let l : Left = record { told = left.told; faults = left.faults; histories = h; events = events } in l) all
+    ∙ ap (λ (e : List Event). let l : Left = record { told = left.told; faults = left.faults; histories = left.histories; events = e } in l) same
+    )) ended)
+
+-- a failure of that kind
+pub err_is : (stop : Stop) → stop ≡ WriteFailed → (let failed : Result (Unit {0}) Stop = Err stop in IsErrOf failed WriteFailed)
+err_is WriteFailed is = refl
+err_is out_of_memory is = absurd cc

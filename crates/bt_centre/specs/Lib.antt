@@ -1,12 +1,6 @@
 pub mod Lines
 pub mod Output
-pub mod Desks
-pub mod Planning
 pub mod Progress
-pub mod AirLines
-pub mod Waiting
-pub mod Worker
-pub mod Callers
-pub mod Workers
-pub mod Seats
+pub mod RecoverFaults
 pub mod Run
+pub mod Stored

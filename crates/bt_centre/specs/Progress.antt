@@ -1,138 +1,206 @@
--- How far a run has come: the entries and the lines that a part of it added.
-use Rattle.std.specs.Prelude.{◌≡◌, false, ℕ, ◌+◌, ◌<◌, ◌≤◌, ◌++◌, List, [], length, map, All, AllPairs, Contains, Option}
-use Rattle.std.specs.List.{flat_map}
-use Rattle.bt_base.specs.Told.{GainsPrefix, gained}
+-- How far a run has come: what it has in hand, and what a part of a script makes of that.
+use Rattle.std.specs.Prelude.{◌≡◌, ◌≢◌, ◌⊎◌, ℕ, ◌+◌, ◌≤◌, ◌++◌, Bool, true, false, List, [], ◌∷◌, length, reverse, All, AllPairs, Option, IfSome}
+use Rattle.std.specs.List.{HoldsAt}
+use Rattle.std.specs.Option.{is_some}
+use Rattle.bt_base.specs.Told.{gained}
 use Rattle.bt_net.specs.Network.{Net}
-use Rattle.bt_demand.specs.declared.plan.Plan.{Plan}
+use Rattle.bt_air.specs.declared.event.Event.{Event}
+use Rattle.bt_air.specs.declared.order.Order.{Order}
 use Rattle.bt_journal.specs.declared.call.Change.{Change}
-use Rattle.bt_journal.specs.declared.entry.Entry.{Entry}
-use Rattle.bt_journal.specs.Journal.{calls_of, changes_of}
+use Rattle.bt_book.specs.declared.fault.RecoverFault.{RecoverFault}
+use Rattle.bt_book.specs.declared.fault.RecoverFault.TheVariants.{OutOfMemory, StoreFault}
+use Rattle.bt_book.specs.Book.{Books}
 use Rattle.bt_book.specs.Causes.{Follows}
-use Rattle.bt_book.specs.Changes.{edition, newest, plans}
-use Rattle.bt_book.specs.Machine.{State, state_after, Legal}
+use Rattle.bt_book.specs.Changes.{edition, newest, orders}
+use Rattle.bt_book.specs.Machine.{Legal, running, state_after}
+use Rattle.bt_book.specs.Recovery.{IsRecoverFault}
+use Rattle.bt_book.specs.Store.{IsKept, IsNextOpening, RoseBy, lost_of}
 use Rattle.bt_world.specs.Event.{RestartCentre}
-use Rattle.bt_timeline.specs.Timeline.{restart_line, start_line}
-use Rattle.bt_script.specs.declared.script.DeskLine.{DeskLine}
+use Rattle.bt_world.specs.Fits.{IsWorld}
 use Rattle.bt_script.specs.declared.script.Item.{Item}
 use Rattle.bt_script.specs.declared.script.Item.TheVariants as item
 use Rattle.bt_script.specs.declared.script.Round.{Round}
-use Rattle.bt_timeline.specs.Timeline.{round_line}
-use Rattle.bt_centre.specs.AirLines.{AirState, PlaysAirLines, having, mark_of}
-use Rattle.bt_centre.specs.Desks.{IsNotOlder, Sight, asked_by, asked_by_line, desk_text, desks_text, shown_by_line, shown_to, shows_of}
-use Rattle.bt_centre.specs.Planning.{PlaysPlans, planner_text}
-use Rattle.bt_centre.specs.Run.{PlaysItems, Stand, at_start}
+use Rattle.bt_timeline.specs.Timeline.{restart_line, round_line, start_line}
+use Rattle.bt_centre.specs.declared.history.History.{History}
+use Rattle.bt_round.specs.AirLines.{AirState, having, mark_of}
+use Rattle.bt_round.specs.Desks.{IsNotOlder, Sight}
+use Rattle.bt_round.specs.Rounds.{BookRan, RoundDone, newest_at}
+use Rattle.bt_centre.specs.Output.{Output}
+use Rattle.bt_centre.specs.Run.{AreTimes, EndsFrom, JoinsOrder, PlaysItems, PrintsFault, Stand, at_start, first_line, lost_in, opening_on}
+use Rattle.bt_centre.specs.Stored.{Stored}
 
--- the book on the network has a legal history, from no changes on, and is in the state after it
-pub record HasLegalHistory (net : Net) (state : State) (history : List Entry) : Type 0 where
-  pub legal : Legal net [] history
-  pub reached : state ≡ state_after [] history
-  pub follows : Follows net (changes_of history)
+-- What a run has in hand: the histories of the times that are over, how many changes the book had when the present time began, the
+-- book, the air, and the rounds so far.
+pub record Hand : Type 0 where
+  pub over : List History
+  pub before : ℕ
+  pub book : Books
+  pub air : AirState
+  pub rounds : ℕ
 
--- the edition of the newest plan after these entries
-abbrev pub newest_after : List Entry → ℕ
-newest_after history = (newest (changes_of history)).edition.0
+-- the history of the present time
+abbrev pub history_in : Hand → History
+history_in hand = record { before = hand.before; entries = hand.book.history }
 
--- a plan that was shown between two moments: it is installed by the end, and no older than the newest at the start
-pub record IsShownBetween (history after : List Entry) (plan : Plan) : Type 0 where
-  pub installed : Contains (plans (changes_of after)) plan
-  pub fresh : newest_after history ≤ plan.edition.0
-  pub last : plan.edition.0 ≤ newest_after after
+-- the histories of all times
+abbrev pub histories_in : Hand → List History
+histories_in hand = hand.over ++ history_in hand ∷ []
 
--- Lines of a desk were done while one plan was shown: its entries stand behind those before, and what is printed of them behind
--- the text.
-pub record DeskDone (net : Net) (desk : ℕ) (showing : Plan) (lines : List DeskLine) (before after : List Entry) (text written : List ℕ) : Type 0 where
-  pub own : List Entry
-  pub shown : List Plan
-  pub calls : map (λ entry. entry.call) own ≡ flat_map asked_by_line lines
-  pub callers : All (λ (entry : Entry). entry.caller ≡ desk + 1) own
-  pub counted : length shown ≡ length (flat_map shown_by_line lines)
-  pub seen : All (λ (plan : Plan). plan ≡ showing) shown
-  pub kept : after ≡ before ++ own
-  pub printed : written ≡ text ++ desk_text net desk lines own shown
+-- the line of a start
+abbrev pub start_of : Hand → List ℕ
+start_of hand = start_line (edition hand.book.state.changes) (newest hand.book.state.changes).edition.0 (mark_of hand.air).0
 
--- so many lines of the planner were done
-pub record PlannerDone (net : Net) (count : ℕ) (history after : List Entry) (text written : List ℕ) : Type 0 where
-  pub own : List Entry
-  pub planned : PlaysPlans net count own
-  pub callers : All (λ (entry : Entry). entry.caller ≡ 1) own
-  pub kept : after ≡ history ++ own
-  pub printed : written ≡ text ++ planner_text net own
+-- a run at its start
+pub record IsBegun (net : Net) (hand : Hand) : Type 0 where
+  pub network : hand.book.net ≡ net
+  pub over : hand.over ≡ []
+  pub before : hand.before ≡ length hand.book.state.changes
+  pub none : hand.book.history ≡ []
+  pub runs : hand.book.state ≡ running hand.book.state.changes
+  pub follow : Follows net hand.book.state.changes
+  pub air : hand.air ≡ (at_start net hand.book.state.changes).air
+  pub rounds : hand.rounds ≡ 0
 
--- the lines of a round were done: of each desk its edits were asked, of the planner and of the centre's worker what their lines
--- ask, and all was printed
-pub record RoundDone (net : Net) (round : Round) (air over : AirState) (history after : List Entry) (text written : List ℕ) : Type 0 where
-  pub entries : List Entry
-  pub sights : List Sight
-  pub air_text : List ℕ
-  pub desks : (caller : ℕ) → 1 < caller → map (λ entry. entry.call) (calls_of entries caller) ≡ asked_by caller round.desks
-  pub planner : PlaysPlans net round.plans (calls_of entries 1)
-  pub centre : PlaysAirLines net air round.air (calls_of entries 0) air_text over
-  pub kept : after ≡ history ++ entries
-  pub seen : All (λ (sight : Sight). IsShownBetween history after sight.plan) sights
-  pub shown : (desk : ℕ) → length (shown_to desk sights) ≡ length (shows_of desk round.desks)
-  pub ascend : AllPairs IsNotOlder sights
-  pub printed : written ≡ text ++ (desks_text net round.desks entries sights ++ planner_text net (calls_of entries 1) ++ air_text)
+-- A run that began with a book so came here by legal times, of which the present one began with these changes.
+pub record IsLegalHand (net : Net) (begun : Books) (opening : List Change) (hand : Hand) : Type 0 where
+  pub network : hand.book.net ≡ net
+  pub before : hand.before ≡ length opening
+  pub times : AreTimes net (is_some begun.told) begun.state.changes hand.over opening
+  pub opens : Follows net opening
+  pub legal : Legal net opening hand.book.history
+  pub reached : hand.book.state ≡ state_after opening hand.book.history
+  pub follow : Follows net hand.book.state.changes
+  pub count : RoseBy (length (lost_in (histories_in hand))) begun.faults hand.book.faults
+  pub tells : is_some hand.book.told ≡ is_some begun.told
+  pub world : hand.air.life.opening ≡ opening_on net begun.state.changes
 
--- the centre restarted over a book with these changes, and its lines were printed
-pub record RestartDone (changes : List Change) (air over : AirState) (text : List ℕ) : Type 0 where
-  pub restarts : over ≡ having air (RestartCentre false)
-  pub printed : text ≡ restart_line ++ start_line (edition changes) (newest changes).edition.0 (mark_of air).0
-
--- Parts of a script were played, with the history of the book, the air and the number of rounds as they are then. What the
--- desks were shown is not newer than the newest plan.
-pub record ItemsDone (net : Net) (items : List Item) (history : List Entry) (air : AirState) (rounds : ℕ) (lines : List ℕ) : Type 0 where
+-- Parts of a script were played on the way. What the desks were shown in the present time is not newer than the newest plan.
+pub record ItemsDone (net : Net) (begun : Books) (items : List Item) (hand : Hand) (lines : List ℕ) : Type 0 where
   pub end : Stand
-  pub played : PlaysItems net (at_start net) items lines end
-  pub opening_is : end.opening ≡ []
-  pub history_is : end.history ≡ history
-  pub air_is : end.air ≡ air
-  pub rounds_are : end.rounds ≡ rounds
-  pub old : All (λ (sight : Sight). sight.plan.edition.0 ≤ newest_after history) end.sights
+  pub played : PlaysItems net (is_some begun.told) (at_start net begun.state.changes) items lines end
+  pub so_far : IsLegalHand net begun end.opening hand
+  pub over_is : end.over ≡ hand.over
+  pub history_is : end.history ≡ hand.book.history
+  pub air_is : end.air ≡ hand.air
+  pub rounds_are : end.rounds ≡ hand.rounds
+  pub old : All (λ (sight : Sight). sight.plan.edition.0 ≤ newest_at hand.book) end.sights
   pub ascend : AllPairs IsNotOlder end.sights
 
--- the rounds that were played, with one part of the script more
-abbrev pub rounds_with : ℕ → Item → ℕ
-rounds_with rounds (item.Round round) = rounds + 1
-rounds_with rounds item.Restart = rounds
-
--- a part of a script was played behind so many rounds, with its text: a round, or a restart, which asks nothing of the book
-abbrev pub ItemDone : Net → Item → ℕ → AirState → AirState → List Entry → List Entry → List ℕ → Type 0
-ItemDone net (item.Round round) rounds air over history after text = RoundDone net round air over history after (round_line (rounds + 1)) text
-ItemDone net item.Restart rounds air over history after text = (after ≡ history) × RestartDone (changes_of history) air over text
-
--- parts of a script were played, so many of them rounds, and their lines written behind what a sink had
-pub record RoundsWritten (net : Net) (items : List Item) (history : List Entry) (air : AirState) (rounds : ℕ) (before after : Option (List ℕ)) : Type 0 where
+-- the same, and the first line and theirs stand behind what a sink had
+pub record ItemsWritten (net : Net) (begun : Books) (items : List Item) (hand : Hand) (before after : Option (List ℕ)) : Type 0 where
   pub lines : List ℕ
-  pub done : ItemsDone net items history air rounds lines
-  pub wrote : after ≡ gained before lines
+  pub done : ItemsDone net begun items hand lines
+  pub wrote : after ≡ gained before (first_line net begun.state.changes ++ lines)
 
--- the same, however many are rounds
-abbrev pub AllWritten : Net → List Item → List Entry → AirState → Option (List ℕ) → Option (List ℕ) → Type 0
-AllWritten net items history air before after = (rounds : ℕ) × RoundsWritten net items history air rounds before after
+-- what stays in hand over a round: all but the book, the air, and the count of rounds
+pub record GoesOn (old new : Hand) : Type 0 where
+  pub over : new.over ≡ old.over
+  pub before : new.before ≡ old.before
+  pub ran : BookRan old.book new.book
+  pub world : new.air.life.opening ≡ old.air.life.opening
 
--- the first parts of a script were played, and the sink failed over the lines of the last of them
-pub record PartlyWritten (net : Net) (items : List Item) (history : List Entry) (air : AirState) (before after : Option (List ℕ)) : Type 0 where
-  pub first : List Item
-  pub more : List Item
-  pub parts : items ≡ first ++ more
-  pub rounds : ℕ
-  pub lines : List ℕ
-  pub done : ItemsDone net first history air rounds lines
-  pub wrote : GainsPrefix before lines after
+-- a round was played, and its text stands behind its own line
+pub record RoundPlayed (net : Net) (round : Round) (old new : Hand) (text : List ℕ) : Type 0 where
+  pub goes : GoesOn old new
+  pub rounds : new.rounds ≡ old.rounds + 1
+  pub done : RoundDone net round old.air new.air old.book new.book (round_line new.rounds) text
 
--- a run began, its parts were played, and all their lines stand behind what a sink had
-pub record WrittenBehind (net : Net) (items : List Item) (history : List Entry) (air : AirState) (before after : Option (List ℕ)) : Type 0 where
-  pub rounds : ℕ
-  pub lines : List ℕ
-  pub done : ItemsDone net items history air rounds lines
-  pub wrote : after ≡ gained before (start_line 0 0 0 ++ lines)
+-- these changes have one order more than so many, and the last of them is this one
+pub record HasJoined (changes : List Change) (placed : ℕ) (order : Order) : Type 0 where
+  pub more : length (orders changes) ≡ placed + 1
+  pub last : HoldsAt (λ (one : Order). one ≡ order) (orders changes) placed
 
--- the first parts of a script were played, and the sink failed over their lines, or over the line before them
-pub record StoppedEarly (net : Net) (items : List Item) (history : List Entry) (air : AirState) (before after : Option (List ℕ)) : Type 0 where
-  pub first : List Item
-  pub more : List Item
-  pub parts : items ≡ first ++ more
-  pub rounds : ℕ
-  pub lines : List ℕ
-  pub done : ItemsDone net first history air rounds lines
-  pub wrote : GainsPrefix before (start_line 0 0 0 ++ lines) after
+-- whether they have
+abbrev pub TellsJoined : List Change → ℕ → Order → Bool → Type 0
+TellsJoined changes placed order true = HasJoined changes placed order
+TellsJoined changes placed order false = ¬ (HasJoined changes placed order)
+
+-- the centre restarted over these changes, with the order that it wanted or without it, and its lines were printed
+pub record CentreBegan (changes : List Change) (air over : AirState) (text : List ℕ) : Type 0 where
+  pub kept : Bool
+  pub joins : JoinsOrder air changes kept
+  pub restarts : over ≡ having air (RestartCentre kept)
+  pub printed : text ≡ restart_line ++ start_line (edition changes) (newest changes).edition.0 (mark_of air).0
+
+-- a time begins over this book, behind these times
+pub record BeganAgain (book : Books) (air : AirState) (over : List History) (rounds : ℕ) (new : Hand) (text : List ℕ) : Type 0 where
+  pub over_is : new.over ≡ over
+  pub before : new.before ≡ length book.state.changes
+  pub book_is : new.book ≡ book
+  pub rounds_are : new.rounds ≡ rounds
+  pub centre : CentreBegan book.state.changes air new.air text
+
+-- the store was read again, the time is over, and the centre restarted
+pub record RestartPlayed (net : Net) (old new : Hand) (text : List ℕ) : Type 0 where
+  pub over : new.over ≡ histories_in old
+  pub before : new.before ≡ length new.book.state.changes
+  pub network : new.book.net ≡ net
+  pub none : new.book.history ≡ []
+  pub runs : new.book.state ≡ running new.book.state.changes
+  pub follow : Follows net new.book.state.changes
+  pub next : IfSome old.book.told (λ _. IsNextOpening old.book.state.changes (lost_of old.book.history) new.book.state.changes)
+  pub tells : is_some new.book.told ≡ is_some old.book.told
+  pub later : old.book.faults ≤ new.book.faults
+  pub rounds : new.rounds ≡ old.rounds
+  pub centre : CentreBegan new.book.state.changes old.air new.air text
+
+-- a part of a script was played
+abbrev pub ItemPlayed : Net → Item → Hand → Hand → List ℕ → Type 0
+ItemPlayed net (item.Round round) old new text = RoundPlayed net round old new text
+ItemPlayed net item.Restart old new text = RestartPlayed net old new text
+
+-- What is left of a run: what its store tells, with its count of faults, the histories, and the events.
+pub record Left : Type 0 where
+  pub told : Option (List ℕ)
+  pub faults : ℕ
+  pub histories : List History
+  pub events : List Event
+
+-- what is left where a run stops with this in hand
+pub record IsLeftOf (hand : Hand) (left : Left) : Type 0 where
+  pub told : left.told ≡ hand.book.told
+  pub faults : left.faults ≡ hand.book.faults
+  pub histories : left.histories ≡ histories_in hand
+  pub events : left.events ≡ hand.air.life.events
+  pub world : IsWorld hand.air.life.opening (reverse left.events)
+  pub kept : IsKept hand.book.net hand.book.told hand.book.state.changes (lost_of hand.book.history)
+
+-- what is left where memory ran out over a restart, once the book was recovered
+pub record IsLeftBehind (book : Books) (air : AirState) (over : List History) (left : Left) : Type 0 where
+  pub told : left.told ≡ book.told
+  pub faults : left.faults ≡ book.faults
+  pub histories : left.histories ≡ over
+  pub world : IsWorld air.life.opening (reverse left.events)
+
+-- what is left where memory ran out over a part: the histories, with what was asked and answered meanwhile, and the events of a world
+pub record IsLeftEarly (old : Hand) (left : Left) : Type 0 where
+  pub hand : Hand
+  pub goes : GoesOn old hand
+  pub histories : left.histories ≡ histories_in hand
+  pub later : hand.book.faults ≤ left.faults
+  pub world : IsWorld old.air.life.opening (reverse left.events)
+
+-- the recovery at a restart failed: the run stopped before it, and the store is left as the fault says. A store that tells its bytes
+-- can only have failed.
+pub record IsLeftAtRestart (net : Net) (old : Hand) (left : Left) (fault : RecoverFault) : Type 0 where
+  pub named : fault ≢ OutOfMemory
+  pub failed : IsRecoverFault net old.book.told left.told old.book.faults left.faults fault
+  pub later : old.book.faults ≤ left.faults
+  pub only : IfSome old.book.told (λ _. fault ≡ StoreFault)
+  pub histories : left.histories ≡ histories_in old
+  pub events : left.events ≡ old.air.life.events
+  pub world : IsWorld old.air.life.opening (reverse left.events)
+  pub kept : IsKept old.book.net old.book.told old.book.state.changes (lost_of old.book.history)
+
+-- a part could not be played: memory ran out, or it was a restart, and the recovery failed
+abbrev pub ItemFailed : Net → Item → Hand → Left → RecoverFault → Type 0
+ItemFailed net one old left fault = ((fault ≡ OutOfMemory) × IsLeftEarly old left) ⊎ ((one ≡ item.Restart) × IsLeftAtRestart net old left fault)
+
+-- memory ran out, or the line of the fault, which has one, was written behind this text
+abbrev pub PrintsNamed : Output → List ℕ → RecoverFault → ℕ → Type 0
+PrintsNamed output text fault status = (status ≡ 1) ⊎ ((fault ≢ OutOfMemory) × PrintsFault output text fault status)
+
+-- how the parts of a script ended, from a book on, and the world in which they did
+pub record PartsEnded (net : Net) (items : List Item) (output : Output) (begun : Books) (left : Left) (status : ℕ) : Type 0 where
+  pub world : IsWorld (opening_on net begun.state.changes) (reverse left.events)
+  pub ends : EndsFrom net items output (record { before = begun.told; after = left.told; faults_before = begun.faults; faults_after = left.faults }) begun.state.changes status left.histories left.events

@@ -1,34 +1,47 @@
--- The run of a script: what the desks, the planner and the centre's worker ask, what happens on the air, and what is printed.
-use Rattle.std.specs.Prelude.{◌≡◌, false, ◌⊎◌, ℕ, ◌+◌, ◌≤◌, ◌<◌, ◌++◌, List, [], ◌∷◌, length, map, reverse, All, AllPairs, Contains}
+-- The run of a script: what the desks, the planner and the centre's worker ask, what happens on the air, what the store keeps, and
+-- what is printed.
+use Rattle.std.specs.Prelude.{◌≡◌, ◌≢◌, ◌⊎◌, ℕ, ◌+◌, ◌<◌, ◌≤◌, ◌++◌, if◌then◌else◌, Bool, true, false, List, [], ◌∷◌, length, map, reverse, All, AllPairs, Contains, Option, Some, IfSome}
+use Rattle.std.specs.List.{HoldsAt, flat_map, list_any}
+use Rattle.std.specs.Option.{is_some}
 use Rattle.bt_base.specs.Told.{GainsPrefix, gained}
 use Rattle.bt_net.specs.Network.{Net}
 use Rattle.bt_air.specs.declared.event.Event.{Event}
+use Rattle.bt_air.specs.declared.order.Order.{Order}
 use Rattle.bt_demand.specs.declared.burst.Burst.{Burst}
 use Rattle.bt_world.specs.Air.{IsAir, IsSafe, modes_in_front}
 use Rattle.bt_world.specs.Event.{Frame, Opening, RestartCentre}
-use Rattle.bt_world.specs.Fits.{IsWorld, no_plan}
-use Rattle.bt_world.specs.World.{log}
+use Rattle.bt_world.specs.Fits.{IsWorld}
+use Rattle.bt_world.specs.Life.{opening_of}
+use Rattle.bt_world.specs.World.{log, wanted}
 use Rattle.bt_journal.specs.declared.call.Change.{Change}
 use Rattle.bt_journal.specs.declared.entry.Entry.{Entry}
 use Rattle.bt_journal.specs.Journal.{calls_of, changes_of}
-use Rattle.bt_book.specs.Causes.{IsGoodForItsEdition}
-use Rattle.bt_book.specs.Changes.{edition, installs, newest, plans}
+use Rattle.bt_book.specs.declared.fault.RecoverFault.{RecoverFault}
+use Rattle.bt_book.specs.declared.fault.RecoverFault.TheVariants.{OutOfMemory, StoreFault}
+use Rattle.bt_book.specs.Causes.{Follows, IsGoodForItsEdition}
+use Rattle.bt_book.specs.Changes.{edition, installs, newest, orders, plans}
 use Rattle.bt_book.specs.Machine.{Legal}
+use Rattle.bt_book.specs.Recovery.{IsReadable, IsRecoverFault, Recovered}
+use Rattle.bt_book.specs.Store.{IsKept, IsNextOpening, RoseBy, is_lost, lost_of}
 use Rattle.bt_script.specs.declared.script.Item.{Item}
 use Rattle.bt_script.specs.declared.script.Item.TheVariants as item
 use Rattle.bt_script.specs.declared.script.Round.{Round}
 use Rattle.bt_script.specs.declared.script.Script.{Script}
 use Rattle.bt_timeline.specs.Timeline.{start_line, restart_line, round_line}
 use Rattle.bt_centre.specs.declared.history.History.{History}
-use Rattle.bt_centre.specs.AirLines.{AirState, PlaysAirLines, having, mark_of}
-use Rattle.bt_centre.specs.Desks.{Sight, IsNotOlder, asked_by, desks_text, shown_to, shows_of}
+use Rattle.bt_round.specs.AirLines.{AirState, PlaysAirLines, happened, having, mark_of, orders_in}
+use Rattle.bt_round.specs.Desks.{Sight, IsNotOlder, asked_by, desks_text, shown_to, shows_of}
+use Rattle.bt_round.specs.Planning.{PlaysPlans, planner_text}
 use Rattle.bt_centre.specs.Lines.{total_of}
-use Rattle.bt_centre.specs.Output.{Output, HasFailed}
-use Rattle.bt_centre.specs.Planning.{PlaysPlans, planner_text}
+use Rattle.bt_centre.specs.Output.{Output, HasFailed, Prints}
+use Rattle.bt_centre.specs.RecoverFaults.{recover_line, recover_status}
+use Rattle.bt_centre.specs.Stored.{Stored}
 
--- How far a run has come: the changes with which it began, the entries of its calls since, the air, the rounds so far, and what
--- the desks were shown.
+-- How far a run has come. A time of a run is what lies between two starts of the centre: the histories of the times that are over,
+-- the changes with which the present one began, the entries of its calls, the air, the rounds so far, and what the desks were shown
+-- in this time.
 pub record Stand : Type 0 where
+  pub over : List History
   pub opening : List Change
   pub history : List Entry
   pub air : AirState
@@ -38,6 +51,33 @@ pub record Stand : Type 0 where
 -- the changes made so far
 abbrev pub changes_at : Stand → List Change
 changes_at stand = stand.opening ++ changes_of stand.history
+
+-- the history of the present time
+abbrev pub history_at : Stand → History
+history_at stand = record { before = length stand.opening; entries = stand.history }
+
+-- the histories of all times, in order
+abbrev pub histories_at : Stand → List History
+histories_at stand = stand.over ++ history_at stand ∷ []
+
+-- The changes with which a time begins behind one that began with these and had these entries: over a store that tells its bytes, those
+-- made so far, or these and the one that the store lost. Nothing is said of them over another store.
+abbrev pub IsNextTime : (tells : Bool) → List Change → List Entry → List Change → Type 0
+IsNextTime true opening history next = IsNextOpening (opening ++ changes_of history) (lost_of history) next
+IsNextTime false opening history next = Unit {0}
+
+-- the changes have one order more than the world, and the last of them is the one that the centre wanted
+pub record IsJoining (air : AirState) (next : List Change) : Type 0 where
+  pub order : Order
+  pub asked : wanted (happened air) ≡ Some order
+  pub more : length (orders next) ≡ length (orders_in air) + 1
+  pub last : HoldsAt (λ (one : Order). one ≡ order) (orders next) (length (orders_in air))
+
+-- The order that the centre wanted joins the others at a restart exactly where the changes then have one order more than the world, and
+-- that is the one that it wanted.
+abbrev pub JoinsOrder : AirState → List Change → Bool → Type 0
+JoinsOrder air next true = IsJoining air next
+JoinsOrder air next false = ¬ (IsJoining air next)
 
 -- A plan shown in a round is one of those installed at its end, and no older than the newest at its start.
 pub record IsSeen (before after : Stand) (sight : Sight) : Type 0 where
@@ -55,6 +95,7 @@ pub record PlaysRound (net : Net) (before : Stand) (round : Round) (text : List 
   pub centre : PlaysAirLines net before.air round.air (calls_of entries 0) air_text after.air
   pub kept : after.history ≡ before.history ++ entries
   pub opening : after.opening ≡ before.opening
+  pub over : after.over ≡ before.over
   pub counted : after.rounds ≡ before.rounds + 1
   pub seen : All (IsSeen before after) sights
   pub shown : (desk : ℕ) → length (shown_to desk sights) ≡ length (shows_of desk round.desks)
@@ -62,44 +103,70 @@ pub record PlaysRound (net : Net) (before : Stand) (round : Round) (text : List 
   pub ascend : AllPairs IsNotOlder after.sights
   pub printed : text ≡ round_line after.rounds ++ (desks_text net round.desks entries sights ++ planner_text net (calls_of entries 1) ++ air_text)
 
--- The centre restarts with the changes that the book has: it forgets what it heard and what it wanted, and what is on its way
--- stays on its way.
-pub record PlaysRestart (before : Stand) (text : List ℕ) (after : Stand) : Type 0 where
-  pub air : after.air ≡ having before.air (RestartCentre false)
-  pub kept : after.history ≡ before.history
-  pub opening : after.opening ≡ before.opening
+-- The centre restarts with the changes that its store tells: those made so far, or these and the one that the store lost. It forgets
+-- what it heard; the order that it wanted joins the others where the store tells it, and is forgotten else. What is on its way stays on
+-- its way, and the desks' shows begin anew.
+pub record PlaysRestart (tells : Bool) (before : Stand) (text : List ℕ) (after : Stand) : Type 0 where
+  pub kept : Bool
+  pub joins : JoinsOrder before.air after.opening kept
+  pub air : after.air ≡ having before.air (RestartCentre kept)
+  pub next : IsNextTime tells before.opening before.history after.opening
+  pub over : after.over ≡ histories_at before
+  pub none : after.history ≡ []
   pub counted : after.rounds ≡ before.rounds
-  pub seen : after.sights ≡ before.sights
-  pub printed : text ≡ restart_line ++ start_line (edition (changes_at before)) (newest (changes_at before)).edition.0 (mark_of before.air).0
+  pub unseen : after.sights ≡ []
+  pub printed : text ≡ restart_line ++ start_line (edition after.opening) (newest after.opening).edition.0 (mark_of before.air).0
 
--- a part of a script
-abbrev pub PlaysItem : Net → Stand → Item → List ℕ → Stand → Type 0
-PlaysItem net before (item.Round round) text after = PlaysRound net before round text after
-PlaysItem net before item.Restart text after = PlaysRestart before text after
+-- a part of a script, over a store that tells its bytes or does not
+abbrev pub PlaysItem : Net → (tells : Bool) → Stand → Item → List ℕ → Stand → Type 0
+PlaysItem net tells before (item.Round round) text after = PlaysRound net before round text after
+PlaysItem net tells before item.Restart text after = PlaysRestart tells before text after
 
 -- parts of a script one after the other
-abbrev pub PlaysItems : Net → Stand → List Item → List ℕ → Stand → Type 0
-PlaysItems net before [] text after = (text ≡ []) × (after ≡ before)
-PlaysItems net before (first ∷ items) text after =
-    (between : Stand) × (own : List ℕ) × (others : List ℕ) × PlaysItem net before first own between × PlaysItems net between items others after × (text ≡ own ++ others)
+abbrev pub PlaysItems : Net → (tells : Bool) → Stand → List Item → List ℕ → Stand → Type 0
+PlaysItems net tells before [] text after = (text ≡ []) × (after ≡ before)
+PlaysItems net tells before (first ∷ items) text after =
+    (between : Stand) × (own : List ℕ) × (others : List ℕ) × PlaysItem net tells before first own between × PlaysItems net tells between items others after × (text ≡ own ++ others)
 
--- a legal history on the network, which began with these changes and counts them
-abbrev pub IsLegalHistory : Net → List Change → History → Type 0
-IsLegalHistory net opening history = (history.before ≡ length opening) × Legal net opening history.entries
+-- a legal history on the network, which began with these changes and counts them; they could be made one after the other
+pub record IsLegalHistory (net : Net) (opening : List Change) (history : History) : Type 0 where
+  pub counted : history.before ≡ length opening
+  pub follow : Follows net opening
+  pub legal : Legal net opening history.entries
 
--- a world of the network opens with the empty plan alone, and with no order
-abbrev pub opening_on : Net → Opening
-opening_on net = record { net = net; plans = no_plan ∷ []; orders = [] }
+-- times one after the other, the first of which began with these changes: each has a legal history, and the next begins with the
+-- changes that the store tells; and those with which the time after them begins
+abbrev pub AreTimes : Net → (tells : Bool) → List Change → List History → List Change → Type 0
+AreTimes net tells opening [] last = last ≡ opening
+AreTimes net tells opening (history ∷ histories) last =
+    IsLegalHistory net opening history × ((next : List Change) × IsNextTime tells opening history.entries next × AreTimes net tells next histories last)
 
--- a run begins: no changes, and a world with the empty plan alone
-abbrev pub at_start : Net → Stand
-at_start net = record {
-  opening = [];
+-- each time has a legal history, the first from these changes on, and the last from those
+pub record AreLegalTimes (net : Net) (tells : Bool) (first last : List Change) (histories : List History) : Type 0 where
+  pub over : List History
+  pub present : History
+  pub all : histories ≡ over ++ present ∷ []
+  pub times : AreTimes net tells first over last
+  pub legal : IsLegalHistory net last present
+
+-- a world of the network opens with the plans that these changes installed and the orders that they placed
+abbrev pub opening_on : Net → List Change → Opening
+opening_on net changes = opening_of net (plans changes) (orders changes)
+
+-- a run begins with these changes, and a world that opens with them
+abbrev pub at_start : Net → List Change → Stand
+at_start net opening = record {
+  over = [];
+  opening = opening;
   history = [];
-  air = record { life = record { opening = opening_on net; events = [] }; waiting = [] };
+  air = record { life = record { opening = opening_on net opening; events = [] }; waiting = [] };
   rounds = 0;
   sights = [];
 }
+
+-- the first line of a run that begins with these changes
+abbrev pub first_line : Net → List Change → List ℕ
+first_line net opening = start_line (edition opening) (newest opening).edition.0 (mark_of (at_start net opening).air).0
 
 -- Each frame of these events, the latest of them first, is safe: no two of its bursts meet at a beam, and the plan in front has
 -- a mode that makes the connection of each.
@@ -111,45 +178,146 @@ FramesAreSafe opening events = (later earlier : List Event) (bursts : List Burst
 abbrev pub PlansAreGood : Net → List Change → Type 0
 PlansAreGood net changes = All (IsGoodForItsEdition net changes) (installs changes)
 
--- A run of these parts of a script: one legal history from no changes on, and the events of a world, by which each part is
--- played; each installed plan is good and each frame safe; and its text is just that of this history and of these events.
-pub record IsRun (net : Net) (items : List Item) (histories : List History) (events : List Event) (text : List ℕ) : Type 0 where
-  pub end : Stand
-  pub lines : List ℕ
-  pub played : PlaysItems net (at_start net) items lines end
-  pub history : histories ≡ record { before = 0; entries = end.history } ∷ []
-  pub legal : Legal net [] end.history
-  pub events_are : events ≡ end.air.life.events
-  pub world : IsWorld (opening_on net) (reverse events)
-  pub good : PlansAreGood net (changes_of end.history)
-  pub safe : FramesAreSafe (opening_on net) (reverse events)
-  pub printed : text ≡ start_line 0 0 0 ++ lines ++ total_of end.history
+-- all entries of these histories, in order
+abbrev pub entries_of : List History → List Entry
+entries_of histories = flat_map (λ (history : History). history.entries) histories
 
--- memory ran out: what was asked and answered is legal, and what happened on the air is a world, whose frames are safe
-abbrev pub BreaksOff : Net → List History → List Event → Type 0
-BreaksOff net histories events =
-    All (IsLegalHistory net []) histories × IsWorld (opening_on net) (reverse events) × FramesAreSafe (opening_on net) (reverse events)
+-- the changes that the store lost, at most one in each time
+abbrev pub lost_in : List History → List Change
+lost_in histories = lost_of (entries_of histories)
+
+-- the store failed over a change in one of these histories
+abbrev pub has_lost : List History → Bool
+has_lost histories = list_any (λ (history : History). list_any (λ (entry : Entry). is_lost entry.reply) history.entries) histories
+
+-- the status of a run with these histories that came to its end
+abbrev pub status_after : List History → ℕ
+status_after histories = if has_lost histories then 7 else 0
+
+-- A run of these parts of a script, from these changes on: by these histories, one for each time, and these events each part is
+-- played, each installed plan is good, and the lines are just those of these histories and of these events.
+pub record IsRun (net : Net) (tells : Bool) (opening : List Change) (items : List Item) (histories : List History) (events : List Event) (lines : List ℕ) : Type 0 where
+  pub end : Stand
+  pub played : PlaysItems net tells (at_start net opening) items lines end
+  pub history : histories ≡ histories_at end
+  pub legal : AreLegalTimes net tells opening end.opening histories
+  pub events_are : events ≡ end.air.life.events
+  pub good : PlansAreGood net (changes_at end)
+
+-- a run with all its lines: the first, those of its parts, and the last, which counts the edits of all times
+abbrev pub whole_text : Net → List Change → List ℕ → List History → List ℕ
+whole_text net opening lines histories = first_line net opening ++ lines ++ total_of (entries_of histories)
+
+-- The store is left with the lines of the changes of the last time, and behind them a first part of the line of the change that it
+-- lost in that time, where it lost one. Its count of faults rose by as many changes as it lost in all times, or stands at its end.
+pub record LeavesStore (net : Net) (stored : Stored) (histories : List History) (end : Stand) : Type 0 where
+  pub bytes : IsKept net stored.after (changes_at end) (lost_of end.history)
+  pub count : RoseBy (length (lost_in histories)) stored.faults_before stored.faults_after
+
+-- the changes are those that the store told when the run began, in no more bytes than are read
+pub record IsOpening (net : Net) (stored : Stored) (opening : List Change) : Type 0 where
+  pub told : IfSome stored.before (λ bytes. Recovered net bytes opening)
+  pub readable : IsReadable stored.before
+  pub follow : Follows net opening
+
+-- the line of the fault was written behind this text, and the status is its own; or the sink failed, a first part of both was written,
+-- and it is 6
+abbrev pub PrintsFault : Output → List ℕ → RecoverFault → ℕ → Type 0
+PrintsFault output text fault status = Prints output (text ++ recover_line fault) (recover_status fault) status
+
+-- nothing was run
+pub record RunsNone (stored : Stored) (histories : List History) (events : List Event) : Type 0 where
+  pub none : histories ≡ []
+  pub quiet : events ≡ []
+  pub later : stored.faults_before ≤ stored.faults_after
+
+-- memory ran out before anything was run
+pub record BreaksEarly (stored : Stored) (status : ℕ) (histories : List History) (events : List Event) : Type 0 where
+  pub none : RunsNone stored histories events
+  pub status_is : status ≡ 1
+
+-- the first recovery failed: nothing was run, and its fault was printed
+pub record RunsNothing (net : Net) (output : Output) (stored : Stored) (status : ℕ) (histories : List History) (events : List Event) : Type 0 where
+  pub fault : RecoverFault
+  pub failed : IsRecoverFault net stored.before stored.after stored.faults_before stored.faults_after fault
+  pub named : fault ≢ OutOfMemory
+  pub none : RunsNone stored histories events
+  pub printed : PrintsFault output [] fault status
+
+-- Memory ran out: what was asked and answered in each time is legal. The store's count of faults rose by as many changes as it lost,
+-- or stands at its end.
+pub record BreaksOff (net : Net) (stored : Stored) (opening : List Change) (status : ℕ) (histories : List History) : Type 0 where
+  pub last : List Change
+  pub legal : AreLegalTimes net (is_some stored.before) opening last histories
+  pub count : RoseBy (length (lost_in histories)) stored.faults_before stored.faults_after
+  pub status_is : status ≡ 1
+
+-- the script was run, and its text written; the status is 7 where the store lost a change, and else 0
+pub record RunsWhole (net : Net) (items : List Item) (output : Output) (stored : Stored) (opening : List Change) (status : ℕ) (histories : List History) (events : List Event) : Type 0 where
+  pub lines : List ℕ
+  pub run : IsRun net (is_some stored.before) opening items histories events lines
+  pub left : LeavesStore net stored histories run.end
+  pub written : output.after ≡ gained output.before (whole_text net opening lines histories)
+  pub status_is : status ≡ status_after histories
 
 -- a first part was written of the lines of the parts that were run; or of their whole text with the last line, where no part
 -- is left
 abbrev pub WritesPart : Output → List Item → List ℕ → List ℕ → Type 0
 WritesPart output more lines text = GainsPrefix output.before lines output.after ⊎ ((more ≡ []) × GainsPrefix output.before text output.after)
 
--- the sink failed over the text of a part, or over the last line: the parts up to that one were run, and a first part of their
--- text was written
-abbrev pub RunsPartly : Net → Script → Output → List History → List Event → Type 0
-RunsPartly net script output histories events =
-    (first : List Item) × (more : List Item) × (text : List ℕ) × (script.items ≡ first ++ more) × HasFailed output
-    × ((run : IsRun net first histories events text) × WritesPart output more (start_line 0 0 0 ++ run.lines) text)
+-- the sink failed over the text of a part, or over the first or the last line: the parts up to that one were run, and a first part of
+-- their text was written
+pub record RunsPartly (net : Net) (items : List Item) (output : Output) (stored : Stored) (opening : List Change) (status : ℕ) (histories : List History) (events : List Event) : Type 0 where
+  pub first : List Item
+  pub more : List Item
+  pub lines : List ℕ
+  pub parts : items ≡ first ++ more
+  pub run : IsRun net (is_some stored.before) opening first histories events lines
+  pub left : LeavesStore net stored histories run.end
+  pub failed : HasFailed output
+  pub written : WritesPart output more (first_line net opening ++ lines) (whole_text net opening lines histories)
+  pub status_is : status ≡ 6
 
--- the script was run, and its text written
-abbrev pub RunsWhole : Net → Script → Output → List History → List Event → Type 0
-RunsWhole net script output histories events =
-    (text : List ℕ) × IsRun net script.items histories events text × (output.after ≡ gained output.before text)
+-- The recovery at a restart failed: the parts before it were run, and their text was written without the last line, then the line
+-- `restart`, then that of the fault. The store told these bytes before that recovery, and its count of faults was this. A store that
+-- tells its bytes can only have failed.
+pub record RunsToRestart (net : Net) (items : List Item) (output : Output) (stored : Stored) (opening : List Change) (status : ℕ) (histories : List History) (events : List Event) : Type 0 where
+  pub first : List Item
+  pub more : List Item
+  pub lines : List ℕ
+  pub parts : items ≡ first ++ item.Restart ∷ more
+  pub run : IsRun net (is_some stored.before) opening first histories events lines
+  pub told : Option (List ℕ)
+  pub faults : ℕ
+  pub left : LeavesStore net (record stored { after = told; faults_after = faults }) histories run.end
+  pub fault : RecoverFault
+  pub failed : IsRecoverFault net told stored.after faults stored.faults_after fault
+  pub later : faults ≤ stored.faults_after
+  pub named : fault ≢ OutOfMemory
+  pub only : IfSome stored.before (λ _. fault ≡ StoreFault)
+  pub printed : PrintsFault output (first_line net opening ++ lines ++ restart_line) fault status
 
--- how a run ends, by its status
-abbrev pub RunsTo : Net → Script → Output → ℕ → List History → List Event → Type 0
-RunsTo net script output status histories events =
-    ((status ≡ 1) × BreaksOff net histories events)
-    ⊎ (((status ≡ 0) × RunsWhole net script output histories events)
-    ⊎ ((status ≡ 6) × RunsPartly net script output histories events))
+-- how the parts of a script end, from these changes on: memory ran out, or they were run to their end, up to a text that could not be
+-- written, or up to a restart at which the changes could not be recovered again
+abbrev pub EndsFrom : Net → List Item → Output → Stored → List Change → ℕ → List History → List Event → Type 0
+EndsFrom net items output stored opening status histories events =
+    BreaksOff net stored opening status histories
+    ⊎ RunsWhole net items output stored opening status histories events
+    ⊎ RunsPartly net items output stored opening status histories events
+    ⊎ RunsToRestart net items output stored opening status histories events
+
+-- the store's changes were recovered, what happened on the air from then on is a world, and each of its frames is safe; and so the
+-- parts of the script ended
+pub record RunsFrom (net : Net) (script : Script) (output : Output) (stored : Stored) (status : ℕ) (histories : List History) (events : List Event) : Type 0 where
+  pub opening : List Change
+  pub opens : IsOpening net stored opening
+  pub world : IsWorld (opening_on net opening) (reverse events)
+  pub safe : FramesAreSafe (opening_on net opening) (reverse events)
+  pub ends : EndsFrom net script.items output stored opening status histories events
+
+-- how a run ends: memory ran out early; or the store's changes could not be recovered; or they were, and the script was run from them on
+abbrev pub RunsTo : Net → Script → Output → Stored → ℕ → List History → List Event → Type 0
+RunsTo net script output stored status histories events =
+    BreaksEarly stored status histories events
+    ⊎ RunsNothing net output stored status histories events
+    ⊎ RunsFrom net script output stored status histories events

@@ -1,80 +1,87 @@
 // The parts of a script are played in order, and each is written when it is over.
-ghost use Rattle.std.specs.Prelude.{◌≡◌, ◌≤◌, ◌++◌, [], All, IfOk, IsErrOf, OnOk};
+ghost use Rattle.std.specs.Prelude.{◌≡◌, ◌≤◌, ◌++◌, [], All, IfErr, IfOk, IsErrOf, OnOk};
 ghost use Rattle.bt_base.specs.Told.{GainsPrefix, Rose, gained};
 ghost use Rattle.bt_script.specs.Named.{IsItemFor};
-ghost use Rattle.bt_centre.specs.AirLines.{AirState};
-ghost use Rattle.bt_centre.specs.Progress.{AllWritten, HasLegalHistory, PartlyWritten};
-ghost use Rattle.bt_centre.specs.Run.{at_start};
+ghost use Rattle.bt_centre.specs.Output.{Output};
+ghost use Rattle.bt_centre.specs.Progress.{IsBegun, ItemsWritten, PartsEnded, start_of};
 
-use crate::Gate;
-use crate::play::{play_item, rounds_with};
-use crate::round::Station;
-use bt_base::{Keeper, Sink, SinkFault};
+use crate::RunEnd;
+use crate::fault::{Stop, write, write_restart_fault};
+use crate::play::play_item;
+use crate::playing::Playing;
+use bt_base::{Keeper, Sink};
+use bt_book::installed_plans_are_good;
 use bt_net::Network;
+use bt_round::Gate;
 use bt_script::Item;
+use bt_timeline::start_text;
 use std::alloc::Global;
 use std::sync::Wait;
 use std::thread::Threads;
 
-/// Why a run stops before its end.
-#[derive(Clone, Copy, Debug, PartialEq, Eq)]
-pub(crate) enum Stop {
-    /// Memory ran out.
-    OutOfMemory,
-    /// The sink failed.
-    WriteFailed,
-}
-
-/// Plays the parts of a script in order, and writes the text of each when it is over. The station comes back, also where
-/// the run stops.
+/// Writes the first line of a run, then plays the parts of a script in order, and writes the text of each when it is over.
+/// Gives the run, or its end where it stops before.
 pub(crate) fn play_items<R: Threads + Wait + Sync, G: Gate + Sync, O: Sink, K: Keeper + Send>(
     rt: &R,
     alloc: Global,
     net: &Network,
     gate: &G,
     items: &[Item],
-    mut station: Station<K>,
+    mut playing: Playing<K>,
     out: &mut O,
-) -> (Station<K>, Result<(), Stop>)
-    requires network { station.book.net ≡ net.now }
-    requires begins { station.centre ≡ (at_start net.now).air }
+) -> Result<Playing<K>, RunEnd<K>>
+    requires begun { IsBegun net.now playing }
     requires terminals { All (IsItemFor net.now) items.now }
-    requires none { station.book.history ≡ [] }
-    requires legal { HasLegalHistory net.now station.book.state station.book.history }
-    ensures opening { result.0.centre.life.opening ≡ station.centre.life.opening }
-    ensures ok { OnOk result.1 (AllWritten net.now items.now result.0.book.history result.0.centre (O.told out.old) (O.told out.new)) }
-    ensures failed { IsErrOf result.1 Stop.WriteFailed → PartlyWritten net.now items.now result.0.book.history result.0.centre (O.told out.old) (O.told out.new) }
-    ensures cause { IsErrOf result.1 Stop.WriteFailed → Rose (O.fault_count out.old) (O.fault_count out.new) }
+    ensures written { IfOk result (λ on. ItemsWritten net.now playing.book items.now on (O.told out.old) (O.told out.new)) }
+    ensures ended { IfErr result (λ end. PartsEnded net.now items.now
+        (record { before = O.told out.old; after = O.told out.new; faults_before = O.fault_count out.old; faults_after = O.fault_count out.new })
+        playing.book (record { told = K.told end.store; faults = K.fault_count end.store; histories = end.histories; events = end.events.items }) end.status) }
     ensures later { O.fault_count out.old ≤ O.fault_count out.new }
-    ensures legal { HasLegalHistory net.now result.0.book.state result.0.book.history }
-    ensures store { result.0.book.store ≡ station.book.store }
 {
-    let mut rounds = 0u64;
+    installed_plans_are_good();
+    if let Err(stop) = write_start(alloc, &playing, out) {
+        return Err(playing.stop(rt).end(stop.status()));
+    }
     for item in items {
-        let (next, played) = play_item(rt, alloc, net, gate, rounds, item, station);
-        station = next;
-        let Ok(text) = played else {
-            return (station, Err(Stop::OutOfMemory));
-        };
-        rounds = rounds_with(rounds, item);
-        match write(alloc, text.as_slice(), out) {
-            Ok(()) => {}
-            Err(stop) => return (station, Err(stop)),
+        match play_item(rt, alloc, net, gate, item, playing) {
+            Ok((next, text)) => {
+                playing = next;
+                if let Err(stop) = write(alloc, text.as_slice(), out) {
+                    return Err(playing.stop(rt).end(stop.status()));
+                }
+            }
+            Err((remains, fault)) => {
+                return Err(remains.end(write_restart_fault(alloc, fault, out)));
+            }
         }
     }
-    (station, Ok(()))
+    Ok(playing)
 }
 
-/// Writes a text behind what was written before.
-pub(crate) fn write<O: Sink>(alloc: Global, text: &[u8], out: &mut O) -> Result<(), Stop>
-    ensures ok { OnOk result (O.told out.new ≡ gained (O.told out.old) text.now) }
-    ensures failed { IsErrOf result Stop.WriteFailed → GainsPrefix (O.told out.old) text.now (O.told out.new) }
+/// Writes the first line of a run.
+fn write_start<O: Sink, K: Keeper>(
+    alloc: Global,
+    playing: &Playing<K>,
+    out: &mut O,
+) -> Result<(), Stop>
+    ensures ok { OnOk result (O.told out.new ≡ gained (O.told out.old) (start_of playing.now)) }
+    ensures failed { IsErrOf result Stop.WriteFailed → GainsPrefix (O.told out.old) (start_of playing.now) (O.told out.new) }
     ensures cause { IsErrOf result Stop.WriteFailed → Rose (O.fault_count out.old) (O.fault_count out.new) }
     ensures later { O.fault_count out.old ≤ O.fault_count out.new }
 {
-    match out.write(alloc, text) {
-        Ok(()) => Ok(()),
-        Err(SinkFault::Failed) => Err(Stop::WriteFailed),
-        Err(SinkFault::OutOfMemory) => Err(Stop::OutOfMemory),
+    let book = &playing.station.book;
+    let mut text = Vec::new(alloc);
+    let mark = playing.station.centre.mark();
+    if start_text(
+        alloc,
+        book.edition().0,
+        book.newest().edition.0,
+        mark.0,
+        &mut text,
+    )
+    .is_err()
+    {
+        return Err(Stop::OutOfMemory);
     }
+    write(alloc, text.as_slice(), out)
 }

@@ -1,22 +1,76 @@
 // The last line of a run: how its edits were answered.
-ghost use Rattle.std.specs.Prelude.{◌≡◌, ◌++◌, ◌&&◌, if◌then◌else◌, length, OnOk};
+ghost use Rattle.std.specs.Prelude.{◌≡◌, ◌+◌, ◌++◌, ◌&&◌, if◌then◌else◌, length, IfOk, OnOk};
+ghost use Rattle.std.specs.List.{list_any};
+ghost use Rattle.bt_book.specs.Store.{is_lost};
 ghost use Rattle.bt_journal.specs.Journal.{asks_edit, failed_of, is_fault, is_made, is_refusal, refused_of};
 ghost use Rattle.bt_centre.specs.Lines.{done_of, total_of};
+ghost use Rattle.bt_centre.specs.Run.{entries_of, has_lost};
 
+use crate::History;
 use bt_frame::OutOfMemory;
 use bt_journal::{Call, Entry, Reply};
 use bt_timeline::{Totals, total_text};
 use std::alloc::Global;
 
-/// Appends the last line of a run with these entries. It counts edits alone, and no install or order.
+/// Appends the last line of a run with these histories. It counts edits alone, and no install or order.
 pub(crate) fn add_total(
     alloc: Global,
-    entries: &[Entry],
+    histories: &[History],
     text: &mut Vec<u8>,
 ) -> Result<(), OutOfMemory>
-    ensures { OnOk result (text.new.items ≡ text.old.items ++ total_of entries.now) }
+    ensures { OnOk result (text.new.items ≡ text.old.items ++ total_of (entries_of histories.now)) }
 {
-    total_text(alloc, totals_of(entries), text)
+    let mut totals = Totals {
+        done: 0,
+        refused: 0,
+        failed: 0,
+    };
+    for history in histories {
+        totals = sum(totals, totals_of(history.entries.as_slice()))?;
+    }
+    total_text(alloc, totals, text)
+}
+
+/// The sum of two totals. So many entries as would pass its type would not fit in memory, so that they are answered as
+/// want of it.
+fn sum(one: Totals, other: Totals) -> Result<Totals, OutOfMemory>
+    ensures done { IfOk result (λ both. both.done ≡ one.done + other.done) }
+    ensures refused { IfOk result (λ both. both.refused ≡ one.refused + other.refused) }
+    ensures failed { IfOk result (λ both. both.failed ≡ one.failed + other.failed) }
+{
+    Ok(Totals {
+        done: add(one.done, other.done)?,
+        refused: add(one.refused, other.refused)?,
+        failed: add(one.failed, other.failed)?,
+    })
+}
+
+fn add(one: u64, other: u64) -> Result<u64, OutOfMemory>
+    ensures { IfOk result (λ both. both ≡ one + other) }
+{
+    one.checked_add(other).ok_or(OutOfMemory)
+}
+
+/// The store failed over a change in one of these histories.
+pub(crate) fn has_lost(histories: &[History]) -> bool
+    ensures { result ≡ has_lost histories.now }
+{
+    histories
+        .iter()
+        .any(|history| has_lost_entry(history.entries.as_slice()))
+}
+
+/// The store failed over a change in one of these entries.
+fn has_lost_entry(entries: &[Entry]) -> bool
+    ensures { result ≡ list_any (λ entry. is_lost entry.reply) entries.now }
+{
+    entries.iter().any(|entry| is_lost(&entry.reply))
+}
+
+fn is_lost(reply: &Reply) -> bool
+    ensures { result ≡ is_lost reply.now }
+{
+    matches!(*reply, Reply::StoreFault)
 }
 
 /// How many edits were done, how many were refused, and how many the store failed.

@@ -2,7 +2,10 @@ pub mod Loads
 pub mod Others
 pub mod Words
 pub mod OneAnswer
+pub mod Kept
+pub mod OneJournal
 pub mod OneReplay
+pub mod OneRun
 pub mod OneAnswerWith
 pub mod Printed
 pub mod Misspelt

@@ -18,8 +18,7 @@ use Rattle.bt_cli.specs.Plans.{PrintsPlan, PlansDemand}
 use Rattle.bt_timeline.specs.Lines.{line_of}
 use Rattle.bt_timeline.specs.Verdicts.{verdict_words}
 use Rattle.bt_cli.specs.Outcome.{Outcome, Kind, text_alone, IsContent, IsLoaded, Misspells, Loads}
-use Rattle.bt_cli.specs.Kinds.{matrix_file, schedule_file, network_file, demand_file, plan_file, script_file}
-use Rattle.bt_cli.specs.Run.{RunsScript, PrintsRun}
+use Rattle.bt_cli.specs.Kinds.{matrix_file, schedule_file, network_file, demand_file, plan_file}
 use Rattle.bt_cli.specs.Check.{ChecksSchedule, Judges, verdict_status}
 use Rattle.bt_cli.specs.Modes.{PrintsSchedule}
 use Rattle.bt_cli.specs.Request.{Request, Faulty, CheckModes, CheckPlan, PlanModes, PlanDemand, RunScript, ReplayJournal}
@@ -146,10 +145,10 @@ WhereItFits-same lines sums One one net links after same a b (inr (fits, so)) (i
 abbrev pub AreAlike : Outcome → Outcome → Type 0
 AreAlike a b = (a.status ≡ b.status) × ((a.status ≡ 0) ⊎ (a ≡ b))
 
-same_alike : (a b : Outcome) → a ≡ b → AreAlike a b
+pub same_alike : (a b : Outcome) → a ≡ b → AreAlike a b
 same_alike a b same = (ap (λ (o : Outcome). o.status) same, inr same)
 
-done_alike : (a b : Outcome) → a.status ≡ 0 → b.status ≡ 0 → AreAlike a b
+pub done_alike : (a b : Outcome) → a.status ≡ 0 → b.status ≡ 0 → AreAlike a b
 done_alike a b first second = (first ∙ sym second, inl first)
 
 -- the laws of verdicts and of heaviest lines
@@ -160,10 +159,10 @@ pub record Laws : Type 0 where
   pub sum : OneSum
 
 -- outcomes that are the same are one
-abbrev IsOne : Outcome → Outcome → Type 0
+abbrev pub IsOne : Outcome → Outcome → Type 0
 IsOne a b = a ≡ b
 
-is_one : (a b : Outcome) → a ≡ b → IsOne a b
+pub is_one : (a b : Outcome) → a ≡ b → IsOne a b
 is_one a b same = same
 
 ChecksPlanText-same : Laws → (told : List ℕ → Option (List ℕ)) (plan held : List ℕ) → told plan ≡ Some held → (net : Net) (links : List Link) (a b : Outcome) → ChecksPlanText told ⊥ plan net links a → ChecksPlanText told ⊥ plan net links b → a ≡ b
@@ -180,7 +179,7 @@ PlansDemand-same laws told traffic of_traffic net =
     Loads-same AreAlike same_alike (demand_file net) told traffic of_traffic.0 of_traffic.1 (λ links. WhereItFits net links (PrintsPlan net links))
     (λ links. WhereItFits-same laws.line laws.sum AreAlike same_alike net links (PrintsPlan net links) (λ a b one other. done_alike a b (ap (λ (o : Outcome). o.status) one.printed) (ap (λ (o : Outcome). o.status) other.printed)))
 
--- what is asked has one answer; of several good schedules or plans any may be printed, and of several runs any
+-- what is asked has one answer, where it asks for no store; of several good schedules or plans any may be printed
 pub Answers-same : Laws → (told : List ℕ → Option (List ℕ)) (request : Request) → AreTold told request → (a b : Outcome) → Answers told ⊥ request a → Answers told ⊥ request b → IsOneAnswer request a b
 Answers-same laws told Faulty _ a b first second = first ∙ sym second
 Answers-same laws told (CheckModes matrix modes) (of_matrix, of_modes) a b first second =
@@ -191,6 +190,5 @@ Answers-same laws told (PlanModes matrix) of_matrix a b first second =
     Loads-same AreAlike same_alike matrix_file told matrix of_matrix.0 of_matrix.1 (λ rows. PrintsSchedule rows) (λ rows a b one other. done_alike a b (ap (λ (o : Outcome). o.status) one.3) (ap (λ (o : Outcome). o.status) other.3)) a b first second
 Answers-same laws told (PlanDemand net traffic) (of_net, of_traffic) a b first second =
     Loads-same AreAlike same_alike network_file told net of_net.0 of_net.1 (λ network. PlansDemand told ⊥ traffic network) (PlansDemand-same laws told traffic of_traffic) a b first second
-Answers-same laws told (RunScript net script _) (of_net, of_script) a b first second =
-    Loads-same AreAlike same_alike network_file told net of_net.0 of_net.1 (λ network. RunsScript told ⊥ script network) (λ network. Loads-same AreAlike same_alike (script_file network) told script of_script.0 of_script.1 (λ read. PrintsRun network read) (λ read a b one other. done_alike a b one.1 other.1)) a b first second
+Answers-same laws told (RunScript _ _ _) of_files a b first second = absurd first
 Answers-same laws told (ReplayJournal net _) of_net a b first second = absurd first

@@ -1,43 +1,25 @@
 -- `replay NET JOURNAL`: the network is loaded, then the store is recovered, and what its journal comes to is printed.
-use Rattle.std.specs.Prelude.{◌≡◌, ℕ, ◌⊎◌, List, [], ◌∷◌, length, codes, decimal, Option, IfSome, option_map}
-use Rattle.bt_base.specs.Told.{Rose}
+use Rattle.std.specs.Prelude.{◌≡◌, ℕ, ◌⊎◌, List, [], ◌∷◌, length, codes, Option, IfSome, option_map}
 use Rattle.bt_net.specs.Network.{Net, IsSound}
 use Rattle.bt_demand.specs.declared.demand.Link.{Link}
 use Rattle.bt_journal.specs.declared.call.Change.{Change}
 use Rattle.bt_book.specs.declared.fault.RecoverFault.{RecoverFault}
-use Rattle.bt_book.specs.declared.fault.RecoverFault.TheVariants.{J1, J2, StoreFault, TooLong, OutOfMemory}
+use Rattle.bt_book.specs.declared.fault.RecoverFault.TheVariants.{OutOfMemory}
 use Rattle.bt_book.specs.Changes.{edition, newest, orders, IsDemandAfter}
 use Rattle.bt_book.specs.Recovery.{IsReadable, IsRecoverFault, Recovered, whole}
 use Rattle.bt_timeline.specs.Replayed.{replay_lines}
 use Rattle.bt_centre.specs.Output.{Output}
+use Rattle.bt_centre.specs.RecoverFaults.{recover_status, recover_words}
 use Rattle.bt_cli.specs.Kinds.{network_file}
 use Rattle.bt_cli.specs.Outcome.{Outcome, Input, HasFailed, IsLoaded, Loads, PrintsOneOf, Says, StopsAtLoad, text_alone}
 use Rattle.bt_cli.specs.Request.{Request, ReplayJournal}
 use Rattle.bt_cli.specs.Run.{End}
-
--- What a store tells at the start and at the end of a call, and how often it had failed.
-pub record Stored : Type 0 where
-  pub before : Option (List ℕ)
-  pub after : Option (List ℕ)
-  pub faults_before : ℕ
-  pub faults_after : ℕ
-
--- the store tells what it told, and did not fail
-pub record IsAsGiven (stored : Stored) : Type 0 where
-  pub bytes : stored.after ≡ stored.before
-  pub faults : stored.faults_after ≡ stored.faults_before
-
--- the store did not fail in the call: its count of faults neither rose nor stands at its last value
-abbrev pub IsSteady : Stored → Type 0
-IsSteady stored = ¬ (Rose stored.faults_before stored.faults_after)
+pub use Rattle.bt_centre.specs.Stored.{IsAsGiven, IsSteady, Stored}
 
 -- the fault of a recovery is named; want of memory is no such fault
 abbrev pub NamesRecoverFault : RecoverFault → Outcome → Type 0
-NamesRecoverFault (J1 line) outcome = Says (codes "fault" ∷ codes "J1" ∷ decimal line ∷ []) 8 outcome
-NamesRecoverFault (J2 line) outcome = Says (codes "fault" ∷ codes "J2" ∷ decimal line ∷ []) 8 outcome
-NamesRecoverFault StoreFault outcome = Says (codes "fault" ∷ codes "store" ∷ []) 7 outcome
-NamesRecoverFault TooLong outcome = Says (codes "fault" ∷ codes "too" ∷ codes "long" ∷ codes "store" ∷ []) 10 outcome
 NamesRecoverFault OutOfMemory outcome = ⊥
+NamesRecoverFault fault outcome = Says (recover_words fault) (recover_status fault) outcome
 
 -- the lines of what these changes come to, with the links of the demand after them, and nothing else
 pub record PrintsState (net : Net) (changes : List Change) (outcome : Outcome) : Type 0 where
@@ -80,7 +62,7 @@ EndsReplayWords input output stored (ReplayJournal net _) status = EndsReplay in
 EndsReplayWords input output stored _ status = IsAsGiven stored × PrintsOneOf output (Says (codes "fault" ∷ codes "words" ∷ []) 2) status
 
 -- a replay ended so, and nothing was run
-pub record HasReplayed {Store : Type 0} (input : Input) (output : Output) (stored : Stored) (net : List ℕ) (end : End Store) : Type 0 where
+pub record HasReplayed (input : Input) (output : Output) (stored : Stored) (net : List ℕ) (end : End) : Type 0 where
   pub histories : end.histories ≡ []
   pub events : end.events ≡ []
   pub ends : EndsReplay input output stored net end.status
@@ -90,12 +72,12 @@ abbrev pub PrintsRecovered : Stored → Net → Outcome → Type 0
 PrintsRecovered stored net outcome = (changes : List Change) × IsRecovered net stored changes × PrintsState net changes outcome
 
 -- the line of its fault
-abbrev pub PrintsFault : Stored → Net → Outcome → Type 0
-PrintsFault stored net outcome = (fault : RecoverFault) × IsNotRecovered net stored fault × NamesRecoverFault fault outcome
+abbrev pub PrintsUnrecovered : Stored → Net → Outcome → Type 0
+PrintsUnrecovered stored net outcome = (fault : RecoverFault) × IsNotRecovered net stored fault × NamesRecoverFault fault outcome
 
 -- on a sound network one of these
 abbrev pub PrintsJournal : Stored → Net → Outcome → Type 0
-PrintsJournal stored net outcome = IsSound net × (PrintsRecovered stored net outcome ⊎ PrintsFault stored net outcome)
+PrintsJournal stored net outcome = IsSound net × (PrintsRecovered stored net outcome ⊎ PrintsUnrecovered stored net outcome)
 
 -- the network is loaded, and then the store
 abbrev pub Replays : (List ℕ → Option (List ℕ)) → Type 0 → Stored → List ℕ → Outcome → Type 0

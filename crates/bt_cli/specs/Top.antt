@@ -7,17 +7,18 @@ use Rattle.bt_cli.specs.Check.{ChecksModes}
 use Rattle.bt_cli.specs.CheckPlan.{ChecksPlan}
 use Rattle.bt_cli.specs.Modes.{PrintsModes}
 use Rattle.bt_cli.specs.Plans.{Plans}
-use Rattle.bt_cli.specs.Replay.{HasReplayed, IsSteady, Replays, Stored}
-use Rattle.bt_cli.specs.Run.{End, EndsRun, Runs, RunsNothing}
+use Rattle.bt_centre.specs.Stored.{IsSteady, Stored}
+use Rattle.bt_cli.specs.Replay.{HasReplayed, Replays}
+use Rattle.bt_cli.specs.Run.{BeginsNoRun, End, EndsRun, Runs}
 
--- the outcome of what is asked, by the command, but for a replay: what comes of that the store tells too
+-- the outcome of what is asked, by the command, but for a run and a replay: what comes of those the store tells too
 abbrev pub Answers : (List ℕ → Option (List ℕ)) → Type 0 → Request → Outcome → Type 0
 Answers told failed Faulty = Says (codes "fault" ∷ codes "words" ∷ []) 2
 Answers told failed (CheckModes matrix modes) = ChecksModes told failed matrix modes
 Answers told failed (CheckPlan net traffic plan) = ChecksPlan told failed net traffic plan
 Answers told failed (PlanModes matrix) = PrintsModes told failed matrix
 Answers told failed (PlanDemand net traffic) = Plans told failed net traffic
-Answers told failed (RunScript net script _) = Runs told failed net script
+Answers told failed (RunScript _ _ _) = λ _. ⊥
 Answers told failed (ReplayJournal _ _) = λ _. ⊥
 
 -- the same where the store tells this
@@ -27,31 +28,31 @@ AnswersWith told failed stored (CheckModes matrix modes) = Answers told failed (
 AnswersWith told failed stored (CheckPlan net traffic plan) = Answers told failed (CheckPlan net traffic plan)
 AnswersWith told failed stored (PlanModes matrix) = Answers told failed (PlanModes matrix)
 AnswersWith told failed stored (PlanDemand net traffic) = Answers told failed (PlanDemand net traffic)
-AnswersWith told failed stored (RunScript net script journal) = Answers told failed (RunScript net script journal)
+AnswersWith told failed stored (RunScript net script _) = Runs told failed stored net script
 AnswersWith told failed stored (ReplayJournal net _) = Replays told failed stored net
 
 -- Memory ran out; or what is asked had one of its outcomes, and it was printed.
 abbrev pub Answered : Input → Output → Request → ℕ → Type 0
 Answered input output request status = PrintsOneOf output (Answers input.told (HasFailed input) request) status
 
--- a command that runs nothing was answered
-abbrev pub EndsAlone : {Store : Type 0} → Input → Output → Request → End Store → Type 0
-EndsAlone input output request end = RunsNothing end × Answered input output request end.status
+-- a command that asks for no store was answered, and no run was begun
+abbrev pub EndsAlone : Input → Output → Stored → Request → End → Type 0
+EndsAlone input output stored request end = BeginsNoRun stored end × Answered input output request end.status
 
--- what is asked runs no script and replays no journal
-abbrev pub RunsNone : Request → Type 0
-RunsNone (RunScript _ _ _) = ⊥
-RunsNone (ReplayJournal _ _) = ⊥
-RunsNone _ = Unit {0}
+-- what is asked runs no script and replays no journal, so that it asks for no store
+abbrev pub AsksNoStore : Request → Type 0
+AsksNoStore (RunScript _ _ _) = ⊥
+AsksNoStore (ReplayJournal _ _) = ⊥
+AsksNoStore _ = Unit {0}
 
--- How the program ends: by the command that is asked for.
-abbrev pub Ends : {Store : Type 0} → Input → Output → Stored → Request → End Store → Type 0
-Ends input output stored Faulty end = EndsAlone input output Faulty end
-Ends input output stored (CheckModes matrix modes) end = EndsAlone input output (CheckModes matrix modes) end
-Ends input output stored (CheckPlan net traffic plan) end = EndsAlone input output (CheckPlan net traffic plan) end
-Ends input output stored (PlanModes matrix) end = EndsAlone input output (PlanModes matrix) end
-Ends input output stored (PlanDemand net traffic) end = EndsAlone input output (PlanDemand net traffic) end
-Ends input output stored (RunScript net script _) end = EndsRun input output net script end
+-- How the program ends, and with which store: by the command that is asked for.
+abbrev pub Ends : Input → Output → Stored → Request → End → Type 0
+Ends input output stored Faulty end = EndsAlone input output stored Faulty end
+Ends input output stored (CheckModes matrix modes) end = EndsAlone input output stored (CheckModes matrix modes) end
+Ends input output stored (CheckPlan net traffic plan) end = EndsAlone input output stored (CheckPlan net traffic plan) end
+Ends input output stored (PlanModes matrix) end = EndsAlone input output stored (PlanModes matrix) end
+Ends input output stored (PlanDemand net traffic) end = EndsAlone input output stored (PlanDemand net traffic) end
+Ends input output stored (RunScript net script _) end = EndsRun input output stored net script end
 Ends input output stored (ReplayJournal net _) end = HasReplayed input output stored net end
 
 -- the file of that name is told
@@ -76,8 +77,9 @@ pub record IsOneStore (one other : Stored) : Type 0 where
   pub steady : IsSteady one
   pub steadily : IsSteady other
 
--- a replay asks for its store, and nothing else does
+-- a run and a replay ask for their store, and nothing else does
 abbrev pub AreOneStore : Request → Stored → Stored → Type 0
+AreOneStore (RunScript _ _ _) one other = IsOneStore one other
 AreOneStore (ReplayJournal _ _) one other = IsOneStore one other
 AreOneStore _ one other = Unit {0}
 

@@ -16,22 +16,21 @@ ghost use Rattle.bt_cli.specs.CheckPlan.{JudgesPlan};
 ghost use Rattle.bt_cli.specs.Fitting.{Fits};
 ghost use Rattle.bt_cli.specs.Outcome.{HasFailed, Input, Outcome, PrintsOneOf, Says, text_alone};
 ghost use Rattle.bt_cli.specs.Plans.{PrintsPlan};
-ghost use Rattle.bt_cli.specs.Replay.{Stored};
 ghost use Rattle.bt_cli.specs.Request.{Request};
 ghost use Rattle.bt_centre.specs.Output.{Output};
+ghost use Rattle.bt_centre.specs.Stored.{Stored};
 ghost use Rattle.bt_cli.specs.Run.{End};
 ghost use Rattle.bt_cli.specs.Top.{AnswersWith, AreOneStore, AreTold, Ends, IsOneAnswer};
 
-use bt_base::Keeper;
 use bt_book::journals_tell_one_thing;
 use bt_demand::{good_plans_are_flyable, links_tell_demands};
 use bt_matrix::one_line_is_heaviest;
 use bt_plan::{plans_have_one_spelling, schedules_have_one_spelling};
 use bt_verdict::{one_plan_verdict, one_verdict};
 
-/// Where the files that are asked for are told and none of them failed, and for a replay the store, what is asked has one
-/// answer: no two cases of the promise hold together. Of the good schedules for a matrix any may be printed, of the
-/// good plans for a demand, and of the runs of a script.
+/// Where the files that are asked for are told and none of them failed, and for a run and a replay the store, what is asked
+/// has one answer: no two cases of the promise hold together. Of the good schedules for a matrix any may be printed, of the
+/// good plans for a demand, and of the runs of a script, which then lose nothing.
 pub fn one_answer()
     ensures { (told : List ℕ → Option (List ℕ)) (one other : Stored) (request : Request)
         → AreTold told request → AreOneStore request one other
@@ -47,8 +46,8 @@ pub fn one_answer()
 
 /// However the program ends, what was asked was answered, but where the output failed: memory ran out, or one of the
 /// outcomes that the promise allows was printed with its status.
-pub fn ends_are_answers<K: Keeper>()
-    ensures { (input : Input) (output : Output) (stored : Stored) (request : Request) (end : End K) → Ends input output stored request end
+pub fn ends_are_answers()
+    ensures { (input : Input) (output : Output) (stored : Stored) (request : Request) (end : End) → Ends input output stored request end
         → (end.status ≡ 6) ⊎ PrintsOneOf output (AnswersWith input.told (HasFailed input) stored request) end.status }
 {}
 

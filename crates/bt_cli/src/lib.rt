@@ -1,9 +1,10 @@
 //! The commands of the program, and the top call that carries its promise.
 //!
 //! It stands on the readers of files, on the planners and checkers, on the book and what its store tells (`bt_book`), on
-//! the run of scripts (`bt_centre`) and on the printed lines (`bt_timeline`). Promises: `specs/Top.antt` says how the program ends, case by case in the order of
-//! the work, and the files that it names say so of each command; `specs/Outcome.antt` has their words and
-//! `specs/Lines.antt` the lines of faults. For bodies alone: `Answer`, `Command`, `Printing` and `Stops`.
+//! the run of scripts over a store (`bt_centre`) and on the printed lines (`bt_timeline`). Promises: `specs/Top.antt` says
+//! how the program ends and what it leaves in the store, case by case in the order of the work, and the files that it names
+//! say so of each command; `specs/Outcome.antt` has their words and `specs/Lines.antt` the lines of faults. For bodies
+//! alone: `Answer`, `Command`, `Printing` and `Stops`.
 #![tactic(auto)]
 
 mod answer;

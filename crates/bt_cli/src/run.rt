@@ -1,6 +1,5 @@
 // `run NET SCRIPT JOURNAL`.
-ghost use Rattle.std.specs.Prelude.{◌≡◌, ◌≤◌, All};
-ghost use Rattle.bt_script.specs.Named.{IsItemFor};
+ghost use Rattle.std.specs.Prelude.{◌≤◌};
 ghost use Rattle.bt_cli.specs.Run.{EndsRun, EndsScript};
 
 use crate::Ended;
@@ -13,7 +12,8 @@ use std::alloc::Global;
 use std::sync::Wait;
 use std::thread::Threads;
 
-/// Runs the script in a file on the network in a file, and prints what was answered and what happened on the air.
+/// Runs the script in a file on the network in a file, from the changes that the store tells, and prints what was answered
+/// and what happened on the air. The store keeps each change that is made; where no run is begun it comes back as it was.
 pub fn run_files<R: Threads + Wait + Sync, F: Files, O: Sink, K: Keeper + Send>(
     rt: &R,
     alloc: Global,
@@ -24,8 +24,9 @@ pub fn run_files<R: Threads + Wait + Sync, F: Files, O: Sink, K: Keeper + Send>(
     store: K,
 ) -> Ended<K>
     ensures ends { EndsRun (record { told = F.told files.old; faults_before = F.fault_count files.old; faults_after = F.fault_count files.new })
-        (record { before = O.told out.old; after = O.told out.new; faults_before = O.fault_count out.old; faults_after = O.fault_count out.new }) net.now script.now
-        (record { status = result.status; histories = result.histories; events = result.events.items; given = store; left = result.store }) }
+        (record { before = O.told out.old; after = O.told out.new; faults_before = O.fault_count out.old; faults_after = O.fault_count out.new })
+        (record { before = K.told store; after = K.told result.store; faults_before = K.fault_count store; faults_after = K.fault_count result.store })
+        net.now script.now (record { status = result.status; histories = result.histories; events = result.events.items }) }
 {
     match load_network(alloc, files, net) {
         Ok(net) => run_script_file(rt, alloc, &net, script, files, out, store),
@@ -33,6 +34,7 @@ pub fn run_files<R: Threads + Wait + Sync, F: Files, O: Sink, K: Keeper + Send>(
     }
 }
 
+/// Runs the script in a file on a network.
 fn run_script_file<R: Threads + Wait + Sync, F: Files, O: Sink, K: Keeper + Send>(
     rt: &R,
     alloc: Global,
@@ -43,10 +45,13 @@ fn run_script_file<R: Threads + Wait + Sync, F: Files, O: Sink, K: Keeper + Send
     store: K,
 ) -> Ended<K>
     ensures ends { EndsScript (record { told = F.told files.old; faults_before = F.fault_count files.old; faults_after = F.fault_count files.new })
-        (record { before = O.told out.old; after = O.told out.new; faults_before = O.fault_count out.old; faults_after = O.fault_count out.new }) script.now net.now
-        (record { status = result.status; histories = result.histories; events = result.events.items; given = store; left = result.store }) }
+        (record { before = O.told out.old; after = O.told out.new; faults_before = O.fault_count out.old; faults_after = O.fault_count out.new })
+        (record { before = K.told store; after = K.told result.store; faults_before = K.fault_count store; faults_after = K.fault_count result.store })
+        script.now net.now (record { status = result.status; histories = result.histories; events = result.events.items }) }
     ensures later { F.fault_count files.old ≤ F.fault_count files.new }
 {
+    // This is there for what holds of each network: it is sound.
+    let _beams = net.beam_count();
     match load_script(alloc, files, script, net) {
         Ok(script) => Ended::of_run(run_script(rt, alloc, net, &script, &NoGate, out, store)),
         Err(stop) => Ended::without_run(alloc, print(alloc, out, Err(stop)), store),

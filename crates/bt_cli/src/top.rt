@@ -2,7 +2,7 @@
 ghost use Rattle.std.specs.Prelude.{◌≡◌, map, []};
 ghost use Rattle.std.specs.String.{string_bytes};
 ghost use Rattle.bt_cli.specs.Request.{request_of};
-ghost use Rattle.bt_cli.specs.Top.{Answered, Ends, RunsNone};
+ghost use Rattle.bt_cli.specs.Top.{Answered, AsksNoStore, Ends};
 
 use crate::check::check_command;
 use crate::faulty::print_faulty_words;
@@ -25,9 +25,9 @@ pub struct Ended<K> {
     pub status: u8,
     /// The store, as the command left it.
     pub store: K,
-    /// The histories of a run; none where nothing was run.
+    /// The histories of a run, one for each start of the centre; none where no run was begun.
     pub histories: Histories,
-    /// What happened on the air in a run, from the first on; nothing where nothing was run.
+    /// What happened on the air in a run, from the first on; nothing where no run was begun.
     pub events: Vec<Event>,
 }
 
@@ -47,7 +47,7 @@ impl<K> Ended<K> {
         }
     }
 
-    /// The end of a command that runs nothing.
+    /// The end where no run was begun.
     pub(crate) fn without_run(alloc: Global, status: u8, store: K) -> Ended<K>
         ensures status { result.status ≡ status }
         ensures store { result.store ≡ store }
@@ -63,7 +63,8 @@ impl<K> Ended<K> {
     }
 }
 
-/// Does what the words after the program's name ask for.
+/// Does what the words after the program's name ask for. A run and a replay read the store; any other command hands it back
+/// as it was.
 ///
 /// | status | when |
 /// |---|---|
@@ -74,7 +75,7 @@ impl<K> Ended<K> {
 /// | 4 | a text leaves its grammar or its limits, or a demand does not fit the frame |
 /// | 5 | a file could not be read |
 /// | 6 | the output could not be written |
-/// | 7 | the store failed |
+/// | 7 | the store failed: it could not be read or cut, or a line of a run was not kept |
 /// | 8 | a line of the journal is of no change, or of one that does not follow |
 /// | 9 | the verdict of `check` is not good |
 /// | 10 | a file is longer than 4,194,304 bytes, or the store than 67,108,864 |
@@ -90,7 +91,7 @@ pub fn centre_main<R: Threads + Wait + Sync, F: Files, O: Sink, K: Keeper + Send
         (record { before = O.told out.old; after = O.told out.new; faults_before = O.fault_count out.old; faults_after = O.fault_count out.new })
         (record { before = K.told store; after = K.told result.store; faults_before = K.fault_count store; faults_after = K.fault_count result.store })
         (request_of (map string_bytes words.now))
-        (record { status = result.status; histories = result.histories; events = result.events.items; given = store; left = result.store }) }
+        (record { status = result.status; histories = result.histories; events = result.events.items }) }
 {
     match command_of(words) {
         Command::RunScript { net, script, .. } => {
@@ -104,9 +105,9 @@ pub fn centre_main<R: Threads + Wait + Sync, F: Files, O: Sink, K: Keeper + Send
     }
 }
 
-/// Does what a command asks for that runs nothing, and gives the status to end with.
+/// Does what a command asks for that reads no store, and gives the status to end with.
 fn answer<F: Files, O: Sink>(alloc: Global, words: &[String], files: &mut F, out: &mut O) -> u8
-    requires { RunsNone (request_of (map string_bytes words.now)) }
+    requires { AsksNoStore (request_of (map string_bytes words.now)) }
     ensures { Answered (record { told = F.told files.old; faults_before = F.fault_count files.old; faults_after = F.fault_count files.new })
         (record { before = O.told out.old; after = O.told out.new; faults_before = O.fault_count out.old; faults_after = O.fault_count out.new })
         (request_of (map string_bytes words.now)) result }

@@ -8,4 +8,6 @@ mod gate;
 #[cfg(test)]
 mod played;
 #[cfg(test)]
+mod show;
+#[cfg(test)]
 mod tests;

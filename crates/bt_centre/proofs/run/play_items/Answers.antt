@@ -1,37 +1,57 @@
--- one part more
-use Rattle.std.proofs.Common.{ℕ, ◌≤◌, inl, inr, rules, ◌∙◌, arith}
-use Rattle.bt_base.specs.Told.{GainsPrefix, Rose}
-use Rattle.bt_centre.specs.Progress.{ItemDone}
-use Rattle.bt_centre.proofs.OnOk.{when_given}
-use Rattle.bt_centre.proofs.Played.{written_more, written_partly}
+-- the parts were played and written, or the run stopped
+use Rattle.std.proofs.Common.{◌≡◌, List, ℕ, rules, sym, ◌∙◌, ap, arith, subst, take}
+use Rattle.std.proofs.lemmas.List.{take_all}
+use Rattle.bt_base.specs.Told.{GainsPrefix, gained}
+use Rattle.bt_script.specs.declared.script.Item.{Item}
+use Rattle.bt_centre.specs.Progress.{ItemsWritten}
+use Rattle.bt_centre.proofs.Ended.{err_is, not_begun, not_played, not_shown, same_end}
+use Rattle.bt_centre.proofs.Played.{rounds_more, written_first, written_more}
 use Rattle.bt_centre.proofs.run.play_items.Goals as goal
 
-pub returns-in-Err-clause-failed : goal.returns-in-Err-clause-failed
-returns-in-Err-clause-failed g c = λ failed.
-    let gains : GainsPrefix (g.O.Sink.told c.loop-item.out) c.in-Ok.text.items (g.O.Sink.told c.write.new.out) = search rules in
-    let done = when_given (λ text. ItemDone c.args.net.now c.item-item.result c.loop-item.rounds c.loop-item.station.centre c.play_item-next.result.0.centre c.loop-item.station.book.history
-    c.play_item-next.result.0.book.history text.items) c.play_item-next.result.1 c.in-Ok.text c.in-Ok.is c.play_item-next.ensures.done in
-    written_partly c.args.net.now c.args.items.now c.loop-item.item-index c.item-item.result _ _ _ _ c.loop-item.rounds _ _ _ _ c.loop-item-test.true c.item-item.is
-    c.play_item-next.ensures.legal.follows c.loop-item.invariant.written done gains
+pub loop-item-init : goal.loop-item-init
+loop-item-init g c = record {
+  later = c.write_start.ensures.later;
+  few = search rules;
+  written = written_first c.args.net.now c.args.playing c.requires.begun _ _ (search rules);
+}
 
-rose_since : (a b now : ℕ) → a ≤ b → Rose b now → Rose a now
-rose_since a b now later (inl more) = inl (omega (arith, later, more))
-rose_since a b now later (inr last) = inr last
+pub returns-in-Err-clause-ended : goal.returns-in-Err-clause-ended
+returns-in-Err-clause-ended g c =
+    same_end c.args.net.now c.args.items.now _ c.args.playing.book c.stop.result _ _ _ _ _ c.status.result c.end.ensures.told c.end.ensures.faults c.end.ensures.histories c.end.ensures.events c.end.ensures.status
+    (not_begun c.args.net.now c.args.items.now c.args.playing c.stop.result c.in-Err.stop _ _ _ _ c.status.result (c.installed_plans_are_good.ensures c.args.net.now) c.requires.begun c.stop.ensures
+    (λ is. c.in-Err.ensures.cause (err_is c.in-Err.stop is)) (λ is. c.in-Err.ensures.failed (err_is c.in-Err.stop is)) c.status.ensures.memory c.status.ensures.failed)
 
-pub returns-in-Err-clause-cause : goal.returns-in-Err-clause-cause
-returns-in-Err-clause-cause g c = λ failed. rose_since (g.O.Sink.fault_count c.args.out.now) (g.O.Sink.fault_count c.loop-item.out) (g.O.Sink.fault_count c.write.new.out) c.loop-item.invariant.later (c.in-Err.ensures.cause failed)
+pub returns-in-Err-write-clause-ended : goal.returns-in-Err-write-clause-ended
+returns-in-Err-write-clause-ended g c =
+    let end = c.end-in-Err-write.ensures in
+    let at = c.loop-item.invariant in
+    let stop = c.in-Err-write.stop in
+    same_end c.args.net.now c.args.items.now _ c.args.playing.book c.stop-in-Err-write.result _ _ _ _ _ c.status-in-Err-write.result end.told end.faults end.histories end.events end.status
+    (not_shown c.args.net.now c.args.items.now c.loop-item.item-index c.item-item.result c.args.playing.book c.loop-item.playing c.in-Ok.next c.in-Ok.text.items c.stop-in-Err-write.result stop
+    _ _ _ _ _ _ c.status-in-Err-write.result (c.installed_plans_are_good.ensures c.args.net.now) c.loop-item-test.true c.item-item.is at.written at.later c.in-Ok.ensures.played c.stop-in-Err-write.ensures
+    (λ is. c.in-Err-write.ensures.cause (err_is stop is))
+    (λ is. subst (λ (t : List ℕ). GainsPrefix (g.O.Sink.told c.loop-item.out) t (g.O.Sink.told c.write.new.out)) c.as_slice.ensures.value (c.in-Err-write.ensures.failed (err_is stop is)))
+    c.status-in-Err-write.ensures.memory c.status-in-Err-write.ensures.failed)
+
+pub returns-in-Err-play_item-clause-ended : goal.returns-in-Err-play_item-clause-ended
+returns-in-Err-play_item-clause-ended g c =
+    let end = c.end-in-Err-play_item.ensures in
+    let at = c.loop-item.invariant in
+    same_end c.args.net.now c.args.items.now _ c.args.playing.book c.in-Err-play_item.remains _ _ _ _ _ c.write_restart_fault.result end.told end.faults end.histories end.events end.status
+    (not_played c.args.net.now c.args.items.now c.loop-item.item-index c.item-item.result c.args.playing.book c.loop-item.playing c.in-Err-play_item.remains _ _ _ _ _ _ c.in-Err-play_item.fault
+    c.write_restart_fault.result (c.installed_plans_are_good.ensures c.args.net.now) c.loop-item-test.true c.item-item.is at.written at.later c.in-Err-play_item.ensures.failed c.write_restart_fault.ensures.printed)
 
 pub loop-item-preserved : goal.loop-item-preserved
 loop-item-preserved g c =
-    let done = when_given (λ text. ItemDone c.args.net.now c.item-item.result c.loop-item.rounds c.loop-item.station.centre c.play_item-next.result.0.centre c.loop-item.station.book.history
-    c.play_item-next.result.0.book.history text.items) c.play_item-next.result.1 c.in-Ok.text c.in-Ok.is c.play_item-next.ensures.done in
+    let at = c.loop-item.invariant in
     record {
-      network = c.play_item-next.ensures.network;
-      opening = c.play_item-next.ensures.opening ∙ c.loop-item.invariant.opening;
-      legal = c.play_item-next.ensures.legal;
-      store = c.play_item-next.ensures.store ∙ c.loop-item.invariant.store;
-      later = omega (arith, c.loop-item.invariant.later, c.write.ensures.later);
-      few = omega (arith, c.loop-item.invariant.few, c.rounds_with-rounds.ensures.few);
-      written = rw (c.rounds_with-rounds.ensures.rounds) (written_more c.args.net.now c.args.items.now c.loop-item.item-index c.item-item.result _ _ _ _ c.loop-item.rounds c.in-Ok.text.items _ _ _ c.loop-item-test.true c.item-item.is
-          c.play_item-next.ensures.legal.follows c.loop-item.invariant.written done (search rules));
+      later = omega (arith, at.later, c.write.ensures.later);
+      few = rounds_more c.args.net.now c.item-item.result c.loop-item.playing c.in-Ok.next c.in-Ok.text.items c.loop-item.item-index c.in-Ok.ensures.played at.few;
+      written = written_more c.args.net.now c.args.playing.book c.args.items.now c.loop-item.item-index c.item-item.result c.loop-item.playing c.in-Ok.next c.in-Ok.text.items _ _ _
+          c.loop-item-test.true c.item-item.is at.written c.in-Ok.ensures.played (search rules);
     }
+
+pub returns-clause-written : goal.returns-clause-written
+returns-clause-written g c =
+    subst (λ (l : List Item). ItemsWritten c.args.net.now c.args.playing.book l c.loop-item.playing (g.O.Sink.told c.args.out.now) (g.O.Sink.told c.loop-item.out))
+    (take_all c.loop-item.item-index c.args.items.now c.loop-item-test.false) c.loop-item.invariant.written

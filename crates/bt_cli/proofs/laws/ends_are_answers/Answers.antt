@@ -2,4 +2,4 @@ use Rattle.bt_cli.proofs.Runs.{ends_answered}
 use Rattle.bt_cli.proofs.laws.ends_are_answers.Goals as goal
 
 pub returns : goal.returns
-returns g c = ends_answered
+returns c = ends_answered

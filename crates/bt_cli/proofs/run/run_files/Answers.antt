@@ -8,6 +8,6 @@ returns-in-Ok g c = record {
   ends = inr (
     c.in-Ok.net,
     c.in-Ok.ensures.loaded,
-    script_sooner (g.F.Files.told c.args.files.now) (g.F.Files.told c.load_network.new.files) _ _ _ _ c.args.script.now c.in-Ok.net _ c.in-Ok.ensures.same c.in-Ok.ensures.later c.run_script_file.ensures.ends,
+    script_sooner (g.F.Files.told c.args.files.now) (g.F.Files.told c.load_network.new.files) _ _ _ _ _ c.args.script.now c.in-Ok.net _ c.in-Ok.ensures.same c.in-Ok.ensures.later c.run_script_file.ensures.ends,
   );
 }

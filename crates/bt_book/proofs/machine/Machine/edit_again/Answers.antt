@@ -1,8 +1,8 @@
-use Rattle.std.proofs.Common.{◌∙◌, ap, sym, subst}
+use Rattle.std.proofs.Common.{◌≡◌, length, ◌∙◌, ap, sym, subst}
 use Rattle.bt_journal.specs.declared.call.Change.TheVariants as change
 use Rattle.bt_journal.specs.Journal.{NamesTerminals}
-use Rattle.bt_book.specs.Machine.{CanMake}
-use Rattle.bt_book.specs.Records.{Records}
+use Rattle.bt_book.specs.Machine.{line_behind}
+use Rattle.bt_book.specs.Records.{CanJoin, Records}
 use Rattle.bt_book.proofs.Opened.{kept_edit, state_opened, with_more}
 use Rattle.bt_book.proofs.machine.Machine.edit_again.Goals as goal
 
@@ -10,15 +10,16 @@ use Rattle.bt_book.proofs.machine.Machine.edit_again.Goals as goal
 pub invariant_of-self-2 : goal.invariant_of-self-2
 invariant_of-self-2 c =
     let names = subst (λ (r : Records). NamesTerminals r.net c.args.edit) (sym c.self.view_is) c.requires.on in
-    let can = subst (λ (r : Records). CanMake r.net r.state (change.Edit c.args.edit)) (sym c.self.view_is) c.requires.can in
+    let can = subst (λ (r : Records). CanJoin r.net r.state (change.Edit c.args.edit)) (sym c.self.view_is) c.requires.can in
+    let line = subst (λ (r : Records). c.args.line ≡ length (line_behind r.net r.state.changes (change.Edit c.args.edit))) (sym c.self.view_is) c.requires.line in
     kept_edit c.self.inside.occupancy.net c.edit.new.self.net c.self.inside.opening.items c.reserve.new.self.items c.push.new.self.items c.self.inside.history.items
-    c.self.inside.occupancy.links c.edit.new.self.links c.self.inside.count c.self.inside.edits c.self.inside.plans.items c.self.inside.orders.items c.args.edit
+    c.self.inside.occupancy.links c.edit.new.self.links c.self.inside.count c.self.inside.edits c.self.inside.bytes c.args.line c.self.inside.stopped c.self.inside.plans.items c.self.inside.orders.items c.args.edit
     c.edit.ensures.net (ap (λ (r : Records). r.history) c.self.view_is ∙ c.requires.history) c.reserve.ensures.items c.in-Ok.ensures.items c.self.invariant
-    c.slots-slots.ensures.sound names can c.in_ok-edit.ensures.ok
+    c.slots-slots.ensures.sound names can line c.in_ok-edit.ensures.ok
 
 -- and so has the state
 pub returns-clause-state : goal.returns-clause-state
 returns-clause-state c =
     state_opened c.self.inside.opening.items c.reserve.new.self.items c.push.new.self.items c.self.inside.history.items (change.Edit c.args.edit)
-    (ap (λ (r : Records). r.history) c.self.view_is ∙ c.requires.history) c.reserve.ensures.items c.in-Ok.ensures.items c.self.invariant.3
+    (ap (λ (r : Records). r.history) c.self.view_is ∙ c.requires.history) c.reserve.ensures.items c.in-Ok.ensures.items
     ∙ with_more _ c.args.self.now (change.Edit c.args.edit) c.self.view_is

@@ -6,4 +6,4 @@ use Rattle.bt_book.proofs.machine.Machine.is_next.Goals as goal
 pub returns : goal.returns
 returns c =
     let numbered : IsNumbered c.args.self.now.state.changes c.args.edition.0 c.args.change.now = c.is_numbered.ensures.0 c.if-not-is_numbered.false in
-    next_if c.args.self.now.net c.args.self.now.state.changes c.args.edition.0 c.args.change.now c.in_ok-cause_again.field-0 c.is_none.result numbered c.in_ok-cause_again.ensures c.is_none.ensures
+    next_if c.args.self.now.net c.args.self.now.state.changes c.args.edition.0 c.args.change.now c.in_ok-cause_in.field-0 c.is_none.result numbered c.in_ok-cause_in.ensures c.is_none.ensures

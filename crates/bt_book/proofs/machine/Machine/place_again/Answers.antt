@@ -1,18 +1,19 @@
-use Rattle.std.proofs.Common.{refl, sym, subst, ◌∙◌, ap}
+use Rattle.std.proofs.Common.{◌≡◌, length, refl, sym, subst, ◌∙◌, ap}
 use Rattle.std.proofs.lemmas.List.{append-nil}
 use Rattle.bt_journal.specs.declared.call.Change.TheVariants as change
-use Rattle.bt_book.specs.Machine.{CanMake}
-use Rattle.bt_book.specs.Records.{Records}
+use Rattle.bt_book.specs.Machine.{line_behind}
+use Rattle.bt_book.specs.Records.{CanJoin, Records}
 use Rattle.bt_book.proofs.Opened.{kept_else, state_opened, with_more}
 use Rattle.bt_book.proofs.machine.Machine.place_again.Goals as goal
 
 -- the changes at the opening have the order, and all is kept beside them
 pub invariant_of-self-2 : goal.invariant_of-self-2
 invariant_of-self-2 c =
-    let can = subst (λ (r : Records). CanMake r.net r.state (change.Order c.args.order)) (sym c.self.view_is) c.requires.can in
+    let can = subst (λ (r : Records). CanJoin r.net r.state (change.Order c.args.order)) (sym c.self.view_is) c.requires.can in
+    let line = subst (λ (r : Records). c.args.line ≡ length (line_behind r.net r.state.changes (change.Order c.args.order))) (sym c.self.view_is) c.requires.line in
     kept_else c.self.inside.occupancy.net c.self.inside.opening.items c.reserve.new.self.items c.push-2.new.self.items c.self.inside.history.items c.self.inside.occupancy.links
-    c.self.inside.count c.self.inside.edits c.self.inside.plans.items c.self.inside.plans.items c.self.inside.orders.items c.push.new.self.items (change.Order c.args.order)
-    (ap (λ (r : Records). r.history) c.self.view_is ∙ c.requires.history) c.reserve.ensures.items c.in-Ok.ensures.items refl c.self.invariant c.requires.on can
+    c.self.inside.count c.self.inside.edits c.self.inside.bytes c.args.line c.self.inside.stopped c.self.inside.plans.items c.self.inside.plans.items c.self.inside.orders.items c.push.new.self.items (change.Order c.args.order)
+    (ap (λ (r : Records). r.history) c.self.view_is ∙ c.requires.history) c.reserve.ensures.items c.in-Ok.ensures.items refl c.self.invariant c.requires.on can line
     (sym (append-nil c.self.inside.plans.items))
     c.in_ok-push.ensures.items
 
@@ -20,5 +21,5 @@ invariant_of-self-2 c =
 pub returns-clause-state : goal.returns-clause-state
 returns-clause-state c =
     state_opened c.self.inside.opening.items c.reserve.new.self.items c.push-2.new.self.items c.self.inside.history.items (change.Order c.args.order)
-    (ap (λ (r : Records). r.history) c.self.view_is ∙ c.requires.history) c.reserve.ensures.items c.in-Ok.ensures.items c.self.invariant.3
+    (ap (λ (r : Records). r.history) c.self.view_is ∙ c.requires.history) c.reserve.ensures.items c.in-Ok.ensures.items
     ∙ with_more _ c.args.self.now (change.Order c.args.order) c.self.view_is

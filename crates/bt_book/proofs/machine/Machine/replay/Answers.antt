@@ -1,15 +1,16 @@
 use Rattle.std.proofs.Common.{◌+◌, length, take, refl}
 use Rattle.std.proofs.lemmas.Result.{err_from_is_err_and}
-use Rattle.bt_book.proofs.Replayed.{Stands-line, Stands-fault, few_so_far, length-line_read}
+use Rattle.bt_book.proofs.Replayed.{Stands-line, Stands-fault, short_so_far, length-line_read}
 use Rattle.bt_book.proofs.machine.Machine.replay.Goals as goal
 
 -- the line is read with its newline
 pub slice_bounds-take_line-end : goal.slice_bounds-take_line-end
 slice_bounds-take_line-end c = length-line_read c.loop-line.rest.now c.in-Some.line.now c.in-Some.after.now c.in-Some.ensures.line
 
--- its change is not one too many
-pub take_line-requires-clause-few : goal.take_line-requires-clause-few
-take_line-requires-clause-few c = few_so_far c.args.net.now c.args.text.now c.loop-line.rest.now c.loop-line.machine c.loop-line.invariant c.requires
+-- and is not too long behind those before it
+pub take_line-requires-clause-short : goal.take_line-requires-clause-short
+take_line-requires-clause-short c =
+    short_so_far c.args.net.now c.args.text.now c.loop-line.rest.now c.in-Some.line.now c.in-Some.after.now c.loop-line.machine c.loop-line.invariant c.requires c.in-Some.ensures.line
 
 -- the line that stopped the loop is the first that is wrong
 pub returns-in_err-take_line-clause-err : goal.returns-in_err-take_line-clause-err

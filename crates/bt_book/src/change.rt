@@ -1,0 +1,163 @@
+// A change that is asked for is refused for its first cause, or it is made and its line kept.
+ghost use Rattle.std.specs.Prelude.{◌≡◌, ◌+◌, ◌≤◌, ◌++◌, ◌∷◌, [], true, false, IfOk, OnErr};
+ghost use Rattle.bt_frame.specs.declared.limits.TheConstants.{MOST_UNITS};
+ghost use Rattle.bt_journal.specs.Journal.{is_fault, is_made};
+ghost use Rattle.bt_journal.specs.JournalLines.{IsChangeInRange, edits_in, units_in};
+ghost use Rattle.bt_book.specs.Changes.{edition};
+ghost use Rattle.bt_book.specs.Causes.{IsChangeOn, IsGood};
+ghost use Rattle.bt_book.specs.Machine.{ChangeStep};
+ghost use Rattle.bt_book.specs.Records.{IsBookFull, Stores, call_of};
+
+use crate::machine::Machine;
+use crate::place::parts_of;
+use bt_base::Keeper;
+use bt_frame::{EditionNo, OutOfMemory};
+use bt_journal::{Call, Change, Edit, Entry, Reply, change_text};
+use std::alloc::Global;
+
+impl Machine {
+    /// Answers a change that is asked for: refuses it for its first cause, or makes it and keeps its line in the store.
+    pub(crate) fn change<K: Keeper>(
+        &mut self,
+        alloc: Global,
+        caller: u32,
+        asked: Change,
+        store: &mut K,
+    ) -> Result<Reply, OutOfMemory>
+        requires { IsChangeOn self.old.net asked }
+        ensures step { IfOk result (λ reply. ChangeStep self.old.net self.old.state asked reply self.new.state) }
+        ensures entry { IfOk result (λ reply. self.new.history
+            ≡ self.old.history ++ record { caller = caller; call = call_of asked; reply = reply } ∷ []) }
+        ensures store { IfOk result (λ reply. Stores self.old.net self.old.state.changes asked reply
+            (K.told store.old) (K.told store.new) (K.fault_count store.old) (K.fault_count store.new)) }
+        ensures net { self.new.net ≡ self.old.net }
+        ensures err { OnErr result (self.new ≡ self.old) }
+        ensures err_told { OnErr result (K.told store.new ≡ K.told store.old) }
+        ensures err_faults { OnErr result (K.fault_count store.new ≡ K.fault_count store.old) }
+    {
+        if self.stopped {
+            return self.answer(alloc, caller, call_of(asked), Reply::Stopped);
+        }
+        match self.cause_in(alloc, &asked)? {
+            Some(cause) => self.answer(alloc, caller, call_of(asked), cause),
+            None => self.make_where_room(alloc, caller, asked, store),
+        }
+    }
+
+    /// Makes a good change where the journal has room for its line.
+    fn make_where_room<K: Keeper>(
+        &mut self,
+        alloc: Global,
+        caller: u32,
+        asked: Change,
+        store: &mut K,
+    ) -> Result<Reply, OutOfMemory>
+        requires on { IsChangeOn self.old.net asked }
+        requires runs { self.old.state.stopped ≡ false }
+        requires good { IsGood self.old.net self.old.state.changes asked }
+        ensures step { IfOk result (λ reply. ChangeStep self.old.net self.old.state asked reply self.new.state) }
+        ensures entry { IfOk result (λ reply. self.new.history
+            ≡ self.old.history ++ record { caller = caller; call = call_of asked; reply = reply } ∷ []) }
+        ensures store { IfOk result (λ reply. Stores self.old.net self.old.state.changes asked reply
+            (K.told store.old) (K.told store.new) (K.fault_count store.old) (K.fault_count store.new)) }
+        ensures net { self.new.net ≡ self.old.net }
+        ensures err { OnErr result (self.new ≡ self.old) }
+        ensures err_told { OnErr result (K.told store.new ≡ K.told store.old) }
+        ensures err_faults { OnErr result (K.fault_count store.new ≡ K.fault_count store.old) }
+    {
+        let number = self.number_of(&asked);
+        let line = change_text(alloc, self.network(), number, &asked)?;
+        match self.book_full(line.len()) {
+            Some(full) => self.answer(alloc, caller, call_of(asked), full),
+            None => self.make(alloc, caller, asked, line.as_slice(), store),
+        }
+    }
+
+    /// The edition that the line of a good change is spelled with: the one that an edit makes, or the last.
+    fn number_of(&self, asked: &Change) -> EditionNo
+        requires on { IsChangeOn self.now.net asked.now }
+        requires good { IsGood self.now.net self.now.state.changes asked.now }
+        ensures number { result.0 ≡ edition self.now.state.changes + edits_in asked.now }
+        ensures range { IsChangeInRange self.now.net result.0 asked.now }
+    {
+        // This is there for what holds of each network.
+        let _slots = self.occupancy.slots();
+        match asked {
+            Change::Edit(edit) => {
+                let _units = units_in(edit);
+                EditionNo(self.edits + 1)
+            }
+            Change::Install(plan) => {
+                // This is there for what holds of all bursts.
+                let _bursts = plan.bursts.as_slice();
+                EditionNo(self.edits)
+            }
+            Change::Order(order) => {
+                // This is there for the range of its numbers.
+                let _parts = parts_of(order);
+                EditionNo(self.edits)
+            }
+        }
+    }
+
+    /// The refusal of a good change whose line, of so many bytes, the journal has no room for.
+    fn book_full(&self, line: usize) -> Option<Reply>
+        ensures { IsBookFull self.now.net self.now.state.changes line result }
+    {
+        let room = self.network().journal();
+        if self.bytes <= room && line <= (room - self.bytes) as usize {
+            None
+        } else {
+            Some(Reply::BookFull { length: self.bytes })
+        }
+    }
+
+    /// Answers a call without a change, and keeps its entry.
+    pub(crate) fn answer(
+        &mut self,
+        alloc: Global,
+        caller: u32,
+        call: Call,
+        reply: Reply,
+    ) -> Result<Reply, OutOfMemory>
+        requires not_made { is_made reply ≡ false }
+        requires no_fault { is_fault reply ≡ true → self.old.state.stopped ≡ true }
+        ensures told { IfOk result (λ answer. answer ≡ reply) }
+        ensures entry { IfOk result (λ answer. self.new.history
+            ≡ self.old.history ++ record { caller = caller; call = call; reply = answer } ∷ []) }
+        ensures state { self.new.state ≡ self.old.state }
+        ensures net { self.new.net ≡ self.old.net }
+        ensures err { OnErr result (self.new ≡ self.old) }
+    {
+        let kept = reply.copy(alloc)?;
+        self.history.push(Entry {
+            caller,
+            call,
+            reply: kept,
+        })?;
+        Ok(reply)
+    }
+}
+
+/// The call that asks for a change.
+fn call_of(asked: Change) -> Call
+    ensures { result ≡ call_of asked }
+{
+    match asked {
+        Change::Edit(edit) => Call::Edit(edit),
+        Change::Install(plan) => Call::Install(plan),
+        Change::Order(order) => Call::Place(order),
+    }
+}
+
+/// The units of an edit.
+fn units_in(edit: &Edit) -> u32
+    ensures same { result ≡ units_in edit.now }
+    ensures some { 1 ≤ result }
+    ensures few { result ≤ MOST_UNITS }
+{
+    match *edit {
+        Edit::Add { units, .. } | Edit::Drop { units, .. } | Edit::Move { units, .. } =>
+            units.get(),
+    }
+}

@@ -1,0 +1,265 @@
+// A change is made and its line kept, or neither: all room is taken before the store is asked, and nothing can fail behind it.
+ghost use Rattle.std.specs.Prelude.{◌≡◌, ◌<◌, ◌≤◌, ◌++◌, ◌∷◌, [], true, false, IfOk, OnErr, vec_capacity, vec_len};
+ghost use Rattle.bt_base.specs.Told.{gained, GainsPrefix, Rose};
+ghost use Rattle.bt_frame.specs.declared.limits.TheConstants.{MOST_SLOTS};
+ghost use Rattle.bt_demand.specs.Traffic.{matrix_of, HasSumsTo};
+ghost use Rattle.bt_journal.specs.Journal.{NamesTerminals};
+ghost use Rattle.bt_journal.specs.declared.call.Change.TheVariants as change;
+ghost use Rattle.bt_book.specs.Causes.{CanCome, IsChangeOn, IsPlanOn};
+ghost use Rattle.bt_book.specs.EditCauses.{HasEnds};
+ghost use Rattle.bt_book.specs.Machine.{ChangeStep, CanMake, line_behind};
+ghost use Rattle.bt_book.specs.Records.{EditsLinks, HoldsTaken, IsSpelled, SameUnits, Stores, call_of};
+
+use crate::machine::Machine;
+use crate::occupancy::Occupancy;
+use bt_air::Order;
+use bt_base::{KeepFault, Keeper};
+use bt_demand::Plan;
+use bt_frame::{EditionNo, OutOfMemory};
+use bt_journal::{Call, Change, Edit, Entry, Reply};
+use std::alloc::Global;
+
+impl Machine {
+    /// Makes a change, and keeps its line.
+    pub(crate) fn make<K: Keeper>(
+        &mut self,
+        alloc: Global,
+        caller: u32,
+        asked: Change,
+        line: &[u8],
+        store: &mut K,
+    ) -> Result<Reply, OutOfMemory>
+        requires on { IsChangeOn self.old.net asked }
+        requires can { CanMake self.old.net self.old.state asked }
+        requires line { line.now ≡ line_behind self.old.net self.old.state.changes asked }
+        requires spelled { IsSpelled self.old.net self.old.state.changes asked }
+        ensures step { IfOk result (λ reply. ChangeStep self.old.net self.old.state asked reply self.new.state) }
+        ensures entry { IfOk result (λ reply. self.new.history
+            ≡ self.old.history ++ record { caller = caller; call = call_of asked; reply = reply } ∷ []) }
+        ensures store { IfOk result (λ reply. Stores self.old.net self.old.state.changes asked reply
+            (K.told store.old) (K.told store.new) (K.fault_count store.old) (K.fault_count store.new)) }
+        ensures net { self.new.net ≡ self.old.net }
+        ensures err { OnErr result (self.new ≡ self.old) }
+        ensures err_told { OnErr result (K.told store.new ≡ K.told store.old) }
+        ensures err_faults { OnErr result (K.fault_count store.new ≡ K.fault_count store.old) }
+    {
+        match asked {
+            Change::Edit(edit) => self.make_edit(alloc, caller, edit, line, store),
+            Change::Install(plan) => self.make_install(alloc, caller, plan, line, store),
+            Change::Order(order) => self.make_order(alloc, caller, order, line, store),
+        }
+    }
+
+    /// Makes an edit, and keeps its line.
+    fn make_edit<K: Keeper>(
+        &mut self,
+        alloc: Global,
+        caller: u32,
+        edit: Edit,
+        line: &[u8],
+        store: &mut K,
+    ) -> Result<Reply, OutOfMemory>
+        requires on { NamesTerminals self.old.net edit }
+        requires can { CanMake self.old.net self.old.state (change.Edit edit) }
+        requires line { line.now ≡ line_behind self.old.net self.old.state.changes (change.Edit edit) }
+        requires spelled { IsSpelled self.old.net self.old.state.changes (change.Edit edit) }
+        ensures step { IfOk result (λ reply. ChangeStep self.old.net self.old.state (change.Edit edit) reply self.new.state) }
+        ensures entry { IfOk result (λ reply. self.new.history
+            ≡ self.old.history ++ record { caller = caller; call = call_of (change.Edit edit); reply = reply } ∷ []) }
+        ensures store { IfOk result (λ reply. Stores self.old.net self.old.state.changes (change.Edit edit) reply
+            (K.told store.old) (K.told store.new) (K.fault_count store.old) (K.fault_count store.new)) }
+        ensures net { self.new.net ≡ self.old.net }
+        ensures err { OnErr result (self.new ≡ self.old) }
+        ensures err_told { OnErr result (K.told store.new ≡ K.told store.old) }
+        ensures err_faults { OnErr result (K.fault_count store.new ≡ K.fault_count store.old) }
+    {
+        // This is there for what holds of each network.
+        let _slots = self.occupancy.slots();
+        let call = Call::Edit(edit);
+        self.history.reserve(1)?;
+        if keep_edit(alloc, &mut self.occupancy, &edit, line, store)? {
+            self.count += 1;
+            self.edits += 1;
+            self.bytes += line.len() as u32;
+            let edition = EditionNo(self.edits);
+            let length = self.occupancy.length();
+            keep_entry(
+                &mut self.history,
+                caller,
+                call,
+                Reply::Done { edition, length },
+            );
+            Ok(Reply::Done { edition, length })
+        } else {
+            self.stopped = true;
+            keep_entry(&mut self.history, caller, call, Reply::StoreFault);
+            Ok(Reply::StoreFault)
+        }
+    }
+
+    /// Installs a plan, and keeps its line.
+    fn make_install<K: Keeper>(
+        &mut self,
+        alloc: Global,
+        caller: u32,
+        plan: Plan,
+        line: &[u8],
+        store: &mut K,
+    ) -> Result<Reply, OutOfMemory>
+        requires on { IsPlanOn self.old.net plan }
+        requires can { CanMake self.old.net self.old.state (change.Install plan) }
+        requires line { line.now ≡ line_behind self.old.net self.old.state.changes (change.Install plan) }
+        requires spelled { IsSpelled self.old.net self.old.state.changes (change.Install plan) }
+        ensures step { IfOk result (λ reply. ChangeStep self.old.net self.old.state (change.Install plan) reply self.new.state) }
+        ensures entry { IfOk result (λ reply. self.new.history
+            ≡ self.old.history ++ record { caller = caller; call = call_of (change.Install plan); reply = reply } ∷ []) }
+        ensures store { IfOk result (λ reply. Stores self.old.net self.old.state.changes (change.Install plan) reply
+            (K.told store.old) (K.told store.new) (K.fault_count store.old) (K.fault_count store.new)) }
+        ensures net { self.new.net ≡ self.old.net }
+        ensures err { OnErr result (self.new ≡ self.old) }
+        ensures err_told { OnErr result (K.told store.new ≡ K.told store.old) }
+        ensures err_faults { OnErr result (K.fault_count store.new ≡ K.fault_count store.old) }
+    {
+        // This is there for what holds of each network.
+        let _slots = self.occupancy.slots();
+        let kept = plan.copy(alloc)?;
+        let edition = plan.edition;
+        let call = Call::Install(plan);
+        self.history.reserve(1)?;
+        self.plans.reserve(1)?;
+        if keep_line(alloc, line, store)? {
+            let Ok(()) = self.plans.push(kept) else {
+                unreachable!();
+            };
+            self.count += 1;
+            self.bytes += line.len() as u32;
+            keep_entry(
+                &mut self.history,
+                caller,
+                call,
+                Reply::Installed { edition },
+            );
+            Ok(Reply::Installed { edition })
+        } else {
+            self.stopped = true;
+            keep_entry(&mut self.history, caller, call, Reply::StoreFault);
+            Ok(Reply::StoreFault)
+        }
+    }
+
+    /// Places an order, and keeps its line.
+    fn make_order<K: Keeper>(
+        &mut self,
+        alloc: Global,
+        caller: u32,
+        order: Order,
+        line: &[u8],
+        store: &mut K,
+    ) -> Result<Reply, OutOfMemory>
+        requires on { CanCome order }
+        requires can { CanMake self.old.net self.old.state (change.Order order) }
+        requires line { line.now ≡ line_behind self.old.net self.old.state.changes (change.Order order) }
+        requires spelled { IsSpelled self.old.net self.old.state.changes (change.Order order) }
+        ensures step { IfOk result (λ reply. ChangeStep self.old.net self.old.state (change.Order order) reply self.new.state) }
+        ensures entry { IfOk result (λ reply. self.new.history
+            ≡ self.old.history ++ record { caller = caller; call = call_of (change.Order order); reply = reply } ∷ []) }
+        ensures store { IfOk result (λ reply. Stores self.old.net self.old.state.changes (change.Order order) reply
+            (K.told store.old) (K.told store.new) (K.fault_count store.old) (K.fault_count store.new)) }
+        ensures net { self.new.net ≡ self.old.net }
+        ensures err { OnErr result (self.new ≡ self.old) }
+        ensures err_told { OnErr result (K.told store.new ≡ K.told store.old) }
+        ensures err_faults { OnErr result (K.fault_count store.new ≡ K.fault_count store.old) }
+    {
+        // This is there for what holds of each network.
+        let _slots = self.occupancy.slots();
+        let call = Call::Place(order);
+        self.history.reserve(1)?;
+        self.orders.reserve(1)?;
+        if keep_line(alloc, line, store)? {
+            let Ok(()) = self.orders.push(order) else {
+                unreachable!();
+            };
+            self.count += 1;
+            self.bytes += line.len() as u32;
+            keep_entry(&mut self.history, caller, call, Reply::Placed);
+            Ok(Reply::Placed)
+        } else {
+            self.stopped = true;
+            keep_entry(&mut self.history, caller, call, Reply::StoreFault);
+            Ok(Reply::StoreFault)
+        }
+    }
+}
+
+/// Makes an edit in two halves, and keeps its line between them. The answer says whether the line is kept; where it is not,
+/// the first half is taken back.
+fn keep_edit<K: Keeper>(
+    alloc: Global,
+    occupancy: &mut Occupancy,
+    edit: &Edit,
+    line: &[u8],
+    store: &mut K,
+) -> Result<bool, OutOfMemory>
+    requires terminals { NamesTerminals occupancy.old.net edit.now }
+    requires ends { HasEnds edit.now }
+    requires held { HoldsTaken occupancy.old.links edit.now }
+    requires small { HasSumsTo MOST_SLOTS (matrix_of occupancy.old.net occupancy.old.links) }
+    ensures made { IfOk result (λ kept. kept ≡ true → EditsLinks occupancy.old.links edit.now occupancy.new.links) }
+    ensures told { IfOk result (λ kept. kept ≡ true → K.told store.new ≡ gained (K.told store.old) line.now) }
+    ensures later { IfOk result (λ kept. kept ≡ true → K.fault_count store.old ≤ K.fault_count store.new) }
+    ensures undone { IfOk result (λ kept. kept ≡ false → SameUnits occupancy.old.links occupancy.new.links) }
+    ensures prefix { IfOk result (λ kept. kept ≡ false → GainsPrefix (K.told store.old) line.now (K.told store.new)) }
+    ensures rose { IfOk result (λ kept. kept ≡ false → Rose (K.fault_count store.old) (K.fault_count store.new)) }
+    ensures net { occupancy.new.net ≡ occupancy.old.net }
+    ensures err_units { OnErr result (SameUnits occupancy.old.links occupancy.new.links) }
+    ensures err_told { OnErr result (K.told store.new ≡ K.told store.old) }
+    ensures err_faults { OnErr result (K.fault_count store.new ≡ K.fault_count store.old) }
+{
+    occupancy.gain_first(alloc, edit)?;
+    match store.append(alloc, line) {
+        Ok(()) => {
+            occupancy.lose_then(edit);
+            Ok(true)
+        }
+        Err(fault) => {
+            occupancy.take_back(edit);
+            match fault {
+                KeepFault::Failed => Ok(false),
+                KeepFault::OutOfMemory => Err(OutOfMemory),
+                KeepFault::TooLong => unreachable!(),
+            }
+        }
+    }
+}
+
+/// Keeps a line. The answer says whether it is kept.
+fn keep_line<K: Keeper>(alloc: Global, line: &[u8], store: &mut K) -> Result<bool, OutOfMemory>
+    ensures told { IfOk result (λ kept. kept ≡ true → K.told store.new ≡ gained (K.told store.old) line.now) }
+    ensures later { IfOk result (λ kept. kept ≡ true → K.fault_count store.old ≤ K.fault_count store.new) }
+    ensures prefix { IfOk result (λ kept. kept ≡ false → GainsPrefix (K.told store.old) line.now (K.told store.new)) }
+    ensures rose { IfOk result (λ kept. kept ≡ false → Rose (K.fault_count store.old) (K.fault_count store.new)) }
+    ensures err_told { OnErr result (K.told store.new ≡ K.told store.old) }
+    ensures err_faults { OnErr result (K.fault_count store.new ≡ K.fault_count store.old) }
+{
+    match store.append(alloc, line) {
+        Ok(()) => Ok(true),
+        Err(KeepFault::Failed) => Ok(false),
+        Err(KeepFault::OutOfMemory) => Err(OutOfMemory),
+        Err(KeepFault::TooLong) => unreachable!(),
+    }
+}
+
+/// Keeps the entry of a call. There is room for it.
+fn keep_entry(history: &mut Vec<Entry>, caller: u32, call: Call, reply: Reply)
+    requires { vec_len history.old < vec_capacity history.old }
+    ensures { history.new.items ≡ history.old.items ++ record { caller = caller; call = call; reply = reply } ∷ [] }
+{
+    let entry = Entry {
+        caller,
+        call,
+        reply,
+    };
+    let Ok(()) = history.push(entry) else {
+        unreachable!();
+    };
+}

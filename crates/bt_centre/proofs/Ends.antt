@@ -1,0 +1,131 @@
+-- How a run ends, from how its parts ended behind the recovery.
+use Rattle.std.proofs.Common.{◌≡◌, ℕ, ◌≤◌, Bool, inl, inr, List, [], ◌∷◌, ◌++◌, length, reverse, Option, Some, None, refl, sym, ap, ◌∙◌, subst, arith}
+use Rattle.std.specs.Prelude.{IfSome, option_map}
+use Rattle.std.specs.Option.{is_some}
+use Rattle.bt_net.specs.Network.{Net}
+use Rattle.bt_air.specs.declared.event.Event.{Event}
+use Rattle.bt_demand.specs.declared.burst.Burst.{Burst}
+use Rattle.bt_journal.specs.declared.call.Change.{Change}
+use Rattle.bt_book.specs.declared.fault.RecoverFault.{RecoverFault}
+use Rattle.bt_book.specs.declared.fault.RecoverFault.TheVariants.{StoreFault}
+use Rattle.bt_book.specs.Book.{Books}
+use Rattle.bt_book.specs.Recovery.{IsReadable, Recovered, whole}
+use Rattle.bt_world.specs.Air.{AreFlyable, IsAir, IsSafe, modes_in_front}
+use Rattle.bt_world.specs.Event.{Frame, Opening}
+use Rattle.bt_world.specs.Fits.{IsWorld}
+use Rattle.bt_world.specs.World.{log}
+use Rattle.bt_script.specs.declared.script.Item.{Item}
+use Rattle.bt_script.specs.declared.script.Script.{Script}
+use Rattle.bt_centre.specs.declared.history.History.{History}
+use Rattle.bt_centre.specs.Output.{Output}
+use Rattle.bt_centre.specs.Progress.{Hand, IsBegun, Left, PartsEnded}
+use Rattle.bt_centre.specs.Run.{AreLegalTimes, EndsFrom, FramesAreSafe, LeavesStore, PlaysItems, RunsFrom, Stand, at_start, lost_in, opening_on}
+use Rattle.bt_centre.specs.Stored.{Stored}
+use Rattle.bt_centre.proofs.Ended.{only_fault}
+use Rattle.bt_centre.proofs.Restarts.{tells_whole}
+use Rattle.bt_centre.proofs.Times.{rose_since}
+
+-- what happened before an event of a world is a world
+world_before : (opening : Opening) (later : List Event) (event : Event) (earlier : List Event) → IsWorld opening (later ++ event ∷ earlier) → IsWorld opening earlier
+world_before opening [] event earlier world = world.1
+world_before opening (last ∷ later) event earlier world = world_before opening later event earlier world.1
+
+-- the frames of a world can be flown, and are safe then
+abbrev pub AreFlown : Type 0
+AreFlown = (opening : Opening) (events : List Event) → IsWorld opening events → AreFlyable opening events
+
+abbrev pub AreSafe : Type 0
+AreSafe = (opening : Opening) (events : List Event) (bursts : List Burst) → AreFlyable opening events → IsAir opening (log opening events) bursts
+    → IsSafe opening.net (modes_in_front opening (log opening events)) bursts
+
+-- each frame of a world is safe
+frames_safe : AreFlown → AreSafe → (opening : Opening) (events : List Event) → IsWorld opening events → FramesAreSafe opening events
+frames_safe flown safe opening events world =
+    λ later earlier bursts is air. safe opening earlier bursts (flown opening earlier (world_before opening later Frame earlier (subst (IsWorld opening) is world))) air
+
+-- what a store tells and counts, from a moment before
+abbrev stored_from : Option (List ℕ) → Option (List ℕ) → ℕ → ℕ → Stored
+stored_from before after faults now = record { before = before; after = after; faults_before = faults; faults_after = now }
+
+leaves_from : (net : Net) (told given after : Option (List ℕ)) (faults begun now : ℕ) (histories : List History) (end : Stand) → faults ≤ begun
+    → LeavesStore net (stored_from told after begun now) histories end → LeavesStore net (stored_from given after faults now) histories end
+leaves_from net told given after faults begun now histories end later left = record { bytes = left.bytes; count = rose_since (length (lost_in histories)) faults begun now later left.count }
+
+-- the store told bytes before the recovery as behind it, or not, and its count of faults did not fall in it
+ends_from : (net : Net) (items : List Item) (output : Output) (told given after : Option (List ℕ)) (faults begun now : ℕ) (opening : List Change) (status : ℕ) (histories : List History) (events : List Event)
+    → is_some told ≡ is_some given → faults ≤ begun → EndsFrom net items output (stored_from told after begun now) opening status histories events
+    → EndsFrom net items output (stored_from given after faults now) opening status histories events
+ends_from net items output told given after faults begun now opening status histories events tells later (inl breaks) = inl (record {
+  last = breaks.last;
+  legal = subst (λ (b : Bool). AreLegalTimes net b opening breaks.last histories) tells breaks.legal;
+  count = rose_since (length (lost_in histories)) faults begun now later breaks.count;
+  status_is = breaks.status_is;
+})
+ends_from net items output told given after faults begun now opening status histories events tells later (inr (inl whole)) = inr (inl (record {
+  lines = whole.lines;
+  run = record {
+    end = whole.run.end;
+    played = subst (λ (b : Bool). PlaysItems net b (at_start net opening) items whole.lines whole.run.end) tells whole.run.played;
+    history = whole.run.history;
+    legal = subst (λ (b : Bool). AreLegalTimes net b opening whole.run.end.opening histories) tells whole.run.legal;
+    events_are = whole.run.events_are;
+    good = whole.run.good;
+  };
+  left = leaves_from net told given after faults begun now histories whole.run.end later whole.left;
+  written = whole.written;
+  status_is = whole.status_is;
+}))
+ends_from net items output told given after faults begun now opening status histories events tells later (inr (inr (inl part))) = inr (inr (inl (record {
+  first = part.first;
+  more = part.more;
+  lines = part.lines;
+  parts = part.parts;
+  run = record {
+    end = part.run.end;
+    played = subst (λ (b : Bool). PlaysItems net b (at_start net opening) part.first part.lines part.run.end) tells part.run.played;
+    history = part.run.history;
+    legal = subst (λ (b : Bool). AreLegalTimes net b opening part.run.end.opening histories) tells part.run.legal;
+    events_are = part.run.events_are;
+    good = part.run.good;
+  };
+  left = leaves_from net told given after faults begun now histories part.run.end later part.left;
+  failed = part.failed;
+  written = part.written;
+  status_is = part.status_is;
+})))
+ends_from net items output told given after faults begun now opening status histories events tells later (inr (inr (inr fails))) = inr (inr (inr (record {
+  first = fails.first;
+  more = fails.more;
+  lines = fails.lines;
+  parts = fails.parts;
+  run = record {
+    end = fails.run.end;
+    played = subst (λ (b : Bool). PlaysItems net b (at_start net opening) fails.first fails.lines fails.run.end) tells fails.run.played;
+    history = fails.run.history;
+    legal = subst (λ (b : Bool). AreLegalTimes net b opening fails.run.end.opening histories) tells fails.run.legal;
+    events_are = fails.run.events_are;
+    good = fails.run.good;
+  };
+  told = fails.told;
+  faults = fails.faults;
+  left = leaves_from net told given fails.told faults begun fails.faults histories fails.run.end later fails.left;
+  fault = fails.fault;
+  failed = fails.failed;
+  later = fails.later;
+  named = fails.named;
+  only = only_fault told given (fails.fault ≡ StoreFault) tells fails.only;
+  printed = fails.printed;
+})))
+
+-- the run, from what its store told
+pub runs_from : AreFlown → AreSafe → (net : Net) (script : Script) (output : Output) (given : Option (List ℕ)) (faults : ℕ) (hand : Hand) (left : Left) (status : ℕ) → IsBegun net hand
+    → hand.book.told ≡ option_map whole given → IfSome given (λ bytes. Recovered net bytes hand.book.state.changes) → IsReadable given → faults ≤ hand.book.faults
+    → PartsEnded net script.items output hand.book left status → RunsFrom net script output (stored_from given left.told faults left.faults) status left.histories left.events
+runs_from flown safe net script output given faults hand left status begun told changes readable later ended = record {
+  opening = hand.book.state.changes;
+  opens = record { told = changes; readable = readable; follow = begun.follow };
+  world = ended.world;
+  safe = frames_safe flown safe (opening_on net hand.book.state.changes) (reverse left.events) ended.world;
+  ends = ends_from net script.items output hand.book.told given left.told faults hand.book.faults left.faults hand.book.state.changes status left.histories left.events
+      (ap is_some told ∙ tells_whole given) later ended.ends;
+}

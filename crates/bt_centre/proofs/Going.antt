@@ -1,0 +1,132 @@
+-- A run goes on by legal times.
+use Rattle.std.proofs.Common.{◌≡◌, ℕ, ◌+◌, ◌≤◌, Bool, List, [], ◌∷◌, ◌++◌, length, reverse, Option, refl, sym, ap, ◌∙◌, subst, arith, inl, inr}
+use Rattle.std.specs.Option.{is_some}
+use Rattle.std.proofs.lemmas.List.{append-nil}
+use Rattle.bt_net.specs.Network.{Net}
+use Rattle.bt_journal.specs.declared.call.Change.{Change}
+use Rattle.bt_journal.specs.declared.entry.Entry.{Entry}
+use Rattle.bt_book.specs.Book.{Books}
+use Rattle.bt_book.specs.Causes.{Follows}
+use Rattle.bt_book.specs.Machine.{Legal, State, running, state_after, state_from}
+use Rattle.bt_book.specs.Store.{lost_of}
+use Rattle.bt_book.proofs.Histories.{state_from-none}
+use Rattle.bt_centre.specs.declared.history.History.{History}
+use Rattle.bt_round.specs.AirLines.{AirState}
+use Rattle.bt_round.specs.Rounds.{BookRan}
+use Rattle.bt_round.proofs.Closing.{ran_nothing}
+use Rattle.bt_world.specs.Event.{Opening}
+use Rattle.bt_world.specs.Fits.{IsWorld}
+use Rattle.bt_centre.specs.Progress.{GoesOn, Hand, IsBegun, IsLeftEarly, IsLeftOf, IsLegalHand, Left, RestartPlayed, histories_in, history_in}
+use Rattle.bt_centre.specs.Run.{AreLegalTimes, AreTimes, BreaksOff, IsLegalHistory, lost_in, opening_on}
+use Rattle.bt_centre.specs.Stored.{Stored}
+use Rattle.bt_centre.proofs.Times.{lost_count, lost_more, next_time, rose_on, rose_still, times_more}
+
+-- a book that was asked nothing
+pub ran_none : (net : Net) (book : Books) → book.net ≡ net → Follows net book.state.changes → BookRan book book
+ran_none net book network follow = ran_nothing book (subst (λ (n : Net). Follows n book.state.changes) (sym network) follow)
+
+-- what was left where a run stops at once
+pub left_early : (net : Net) (hand : Hand) (left : Left) → hand.book.net ≡ net → Follows net hand.book.state.changes → IsLeftOf hand left → IsLeftEarly hand left
+left_early net hand left network follow is = record {
+  hand = hand;
+  goes = record { over = refl; before = refl; ran = ran_none net hand.book network follow; world = refl };
+  histories = is.histories;
+  later = omega (arith, is.faults);
+  world = is.world;
+}
+
+-- what was left where memory ran out later in a part
+pub left_on : (old hand : Hand) (left : Left) → GoesOn old hand → IsLeftOf hand left → IsLeftEarly old left
+left_on old hand left goes is = record {
+  hand = hand;
+  goes = goes;
+  histories = is.histories;
+  later = omega (arith, is.faults);
+  world = subst (λ (o : Opening). IsWorld o (reverse left.events)) goes.world is.world;
+}
+
+-- a run at its start
+pub legal_begins : (net : Net) (hand : Hand) → IsBegun net hand → IsLegalHand net hand.book hand.book.state.changes hand
+legal_begins net hand begun = record {
+  network = begun.network;
+  before = begun.before;
+  times = subst (λ (over : List History). AreTimes net (is_some hand.book.told) hand.book.state.changes over hand.book.state.changes) (sym begun.over) refl;
+  opens = begun.follow;
+  legal = subst (Legal net hand.book.state.changes) (sym begun.none) tt;
+  reached = begun.runs ∙ sym (state_from-none (running hand.book.state.changes)) ∙ ap (state_after hand.book.state.changes) (sym begun.none);
+  follow = begun.follow;
+  count = inl (omega (
+    arith,
+    lost_count hand.over (history_in hand),
+    ap (λ (l : List History). length (lost_in l)) begun.over,
+    ap (λ (l : List Entry). length (lost_of l)) begun.none,
+  ));
+  tells = refl;
+  world = ap (λ (air : AirState). air.life.opening) begun.air;
+}
+
+-- the run goes on in the present time
+pub legal_goes_on : (net : Net) (begun : Books) (opening : List Change) (old new : Hand) → GoesOn old new → IsLegalHand net begun opening old → IsLegalHand net begun opening new
+legal_goes_on net begun opening old new goes so = record {
+  network = goes.ran.net ∙ so.network;
+  before = goes.before ∙ so.before;
+  times = subst (λ (over : List History). AreTimes net (is_some begun.told) begun.state.changes over opening) (sym goes.over) so.times;
+  opens = so.opens;
+  legal = subst (λ (n : Net). Legal n opening new.book.history) so.network
+      (goes.ran.legal opening (subst (λ (n : Net). Legal n opening old.book.history) (sym so.network) so.legal) so.reached);
+  reached = goes.ran.reached opening so.reached;
+  follow = subst (λ (n : Net). Follows n new.book.state.changes) so.network goes.ran.follows;
+  count = rose_on (length (lost_in (histories_in old))) _ (length (lost_in (histories_in new))) begun.faults old.book.faults new.book.faults
+      (ap (λ (over : List History). length (lost_in (over ++ history_in new ∷ []))) goes.over ∙ lost_more old.over (history_in old) (history_in new) goes.ran.entries goes.ran.kept)
+      so.count goes.ran.rose;
+  tells = goes.ran.tells ∙ so.tells;
+  world = goes.world ∙ so.world;
+}
+
+-- the history of the present time is legal
+pub legal_present : (net : Net) (begun : Books) (opening : List Change) (hand : Hand) → IsLegalHand net begun opening hand → IsLegalHistory net opening (history_in hand)
+legal_present net begun opening hand so = record { counted = so.before; follow = so.opens; legal = so.legal }
+
+-- so are those of all times
+pub legal_times : (net : Net) (begun : Books) (opening : List Change) (hand : Hand) → IsLegalHand net begun opening hand
+    → AreLegalTimes net (is_some begun.told) begun.state.changes opening (histories_in hand)
+legal_times net begun opening hand so = record { over = hand.over; present = history_in hand; all = refl; times = so.times; legal = legal_present net begun opening hand so }
+
+-- the time is over, and the next begins
+pub legal_restarts : (net : Net) (begun : Books) (opening : List Change) (old new : Hand) (text : List ℕ) → RestartPlayed net old new text → IsLegalHand net begun opening old
+    → IsLegalHand net begun new.book.state.changes new
+legal_restarts net begun opening old new text played so =
+    let tells = is_some begun.told in
+    let next = next_time old.book.told tells old.book.state.changes opening new.book.state.changes old.book.history so.tells played.next (ap (λ (s : State). s.changes) so.reached) in
+    record {
+      network = played.network;
+      before = played.before;
+      times = subst (λ (over : List History). AreTimes net tells begun.state.changes over new.book.state.changes) (sym played.over)
+          (times_more net tells begun.state.changes opening new.book.state.changes old.over (history_in old) so.times (legal_present net begun opening old so) next);
+      opens = played.follow;
+      legal = subst (Legal net new.book.state.changes) (sym played.none) tt;
+      reached = played.runs ∙ sym (state_from-none (running new.book.state.changes)) ∙ ap (state_after new.book.state.changes) (sym played.none);
+      follow = played.follow;
+      count = rose_still (length (lost_in (histories_in old))) (length (lost_in (histories_in new))) begun.faults old.book.faults new.book.faults
+          (omega (
+            arith,
+            lost_count new.over (history_in new),
+            ap (λ (l : List History). length (lost_in l)) played.over,
+            ap (λ (l : List Entry). length (lost_of l)) played.none,
+          )) so.count played.later;
+      tells = played.tells ∙ so.tells;
+      world = ap (λ (air : AirState). air.life.opening) played.centre.restarts ∙ so.world;
+    }
+
+-- memory ran out over a part of a legal run
+pub breaks_off : (net : Net) (begun : Books) (opening : List Change) (old : Hand) (left : Left) (status : ℕ) → IsLegalHand net begun opening old → IsLeftEarly old left → status ≡ 1
+    → BreaksOff net (record { before = begun.told; after = left.told; faults_before = begun.faults; faults_after = left.faults }) begun.state.changes status left.histories
+breaks_off net begun opening old left status so is status_is =
+    let now = legal_goes_on net begun opening old is.hand is.goes so in
+    record {
+      last = opening;
+      legal = subst (AreLegalTimes net (is_some begun.told) begun.state.changes opening) (sym is.histories) (legal_times net begun opening is.hand now);
+      count = rose_still (length (lost_in (histories_in is.hand))) (length (lost_in left.histories)) begun.faults is.hand.book.faults left.faults
+          (ap (λ (l : List History). length (lost_in l)) is.histories) now.count is.later;
+      status_is = status_is;
+    }

@@ -1,0 +1,94 @@
+// A run at its start: the store's changes are recovered, and a world opens with them.
+ghost use Rattle.std.specs.Prelude.{◌≡◌, ◌<◌, ◌≤◌, ◌+◌, [], ℕ, length, option_map, take, IfErr, IfOk, IfSome};
+ghost use Rattle.bt_book.specs.Causes.{Follows};
+ghost use Rattle.bt_book.specs.Changes.{orders, plans};
+ghost use Rattle.bt_book.specs.Recovery.{IsReadable, IsRecoverFault, Recovered, whole};
+ghost use Rattle.bt_centre.specs.Progress.{IsBegun};
+ghost use Rattle.bt_centre.specs.Run.{opening_on};
+
+use crate::playing::Playing;
+use crate::station::station_of;
+use bt_air::Order;
+use bt_base::Keeper;
+use bt_book::{Book, RecoverFault, installed_plans_can_be_flown};
+use bt_demand::Plan;
+use bt_frame::OutOfMemory;
+use bt_net::Network;
+use bt_round::CentreWorker;
+use bt_world::World;
+use std::alloc::Global;
+use std::sync::Wait;
+use std::thread::Threads;
+
+/// A run of the changes that the store tells. The store is handed back where they are not recovered, and where memory
+/// runs out.
+pub(crate) fn open<R: Threads + Wait + Sync, K: Keeper>(
+    rt: &R,
+    alloc: Global,
+    net: &Network,
+    store: K,
+) -> Result<Playing<K>, (K, RecoverFault)>
+    ensures begun { IfOk result (λ hand. IsBegun net.now hand) }
+    ensures told { IfOk result (λ hand. hand.book.told ≡ option_map whole (K.told store)) }
+    ensures changes { IfOk result (λ hand. IfSome (K.told store) (λ bytes. Recovered net.now bytes hand.book.state.changes)) }
+    ensures readable { IfOk result (λ _. IsReadable (K.told store)) }
+    ensures later { IfOk result (λ hand. K.fault_count store ≤ hand.book.faults) }
+    ensures fault { IfErr result (λ end. IsRecoverFault net.now (K.told store) (K.told end.0) (K.fault_count store) (K.fault_count end.0) end.1) }
+    ensures fault_later { IfErr result (λ end. K.fault_count store ≤ K.fault_count end.0) }
+{
+    let Ok(over) = Vec::with_capacity(alloc, 1) else {
+        return Err((store, RecoverFault::OutOfMemory));
+    };
+    let book = match Book::recover(alloc, net, store) {
+        Ok(book) => book,
+        Err(end) => return Err(end),
+    };
+    let before = book.change_count();
+    let Ok(world) = open_world(alloc, net, &book) else {
+        return Err((book.into_parts().0, RecoverFault::OutOfMemory));
+    };
+    match station_of(rt, alloc, book, CentreWorker::new(alloc, world)) {
+        Ok(station) => Ok(Playing {
+            station,
+            before,
+            over,
+            rounds: 0,
+        }),
+        Err((book, _)) => Err((book.into_parts().0, RecoverFault::OutOfMemory)),
+    }
+}
+
+/// The world of a network with the plans and the orders of a book.
+fn open_world<K: Keeper>(alloc: Global, net: &Network, book: &Book<K>) -> Result<World, OutOfMemory>
+    requires follow { Follows net.now book.now.state.changes }
+    ensures { IfOk result (λ world. world ≡ record { opening = opening_on net.now book.now.state.changes; events = [] }) }
+{
+    // This is there for what holds of each network: it is sound.
+    let _beams = net.beam_count();
+    // And this, of each book: its orders are not too many.
+    let _orders = book.order_count();
+    installed_plans_can_be_flown();
+    World::start(alloc, net, plans_of(alloc, book)?, orders_of(alloc, book)?)
+}
+
+/// The plans that a book has, the empty one first.
+fn plans_of<K: Keeper>(alloc: Global, book: &Book<K>) -> Result<Vec<Plan>, OutOfMemory>
+    ensures { IfOk result (λ all. all.items ≡ plans book.now.state.changes) }
+{
+    let mut all = Vec::new(alloc);
+    for place in 0..book.plan_count() {
+        all.push(book.plan(place).copy(alloc)?)?;
+    }
+    Ok(all)
+}
+
+/// The orders that a book has.
+fn orders_of<K: Keeper>(alloc: Global, book: &Book<K>) -> Result<Vec<Order>, OutOfMemory>
+    ensures { IfOk result (λ all. all.items ≡ orders book.now.state.changes) }
+{
+    let mut all = Vec::new(alloc);
+    for place in 0..book.order_count() {
+        all.push(book.order(place))?;
+    }
+    Ok(all)
+}

@@ -1,0 +1,122 @@
+// What a run has in hand, and what is left of it.
+ghost use Rattle.std.specs.Prelude.{◌≡◌, ◌<◌, ◌≤◌, ◌++◌, ◌∷◌, [], ℕ, length, vec_capacity};
+ghost use Rattle.bt_centre.specs.Progress.{Hand, IsLeftOf, Left};
+
+use crate::station::book_and_centre;
+use crate::{Histories, History, RunEnd};
+use bt_air::Event;
+use bt_base::Keeper;
+use bt_journal::Entries;
+use bt_round::Station;
+use std::alloc::Global;
+use std::marker::Model;
+use std::sync::Wait;
+use std::thread::Threads;
+
+/// A run in its present time. Its board shows the plans of its book.
+pub(crate) struct Playing<K: Keeper> {
+    pub(crate) station: Station<K>,
+    /// How many changes the book had when the time began.
+    pub(crate) before: u32,
+    /// The histories of the times that are over, with room for that of the present time.
+    pub(crate) over: Vec<History>,
+    /// The rounds so far.
+    pub(crate) rounds: u64,
+}
+
+impl<K: Keeper> Model for Playing<K> {
+    ghost use Rattle.std.specs.Prelude.{◌<◌, length, vec_capacity};
+    ghost use Rattle.bt_round.specs.Boards.{IsPublished};
+    ghost use Rattle.bt_centre.specs.Progress.{Hand};
+
+    ghost Value = { Hand };
+
+    ghost view = { λ a. record {
+      over = a.over.items;
+      before = a.before;
+      book = a.station.book;
+      air = a.station.centre;
+      rounds = a.rounds;
+    } };
+
+    ghost invariant = { λ a. (length a.over.items < vec_capacity a.over)
+        × IsPublished a.station.book.state.changes a.station.publisher a.station.readers.items };
+}
+
+/// What is left of a run: the store, the histories of all times, and the events.
+#[derive(Drop)]
+pub(crate) struct Remains<K: Keeper> {
+    pub(crate) store: K,
+    pub(crate) histories: Vec<History>,
+    pub(crate) events: Vec<Event>,
+}
+
+impl<K: Keeper> Model for Remains<K> {
+    ghost use Rattle.bt_centre.specs.Progress.{Left};
+
+    ghost Value = { Left };
+
+    ghost view = { λ a. record {
+      told = K.told a.store;
+      faults = K.fault_count a.store;
+      histories = a.histories.items;
+      events = a.events.items;
+    } };
+}
+
+impl<K: Keeper> Playing<K> {
+    /// The run stops here.
+    pub(crate) fn stop<R: Threads + Wait + Sync>(self, rt: &R) -> Remains<K>
+        ensures { IsLeftOf self result }
+    {
+        let Playing {
+            station,
+            before,
+            over,
+            rounds: _,
+        } = self;
+        leave(rt, station, before, over)
+    }
+}
+
+/// A run stops in the time that began with so many changes, behind these times.
+pub(crate) fn leave<R: Wait, K: Keeper>(
+    rt: &R,
+    station: Station<K>,
+    before: u32,
+    over: Vec<History>,
+) -> Remains<K>
+    requires room { length over.items < vec_capacity over }
+    ensures { (rounds : ℕ) → IsLeftOf (record { over = over.items; before = before; book = station.book; air = station.centre; rounds = rounds }) result }
+{
+    let mut histories = over;
+    let (book, centre) = book_and_centre(rt, station);
+    let (store, entries) = book.into_parts();
+    histories.push_reserved(History {
+        before,
+        entries: Entries::of(entries),
+    });
+    Remains {
+        store,
+        histories,
+        events: centre.into_events(),
+    }
+}
+
+impl<K: Keeper> Remains<K> {
+    /// The end of a run, with its status.
+    pub(crate) fn end(self, status: u8) -> RunEnd<K>
+        ensures status { result.status ≡ status }
+        ensures told { K.told result.store ≡ self.told }
+        ensures faults { K.fault_count result.store ≡ self.faults }
+        ensures histories { result.histories ≡ self.histories }
+        ensures events { result.events.items ≡ self.events }
+    {
+        RunEnd {
+            status,
+            store: self.store,
+            histories: Histories::of(self.histories),
+            events: self.events,
+        }
+    }
+}

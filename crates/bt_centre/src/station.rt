@@ -1,0 +1,58 @@
+// The station is made, and taken apart.
+ghost use Rattle.std.specs.Prelude.{◌≡◌, IfErr, IfOk};
+ghost use Rattle.bt_book.specs.Book.{Books};
+ghost use Rattle.bt_round.specs.AirLines.{AirState};
+ghost use Rattle.bt_round.specs.Boards.{IsPublished};
+
+use bt_base::Keeper;
+use bt_board::board;
+use bt_book::Book;
+use bt_round::{CentreWorker, DESKS, Station};
+use std::alloc::Global;
+use std::sync::Wait;
+
+/// A station over a book and the centre's worker, with a board that shows the book's newest plan. Where memory runs out
+/// both come back.
+pub(crate) fn station_of<R: Wait, K: Keeper>(
+    rt: &R,
+    alloc: Global,
+    book: Book<K>,
+    centre: CentreWorker,
+) -> Result<Station<K>, (Book<K>, CentreWorker)>
+    ensures book { IfOk result (λ station. station.book ≡ book) }
+    ensures centre { IfOk result (λ station. station.centre ≡ centre) }
+    ensures published { IfOk result (λ station. IsPublished station.book.state.changes station.publisher station.readers.items) }
+    ensures book_back { IfErr result (λ back. back.0 ≡ book) }
+    ensures centre_back { IfErr result (λ back. back.1 ≡ centre) }
+{
+    let Ok(newest) = book.newest().copy(alloc) else {
+        return Err((book, centre));
+    };
+    match board(rt, alloc, newest, DESKS) {
+        Ok((publisher, readers)) => Ok(Station {
+            book,
+            publisher,
+            readers,
+            centre,
+        }),
+        Err(_) => Err((book, centre)),
+    }
+}
+
+/// The book and the centre's worker of a station, whose board is closed.
+pub(crate) fn book_and_centre<R: Wait, K: Keeper>(
+    rt: &R,
+    station: Station<K>,
+) -> (Book<K>, CentreWorker)
+    ensures book { result.0 ≡ station.book }
+    ensures centre { result.1 ≡ station.centre }
+{
+    let Station {
+        book,
+        publisher,
+        readers: _readers,
+        centre,
+    } = station;
+    publisher.close(rt);
+    (book, centre)
+}

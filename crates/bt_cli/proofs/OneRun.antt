@@ -1,0 +1,127 @@
+-- Runs of one script over one told store: where it fails in no call, each comes to its end, or the store's journal is at fault, and then
+-- they have one outcome.
+use Rattle.std.proofs.Common.{◌≡◌, ◌≢◌, ℕ, zero, suc, ◌≤◌, inl, inr, List, [], length, Option, Some, refl, ap, ◌∙◌, subst, arith}
+use Rattle.std.proofs.lemmas.Option.{same_Some}
+use Rattle.bt_base.specs.declared.keeper.TheConstants.{STORE_LAST}
+use Rattle.bt_base.specs.Told.{Rose}
+use Rattle.bt_net.specs.Network.{Net}
+use Rattle.bt_air.specs.declared.event.Event.{Event}
+use Rattle.bt_script.specs.declared.script.Item.{Item}
+use Rattle.bt_script.specs.declared.script.Script.{Script}
+use Rattle.bt_journal.specs.declared.call.Change.{Change}
+use Rattle.bt_book.specs.declared.fault.RecoverFault.{RecoverFault}
+use Rattle.bt_book.specs.declared.fault.RecoverFault.TheVariants.{J1, J2, StoreFault, TooLong, OutOfMemory}
+use Rattle.bt_book.specs.Recovery.{IsRecoverFault, Recovered}
+use Rattle.bt_book.specs.Store.{RoseBy}
+use Rattle.bt_centre.specs.declared.history.History.{History}
+use Rattle.bt_centre.specs.RecoverFaults.{recover_line, recover_status, recover_words}
+use Rattle.bt_centre.specs.Run.{EndsFrom, PrintsFault, RunsTo, RunsToRestart, RunsWhole, lost_in}
+use Rattle.bt_cli.specs.Kinds.{network_file, script_file}
+use Rattle.bt_cli.specs.Outcome.{Outcome, Loads, Says, text_alone}
+use Rattle.bt_cli.specs.Replay.{IsSteady, NamesRecoverFault, Stored}
+use Rattle.bt_cli.specs.Run.{PrintsRun, Runs, RunsScript, sink_with}
+use Rattle.bt_cli.specs.Top.{IsOneStore, IsTold}
+use Rattle.bt_cli.proofs.Kept.{kept_status}
+use Rattle.bt_cli.proofs.Loads.{Loads-among}
+use Rattle.bt_cli.proofs.OneAnswer.{AreAlike, Loads-same, done_alike, same_alike}
+use Rattle.bt_cli.proofs.OneJournal.{Comes, ComesOn, Laws, fault_comes, one_coming, told}
+
+-- a run that came to its end, whatever its changes were
+abbrev HasEnded : List Change → Outcome → Type 0
+HasEnded changes outcome = outcome.status ≡ 0
+
+-- a sink that takes all did not fail
+no_fault : Rose 0 0 → ⊥
+no_fault (inl less) = absurd (omega (arith, less))
+no_fault (inr last) = absurd (omega (arith, last))
+
+outcome_is : (outcome : Outcome) (text : List ℕ) (status : ℕ) → outcome.text ≡ text → outcome.status ≡ status → outcome ≡ text_alone text status
+outcome_is outcome text status same_text same_status =
+    ap (λ (t : List ℕ). text_alone t outcome.status) same_text ∙ ap (λ (n : ℕ). text_alone text n) same_status
+
+-- a fault that is none of memory is named by its line
+named : (fault : RecoverFault) (outcome : Outcome) → fault ≢ OutOfMemory → Says (recover_words fault) (recover_status fault) outcome → NamesRecoverFault fault outcome
+named (J1 number) outcome is says = says
+named (J2 number) outcome is says = says
+named StoreFault outcome is says = says
+named TooLong outcome is says = says
+named OutOfMemory outcome is says = absurd (is refl)
+
+fault_said : (fault : RecoverFault) (outcome : Outcome) → PrintsFault (sink_with outcome.text) [] fault outcome.status → Says (recover_words fault) (recover_status fault) outcome
+fault_said fault outcome (inl (wrote, is)) = outcome_is outcome (recover_line fault) (recover_status fault) (same_Some outcome.text (recover_line fault) wrote) is
+fault_said fault outcome (inr (failed, part, six)) = absurd (no_fault failed)
+
+-- a store that does not fail loses nothing
+none_lost : (stored : Stored) (count : ℕ) → IsSteady stored → RoseBy count stored.faults_before stored.faults_after → count ≡ 0
+none_lost stored zero steady rose = refl
+none_lost stored (suc n) steady (inl rose) = absurd (steady (inl (omega (arith, rose))))
+none_lost stored (suc n) steady (inr last) = absurd (steady (inr last))
+
+-- and no recovery fails over it at a restart
+rose_later : (count before between now : ℕ) → RoseBy count before between → Rose between now → between ≤ now → Rose before now
+rose_later count before between now (inl first) (inl second) later = inl (omega (arith, first, second))
+rose_later count before between now (inr last) rose later = inr (omega (arith, last, later))
+rose_later count before between now first (inr last) later = inr last
+
+never_failed : (net : Net) (held : List ℕ) (items : List Item) (text : List ℕ) (stored : Stored) (opening : List Change) (status : ℕ) (histories : List History) (events : List Event)
+    → stored.before ≡ Some held → IsSteady stored → RunsToRestart net items (sink_with text) stored opening status histories events → ⊥
+never_failed net held items text stored opening status histories events is steady stops =
+    let only : stops.fault ≡ StoreFault = told stored.before held (λ _. stops.fault ≡ StoreFault) is stops.only in
+    let Failed : RecoverFault → Type 0 = λ fault. IsRecoverFault net stops.told stored.after stops.faults stored.faults_after fault in
+    let failed = subst Failed only stops.failed in
+    steady (rose_later (length (lost_in histories)) stored.faults_before stops.faults stored.faults_after stops.left.count failed.1 stops.later)
+
+-- a run over such a store came to its end
+whole_ended : (net : Net) (items : List Item) (text : List ℕ) (stored : Stored) (opening : List Change) (status : ℕ) (histories : List History) (events : List Event)
+    → IsSteady stored → RunsWhole net items (sink_with text) stored opening status histories events → status ≡ 0
+whole_ended net items text stored opening status histories events steady ran =
+    ran.status_is ∙ kept_status net _ opening ran.run.end.opening histories ran.run.legal (none_lost stored (length (lost_in histories)) steady ran.left.count)
+
+parts_ended : (net : Net) (held : List ℕ) (items : List Item) (text : List ℕ) (stored : Stored) (opening : List Change) (status : ℕ) (histories : List History) (events : List Event)
+    → stored.before ≡ Some held → IsSteady stored → status ≢ 1 → EndsFrom net items (sink_with text) stored opening status histories events → status ≡ 0
+parts_ended net held items text stored opening status histories events is steady memory (inl broke) = absurd (memory broke.status_is)
+parts_ended net held items text stored opening status histories events is steady memory (inr (inl ran)) = whole_ended net items text stored opening status histories events steady ran
+parts_ended net held items text stored opening status histories events is steady memory (inr (inr (inl partly))) = absurd (no_fault partly.failed)
+parts_ended net held items text stored opening status histories events is steady memory (inr (inr (inr stops))) = absurd (never_failed net held items text stored opening status histories events is steady stops)
+
+run_comes : (net : Net) (script : Script) (held : List ℕ) (stored : Stored) (outcome : Outcome) (histories : List History) (events : List Event) → stored.before ≡ Some held → IsSteady stored
+    → outcome.status ≢ 1 → RunsTo net script (sink_with outcome.text) stored outcome.status histories events → Comes HasEnded net held outcome
+run_comes net script held stored outcome histories events is steady memory (inl early) = absurd (memory early.status_is)
+run_comes net script held stored outcome histories events is steady memory (inr (inl nothing)) =
+    fault_comes HasEnded net held stored nothing.fault outcome is steady nothing.failed (named nothing.fault outcome nothing.named (fault_said nothing.fault outcome nothing.printed))
+run_comes net script held stored outcome histories events is steady memory (inr (inr run)) =
+    inl (record {
+      changes = run.opening;
+      told = told stored.before held (λ bytes. Recovered net bytes run.opening) is run.opens.told;
+      short = told stored.before held (λ bytes. length bytes ≤ STORE_LAST) is run.opens.readable;
+      done = parts_ended net held script.items outcome.text stored run.opening outcome.status histories events is steady memory run.ends;
+    })
+
+-- what came of the journal on the network and the script of the files
+abbrev Ran : List ℕ → Net → Script → Outcome → Type 0
+Ran held net script outcome = ComesOn HasEnded held net outcome
+
+abbrev RanOn : (List ℕ → Option (List ℕ)) → List ℕ → List ℕ → Net → Outcome → Type 0
+RanOn told script held net outcome = Loads (script_file net) told ⊥ script (Ran held net) outcome
+
+script_comes : (told : List ℕ → Option (List ℕ)) (script held : List ℕ) (stored : Stored) → stored.before ≡ Some held → IsSteady stored → (net : Net) (outcome : Outcome)
+    → RunsScript told ⊥ stored script net outcome → RanOn told script held net outcome
+script_comes told script held stored is steady net outcome so =
+    Loads-among (script_file net) told ⊥ script (λ read. PrintsRun net read stored) (Ran held net)
+    (λ read o one. (one.sound, run_comes net read held stored o one.histories one.events is steady one.memory one.ends)) outcome so
+
+file_comes : (told : List ℕ → Option (List ℕ)) (net script held : List ℕ) (stored : Stored) → stored.before ≡ Some held → IsSteady stored → (outcome : Outcome) → Runs told ⊥ stored net script outcome
+    → Loads network_file told ⊥ net (RanOn told script held) outcome
+file_comes told net script held stored is steady outcome so =
+    Loads-among network_file told ⊥ net (RunsScript told ⊥ stored script) (RanOn told script held) (λ network o one. script_comes told script held stored is steady network o one) outcome so
+
+-- so runs of one script have one status, and where that is not 0 one outcome
+pub one_run : Laws → (told : List ℕ → Option (List ℕ)) (net script : List ℕ) (one other : Stored) → IsTold told net → IsTold told script → IsOneStore one other → (a b : Outcome)
+    → Runs told ⊥ one net script a → Runs told ⊥ other net script b → AreAlike a b
+one_run laws told net script one other of_net of_script kept a b first second =
+    Loads-same AreAlike same_alike network_file told net of_net.0 of_net.1 (RanOn told script kept.held)
+    (λ network. Loads-same AreAlike same_alike (script_file network) told script of_script.0 of_script.1 (Ran kept.held network)
+    (λ read x y p q. one_coming laws AreAlike same_alike HasEnded (λ changes u v one two. done_alike u v one two) network p.0 kept.held x y p.1 q.1))
+    a b
+    (file_comes told net script kept.held one kept.told kept.steady a first)
+    (file_comes told net script kept.held other kept.also kept.steadily b second)

@@ -1,0 +1,22 @@
+use Rattle.std.proofs.Common.{sym, ap, ◌∙◌, subst}
+use Rattle.bt_book.specs.Book.{book_steps}
+use Rattle.bt_line.specs.Legal.{entry_of}
+use Rattle.bt_line.specs.Passes.{Gains, seen_at}
+use Rattle.bt_round.specs.Callers.{Calling, IsAnswered}
+use Rattle.bt_round.proofs.Asking.{answered_by_step, calling_at, calls_on_unseen, made}
+use Rattle.bt_round.proofs.caller.Caller.ask.Goals as goal
+
+pub invariant_of-self : goal.invariant_of-self
+invariant_of-self g c =
+    let shared = c.self.inside.line.now.table.shared in
+    calls_on_unseen shared.table_id shared.key.value c.self.inside.pass.place c.call.new.pass.place c.self.invariant c.in_err-reply.ensures.same c.in_err-reply.ensures.call
+
+pub returns-clause-answered : goal.returns-clause-answered
+returns-clause-answered g c =
+    let shared = c.self.inside.line.now.table.shared in
+    let entry = made c.call.new.pass.number c.in_ok-asked.asked c.in_ok-reply.reply in
+    let caller : Calling = calling_at shared.table_id shared.key.value c.self.inside.pass.place in
+    subst (λ (caller : Calling). IsAnswered c.args.net.now caller entry) c.self.view_is
+    (answered_by_step c.locked_calls_are_steps.ensures c.args.net.now caller (seen_at c.call.new.pass.place) c.args.call entry
+    (ap (λ (caller : Calling). caller.start.net) c.self.view_is ∙ c.requires.network)
+    c.self.invariant.begins c.in_ok-asked.ensures (subst (λ n. Gains book_steps shared.key.value (seen_at c.self.inside.pass.place) (entry_of n c.args.call c.in_ok-reply.reply) (seen_at c.call.new.pass.place)) (sym c.self.inside.pass.numbered) c.in_ok-reply.ensures.call))

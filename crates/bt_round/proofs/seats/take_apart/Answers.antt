@@ -1,0 +1,57 @@
+-- the passes come in the order of their workers, and the readers in that of the desks
+use Rattle.std.proofs.Common.{◌≡◌, ◌+◌, [], ◌∷◌, ◌++◌, List, Some, length, length-append, map, drop, sym, ap, ◌∙◌, subst, arith}
+use Rattle.std.proofs.lemmas.List.{append-nil, nil_from_length}
+use Rattle.std.specs.Vec.Iter.{into_iter_items}
+use Rattle.bt_board.specs.Posted.{Posted}
+use Rattle.bt_round.specs.Seats.{IsOfPlace, reader_in}
+use Rattle.bt_round.proofs.Seating.{behind_is_desk, moved_on, next_of}
+use Rattle.bt_round.proofs.seats.take_apart.Goals as goal
+
+pub leave_desk-pass-requires : goal.leave_desk-pass-requires
+leave_desk-pass-requires g c =
+    let all = c.args.workers.items in
+    let place = length c.loop-worker.passes.items in
+    let next = next_of all place c.in-Some.worker (into_iter_items c.next.new.self) (sym c.loop-worker.invariant.left ∙ c.in-Some.ensures.items) in
+    behind_is_desk c.in-Some.worker.job place c.loop-worker.invariant.some
+    (subst (λ w. IsOfPlace place w.job) (next.next_is c.in-Some.worker) (c.requires.jobs place c.in-Some.worker next.within))
+
+pub loop-worker-preserved : goal.loop-worker-preserved
+loop-worker-preserved g c =
+    let all = c.args.workers.items in
+    let place = length c.loop-worker.passes.items in
+    let worker = c.in-Some.worker in
+    let rest = into_iter_items c.next.new.self in
+    let next = next_of all place worker rest (sym c.loop-worker.invariant.left ∙ c.in-Some.ensures.items) in
+    let passes = c.push_reserved-in-Some.ensures.items in
+    let readers = c.push_reserved-in-Some-2.ensures.items in
+    let longer : length c.push_reserved-in-Some.new.self.items ≡ place + 1 = ap length passes ∙ length-append c.loop-worker.passes.items (c.leave_desk-pass.result.0 ∷ []) in
+    let more : length c.push_reserved-in-Some-2.new.self.items ≡ length c.loop-worker.readers.items + 1 =
+    ap length readers ∙ length-append c.loop-worker.readers.items (c.leave_desk-pass.result.1 ∷ []) in
+    record {
+      some = omega (arith, longer, c.loop-worker.invariant.some);
+      left = next.left_is ∙ ap (λ n. drop n all) (sym longer);
+      counted = omega (arith, longer, c.loop-worker.invariant.counted, c.in-Some.ensures.len);
+      desks = omega (arith, more, c.loop-worker.invariant.desks, c.in-Some.ensures.len);
+      moved = ap (λ (l : List _). map (λ pass. pass.place) l ++ map (λ worker. worker.caller.place) rest) passes
+          ∙ moved_on (λ pass. pass.place) (λ worker. worker.caller.place) c.loop-worker.passes.items c.leave_desk-pass.result.0 worker rest (map (λ worker. worker.caller.place) all)
+          c.leave_desk-pass.ensures.pass
+          (ap (λ (l : List _). map (λ pass. pass.place) c.loop-worker.passes.items ++ map (λ worker. worker.caller.place) l) (sym c.in-Some.ensures.items) ∙ c.loop-worker.invariant.moved);
+      read = ap (λ (l : List Posted). map (λ (reader : Posted). Some reader) l ++ map (λ worker. reader_in worker.job) rest) readers
+          ∙ moved_on (λ (reader : Posted). Some reader) (λ worker. reader_in worker.job) c.loop-worker.readers.items c.leave_desk-pass.result.1 worker rest (map (λ worker. reader_in worker.job) (drop 2 all))
+          (sym c.leave_desk-pass.ensures.reader)
+          (ap (λ (l : List _). map (λ (reader : Posted). Some reader) c.loop-worker.readers.items ++ map (λ worker. reader_in worker.job) l) (sym c.in-Some.ensures.items) ∙ c.loop-worker.invariant.read);
+      room = omega (arith, c.push_reserved-in-Some.ensures.capacity, c.loop-worker.invariant.room);
+      readers_room = omega (arith, c.push_reserved-in-Some-2.ensures.capacity, c.loop-worker.invariant.readers_room);
+    }
+
+pub returns-clause-passes : goal.returns-clause-passes
+returns-clause-passes g c =
+    let passes = map (λ pass. pass.place) c.loop-worker.passes.items in
+    let none : into_iter_items c.loop-worker.others ≡ [] = nil_from_length (into_iter_items c.loop-worker.others) (omega (arith, c.loop-worker.others.rest.ok.0, c.in_default.ensures.cases.0)) in
+    sym (append-nil passes) ∙ ap (λ (l : List _). passes ++ map (λ worker. worker.caller.place) l) (sym none) ∙ c.loop-worker.invariant.moved
+
+pub returns-clause-readers : goal.returns-clause-readers
+returns-clause-readers g c =
+    let readers = map (λ reader. Some reader) c.loop-worker.readers.items in
+    let none : into_iter_items c.loop-worker.others ≡ [] = nil_from_length (into_iter_items c.loop-worker.others) (omega (arith, c.loop-worker.others.rest.ok.0, c.in_default.ensures.cases.0)) in
+    sym (append-nil readers) ∙ ap (λ (l : List _). readers ++ map (λ worker. reader_in worker.job) l) (sym none) ∙ c.loop-worker.invariant.read
