@@ -17,6 +17,8 @@ pub struct Meeting {
     pub keeps: Vec<Fail>,
     /// Files, an output and a store that do not fail at all.
     pub is_sure: bool,
+    /// The store as it is, where the command is a run; else a run begins with an empty one.
+    pub goes_on: bool,
     /// The command's own call in place of the top call.
     pub is_alone: bool,
     /// The lines that are shown.
@@ -35,6 +37,7 @@ impl Meeting {
             writes: Vec::new(alloc),
             keeps: Vec::new(alloc),
             is_sure: false,
+            goes_on: false,
             is_alone: false,
             part: Part::All,
             into: None,
@@ -68,6 +71,7 @@ fn fail_of(call: &str, kept: &str) -> Result<Fail> {
 fn set_flag(next: &mut Meeting, words: &[&str]) -> bool {
     match words {
         ["sure"] => next.is_sure = true,
+        ["goes", "on"] => next.goes_on = true,
         ["alone"] => next.is_alone = true,
         _ => return false,
     }
@@ -173,6 +177,9 @@ impl Outside {
         shelf: &Shelf,
         words: &[&str],
     ) -> Result<Ending> {
+        if matches!(words, ["run", ..]) && !self.next.goes_on {
+            self.store.clear();
+        }
         if self.next.is_sure {
             let mut files = shelf.sure()?;
             let mut sink = SureSink::new(alloc);

@@ -69,6 +69,7 @@ impl Texts {
     fn set(&mut self, alloc: Global, words: &[&str]) -> Result<bool> {
         if let ["store", name] = words {
             self.outside.store = self.shelf.text(name)?.to_vec(alloc)?;
+            self.outside.next.goes_on = true;
             return Ok(true);
         }
         let next = &mut self.outside.next;

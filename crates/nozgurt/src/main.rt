@@ -54,14 +54,14 @@ fn words<R: Env + Alloc<A = Global>>(rt: &R, alloc: Global) -> Result<Vec<String
     }
 }
 
-/// The file of the journal that is replayed; None where the words ask for no replay.
+/// The file of the journal that a run or a replay asks for; None where the words ask for neither.
 fn journal_of(words: &[String]) -> Option<&str> {
-    match words {
-        [command, _, journal] if command.as_str() == "replay" && !journal.is_empty() => {
-            Some(journal.as_str())
-        }
-        _ => None,
-    }
+    let journal = match words {
+        [command, _, _, journal] if command.as_str() == "run" => journal,
+        [command, _, journal] if command.as_str() == "replay" => journal,
+        _ => return None,
+    };
+    (!journal.is_empty()).then_some(journal.as_str())
 }
 
 /// Prints a page, and gives the status to end with.
