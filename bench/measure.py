@@ -18,10 +18,22 @@ def program():
     return PROGRAM
 
 
-def seconds_of(words):
-    """The seconds of the fastest of three runs, and what the last one printed."""
+def memory_folder():
+    """A folder whose files stay in memory; the usual one for temporary files where there is none."""
+    return "/dev/shm" if os.path.isdir("/dev/shm") else None
+
+
+def drop(journal):
+    """Takes a journal away, so that the next run begins anew."""
+    if journal is not None and os.path.exists(journal):
+        os.remove(journal)
+
+
+def seconds_of(words, journal=None):
+    """The seconds of the fastest of three runs, each without the journal before it, and what the last one printed."""
     best = None
     for _ in range(3):
+        drop(journal)
         start = time.perf_counter()
         done = subprocess.run(words, capture_output=True)
         seconds = time.perf_counter() - start
@@ -31,10 +43,11 @@ def seconds_of(words):
     return best, done.stdout
 
 
-def instructions_of(words):
+def instructions_of(words, journal=None):
     """The instructions of a run in millions, its start included, as valgrind counts them; a dash where it is not there."""
     if shutil.which("valgrind") is None:
         return "-"
+    drop(journal)
     with tempfile.TemporaryDirectory() as folder:
         counts = os.path.join(folder, "counts")
         counting = ["valgrind", "--tool=callgrind", f"--callgrind-out-file={counts}", *words]
@@ -48,12 +61,13 @@ def growth_of(seconds, before):
     return "" if before is None else f"{seconds / before:.2f}"
 
 
-def memory_of(words):
+def memory_of(words, journal=None):
     """The most memory of a run in KiB, as far as the system shows it while it runs: the most of twenty runs."""
-    return max(memory_seen(words) for _ in range(20))
+    return max(memory_seen(words, journal) for _ in range(20))
 
 
-def memory_seen(words):
+def memory_seen(words, journal):
+    drop(journal)
     most = 0
     with subprocess.Popen(words, stdout=subprocess.DEVNULL) as running:
         while running.poll() is None:
