@@ -35,6 +35,7 @@ use Rattle.bt_centre.specs.Run.{AreLegalTimes, BreaksOff, EndsFrom, FramesAreSaf
 use Rattle.bt_centre.specs.Stored.{Stored}
 use Rattle.bt_round.proofs.Closing.{ran_nothing}
 use Rattle.bt_centre.proofs.Going.{breaks_off, left_early, legal_times}
+use Rattle.bt_centre.proofs.Restarts.{cut_at_fault}
 use Rattle.bt_centre.proofs.Played.{changes_are, gained-append, item_goes_on, items_begin, next_parts, same_histories, start_is}
 use Rattle.bt_centre.proofs.Times.{rose_still}
 
@@ -195,6 +196,8 @@ ended_at_restart net items index begun old left before between after f0 f1 f2 fa
       hand = old;
       goes = record { over = refl; before = refl; ran = ran_nothing old.book (subst (λ (n : Net). Follows n old.book.state.changes) (sym so.done.so_far.network) so.done.so_far.follow); world = refl };
       histories = is.histories;
+      kept = is.kept;
+      cut = cut_at_fault net old.book.told left.told old.book.faults left.faults fault is.failed;
       later = is.later;
       world = is.world;
     }) early

@@ -9,7 +9,7 @@ use Rattle.bt_journal.specs.declared.call.Change.{Change}
 use Rattle.bt_book.specs.declared.fault.RecoverFault.{RecoverFault}
 use Rattle.bt_book.specs.declared.fault.RecoverFault.TheVariants.{StoreFault}
 use Rattle.bt_book.specs.Book.{Books}
-use Rattle.bt_book.specs.Recovery.{IsReadable, Recovered, whole}
+use Rattle.bt_book.specs.Recovery.{IsReadable, IsRecoverFault, Recovered, whole}
 use Rattle.bt_world.specs.Air.{AreFlyable, IsAir, IsSafe, modes_in_front}
 use Rattle.bt_world.specs.Event.{Frame, Opening}
 use Rattle.bt_world.specs.Fits.{IsWorld}
@@ -18,11 +18,11 @@ use Rattle.bt_script.specs.declared.script.Item.{Item}
 use Rattle.bt_script.specs.declared.script.Script.{Script}
 use Rattle.bt_centre.specs.declared.history.History.{History}
 use Rattle.bt_centre.specs.Output.{Output}
-use Rattle.bt_centre.specs.Progress.{Hand, IsBegun, Left, PartsEnded}
-use Rattle.bt_centre.specs.Run.{AreLegalTimes, EndsFrom, FramesAreSafe, LeavesStore, PlaysItems, RunsFrom, Stand, at_start, lost_in, opening_on}
+use Rattle.bt_centre.specs.Progress.{Hand, IsBegun, Left, PartsEnded, PrintsNamed}
+use Rattle.bt_centre.specs.Run.{AreLegalTimes, EndsFrom, FramesAreSafe, LeavesStore, PlaysItems, RunsFrom, RunsTo, Stand, at_start, lost_in, opening_on}
 use Rattle.bt_centre.specs.Stored.{Stored}
 use Rattle.bt_centre.proofs.Ended.{only_fault}
-use Rattle.bt_centre.proofs.Restarts.{tells_whole}
+use Rattle.bt_centre.proofs.Restarts.{cut_at_fault, tells_whole}
 use Rattle.bt_centre.proofs.Times.{rose_since}
 
 -- what happened before an event of a world is a world
@@ -58,6 +58,12 @@ ends_from : (net : Net) (items : List Item) (output : Output) (told given after 
 ends_from net items output told given after faults begun now opening status histories events tells later (inl breaks) = inl (record {
   last = breaks.last;
   legal = subst (λ (b : Bool). AreLegalTimes net b opening breaks.last histories) tells breaks.legal;
+  over = breaks.over;
+  entries = breaks.entries;
+  all = breaks.all;
+  told = breaks.told;
+  kept = breaks.kept;
+  bytes = breaks.bytes;
   count = rose_since (length (lost_in histories)) faults begun now later breaks.count;
   status_is = breaks.status_is;
 })
@@ -129,3 +135,20 @@ runs_from flown safe net script output given faults hand left status begun told 
   ends = ends_from net script.items output hand.book.told given left.told faults hand.book.faults left.faults hand.book.state.changes status left.histories left.events
       (ap is_some told ∙ tells_whole given) later ended.ends;
 }
+
+-- memory ran out before anything was run, or the first recovery failed
+pub nothing_run : (net : Net) (script : Script) (output : Output) (stored : Stored) (fault : RecoverFault) (status : ℕ) (histories : List History) (events : List Event)
+    → IsRecoverFault net stored.before stored.after stored.faults_before stored.faults_after fault → stored.faults_before ≤ stored.faults_after → histories ≡ [] → events ≡ []
+    → PrintsNamed output [] fault status → RunsTo net script output stored status histories events
+nothing_run net script output stored fault status histories events failed later none quiet (inl early) = inl (record {
+  none = record { none = none; quiet = quiet; later = later };
+  bytes = cut_at_fault net stored.before stored.after stored.faults_before stored.faults_after fault failed;
+  status_is = early;
+})
+nothing_run net script output stored fault status histories events failed later none quiet (inr (named, printed)) = inr (inl (record {
+  fault = fault;
+  failed = failed;
+  named = named;
+  none = record { none = none; quiet = quiet; later = later };
+  printed = printed;
+}))

@@ -8,7 +8,7 @@ use Rattle.bt_journal.specs.declared.entry.Entry.{Entry}
 use Rattle.bt_book.specs.Book.{Books}
 use Rattle.bt_book.specs.Causes.{Follows}
 use Rattle.bt_book.specs.Machine.{Legal, State, running, state_after, state_from}
-use Rattle.bt_book.specs.Store.{lost_of}
+use Rattle.bt_book.specs.Store.{IsKept, lost_of}
 use Rattle.bt_book.proofs.Histories.{state_from-none}
 use Rattle.bt_centre.specs.declared.history.History.{History}
 use Rattle.bt_round.specs.AirLines.{AirState}
@@ -31,6 +31,8 @@ left_early net hand left network follow is = record {
   hand = hand;
   goes = record { over = refl; before = refl; ran = ran_none net hand.book network follow; world = refl };
   histories = is.histories;
+  kept = is.kept;
+  cut = inl is.told;
   later = omega (arith, is.faults);
   world = is.world;
 }
@@ -41,6 +43,8 @@ left_on old hand left goes is = record {
   hand = hand;
   goes = goes;
   histories = is.histories;
+  kept = is.kept;
+  cut = inl is.told;
   later = omega (arith, is.faults);
   world = subst (λ (o : Opening). IsWorld o (reverse left.events)) goes.world is.world;
 }
@@ -123,9 +127,18 @@ pub breaks_off : (net : Net) (begun : Books) (opening : List Change) (old : Hand
     → BreaksOff net (record { before = begun.told; after = left.told; faults_before = begun.faults; faults_after = left.faults }) begun.state.changes status left.histories
 breaks_off net begun opening old left status so is status_is =
     let now = legal_goes_on net begun opening old is.hand is.goes so in
+    let history = is.hand.book.history in
+    let told = is.hand.book.told in
     record {
       last = opening;
       legal = subst (AreLegalTimes net (is_some begun.told) begun.state.changes opening) (sym is.histories) (legal_times net begun opening is.hand now);
+      over = is.hand.over;
+      entries = history;
+      all = is.histories ∙ ap (λ (n : ℕ). is.hand.over ++ record { before = n; entries = history } ∷ []) now.before;
+      told = told;
+      kept = subst (λ (c : List Change). IsKept net told c (lost_of history)) (ap (λ (s : State). s.changes) now.reached)
+          (subst (λ (n : Net). IsKept n told is.hand.book.state.changes (lost_of history)) now.network is.kept);
+      bytes = is.cut;
       count = rose_still (length (lost_in (histories_in is.hand))) (length (lost_in left.histories)) begun.faults is.hand.book.faults left.faults
           (ap (λ (l : List History). length (lost_in l)) is.histories) now.count is.later;
       status_is = status_is;

@@ -13,7 +13,7 @@ use Rattle.bt_book.specs.declared.fault.RecoverFault.TheVariants.{J1, J2, StoreF
 use Rattle.bt_book.specs.Book.{Books}
 use Rattle.bt_book.specs.Causes.{Follows}
 use Rattle.bt_book.specs.Machine.{running}
-use Rattle.bt_book.specs.Recovery.{IsOutside, IsReadable, IsRecoverFault, Recovered, whole}
+use Rattle.bt_book.specs.Recovery.{IsOutside, IsReadable, IsRecoverFault, MaybeCut, Recovered, whole}
 use Rattle.bt_book.specs.Store.{IsKept, IsNextOpening, IsStored, lost_of}
 use Rattle.bt_script.specs.declared.script.Item.TheVariants as item
 use Rattle.bt_world.specs.Event.{Opening}
@@ -60,11 +60,14 @@ restarted net old new book over text began all network none runs follow next tel
 
 -- memory ran out over the restart
 pub left_behind : (net : Net) (old : Hand) (left : Left) → old.book.net ≡ net → Follows net old.book.state.changes → left.histories ≡ histories_in old → old.book.faults ≤ left.faults
-    → IsWorld old.air.life.opening (reverse left.events) → IsLeftEarly old left
-left_behind net old left network follow all later world = record {
+    → IsWorld old.air.life.opening (reverse left.events) → IsKept old.book.net old.book.told old.book.state.changes (lost_of old.book.history) → MaybeCut old.book.told left.told
+    → IsLeftEarly old left
+left_behind net old left network follow all later world kept cut = record {
   hand = old;
   goes = record { over = refl; before = refl; ran = ran_none net old.book network follow; world = refl };
   histories = all;
+  kept = kept;
+  cut = cut;
   later = later;
   world = world;
 }
@@ -109,9 +112,17 @@ always : (told : Option (List ℕ)) (Q : Type 0) → Q → IfSome told (λ _. Q)
 always (Some bytes) Q is = is
 always None Q is = tt
 
+-- a recovery that failed leaves the store as it was, or with its tail cut
+pub cut_at_fault : (net : Net) (old new : Option (List ℕ)) (before now : ℕ) (fault : RecoverFault) → IsRecoverFault net old new before now fault → MaybeCut old new
+cut_at_fault net old new before now (J1 line) is = inl is.0
+cut_at_fault net old new before now (J2 line) is = inl is.0
+cut_at_fault net old new before now StoreFault is = is.0
+cut_at_fault net old new before now TooLong is = inl is.0
+cut_at_fault net old new before now OutOfMemory is = is
+
 -- the recovery failed, or memory ran out over it
 pub restart_failed : (net : Net) (old : Hand) (left : Left) (fault : RecoverFault) → Fails net old left fault → ItemFailed net item.Restart old left fault
-restart_failed net old left OutOfMemory is = inl (refl, left_behind net old left is.network is.follow is.histories is.later is.world)
+restart_failed net old left OutOfMemory is = inl (refl, left_behind net old left is.network is.follow is.histories is.later is.world is.kept is.failed)
 restart_failed net old left StoreFault is = inr (refl, at_restart net old left StoreFault is (λ same. cc) (always old.book.told (StoreFault ≡ StoreFault) refl))
 restart_failed net old left TooLong is = inr (refl, at_restart net old left TooLong is (λ same. cc) (never_long old.book.told (TooLong ≡ StoreFault) is.short is.failed.1))
 restart_failed net old left (J1 line) is =
@@ -179,10 +190,13 @@ restarts laws net old new book again air over text told faults sound is air_is n
 
 -- memory ran out over what was recovered
 pub breaks_behind : (net : Net) (old : Hand) (book again : Books) (air : AirState) (over : List History) (left : Left) (told : Option (List ℕ)) (faults : ℕ) → book ≡ old.book → air ≡ old.air → old.book.net ≡ net
-    → Follows net old.book.state.changes → faults ≡ book.faults → faults ≤ again.faults → IsLeftBehind again air over left → over ≡ histories_in old → IsLeftEarly old left
-breaks_behind net old book again air over left told faults is air_is network follow faults_are later behind all =
+    → Follows net old.book.state.changes → IsStored book.net book.told book.state.changes (lost_of book.history) → told ≡ book.told → again.told ≡ option_map whole told
+    → faults ≡ book.faults → faults ≤ again.faults → IsLeftBehind again air over left → over ≡ histories_in old → IsLeftEarly old left
+breaks_behind net old book again air over left told faults is air_is network follow stored told_is again_told faults_are later behind all =
+    let kept = subst (λ (b : Books). IsKept b.net b.told b.state.changes (lost_of b.history)) is stored.kept in
+    let cut : left.told ≡ option_map whole old.book.told = behind.told ∙ again_told ∙ ap (option_map whole) (told_is ∙ ap (λ (b : Books). b.told) is) in
     left_behind net old left network follow (behind.histories ∙ all) (omega (arith, later, faults_are, ap (λ (b : Books). b.faults) is, behind.faults))
-    (subst (λ (a : AirState). IsWorld a.life.opening (reverse left.events)) air_is behind.world)
+    (subst (λ (a : AirState). IsWorld a.life.opening (reverse left.events)) air_is behind.world) kept (inr cut)
 
 -- the world of the centre's worker
 pub world_at : (air old : AirState) (events : List Event) → air ≡ old → events ≡ air.life.events → IsWorld air.life.opening (reverse air.life.events) → IsWorld old.life.opening (reverse events)

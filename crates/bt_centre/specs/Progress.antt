@@ -13,7 +13,7 @@ use Rattle.bt_book.specs.Book.{Books}
 use Rattle.bt_book.specs.Causes.{Follows}
 use Rattle.bt_book.specs.Changes.{edition, newest, orders}
 use Rattle.bt_book.specs.Machine.{Legal, running, state_after}
-use Rattle.bt_book.specs.Recovery.{IsRecoverFault}
+use Rattle.bt_book.specs.Recovery.{IsRecoverFault, MaybeCut}
 use Rattle.bt_book.specs.Store.{IsKept, IsNextOpening, RoseBy, lost_of}
 use Rattle.bt_world.specs.Event.{RestartCentre}
 use Rattle.bt_world.specs.Fits.{IsWorld}
@@ -172,11 +172,14 @@ pub record IsLeftBehind (book : Books) (air : AirState) (over : List History) (l
   pub histories : left.histories ≡ over
   pub world : IsWorld air.life.opening (reverse left.events)
 
--- what is left where memory ran out over a part: the histories, with what was asked and answered meanwhile, and the events of a world
+-- what is left where memory ran out over a part: the histories, with what was asked and answered meanwhile, the store that keeps that,
+-- and the events of a world
 pub record IsLeftEarly (old : Hand) (left : Left) : Type 0 where
   pub hand : Hand
   pub goes : GoesOn old hand
   pub histories : left.histories ≡ histories_in hand
+  pub kept : IsKept hand.book.net hand.book.told hand.book.state.changes (lost_of hand.book.history)
+  pub cut : MaybeCut hand.book.told left.told
   pub later : hand.book.faults ≤ left.faults
   pub world : IsWorld old.air.life.opening (reverse left.events)
 

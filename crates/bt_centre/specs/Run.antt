@@ -21,7 +21,7 @@ use Rattle.bt_book.specs.declared.fault.RecoverFault.TheVariants.{OutOfMemory, S
 use Rattle.bt_book.specs.Causes.{Follows, IsGoodForItsEdition}
 use Rattle.bt_book.specs.Changes.{edition, installs, newest, orders, plans}
 use Rattle.bt_book.specs.Machine.{Legal}
-use Rattle.bt_book.specs.Recovery.{IsReadable, IsRecoverFault, Recovered}
+use Rattle.bt_book.specs.Recovery.{IsReadable, IsRecoverFault, MaybeCut, Recovered}
 use Rattle.bt_book.specs.Store.{IsKept, IsNextOpening, RoseBy, is_lost, lost_of}
 use Rattle.bt_script.specs.declared.script.Item.{Item}
 use Rattle.bt_script.specs.declared.script.Item.TheVariants as item
@@ -209,7 +209,7 @@ abbrev pub whole_text : Net → List Change → List ℕ → List History → Li
 whole_text net opening lines histories = first_line net opening ++ lines ++ total_of (entries_of histories)
 
 -- The store is left with the lines of the changes of the last time, and behind them a first part of the line of the change that it
--- lost in that time, where it lost one. Its count of faults rose by as many changes as it lost in all times, or stands at its end.
+-- lost in that time, where it lost one. Its count of faults rose by as many changes at least as it lost in all times, or stands at its end.
 pub record LeavesStore (net : Net) (stored : Stored) (histories : List History) (end : Stand) : Type 0 where
   pub bytes : IsKept net stored.after (changes_at end) (lost_of end.history)
   pub count : RoseBy (length (lost_in histories)) stored.faults_before stored.faults_after
@@ -231,9 +231,10 @@ pub record RunsNone (stored : Stored) (histories : List History) (events : List 
   pub quiet : events ≡ []
   pub later : stored.faults_before ≤ stored.faults_after
 
--- memory ran out before anything was run
+-- memory ran out before anything was run: the store is as it was, or with what stood behind its last newline cut
 pub record BreaksEarly (stored : Stored) (status : ℕ) (histories : List History) (events : List Event) : Type 0 where
   pub none : RunsNone stored histories events
+  pub bytes : MaybeCut stored.before stored.after
   pub status_is : status ≡ 1
 
 -- the first recovery failed: nothing was run, and its fault was printed
@@ -244,11 +245,18 @@ pub record RunsNothing (net : Net) (output : Output) (stored : Stored) (status :
   pub none : RunsNone stored histories events
   pub printed : PrintsFault output [] fault status
 
--- Memory ran out: what was asked and answered in each time is legal. The store's count of faults rose by as many changes as it lost,
--- or stands at its end.
+-- Memory ran out: what was asked and answered in each time is legal. The store told the lines of the changes of the last time, and behind
+-- them a first part of the line of the change that it lost in that time, where it lost one; it tells that, or what stands up to its last
+-- newline. Its count of faults rose by as many changes at least as it lost, or stands at its end.
 pub record BreaksOff (net : Net) (stored : Stored) (opening : List Change) (status : ℕ) (histories : List History) : Type 0 where
   pub last : List Change
   pub legal : AreLegalTimes net (is_some stored.before) opening last histories
+  pub over : List History
+  pub entries : List Entry
+  pub all : histories ≡ over ++ record { before = length last; entries = entries } ∷ []
+  pub told : Option (List ℕ)
+  pub kept : IsKept net told (last ++ changes_of entries) (lost_of entries)
+  pub bytes : MaybeCut told stored.after
   pub count : RoseBy (length (lost_in histories)) stored.faults_before stored.faults_after
   pub status_is : status ≡ 1
 

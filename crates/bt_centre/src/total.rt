@@ -105,21 +105,21 @@ fn one_if(test: bool) -> u64
 fn is_done(entry: &Entry) -> bool
     ensures { result ≡ (asks_edit entry.now.call && is_made entry.now.reply) }
 {
-    is_edit(&entry.call) && is_made(&entry.reply)
+    is_edit(&entry.call) && entry.reply.is_made()
 }
 
 /// The entry is that of an edit that was refused for a cause of its own.
 fn is_refused(entry: &Entry) -> bool
     ensures { result ≡ (asks_edit entry.now.call && is_refusal entry.now.reply) }
 {
-    is_edit(&entry.call) && is_refusal(&entry.reply)
+    is_edit(&entry.call) && entry.reply.is_refusal()
 }
 
 /// The entry is that of an edit that a fault of the store kept from being made.
 fn is_failed(entry: &Entry) -> bool
     ensures { result ≡ (asks_edit entry.now.call && is_fault entry.now.reply) }
 {
-    is_edit(&entry.call) && is_fault(&entry.reply)
+    is_edit(&entry.call) && entry.reply.is_fault()
 }
 
 fn is_edit(call: &Call) -> bool
@@ -128,41 +128,5 @@ fn is_edit(call: &Call) -> bool
     match *call {
         Call::Edit(_) => true,
         Call::Snapshot | Call::Install(_) | Call::Newest { .. } | Call::Place(_) => false,
-    }
-}
-
-fn is_made(reply: &Reply) -> bool
-    ensures { result ≡ is_made reply.now }
-{
-    match *reply {
-        Reply::Done { .. } | Reply::Installed { .. } | Reply::Placed => true,
-        _ => false,
-    }
-}
-
-fn is_refusal(reply: &Reply) -> bool
-    ensures { result ≡ is_refusal reply.now }
-{
-    match *reply {
-        Reply::SameTerminal
-        | Reply::NotThere { .. }
-        | Reply::RowFull { .. }
-        | Reply::ColumnFull { .. }
-        | Reply::BookFull { .. }
-        | Reply::NotNewer { .. }
-        | Reply::NoSuchEdition { .. }
-        | Reply::NotGood { .. }
-        | Reply::OutOfTurn { .. }
-        | Reply::NotInstalled { .. } => true,
-        _ => false,
-    }
-}
-
-fn is_fault(reply: &Reply) -> bool
-    ensures { result ≡ is_fault reply.now }
-{
-    match *reply {
-        Reply::StoreFault | Reply::Stopped => true,
-        _ => false,
     }
 }

@@ -1,6 +1,7 @@
--- the run, from the changes that were recovered
+-- the run, from the changes that were recovered, or from none
 use Rattle.std.proofs.Common.{inr}
-use Rattle.bt_centre.proofs.Ends.{runs_from}
+use Rattle.bt_centre.specs.Stored.{Stored}
+use Rattle.bt_centre.proofs.Ends.{nothing_run, runs_from}
 use Rattle.bt_centre.proofs.script.run_script.Goals as goal
 
 pub returns-in-Ok : goal.returns-in-Ok
@@ -9,4 +10,17 @@ returns-in-Ok g c =
     record {
       ends = inr (inr (runs_from c.frames_are_safe.ensures.flyable c.frames_are_safe.ensures.safe c.args.net.now c.args.script.now _ (g.K.Keeper.told c.args.store) (g.K.Keeper.fault_count c.args.store) c.in-Ok.playing _ _
           now.begun now.told now.changes now.readable now.later c.run_from.ensures.ended));
+    }
+
+pub returns-in-Err : goal.returns-in-Err
+returns-in-Err g c =
+    let stored : Stored = record {
+      before = g.K.Keeper.told c.args.store;
+      after = g.K.Keeper.told c.in-Err.store;
+      faults_before = g.K.Keeper.fault_count c.args.store;
+      faults_after = g.K.Keeper.fault_count c.in-Err.store;
+    } in
+    record {
+      ends = nothing_run c.args.net.now c.args.script.now _ stored c.in-Err.fault c.write_fault.result c.none.result c.new.result.items c.in-Err.ensures.fault c.in-Err.ensures.fault_later
+          c.none.ensures c.new.ensures.items c.write_fault.ensures.printed;
     }
