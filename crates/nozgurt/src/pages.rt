@@ -78,7 +78,7 @@ exit status
       the traffic does not fit the frame   fault T6 row BEAM SUM
   5   a file could not be read             fault read NAME
   6   the output could not be written
-  7   the journal failed                   fault store
+  7   the journal failed                   fault store, or the whole run
   8   a line of the journal is wrong       fault CODE LINE
   9   check: the verdict is not good       the verdict's line
   10  a file is over 4,194,304 bytes long  fault too long NAME
@@ -112,7 +112,7 @@ pub fn reason_of(status: u8) -> Option<&'static str> {
         5 => Some("a file could not be read; the last line names it"),
         6 => Some("the output could not be written; at most a first part of it stands there"),
         7 => Some(
-            "the journal could not be read or cut, or took no line; look at its file and its folder",
+            "the journal could not be read or cut, or failed over a line; look at its file and its folder",
         ),
         8 => Some(
             "a line of the journal is none, or its change does not follow those before it; the last line has the fault and the number of the line",
