@@ -14,9 +14,11 @@ use std::{io, rt};
 /// A piece is on the disk, as far as the system says, where `append` or `cut` answers Ok. Whatever stands in the place of
 /// that is `Failed`, and each answer but Ok and want of memory counts as a fault.
 #[derive(Drop)]
-pub struct FileKeeper<'a, R> {
+pub struct FileKeeper<'a, R: rt::Files> {
     rt: &'a R,
     path: &'a str,
+    /// The file, from the first piece that was written to it on; none after a piece that could not be written.
+    file: Option<R::File>,
     faults: u64,
 }
 
@@ -28,6 +30,7 @@ impl<'a, R: rt::Files> FileKeeper<'a, R> {
         FileKeeper {
             rt,
             path,
+            file: None,
             faults: 0,
         }
     }
@@ -56,8 +59,12 @@ impl<R: rt::Files> Keeper for FileKeeper<'_, R> {
     }
 
     fn append(&mut self, _alloc: Global, piece: &[u8]) -> Result<(), KeepFault> {
-        match append_and_sync(self.rt, self.path, piece) {
-            Ok(()) => Ok(()),
+        let file = self.file.take();
+        match append_and_sync(self.rt, self.path, file, piece) {
+            Ok(file) => {
+                self.file = Some(file);
+                Ok(())
+            }
             Err(_) => Err(self.counted(KeepFault::Failed)),
         }
     }
@@ -86,11 +93,21 @@ fn open<R: rt::Files>(rt: &R, path: &str) -> io::Result<R::File> {
         .open(rt, path)
 }
 
-/// Writes the piece at the end of the file, and returns once the system says that it is on the disk.
-fn append_and_sync<R: rt::Files>(rt: &R, path: &str, piece: &[u8]) -> io::Result<()> {
-    let mut file = open(rt, path)?;
+/// Writes the piece at the end of the file, which is opened where none is given, and returns the file once the system says
+/// that the piece is on the disk.
+fn append_and_sync<R: rt::Files>(
+    rt: &R,
+    path: &str,
+    file: Option<R::File>,
+    piece: &[u8],
+) -> io::Result<R::File> {
+    let mut file = match file {
+        Some(file) => file,
+        None => open(rt, path)?,
+    };
     file.write_all(piece)?;
-    file.sync_all()
+    file.sync_all()?;
+    Ok(file)
 }
 
 /// Leaves the first `length` bytes of the file, and returns once the system says that the disk has no others.
