@@ -1,7 +1,8 @@
 // Switching modes: settings of the on-board switch, each held for some slots of the frame.
 ghost use Rattle.std.specs.Prelude.{◌≡◌, ◌≤◌, length, vec_len, IfOk};
 
-use crate::OutOfMemory;
+use crate::{MOST_BEAMS, OutOfMemory};
+use smallvec::SmallVec;
 use std::alloc::Global;
 use std::marker::Model;
 
@@ -9,9 +10,11 @@ use std::marker::Model;
 pub const MOST_ENTRIES: usize = 2_147_483_648;
 
 /// The downlink beam of each uplink beam, by number: place `i` has the downlink of uplink `i`.
+///
+/// The columns of as many beams as a network may have take no memory of their own.
 #[derive(Debug, Drop)]
 pub struct Columns {
-    values: Vec<u8>,
+    values: SmallVec<u8, MOST_BEAMS>,
 }
 
 impl Model for Columns {
@@ -30,7 +33,19 @@ impl Columns {
         requires { vec_len values ≤ 2147483648 }
         ensures { result ≡ values.items }
     {
-        Columns { values }
+        Columns {
+            values: SmallVec::from_vec(values),
+        }
+    }
+
+    /// The same values, at most 2,147,483,648 of them.
+    pub fn from_slice(alloc: Global, values: &[u8]) -> Result<Columns, OutOfMemory>
+        requires { length values.now ≤ MOST_ENTRIES }
+        ensures { IfOk result (λ columns. columns ≡ values.now) }
+    {
+        Ok(Columns {
+            values: SmallVec::from_slice(alloc, values)?,
+        })
     }
 
     /// The entries in order.
@@ -45,9 +60,7 @@ impl Columns {
     pub fn copy(&self, alloc: Global) -> Result<Columns, OutOfMemory>
         ensures { IfOk result (λ copy. copy ≡ self.now) }
     {
-        Ok(Columns {
-            values: Vec::from_slice(alloc, self.values.as_slice())?,
-        })
+        Columns::from_slice(alloc, self.values.as_slice())
     }
 }
 
