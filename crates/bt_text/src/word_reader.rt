@@ -108,26 +108,6 @@ fn number_in_front(line: &[u8], most: u32) -> Option<(u32, Option<&[u8]>)>
         words_left (option_map (λ rest. rest.now) found.1) ≡ drop 1 (words line.now)) }
 {
     match line {
-        [tens @ b'1'..=b'9', units @ b'0'..=b'9', b' ', rest @ ..] => {
-            let number = u32::from(*tens - b'0') * 10 + u32::from(*units - b'0');
-            if number > most {
-                return None;
-            }
-            Some((number, Some(rest)))
-        }
-        _ => digit_in_front(line, most),
-    }
-}
-
-// The same, a single digit first.
-#[inline(always)]
-fn digit_in_front(line: &[u8], most: u32) -> Option<(u32, Option<&[u8]>)>
-    ensures number { option_map (λ found. found.0) result
-        ≡ option_and_then (number_to most) (first_word (words line.now)) }
-    ensures rest { IfSome result (λ found.
-        words_left (option_map (λ rest. rest.now) found.1) ≡ drop 1 (words line.now)) }
-{
-    match line {
         [digit @ b'0'..=b'9', b' ', rest @ ..] => {
             let number = u32::from(*digit - b'0');
             if number > most {
@@ -135,13 +115,33 @@ fn digit_in_front(line: &[u8], most: u32) -> Option<(u32, Option<&[u8]>)>
             }
             Some((number, Some(rest)))
         }
-        [b'1'..=b'9', ..] => digits_in_front(line, most),
+        [b'1'..=b'9', ..] => two_digits_in_front(line, most),
         [b'0'] => Some((0, None)),
         _ => None,
     }
 }
 
-// What the digits in front write, at most `most`, and what follows their space.
+// What the digits in front write, at most `most`, and what follows their space; two digits first.
+#[inline(always)]
+fn two_digits_in_front(line: &[u8], most: u32) -> Option<(u32, Option<&[u8]>)>
+    ensures number { option_map (λ found. found.0) result
+        ≡ option_and_then (digits_after most 0) (first_word (words line.now)) }
+    ensures rest { IfSome result (λ found.
+        words_left (option_map (λ rest. rest.now) found.1) ≡ drop 1 (words line.now)) }
+{
+    match line {
+        [tens @ b'0'..=b'9', units @ b'0'..=b'9', b' ', rest @ ..] => {
+            let number = u32::from(*tens - b'0') * 10 + u32::from(*units - b'0');
+            if number > most {
+                return None;
+            }
+            Some((number, Some(rest)))
+        }
+        _ => digits_in_front(line, most),
+    }
+}
+
+// The same, however many digits there are.
 #[inline(always)]
 fn digits_in_front(line: &[u8], most: u32) -> Option<(u32, Option<&[u8]>)>
     ensures number { option_map (λ found. found.0) result
