@@ -1,5 +1,6 @@
 pub mod Totals
 pub mod Counting
+pub mod Holders
 pub mod Moves
 pub mod Partials
 pub mod Rows

@@ -1,5 +1,5 @@
 -- What a search for the column of a free row may change, and what it knows of the columns that it has visited.
-use Rattle.std.specs.Prelude.{◌≡◌, ◌≢◌, ◌⊎◌, ℕ, ◌<◌, Bool, true, false, not, List, Option, Some, IsSome, count_by}
+use Rattle.std.specs.Prelude.{◌≡◌, ◌≢◌, ◌⊎◌, ℕ, ◌<◌, Bool, true, false, not, List, Option, Some, IsSome, count_by, slice_index}
 use Rattle.std.specs.List.{slice_index_or}
 use Rattle.bt_matrix.specs.Traffic.{entry}
 use Rattle.bt_match.specs.Matching.{column_of, HasOwnColumns, IsInside}
@@ -8,6 +8,10 @@ use Rattle.bt_match.specs.Matching.{column_of, HasOwnColumns, IsInside}
 pub record IsMatching (rows : List (List ℕ)) (columns : List (Option ℕ)) : Type 0 where
   pub inside : IsInside rows columns
   pub own_columns : HasOwnColumns columns
+
+-- each column that a row has is listed with that row
+abbrev pub AreHolders : List (Option ℕ) → List ℕ → Type 0
+AreHolders columns holders = (row down : ℕ) → column_of columns row ≡ Some down → slice_index holders down ≡ row
 
 -- the search has come to that column
 abbrev pub is_visited : List Bool → ℕ → Bool
