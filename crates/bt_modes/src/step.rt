@@ -26,12 +26,12 @@ pub(crate) fn take_mode<M: Traffic>(
     ensures err { OnErr result (M.rows matrix.new ≡ M.rows matrix.old) }
 {
     let perm = perfect(alloc, matrix, begin)?;
-    let columns = Vec::from_slice(alloc, perm.as_slice())?;
+    let columns = Columns::from_slice(alloc, perm.as_slice())?;
     let duration = least_entry(matrix, columns.as_slice());
     take_entries(matrix, columns.as_slice(), duration);
     Ok(Mode {
         duration,
-        perm: Columns::of(columns),
+        perm: columns,
     })
 }
 
