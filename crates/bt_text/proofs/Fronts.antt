@@ -1,28 +1,28 @@
 -- The word in front of a line, read byte by byte.
-use Rattle.std.proofs.Common.{◌≡◌, ℕ, ◌+◌, ◌*◌, ◌<◌, ◌≤◌, ◌==◌, ◌&&◌, leb, Bool, true, false, cond, not, is_some, Option, Some, None, option_and_then, List, [], ◌∷◌, length, get_or, take, drop, slice_range, refl, ap, sym, ◌∙◌, arith, add-one}
+use Rattle.std.proofs.Common.{◌≡◌, ℕ, ◌+◌, ◌*◌, ◌<◌, ◌≤◌, ◌==◌, ◌&&◌, leb, Bool, true, false, cond, not, is_some, Option, Some, None, option_and_then, List, [], ◌∷◌, length, get_or, take, drop, slice_range, refl, ap, sym, ◌∙◌, arith, add-one, eq-eqb}
 use Rattle.std.specs.Char.{is_ascii_digit, digit_value}
 use Rattle.std.specs.List.{onto_first, list_all}
 use Rattle.std.specs.Option.{option_map}
 use Rattle.std.specs.Str.Parse.{digits_value_after}
 use Rattle.std.specs.Int.{IsInRange}
 use Rattle.std.proofs.Math.Seq.{drop-cons}
-use Rattle.std.proofs.lemmas.Bool.{false_from_ne_true, lt-leb, le-leb}
+use Rattle.std.proofs.lemmas.Bool.{lt-leb, le-leb}
 use Rattle.std.proofs.lemmas.Bool.Decides.{nat_tests}
 use Rattle.std.proofs.lemmas.Slice.{between_to_end}
 use Rattle.std.proofs.lemmas.Str.{digit_value_digit}
-use Rattle.memchr.specs.Find.{IsFirstByte, is_byte}
 use Rattle.bt_text.specs.Text.{words}
 use Rattle.bt_text.proofs.TextLines.{slice_split-place, slice_split-nowhere}
 use Rattle.bt_text.specs.WordReader.{words_left, first_word, digits_after}
 
--- what a search for a space says of the words
-pub words-at_space : (line : List ℕ) (at : ℕ) → IsFirstByte (is_byte 32) line (Some at) → words line ≡ take at line ∷ words (slice_range line (at + 1) (length line))
-words-at_space line at found =
-    rw (between_to_end line (at + 1) (length line) (omega (arith, found.0.high)))
-    (slice_split-place (is_byte 32) line at 0 found.0.high (λ k low. false_from_ne_true _ (found.0.before k (omega arith) low)) found.1)
+-- the words of a line by its first space
+pub words-at_space : (line : List ℕ) (at : ℕ) → at < length line → ((k : ℕ) → k < at → (get_or line k 0 == 32) ≡ false) → get_or line at 0 ≡ 32
+    → words line ≡ take at line ∷ words (slice_range line (at + 1) (length line))
+words-at_space line at inside before here =
+    rw (between_to_end line (at + 1) (length line) (omega (arith, inside)))
+    (slice_split-place (λ b. b == 32) line at 0 inside before (eq-eqb (get_or line at 0) 32 here))
 
-pub words-no_space : (line : List ℕ) → IsFirstByte (is_byte 32) line None → words line ≡ line ∷ []
-words-no_space line none = slice_split-nowhere (is_byte 32) line 0 (λ k low. false_from_ne_true _ (none k (omega arith) low))
+pub words-no_space : (line : List ℕ) → ((k : ℕ) → k < length line → (get_or line k 0 == 32) ≡ false) → words line ≡ line ∷ []
+words-no_space line none = slice_split-nowhere (λ b. b == 32) line 0 none
 
 -- a line has a first word
 abbrev pub HasFirst : List (List ℕ) → Type 0

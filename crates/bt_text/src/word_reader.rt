@@ -5,7 +5,6 @@ ghost use Rattle.bt_text.specs.Text.{words, number_of_digits};
 ghost use Rattle.bt_text.specs.WordReader.{words_left, first_word, is_first, number_to, digits_after};
 
 use crate::text::{is_word, number_of_digits};
-use memchr::memchr;
 use std::marker::Model;
 
 /// The words of a line that are left.
@@ -93,10 +92,15 @@ impl<'a> WordReader<'a> {
 fn word_in_front(line: &[u8]) -> (&[u8], Option<&[u8]>)
     ensures { words line.now ≡ result.0.now ∷ words_left (option_map (λ rest. rest.now) result.1) }
 {
-    match memchr(b' ', line) {
-        Some(at) => (&line[..at], Some(&line[at + 1..])),
-        None => (line, None),
+    // A word is short, so that a wide search does not pay.
+    let mut at = 0;
+    while at < line.len() {
+        if line[at] == b' ' {
+            return (&line[..at], Some(&line[at + 1..]));
+        }
+        at += 1;
     }
+    (line, None)
 }
 
 // The number in front, at most `most`, and what follows its space.

@@ -1,9 +1,10 @@
 -- the first space ends the first word
+use Rattle.std.proofs.Common.{arith}
 use Rattle.bt_text.proofs.Fronts.{words-at_space, words-no_space}
 use Rattle.bt_text.proofs.word_reader.word_in_front.Goals as goal
 
-pub returns-in-Some : goal.returns-in-Some
-returns-in-Some c = words-at_space c.args.line.now c.in-Some.at c.in-Some.ensures
+pub returns-then-line-at-eq32 : goal.returns-then-line-at-eq32
+returns-then-line-at-eq32 c = words-at_space c.args.line.now c.loop-at.at c.loop-at-test.true c.loop-at.invariant.before c.if-line-at-eq32.true
 
-pub returns-in-None : goal.returns-in-None
-returns-in-None c = words-no_space c.args.line.now c.in-None.ensures
+pub returns : goal.returns
+returns c = words-no_space c.args.line.now (λ k low. c.loop-at.invariant.before k (omega (arith, low, c.loop-at-test.false)))
