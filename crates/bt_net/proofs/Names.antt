@@ -1,10 +1,10 @@
 -- Names that a set or a map of texts keeps, as the lists of bytes that contracts see.
-use Rattle.std.proofs.Common.{◌≡◌, ℕ, ◌+◌, Bool, true, false, cond, not, ◌||◌, List, [], ◌∷◌, ◌++◌, length, map, position, Option, Some, None, is_some, option_map, slice_get, get_or, take, ◌<◌, ◌≢◌, AllPairs, Contains, IsTrue, subst, ◌≤◌, String, Global, string_bytes, refl, sym, ap, ◌∙◌, true≢false, arith}
+use Rattle.std.proofs.Common.{◌≡◌, ℕ, ◌+◌, Bool, true, false, cond, not, ◌||◌, List, [], ◌∷◌, ◌++◌, length, map, position, Option, Some, None, is_some, option_map, slice_get, get_or, take, ◌<◌, ◌≢◌, AllPairs, Contains, IsTrue, subst, ◌≤◌, String, Global, string_bytes, refl, sym, ap, ◌∙◌, true≢false, inl, inr, arith}
 use Rattle.std.specs.List.{list_any, prefix_len, position_or_len}
 use Rattle.std.specs.Str.{bytes_eq}
 use Rattle.std.specs.Map.{keys_of, lookup}
 use Rattle.std.proofs.lemmas.List.{length-map, length-take, get_or-take, map_push, take-map, take_more}
-use Rattle.std.proofs.lemmas.Bool.{and_parts, ltb-false}
+use Rattle.std.proofs.lemmas.Bool.{and_parts, ltb-false, cases_eq, cases_lt}
 use Rattle.std.proofs.lemmas.Cmp.{nat_list_eq_equiv}
 use Rattle.std.proofs.lemmas.List.Sums.{fails_before_first}
 use Rattle.std.proofs.lemmas.List.Quantifiers.{position-Some}
@@ -151,3 +151,30 @@ absent_terminal terminals number name beam differ at =
 -- one item more
 pub take_next : {X : Type 0} (xs : List X) (number : ℕ) (x : X) → slice_get xs number ≡ Some x → take number xs ++ x ∷ [] ≡ take (number + 1) xs
 take_next xs number x at = sym (take_more xs number x (slice_get_within xs number x at) ∙ ap (λ y. take number xs ++ y ∷ []) (get_or_from_slice_get xs number x x at))
+
+-- where names differ, a terminal's name has its place
+pub place_of_name : (terminals : List (List ℕ × BeamNo)) (number : ℕ) (name : List ℕ) → AllPairs (λ a b. a ≢ b) (names_of terminals)
+    → option_map (λ terminal. terminal.0) (slice_get terminals number) ≡ Some name → position (bytes_eq name) (names_of terminals) ≡ Some number
+place_of_name terminals number name differ at = by (position (bytes_eq name) (names_of terminals)) refl
+  where
+    named : slice_get (names_of terminals) number ≡ Some name
+    named = slice_get-map (λ terminal. terminal.0) terminals number ∙ at
+
+    here : get_or (names_of terminals) number name ≡ name
+    here = get_or_from_slice_get (names_of terminals) number name name named
+
+    within : number < length (names_of terminals)
+    within = slice_get_within (names_of terminals) number name named
+
+    by : (o : Option ℕ) → position (bytes_eq name) (names_of terminals) ≡ o → o ≡ Some number
+    by None is = absurd (not_found terminals name is (number, within, here))
+    by (Some other) is =
+        let found = position-Some (bytes_eq name) (names_of terminals) other name is in
+        let same : get_or (names_of terminals) other name ≡ name = sym ((bytes_eq-Decides name (get_or (names_of terminals) other name)).0 found.1) in
+        elim (cases_eq other number) [
+          | inl one ↦ ap Some one
+          | inr apart ↦ elim (cases_lt other number) [
+            | inl before ↦ absurd (differ other number name before within (same ∙ sym here))
+            | inr behind ↦ absurd (differ number other name (omega (arith, apart)) found.0 (here ∙ sym same))
+          ]
+        ]

@@ -146,7 +146,7 @@ impl Network {
     {
         // A name is ASCII.
         let text = unsafe { str::from_utf8_unchecked(name) };
-        let number = self.terminals.find(text)?;
+        let number = self.terminals.number_of(text)?;
         Some(TermNo(number as u8))
     }
 

@@ -1,6 +1,7 @@
 // The terminals and the beam of each, numbered in the order in which they were added; no two have one name.
-ghost use Rattle.std.specs.Prelude.{◌≡◌, ◌<◌, [], ◌∷◌, ◌++◌, false, Some, length, position, slice_get, IfOk, OnOk, AllPairs, ◌≢◌};
+ghost use Rattle.std.specs.Prelude.{◌≡◌, ◌<◌, [], ◌∷◌, ◌++◌, false, Some, length, position, slice_get, IfOk, IfSome, OnOk, AllPairs, ◌≢◌};
 ghost use Rattle.std.specs.List.{list_any};
+ghost use Rattle.std.specs.Option.{option_map};
 ghost use Rattle.std.specs.Str.{bytes_eq};
 ghost use Rattle.bt_net.specs.Network.{names_of};
 
@@ -9,9 +10,22 @@ use indexmap::IndexMap;
 use std::alloc::{AllocError, Global};
 use std::marker::Model;
 
+/// A place for the endings of names.
+const ENDINGS: usize = 256;
+
+/// The place of a name by its last two bytes. Any place would do, as long as few names of a network share one.
+fn ending_of(name: &[u8]) -> u8 {
+    match name {
+        [.., before, last] => before.wrapping_mul(10).wrapping_add(*last),
+        _ => 0,
+    }
+}
+
 #[derive(Drop)]
 pub(crate) struct Terminals {
     beams: IndexMap<String, BeamNo>,
+    /// The number of the last terminal whose name has an ending, by that ending. It only says where to look first.
+    by_ending: [u8; ENDINGS],
 }
 
 impl Model for Terminals {
@@ -29,6 +43,7 @@ impl Terminals {
     {
         Terminals {
             beams: IndexMap::new(alloc),
+            by_ending: [0; ENDINGS],
         }
     }
 
@@ -52,6 +67,29 @@ impl Terminals {
         self.beams.get_index_of(name)
     }
 
+    /// The same, where no two terminals have one name. It is looked for first where its ending says.
+    pub(crate) fn number_of(&self, name: &str) -> Option<usize>
+        requires { AllPairs (λ a b. a ≢ b) (names_of self.now) }
+        ensures { result ≡ position (bytes_eq name.now) (names_of self.now) }
+    {
+        match self.with_ending(name) {
+            Some(number) => Some(number),
+            None => self.find(name),
+        }
+    }
+
+    /// The number of the last terminal whose name ends so, if it has this name.
+    fn with_ending(&self, name: &str) -> Option<usize>
+        ensures { IfSome result (λ number. option_map (λ t. t.0) (slice_get self.now number) ≡ Some name.now) }
+    {
+        let number = self.by_ending[ending_of(name.as_bytes()) as usize] as usize;
+        if number < self.len() && self.at(number).0 == name {
+            Some(number)
+        } else {
+            None
+        }
+    }
+
     /// The name and the beam of a terminal.
     pub(crate) fn at(&self, number: usize) -> (&str, BeamNo)
         requires { number < length self.now }
@@ -65,7 +103,9 @@ impl Terminals {
         requires { list_any (bytes_eq name.now) (names_of self.old) ≡ false }
         ensures { OnOk result (self.new ≡ self.old ++ (name.now, beam) ∷ []) }
     {
+        let number = self.len().min(ENDINGS - 1) as u8;
         self.beams.insert(String::from_str(alloc, name)?, beam)?;
+        self.by_ending[ending_of(name.as_bytes()) as usize] = number;
         Ok(())
     }
 
