@@ -27,9 +27,12 @@ pub sum_by-map : {X Y : Type 0} (g : Y → ℕ) (f : X → Y) (xs : List X) → 
 sum_by-map g f [] = refl
 sum_by-map g f (x ∷ xs) = rw (sum_by-cons g (f x) (map f xs), sum_by-cons (λ y. g (f y)) x xs, sum_by-map g f xs)
 
--- a sum of zeros
+-- a sum of terms that are all zero
+pub sum_by-none : {X : Type 0} (f : X → ℕ) (xs : List X) → All (λ x. f x ≡ 0) xs → sum_by f xs ≡ 0
+sum_by-none f xs none = omega (arith, sum_by-le f 0 xs (λ k d within. omega (arith, none k d within)))
+
 pub sum_by-zeros : {X : Type 0} (xs : List X) → sum_by (λ (x : X). 0) xs ≡ 0
-sum_by-zeros xs = omega (arith, sum_by-le (λ x. 0) 0 xs (λ k d within. omega arith))
+sum_by-zeros xs = sum_by-none (λ x. 0) xs (λ k d within. refl)
 
 -- sums over two lists may be taken in either order
 pub sum_by-exchange : {X Y : Type 0} (f : X → Y → ℕ) (xs : List X) (ys : List Y)
@@ -44,12 +47,8 @@ sum_by-exchange f (x ∷ xs) ys =
 -- nothing passes
 pub sum_by-none_passes : {X : Type 0} (passes : X → Bool) (amount : ℕ) (xs : List X) → All (λ x. passes x ≡ false) xs
     → sum_by (λ x. if passes x then amount else 0) xs ≡ 0
-sum_by-none_passes passes amount [] none = refl
-sum_by-none_passes passes amount (x ∷ xs) none =
-    let first : passes x ≡ false = none 0 x (omega arith) in
-    let rest = sum_by-none_passes passes amount xs (λ k d within. none (suc k) d (omega arith)) in
-    let share : (if passes x then amount else 0) ≡ 0 = ap (λ (b : Bool). if b then amount else 0) first in
-    omega (arith, share, rest, sum_by-cons (λ x. if passes x then amount else 0) x xs)
+sum_by-none_passes passes amount xs none =
+    sum_by-none (λ x. if passes x then amount else 0) xs (λ k d within. ap (λ (b : Bool). if b then amount else 0) (none k d within))
 
 -- no two pass, so the amount is counted once at most
 pub sum_by-one_passes : {X : Type 0} (passes : X → Bool) (amount : ℕ) (xs : List X)

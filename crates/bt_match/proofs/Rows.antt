@@ -1,30 +1,13 @@
 -- The line sums of a list of rows as sums over numbers, and the search in such a matrix.
-use Rattle.std.proofs.Common.{◌≡◌, ℕ, zero, suc, ◌+◌, ◌<◌, ◌≤◌, Bool, true, false, List, [], ◌∷◌, length, Option, Some, None, get_or, take, replicate, sum, sym, ap, ◌∙◌, refl, inl, inr, arith}
-use Rattle.std.specs.List.{sum_by}
+use Rattle.std.proofs.Common.{◌≡◌, ℕ, ◌<◌, ◌≤◌, Bool, true, false, List, [], length, Option, Some, None, get_or, take, replicate, sum, sym, ap, ◌∙◌, inl, inr, arith}
 use Rattle.std.proofs.lemmas.Bool.{cases_lt, false≢true}
 use Rattle.std.proofs.lemmas.List.{get_or_past, get_or-take, get_or-replicate, length-take-le}
-use Rattle.std.proofs.lemmas.List.Sums.{sum_by-cons}
 use Rattle.bt_frame.specs.declared.schedule.Critical.TheVariants.{Row, Column}
 use Rattle.bt_matrix.specs.Traffic.{entry, row_of, IsTraffic}
 use Rattle.bt_match.specs.Matching.{column_of, HasOwnColumns, HasEqualLineSums}
 use Rattle.bt_match.specs.Search.{is_visited, IsSpent, HasSpentRow, IsExplored}
-use Rattle.bt_match.proofs.Totals.{total}
+use Rattle.bt_lists.proofs.Totals.{total, sum_by-total}
 use Rattle.bt_match.proofs.Counting.{IsReached, search_finds}
-
--- the first part, and the others
-total-first : (n : ℕ) (f : ℕ → ℕ) → total (suc n) f ≡ f 0 + total n (λ k. f (suc k))
-total-first zero f = omega arith
-total-first (suc n) f = let rest : total (suc n) f ≡ f 0 + total n (λ k. f (suc k)) = total-first n f in omega arith
-
--- a sum over a list, by places
-sum_by-total : {X : Type 0} (f : X → ℕ) (xs : List X) (other : X) → sum_by f xs ≡ total (length xs) (λ k. f (get_or xs k other))
-sum_by-total f [] other = refl
-sum_by-total f (x ∷ xs) other =
-    let first : sum_by f (x ∷ xs) ≡ f x + sum_by f xs = sum_by-cons f x xs in
-    let rest : sum_by f xs ≡ total (length xs) (λ k. f (get_or xs k other)) = sum_by-total f xs other in
-    let both : total (suc (length xs)) (λ k. f (get_or (x ∷ xs) k other)) ≡ f x + total (length xs) (λ k. f (get_or xs k other)) =
-    total-first (length xs) (λ k. f (get_or (x ∷ xs) k other)) in
-    omega arith
 
 -- a row's sum, by columns
 row_total : (rows : List (List ℕ)) (slots row : ℕ) → IsTraffic rows → ((up : ℕ) → up < length rows → sum (row_of rows up) ≡ slots)

@@ -1,14 +1,14 @@
 -- Modes that were taken off a matrix, and what is left of it.
 use Rattle.std.proofs.Common.{◌≡◌, ℕ, ◌+◌, ◌-◌, ◌<◌, ◌≤◌, List, [], ◌∷◌, ◌++◌, length, All, ◌∙◌, refl, arith}
 use Rattle.std.proofs.lemmas.List.{length-append}
-use Rattle.std.proofs.lemmas.List.Elements.{All-nil, All-push, All-head, All-tail}
+use Rattle.std.proofs.lemmas.List.Elements.{All-push, All-head, All-tail}
 use Rattle.std.proofs.lemmas.List.Sums.{sum_by_push, sum_by-cons}
 use Rattle.bt_frame.specs.declared.mode.Mode.{Mode}
 use Rattle.bt_frame.specs.declared.schedule.Critical.TheVariants.{Row, Column}
 use Rattle.bt_matrix.specs.Good.{IsPermutation, slots_in, slots_of, total_duration}
 use Rattle.bt_matrix.specs.Traffic.{entry, IsLine, IsTraffic}
 use Rattle.bt_matrix.proofs.Lines.{entry-le-column_sum}
-use Rattle.bt_match.specs.Matching.{HasLineSums, HasEqualLineSums}
+use Rattle.bt_match.specs.Matching.{HasLineSums}
 use Rattle.bt_modes.specs.Decomposition.{DecomposesTo, LosesMode, positive_entries}
 use Rattle.bt_modes.proofs.Sums.{IsSquare-traffic}
 use Rattle.bt_modes.proofs.Positive.{positive_entries-rows}
@@ -23,19 +23,6 @@ pub record IsPart (rows now : List (List ℕ)) (modes : List Mode) (left slots :
   pub filled : total_duration modes + left ≡ slots
   pub fewer : length modes + positive_entries now ≤ positive_entries rows
   pub few : 0 < length modes → length modes + length rows ≤ positive_entries rows + 1
-
--- at first there are no modes
-pub IsPart-start : (rows : List (List ℕ)) (slots : ℕ) → HasLineSums rows slots → IsPart rows rows [] slots slots
-IsPart-start rows slots lines = record {
-  size = refl;
-  lines = lines;
-  permutations = All-nil (λ (mode : Mode). IsPermutation (length rows) mode.perm);
-  durations = All-nil (λ (mode : Mode). 0 < mode.duration);
-  parts = λ up down _ _. omega arith;
-  filled = omega arith;
-  fewer = omega arith;
-  few = λ some. absurd (omega arith);
-}
 
 -- the lines that are left, after a mode
 lines_left : (now new : List (List ℕ)) (mode : Mode) (left : ℕ) → LosesMode now mode new → HasLineSums now left → HasLineSums new (left - mode.duration)
@@ -75,10 +62,6 @@ IsPart-mode rows now new modes mode left slots part traffic some permutes lasts 
       few = λ _. omega (arith, part.fewer);
     }
 
--- the lines are equal and positive while some slots are left
-pub HasEqualLineSums-left : (rows now : List (List ℕ)) (modes : List Mode) (left slots : ℕ) → IsPart rows now modes left slots → 0 < left → HasEqualLineSums now
-HasEqualLineSums-left rows now modes left slots part some = record { slots = left; positive = some; lines = part.lines }
-
 -- there are no more modes than slots
 pub modes-le-duration : (modes : List Mode) → All (λ mode. 0 < mode.duration) modes → length modes ≤ total_duration modes
 modes-le-duration [] lasting = omega arith
@@ -100,13 +83,7 @@ DecomposesTo-all rows now modes left slots part none_left = record {
       omega (arith, part.parts up down in_rows in_columns, none, part.lines (Column (record { 0 = down })) in_line);
 }
 
--- where there are slots there is a mode
-pub modes_few : (rows now : List (List ℕ)) (modes : List Mode) (left slots : ℕ) → IsPart rows now modes left slots → left ≤ 0 → 0 < slots
-    → length modes + length rows ≤ positive_entries rows + 1
-modes_few rows now [] left slots part none_left some = absurd (omega (arith, part.filled))
-modes_few rows now (mode ∷ modes) left slots part none_left some = part.few (omega arith)
-
--- and where there are none there is none
+-- where there are no slots there is no mode
 pub modes_none : (rows now : List (List ℕ)) (modes : List Mode) (left slots : ℕ) → IsPart rows now modes left slots → left ≤ 0 → slots ≡ 0 → modes ≡ []
 modes_none rows now [] left slots part none_left none = refl
 modes_none rows now (mode ∷ modes) left slots part none_left none =

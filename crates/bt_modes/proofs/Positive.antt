@@ -4,9 +4,9 @@ use Rattle.std.specs.List.{count_by}
 use Rattle.std.proofs.lemmas.Bool.{cases_eq}
 use Rattle.std.proofs.lemmas.List.Sums.{sum_by-cons}
 use Rattle.bt_matrix.specs.Traffic.{row_of, entry, row_sum}
-use Rattle.bt_match.proofs.Totals.{total, total-le, total-same}
+use Rattle.bt_lists.proofs.Totals.{total, total-le, total-same, sum_by-total}
 use Rattle.bt_modes.specs.Decomposition.{is_positive, positive_entries}
-use Rattle.bt_modes.proofs.Sums.{sum_by-total, total-less, IsSquare, row_sum-total}
+use Rattle.bt_modes.proofs.Sums.{total-less, IsSquare, row_sum-total}
 
 -- 1 for a connection that has slots
 abbrev pub one : ℕ → ℕ

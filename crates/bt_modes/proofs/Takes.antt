@@ -1,23 +1,21 @@
 -- Entries that lost the slots of a mode.
-use Rattle.std.proofs.Common.{below_more, ◌≡◌, ◌≢◌, ◌==◌, ℕ, ◌+◌, ◌-◌, ◌<◌, ◌≤◌, min, List, [], length, slice_index, slice_set, sym, ap, ◌∙◌, refl, inl, inr, arith, length-set, get_or-set_same, eq-eqb}
-use Rattle.std.proofs.lemmas.Bool.{cases_eq, cases_lt, ne_eqb, eqb-true}
+use Rattle.std.proofs.Common.{below_more, ◌≡◌, ◌≢◌, ◌==◌, ℕ, ◌+◌, ◌<◌, ◌≤◌, min, List, length, slice_index, sym, ◌∙◌, refl, inl, inr, arith, eq-eqb}
+use Rattle.std.proofs.lemmas.Bool.{cases_lt, ne_eqb, eqb-true}
 use Rattle.bt_frame.specs.declared.mode.Mode.{Mode}
 use Rattle.bt_frame.specs.declared.schedule.Critical.{Critical}
 use Rattle.bt_frame.specs.declared.schedule.Critical.TheVariants.{Row, Column}
 use Rattle.bt_matrix.specs.Good.{IsPermutation, slots_in}
-use Rattle.bt_matrix.specs.Traffic.{row_of, entry, row_sum, column_sum, line_sum, with_entry, IsLine, IsTraffic}
-use Rattle.bt_matrix.proofs.Ranges.{sum_below-once}
-use Rattle.bt_match.proofs.Totals.{total, total-same, total-add, total-only, part-le-total}
+use Rattle.bt_matrix.specs.Traffic.{row_of, entry, row_sum, column_sum, line_sum, IsLine}
+use Rattle.bt_lists.proofs.Totals.{total, total-same, total-add, total-once, total-only, part-le-total}
 use Rattle.bt_modes.specs.Decomposition.{IsLeastEntry, LosesMode}
-use Rattle.bt_modes.proofs.Sums.{sum_below-total, total-tight, IsSquare, IsSquare-traffic, row_sum-total, column_sum-total, rows_are_columns}
-use Rattle.bt_modes.proofs.Fillings.{entry-with_entry_same, entry-with_entry_beside, row_of-with_entry_other}
+use Rattle.bt_modes.proofs.Sums.{total-tight, IsSquare, row_sum-total, column_sum-total, rows_are_columns}
 use Rattle.bt_modes.proofs.Positive.{positive_entries-less}
 
 -- a connection that the mode serves, and one that it does not
-slots_in-served : (mode : Mode) (up down : ℕ) → slice_index mode.perm up ≡ down → slots_in up down mode ≡ mode.duration
+pub slots_in-served : (mode : Mode) (up down : ℕ) → slice_index mode.perm up ≡ down → slots_in up down mode ≡ mode.duration
 slots_in-served mode up down served = rw (eq-eqb (slice_index mode.perm up) down served) refl
 
-slots_in-other : (mode : Mode) (up down : ℕ) → slice_index mode.perm up ≢ down → slots_in up down mode ≡ 0
+pub slots_in-other : (mode : Mode) (up down : ℕ) → slice_index mode.perm up ≢ down → slots_in up down mode ≡ 0
 slots_in-other mode up down other = rw (ne_eqb (slice_index mode.perm up) down other) refl
 
 -- a mode gives an uplink its duration
@@ -34,11 +32,10 @@ row_of_mode size up mode inside =
 -- and a downlink no more
 column_of_mode : (size down : ℕ) (mode : Mode) → IsPermutation size mode.perm → total size (λ up. slots_in up down mode) ≤ mode.duration
 column_of_mode size down mode permutes =
-    let once = sum_below-once (λ up. slice_index mode.perm up == down) mode.duration size
+    total-once size mode.duration (λ up. slice_index mode.perm up == down)
     (λ j k less below first second.
     permutes.distinct j k 0 less (omega (arith, permutes.count))
-    (eqb-true (slice_index mode.perm j) down first ∙ sym (eqb-true (slice_index mode.perm k) down second))) in
-    omega (arith, once, sum_below-total size (λ up. slots_in up down mode))
+    (eqb-true (slice_index mode.perm j) down first ∙ sym (eqb-true (slice_index mode.perm k) down second)))
 
 -- every entry of the square matrix of the first is that of the second and the mode's slots
 record IsSum (size : ℕ) (old new : List (List ℕ)) (mode : Mode) : Type 0 where
@@ -87,64 +84,6 @@ pub record IsTakenTo (old now : List (List ℕ)) (mode : Mode) (rows : ℕ) : Ty
   pub is : IsSquare now (length old)
   pub before : (up down : ℕ) → up < rows → down < length old → entry old up down ≡ entry now up down + slots_in up down mode
   pub after : (up : ℕ) → rows ≤ up → row_of now up ≡ row_of old up
-
--- at first none did
-pub IsTakenTo-start : (old : List (List ℕ)) (mode : Mode) → IsTraffic old → IsTakenTo old old mode 0
-IsTakenTo-start old mode traffic = record {
-  was = IsSquare-traffic old traffic;
-  is = IsSquare-traffic old traffic;
-  before = λ up down below _. absurd (omega arith);
-  after = λ up _. refl;
-}
-
--- a matrix stays square
-IsSquare-with_entry : (rows : List (List ℕ)) (size up down n : ℕ) → IsSquare rows size → up < size → IsSquare (with_entry rows up down n) size
-IsSquare-with_entry rows size up down n square inside = record {
-  count = length-set rows up (slice_set (row_of rows up) down n) ∙ square.count;
-  long = λ k within.
-      elim (cases_eq k up) [
-        | inl same ↦
-            let here : row_of (with_entry rows up down n) up ≡ slice_set (row_of rows up) down n =
-            get_or-set_same rows up (slice_set (row_of rows up) down n) [] (omega (arith, square.count)) in
-            rw same (ap length here ∙ (length-set (row_of rows up) down n ∙ square.long up inside))
-        | inr other ↦ ap length (row_of-with_entry_other rows up down n k other) ∙ square.long k within
-      ];
-}
-
--- one more row loses its slots
-pub IsTakenTo-row : (old now : List (List ℕ)) (mode : Mode) (row down : ℕ) → IsTakenTo old now mode row → row < length old
-    → slice_index mode.perm row ≡ down → down < length old → mode.duration ≤ entry now row down
-    → IsTakenTo old (with_entry now row down (entry now row down - mode.duration)) mode (row + 1)
-IsTakenTo-row old now mode row down so_far inside served in_columns held =
-    let n = entry now row down - mode.duration in
-    let new = with_entry now row down n in
-    let size : length now ≡ length old = so_far.is.count in
-    let long : length (row_of now row) ≡ length old = so_far.is.long row inside in
-    record {
-      was = so_far.was;
-      is = IsSquare-with_entry now (length old) row down n so_far.is inside;
-      before = λ i j below within.
-          elim (cases_eq i row) [
-            | inl same ↦
-                let untouched : entry old row j ≡ entry now row j = ap (λ (r : List ℕ). slice_index r j) (sym (so_far.after row (omega arith))) in
-                elim (cases_eq j down) [
-                  | inl here ↦
-                      let written : entry new row down ≡ n = entry-with_entry_same now row down n (omega arith) (omega arith) in
-                      let taken : slots_in row down mode ≡ mode.duration = slots_in-served mode row down served in
-                      let at : entry old row down ≡ entry now row down = ap (λ (r : List ℕ). slice_index r down) (sym (so_far.after row (omega arith))) in
-                      rw (same, here) (omega arith)
-                  | inr beside ↦
-                      let kept : entry new row j ≡ entry now row j = entry-with_entry_beside now row down n j (omega arith) beside in
-                      let none : slots_in row j mode ≡ 0 = slots_in-other mode row j (λ is. beside (sym is ∙ served)) in
-                      rw same (omega arith)
-                ]
-            | inr other ↦
-                let kept : entry new i j ≡ entry now i j = ap (λ (r : List ℕ). slice_index r j) (row_of-with_entry_other now row down n i other) in
-                let early : entry old i j ≡ entry now i j + slots_in i j mode = so_far.before i j (omega arith) within in
-                omega arith
-          ];
-      after = λ i later. row_of-with_entry_other now row down n i (λ same. absurd (omega arith)) ∙ so_far.after i (omega arith);
-    }
 
 -- all rows did, and the slots are the fewest of a connection: there one positive entry is zero
 pub LosesMode-taken : (old new : List (List ℕ)) (mode : Mode) → IsTakenTo old new mode (length old) → IsPermutation (length old) mode.perm

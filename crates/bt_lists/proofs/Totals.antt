@@ -1,6 +1,7 @@
 -- Sums over the numbers below a bound.
-use Rattle.std.proofs.Common.{◌≡◌, ℕ, zero, suc, ◌+◌, ◌*◌, ◌<◌, ◌≤◌, ◌≢◌, sym, ap, ◌∙◌, refl, inl, inr, arith}
-use Rattle.std.proofs.lemmas.Bool.{cases_lt, cases_eq}
+use Rattle.std.proofs.Common.{◌≡◌, ℕ, zero, suc, ◌+◌, ◌*◌, ◌<◌, ◌≤◌, ◌≢◌, Bool, true, if◌then◌else◌, List, [], ◌∷◌, length, get_or, sum_by, sym, ap, ◌∙◌, refl, inl, inr, arith}
+use Rattle.std.proofs.lemmas.Bool.{cases_Bool, cases_lt, cases_eq, false_from_ne_true}
+use Rattle.std.proofs.lemmas.List.Sums.{sum_by-cons}
 
 -- the sum of a function over the numbers below a bound
 abbrev pub total : ℕ → (ℕ → ℕ) → ℕ
@@ -74,3 +75,36 @@ total-only (suc n) d most f others small =
           let last : f n ≡ 0 = others n apart in
           omega arith
     ]
+
+-- one number passes a test at most, so its amount is counted once
+pub total-once : (n amount : ℕ) (test : ℕ → Bool) → ((j k : ℕ) → j < k → k < n → test j ≡ true → test k ≡ true → ⊥)
+    → total n (λ k. if test k then amount else 0) ≤ amount
+total-once zero amount test once = omega arith
+total-once (suc n) amount test once =
+    let share = λ (b : Bool). let one : ℕ = if b then amount else 0 in one in
+    elim (cases_Bool (test n)) [
+      | inl passes ↦
+          let none : total n (λ k. share (test k)) ≡ 0 =
+          total-same n (λ k. share (test k)) (λ _. 0) (λ k below. ap share (false_from_ne_true (test k) (λ yes. once k n below (omega arith) yes passes))) ∙ total-zero n in
+          let last : share (test n) ≡ amount = ap share passes in
+          omega arith
+      | inr fails ↦
+          let rest : total n (λ k. share (test k)) ≤ amount = total-once n amount test (λ j k less below. once j k less (omega arith)) in
+          let last : share (test n) ≡ 0 = ap share fails in
+          omega arith
+    ]
+
+-- the first part, and the others
+total-first : (n : ℕ) (f : ℕ → ℕ) → total (suc n) f ≡ f 0 + total n (λ k. f (suc k))
+total-first zero f = omega arith
+total-first (suc n) f = let rest : total (suc n) f ≡ f 0 + total n (λ k. f (suc k)) = total-first n f in omega arith
+
+-- a sum over a list, by places
+pub sum_by-total : {X : Type 0} (f : X → ℕ) (xs : List X) (other : X) → sum_by f xs ≡ total (length xs) (λ k. f (get_or xs k other))
+sum_by-total f [] other = refl
+sum_by-total f (x ∷ xs) other =
+    let first : sum_by f (x ∷ xs) ≡ f x + sum_by f xs = sum_by-cons f x xs in
+    let rest : sum_by f xs ≡ total (length xs) (λ k. f (get_or xs k other)) = sum_by-total f xs other in
+    let both : total (suc (length xs)) (λ k. f (get_or (x ∷ xs) k other)) ≡ f x + total (length xs) (λ k. f (get_or xs k other)) =
+    total-first (length xs) (λ k. f (get_or (x ∷ xs) k other)) in
+    omega arith
