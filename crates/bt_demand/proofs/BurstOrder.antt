@@ -1,5 +1,7 @@
 -- The order of bursts: it is what its test says, and it goes on.
-use Rattle.std.proofs.Common.{◌≡◌, true, arith}
+use Rattle.std.proofs.Common.{◌≡◌, true, false, is_lt, nat_cmp, arith}
+use Rattle.std.specs.declared.cmp.Ordering.{Ordering}
+use Rattle.std.specs.Ordering.{ordering_then}
 use Rattle.std.proofs.lemmas.Bool.Decides.{nat_tests}
 use Rattle.bt_demand.specs.declared.burst.Burst.{Burst}
 use Rattle.bt_demand.specs.Burst.{is_not_after, IsNotAfter}
@@ -19,6 +21,18 @@ tested-IsNotAfter a b is =
     let from = is.from in
     let to = is.to in
     grind (arith, nat_tests)
+
+-- the order of the keys: by the start, then by the terminal that sends, then by the one that receives
+abbrev pub burst_cmp : Burst → Burst → Ordering
+burst_cmp a b = ordering_then (ordering_then (nat_cmp a.start b.start) (nat_cmp a.from.0 b.from.0)) (nat_cmp a.to.0 b.to.0)
+
+-- a burst after which the other is not less does not belong behind it
+pub IsNotAfter-compared : (a b : Burst) → is_lt (burst_cmp b a) ≡ false → IsNotAfter a b
+IsNotAfter-compared a b not_less = record {
+  start = grind (arith, nat_tests);
+  from = λ same. grind (arith, nat_tests);
+  to = λ same same_from. grind (arith, nat_tests);
+}
 
 -- no burst belongs behind itself
 pub IsNotAfter-itself : (a : Burst) → IsNotAfter a a

@@ -5,10 +5,11 @@ use Rattle.std.proofs.lemmas.Bool.Decides.{nat_tests}
 use Rattle.std.proofs.lemmas.List.Elements.{All-head, All-tail, All-filter, filter_passes}
 use Rattle.std.proofs.lemmas.List.Kept.{AllPairs-filter}
 use Rattle.std.proofs.lemmas.List.Sums.{sum_by-cons, get_or-le-sum_by, length-filter}
-use Rattle.bt_lists.proofs.Counts.{sum_by-places_differ}
+use Rattle.bt_lists.proofs.Counts.{sum_by-places_differ, sum_by-none}
 use Rattle.bt_frame.specs.declared.mode.Mode.{Mode}
 use Rattle.bt_frame.specs.declared.numbers.TermNo.{TermNo}
 use Rattle.bt_frame.specs.Range.{IsWithin}
+use Rattle.bt_frame.proofs.OneNumber.{same_terminal}
 use Rattle.bt_net.specs.Network.{Net}
 use Rattle.bt_net.specs.Terminals.{IsTerminal, beam_at}
 use Rattle.bt_matrix.specs.Good.{total_duration}
@@ -22,7 +23,6 @@ use Rattle.bt_demand.specs.Flyable.{IsFlyable, IsSentBy}
 use Rattle.bt_demand.specs.Plan.{IsHeld, IsGoodPlan}
 use Rattle.bt_demand.specs.Traffic.{AreOfNetwork}
 use Rattle.bt_demand.proofs.BurstTriples.{bursts_apart, occurrences-all_triples, held_within}
-use Rattle.bt_demand.proofs.Links.{sum_by_none}
 
 -- ends beyond the network's terminals are not those of a link or burst between them
 pub share_outside : (a b from to most units : ℕ) → a < most → b < most → (most ≤ from) ⊎ (most ≤ to) → (if a == from && b == to then units else 0) ≡ 0
@@ -33,7 +33,7 @@ share_outside a b from to most units sends receives (inr past) = grind (arith, n
 pub units_outside : (net : Net) (links : List Link) → AreOfNetwork net links → (from to : TermNo)
     → (length net.terminals ≤ from.0) ⊎ (length net.terminals ≤ to.0) → units_of links from to ≡ 0
 units_outside net links of_network from to outside =
-    sum_by_none (λ (link : Link). if link.from.0 == from.0 && link.to.0 == to.0 then link.units else 0) links
+    sum_by-none (λ (link : Link). if link.from.0 == from.0 && link.to.0 == to.0 then link.units else 0) links
     (λ k d within. let link = get_or links k d in let ends = of_network k d within in
     share_outside link.from.0 link.to.0 from.0 to.0 (length net.terminals) link.units ends.0 ends.1 outside)
 
@@ -93,9 +93,6 @@ small_modes net plan is k d within =
     let all = get_or-le-sum_by (λ (m : Mode). m.duration) modes k d within in
     (omega (arith, some), omega (arith, all, is.filled, is.short))
 
-same_terminal : (a b : TermNo) → (a.0 == b.0) ≡ true → a ≡ b
-same_terminal a b e = ap (λ (n : ℕ). let terminal : TermNo = record { 0 = n } in terminal) (eqb-true a.0 b.0 e)
-
 -- what a terminal sends is within the frame, and to a terminal of the network
 pub sent_by : (net : Net) (plan : Plan) (terminal : TermNo) → IsFlyable net plan → All (IsSentBy net terminal) (bursts_from terminal plan.bursts)
 sent_by net plan terminal is k d within =
@@ -106,7 +103,7 @@ sent_by net plan terminal is k d within =
     let held = All-filter test (IsHeld net plan.schedule.modes) plan.bursts is.held k d within in
     let over = held_within net plan.schedule.modes burst held in
     record {
-      sender = same_terminal burst.from terminal (filter_passes test plan.bursts k d within);
+      sender = same_terminal burst.from terminal (eqb-true _ _ (filter_passes test plan.bursts k d within));
       receiver = ends.1;
       start = (omega arith, omega (arith, over, is.filled, is.short, held.some));
       slots = (omega (arith, held.some), omega (arith, over, is.filled, is.short));
@@ -116,7 +113,7 @@ sent_by net plan terminal is k d within =
 begin_apart : (net : Net) (a b : Burst) (terminal : TermNo) → 0 < a.length → 0 < b.length → ¬ (Collide net a b)
     → (a.from.0 == terminal.0) ≡ true → (b.from.0 == terminal.0) ≡ true → a.start ≡ b.start → ⊥
 begin_apart net a b terminal first second apart of_a of_b same =
-    let sender : a.from ≡ b.from = same_terminal a.from terminal of_a ∙ sym (same_terminal b.from terminal of_b) in
+    let sender : a.from ≡ b.from = same_terminal a.from terminal (eqb-true _ _ of_a) ∙ sym (same_terminal b.from terminal (eqb-true _ _ of_b)) in
     apart (record {
       slot = a.start;
       first = record { from_start = omega arith; before_end = omega arith };

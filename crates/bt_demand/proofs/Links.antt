@@ -1,5 +1,5 @@
 -- Links in order: what a search among them finds, and what an edit at that place leaves.
-use Rattle.std.proofs.Common.{◌≡◌, ◌≢◌, ℕ, zero, suc, ◌+◌, ◌-◌, ◌<◌, ◌≤◌, ◌==◌, ◌&&◌, if◌then◌else◌, Bool, true, false, List, [], ◌∷◌, length, take, drop, get_or, slice_set, sum_by, All, AllPairs, Result, Ok, Err, IfOk, IfErr, refl, sym, ap, ◌∙◌, subst, arith, length-set, get_or-set_same, get_or-set_other, ⊎_elim}
+use Rattle.std.proofs.Common.{◌≡◌, ◌≢◌, ℕ, zero, suc, ◌+◌, ◌-◌, ◌<◌, ◌≤◌, ◌==◌, ◌&&◌, if◌then◌else◌, Bool, true, false, List, [], ◌∷◌, length, take, drop, get_or, slice_set, All, AllPairs, Result, Ok, Err, IfOk, IfErr, refl, sym, ap, ◌∙◌, subst, arith, length-set, get_or-set_same, get_or-set_other, ⊎_elim}
 use Rattle.std.specs.declared.cmp.Ordering.{Ordering}
 use Rattle.std.specs.declared.cmp.Ordering.TheVariants.{Less, Equal, Greater}
 use Rattle.std.specs.List.{insert, remove}
@@ -12,7 +12,8 @@ use Rattle.std.proofs.lemmas.List.{get_or-take, get_or-drop, length-take, length
 use Rattle.std.proofs.lemmas.List.Elements.{All-nil, All-cons, All-append, All-take, All-drop, All-set}
 use Rattle.std.proofs.lemmas.List.Kept.{AllPairs-cons}
 use Rattle.std.proofs.lemmas.List.Quantifiers.{all_pairs_remove}
-use Rattle.std.proofs.lemmas.List.Sums.{sum_by-le, sum_by-take-drop, sum_by-drop_more, sum_by-set}
+use Rattle.std.proofs.lemmas.List.Sums.{sum_by-take-drop, sum_by-drop_more, sum_by-set}
+use Rattle.bt_lists.proofs.Counts.{sum_by-none}
 use Rattle.bt_frame.specs.declared.numbers.TermNo.{TermNo}
 use Rattle.bt_demand.specs.declared.demand.Link.{Link}
 use Rattle.bt_demand.specs.Demand.{Ends, ends_of, IsBefore, IsLink, IsDemand, units_of, Gains, IsAt, IsGapFor}
@@ -110,10 +111,6 @@ searched links e (Err place) is in_range parted =
       };
     }
 
--- nothing is added up where each part is 0
-pub sum_by_none : {X : Type 0} (f : X → ℕ) (xs : List X) → All (λ x. f x ≡ 0) xs → sum_by f xs ≡ 0
-sum_by_none f xs none = omega (arith, sum_by-le f 0 xs (λ k d within. omega (arith, none k d within)))
-
 -- the slots of a link, if it has these ends
 abbrev pub units_at : Ends → Link → ℕ
 units_at e link = if link.from.0 == e.0.0 && link.to.0 == e.1.0 then link.units else 0
@@ -132,8 +129,8 @@ units_at-same link e same =
 pub units_of_gap : (links : List Link) (from to : TermNo) (place : ℕ) → IsGapFor links (from, to) place → units_of links from to ≡ 0
 units_of_gap links from to place gap =
     let e : Ends = (from, to) in
-    let before = sum_by_none (units_at e) (take place links) (λ k d within. units_at-before _ e (gap.before k d within)) in
-    let after = sum_by_none (units_at e) (drop place links) (λ k d within. units_at-after _ e (gap.after k d within)) in
+    let before = sum_by-none (units_at e) (take place links) (λ k d within. units_at-before _ e (gap.before k d within)) in
+    let after = sum_by-none (units_at e) (drop place links) (λ k d within. units_at-after _ e (gap.after k d within)) in
     omega (arith, before, after, sum_by-take-drop (units_at e) links place)
 
 -- a link has the slots that stand at its place
@@ -142,10 +139,10 @@ pub units_of_at : (links : List Link) (from to : TermNo) (place : ℕ) (d : Link
 units_of_at links from to place d is at =
     let e : Ends = (from, to) in
     let here = λ (d : Link). at.has_ends d in
-    let before = sum_by_none (units_at e) (take place links) (λ k b within.
+    let before = sum_by-none (units_at e) (take place links) (λ k b within.
     let below : k < place = omega (arith, length-take place links) in
     rw (get_or-take place links k b below) (units_at-before _ e (subst (λ (x : Ends). IsBefore (ends_of (get_or links k b)) x) (here b) (is.ordered k place b below at.in_range)))) in
-    let after = sum_by_none (units_at e) (drop (place + 1) links) (λ k b within.
+    let after = sum_by-none (units_at e) (drop (place + 1) links) (λ k b within.
     let there : place + 1 + k < length links = omega (arith, length-drop (place + 1) links) in
     rw (get_or-drop (place + 1) links k b) (units_at-after _ e (subst (λ (x : Ends). IsBefore x (ends_of (get_or links (place + 1 + k) b))) (here b) (is.ordered place (place + 1 + k) b (omega arith) there)))) in
     omega (arith, before, after, sum_by-take-drop (units_at e) links place, sum_by-drop_more (units_at e) links place d at.in_range, units_at-same (get_or links place d) e (here d))

@@ -3,9 +3,10 @@ use Rattle.std.proofs.Common.{◌≡◌, ℕ, suc, ◌+◌, ◌<◌, List, [], �
 use Rattle.std.specs.declared.cmp.Ordering.{Ordering}
 use Rattle.std.specs.declared.cmp.Ordering.TheVariants.{Less, Equal, Greater}
 use Rattle.std.proofs.lemmas.List.Sums.{sum_by-cons}
+use Rattle.bt_lists.proofs.Counts.{sum_by-none}
 use Rattle.bt_demand.specs.declared.demand.Link.{Link}
 use Rattle.bt_demand.specs.Demand.{Ends, ends_of, IsBefore, IsDemand, units_of}
-use Rattle.bt_demand.proofs.Links.{Says, says, before_trans, units_at, units_at-same, units_at-after, sum_by_none}
+use Rattle.bt_demand.proofs.Links.{Says, says, before_trans, units_at, units_at-same, units_at-after}
 
 -- the slots of a link with these ends
 abbrev pub units_for : List Link → Ends → ℕ
@@ -30,13 +31,13 @@ first_is_before link links is k d within = is.ordered 0 (suc k) d (omega arith) 
 units_for-before : (link : Link) (links : List Link) (e : Ends) → IsDemand (link ∷ links) → IsBefore e (ends_of link) → units_for (link ∷ links) e ≡ 0
 units_for-before link links e is before =
     let first = units_at-after link e before in
-    let rest = sum_by_none (units_at e) links (λ k d within. units_at-after _ e (before_trans e (ends_of link) _ before (first_is_before link links is k d within))) in
+    let rest = sum_by-none (units_at e) links (λ k d within. units_at-after _ e (before_trans e (ends_of link) _ before (first_is_before link links is k d within))) in
     omega (arith, first, rest, units_for-cons link links e)
 
 -- the first link's ends have its slots
 units_for-first : (link : Link) (links : List Link) → IsDemand (link ∷ links) → units_for (link ∷ links) (ends_of link) ≡ link.units
 units_for-first link links is =
-    let rest = sum_by_none (units_at (ends_of link)) links (λ k d within. units_at-after _ (ends_of link) (first_is_before link links is k d within)) in
+    let rest = sum_by-none (units_at (ends_of link)) links (λ k d within. units_at-after _ (ends_of link) (first_is_before link links is k d within)) in
     omega (arith, rest, units_at-same link (ends_of link) refl, units_for-cons link links (ends_of link))
 
 -- some slots

@@ -51,7 +51,7 @@ one_turn modes slot turn place last at begins ends before = elim (cases_lt place
 ]
 
 -- a terminal is in one beam
-one_beam : (net : Net) (terminal : TermNo) (a b : BeamNo) → IsInBeam net terminal a → IsInBeam net terminal b → a ≡ b
+pub one_beam : (net : Net) (terminal : TermNo) (a b : BeamNo) → IsInBeam net terminal a → IsInBeam net terminal b → a ≡ b
 one_beam net terminal a b in_a in_b = cc
 
 -- a mode makes the connection between two beams

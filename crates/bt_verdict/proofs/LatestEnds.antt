@@ -1,10 +1,11 @@
 -- The ends of the latest bursts in each beam, as a walk along the bursts keeps them.
-use Rattle.std.proofs.Common.{◌≡◌, ◌⊎◌, ℕ, ◌+◌, ◌<◌, ◌≤◌, List, [], ◌∷◌, ◌++◌, length, replicate, All, Option, Some, get_or, set, slice_index, take, AllPairs, inl, inr, sym, ap, ◌∙◌, subst, arith}
+use Rattle.std.proofs.Common.{◌≡◌, ◌⊎◌, ℕ, ◌+◌, ◌<◌, ◌≤◌, List, [], ◌∷◌, ◌++◌, length, All, Option, Some, get_or, set, slice_index, take, AllPairs, inl, inr, sym, ap, ◌∙◌, subst, arith}
 use Rattle.std.specs.List.{Any}
 use Rattle.std.proofs.lemmas.Bool.{cases_eq}
-use Rattle.std.proofs.lemmas.List.{length-set, get_or-set_same, get_or-set_other, get_or_append_left, length_push, length-replicate, get_or-replicate, length-take, get_or-take, get_or_default, take-take}
-use Rattle.std.proofs.lemmas.List.Elements.{All-push, All-weaker, All-nil}
+use Rattle.std.proofs.lemmas.List.{length-set, get_or-set_same, get_or-set_other, get_or_append_left, length_push, length-take, get_or-take, get_or_default, take-take}
+use Rattle.std.proofs.lemmas.List.Elements.{All-push, All-weaker}
 use Rattle.std.proofs.lemmas.List.Quantifiers.{Any-push, all_pairs_push}
+use Rattle.bt_frame.proofs.OneNumber.{same_beam}
 use Rattle.bt_frame.specs.declared.numbers.BeamNo.{BeamNo}
 use Rattle.bt_net.specs.Network.{Net}
 use Rattle.bt_demand.specs.declared.burst.Burst.{Burst}
@@ -16,18 +17,6 @@ use Rattle.bt_verdict.specs.Meeting.{IsOfBeam, AreEnds, IsFirstLate, IsFirstMet,
 -- what some item has, some item of a longer list has
 Any-more : {X : Type 0} (P : X → Type 0) (xs : List X) (x : X) → Any P xs → Any P (xs ++ x ∷ [])
 Any-more P xs x (k, y, within, is, holds) = (k, y, omega (arith, length_push xs x), get_or_append_left xs (x ∷ []) y k within ∙ is, holds)
-
--- two beams of one number are one
-same_beam : (a b : BeamNo) → a.0 ≡ b.0 → a ≡ b
-same_beam a b same = ap (λ (n : ℕ). record { 0 = n }) same
-
--- no burst, no end
-pub AreEnds-none : (beam_of : Burst → Option BeamNo) → AreEnds beam_of [] (replicate 16 0)
-AreEnds-none beam_of = record {
-  wide = length-replicate {A = ℕ} 16 0;
-  none_later = λ beam small. All-nil (λ (a : Burst). IsOfBeam beam_of beam a → a.start + a.length ≤ slice_index (replicate 16 0) beam.0);
-  reached = λ beam small some. absurd (omega (arith, get_or-replicate {A = ℕ} 16 beam.0 0 0 small));
-}
 
 -- an empty burst changes no end
 pub AreEnds-skip : (beam_of : Burst → Option BeamNo) (xs : List Burst) (ends : List ℕ) (b : Burst) → AreEnds beam_of xs ends → b.length ≡ 0

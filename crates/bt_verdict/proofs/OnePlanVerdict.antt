@@ -8,7 +8,7 @@ use Rattle.std.proofs.Math.ListN.{get_or-eq_default}
 use Rattle.bt_frame.specs.declared.numbers.TermNo.{TermNo}
 use Rattle.bt_frame.specs.declared.schedule.Schedule.{Schedule}
 use Rattle.bt_net.specs.Network.{Net}
-use Rattle.bt_matrix.specs.Good.{IsPermutation, HasDurations}
+use Rattle.bt_matrix.specs.Good.{IsPermutation}
 use Rattle.bt_demand.specs.declared.burst.Burst.{Burst}
 use Rattle.bt_demand.specs.declared.demand.Link.{Link}
 use Rattle.bt_demand.specs.declared.plan.Plan.{Plan}
@@ -22,7 +22,7 @@ use Rattle.bt_demand.specs.Traffic.{matrix_of}
 use Rattle.bt_verdict.specs.Verdict.{IsFirstWithout}
 use Rattle.bt_verdict.proofs.FirstPlaces.{some_item, not_all, one_first}
 use Rattle.bt_demand.proofs.Links.{Says, says}
-use Rattle.bt_verdict.proofs.OneVerdict.{one_sum, one_line, no_other_sum}
+use Rattle.bt_verdict.proofs.OneVerdict.{one_sum, one_line, no_empty, no_other_sum}
 use Rattle.bt_verdict.proofs.PlanParts.{good_modes, good_apart, good_served}
 
 -- a burst that meets one stands on the list
@@ -97,9 +97,6 @@ one_ends net links bursts a b want have want_too have_too Greater after x y =
 -- faults of modes, of bursts and of links, against what the later verdicts have
 no_bad : (net : Net) (schedule : Schedule) (mode : ℕ) → IsFirstWithout (λ m. IsPermutation (length net.beams) m.perm) schedule.modes mode → HasSwitchings net schedule → ⊥
 no_bad net schedule mode first all = not_all (λ m. IsPermutation (length net.beams) m.perm) schedule.modes mode first all
-
-no_empty : (schedule : Schedule) (mode : ℕ) → IsFirstWithout (λ m. 0 < m.duration) schedule.modes mode → HasDurations schedule → ⊥
-no_empty schedule mode first all = not_all (λ m. 0 < m.duration) schedule.modes mode first all
 
 no_unheld : (net : Net) (plan : Plan) (burst : ℕ) → IsFirstWithout (IsHeld net plan.schedule.modes) plan.bursts burst → All (IsHeld net plan.schedule.modes) plan.bursts → ⊥
 no_unheld net plan burst first all = not_all (IsHeld net plan.schedule.modes) plan.bursts burst first all

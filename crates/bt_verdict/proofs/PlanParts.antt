@@ -1,6 +1,7 @@
 -- A plan is good by its modes and its bursts, and a good plan has such modes and bursts.
 use Rattle.std.proofs.Common.{◌⊎◌, ◌<◌, ◌≤◌, ◌==◌, ◌&&◌, if◌then◌else◌, List, length, get_or, All, sym, ◌∙◌, arith, inl, inr}
 use Rattle.std.proofs.lemmas.Bool.{cases_lt}
+use Rattle.bt_lists.proofs.Counts.{sum_by-none}
 use Rattle.bt_frame.specs.declared.numbers.TermNo.{TermNo}
 use Rattle.bt_net.specs.Network.{Net}
 use Rattle.bt_demand.specs.declared.burst.Burst.{Burst}
@@ -11,7 +12,6 @@ use Rattle.bt_demand.specs.Plan.{all_triples, Carries, IsHeld, IsGoodPlan}
 use Rattle.bt_verdict.specs.PlanVerdict.{AreApart, IsServed, HasGoodModes, AreBetweenTerminals}
 use Rattle.bt_demand.specs.Traffic.{AreOfNetwork}
 use Rattle.bt_demand.proofs.Flyable.{share_outside, units_outside}
-use Rattle.bt_demand.proofs.Links.{sum_by_none}
 use Rattle.bt_verdict.proofs.Triples.{line_sum-le-slots}
 use Rattle.bt_demand.proofs.BurstTriples.{triples_apart, bursts_apart, All-all_triples, occurrences-all_triples, held_within}
 
@@ -21,7 +21,7 @@ served_outside : (net : Net) (links : List Link) (bursts : List Burst) → AreOf
 served_outside net links bursts of_network between from to outside =
     let n = length net.terminals in
     let units = units_outside net links of_network from to outside in
-    let slots = sum_by_none (λ (burst : Burst). if burst.from.0 == from.0 && burst.to.0 == to.0 then burst.length else 0) bursts
+    let slots = sum_by-none (λ (burst : Burst). if burst.from.0 == from.0 && burst.to.0 == to.0 then burst.length else 0) bursts
     (λ k d within. let burst = get_or bursts k d in let ends = between k d within in
     share_outside burst.from.0 burst.to.0 from.0 to.0 n burst.length ends.0 ends.1 outside) in
     slots ∙ sym units

@@ -52,10 +52,6 @@ added-other_from a x b y n from = grind (arith, nat_tests)
 added-other_to : (a x b y n : ℕ) → y ≢ b → (if a == x && b == y then n else 0) ≡ 0
 added-other_to a x b y n to = grind (arith, nat_tests)
 
--- a link that asks for nothing
-abbrev pub no_link : Link
-no_link = record { from = record { 0 = 0 }; to = record { 0 = 0 }; units = 0 }
-
 -- one more item
 one_more : {X : Type 0} (from to amount : X → ℕ) (xs : List X) (k : ℕ) (d : X) (table : List (List ℕ)) (n : ℕ) → k < length xs
     → AreSumsAt from to amount (take k xs) table → from (get_or xs k d) < 64 → to (get_or xs k d) < 64
@@ -142,12 +138,6 @@ one_added from to amount items k d table units within before from_small to_small
           let one = one_more_small table a b (entry table a b + units) (4294967295 * k) units before.so_far.shape from_small to_small before.small refl i j i_small j_small in
           omega (arith, one, few);
     }
-
--- a link that asks for what its bursts have is served
-pub served : (links : List Link) (bursts : List Burst) (asked sent : List (List ℕ)) (from to : TermNo) → AreUnitsAsked links asked → AreSlotsSent bursts sent
-    → from.0 < 64 → to.0 < 64 → entry asked from.0 to.0 ≡ entry sent from.0 to.0 → IsServed links bursts from to
-served links bursts asked sent from to of_links of_bursts from_small to_small same =
-    sym (of_bursts.each from.0 to.0 from_small to_small) ∙ (sym same ∙ of_links.each from.0 to.0 from_small to_small)
 
 -- nothing is asked of terminals that the network has not, nor sent
 pub outside : (net : Net) (links : List Link) (bursts : List Burst) (from to : TermNo) → AreOfNetwork net links → AreBetweenTerminals net bursts

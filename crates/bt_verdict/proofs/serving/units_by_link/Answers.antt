@@ -1,6 +1,7 @@
 use Rattle.std.proofs.Common.{arith}
 use Rattle.bt_demand.specs.declared.demand.Link.{Link}
-use Rattle.bt_verdict.proofs.SentTable.{no_link, none_added, one_added}
+use Rattle.bt_verdict.proofs.SumsSoFar.{no_link}
+use Rattle.bt_verdict.proofs.SentTable.{none_added, one_added}
 use Rattle.bt_verdict.proofs.serving.units_by_link.Goals as goal
 
 pub loop-link-init : goal.loop-link-init
