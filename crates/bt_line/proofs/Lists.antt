@@ -9,20 +9,6 @@ use Rattle.bt_line.specs.Legal.{Legal, calls_by}
 use Rattle.bt_line.specs.Passes.{HasSeen}
 
 module _ {A : Type 0} where
-  abbrev is_there : Option A → Type 0
-  is_there None = ⊥
-  is_there (Some a) = Unit {0}
-
-  pub none_some : (a : A) → None ≡ Some a → ⊥
-  none_some a e = subst is_there (sym e) tt
-
-  abbrev value_or : A → Option A → A
-  value_or d None = d
-  value_or d (Some a) = a
-
-  pub same_some : (a b : A) → Some a ≡ Some b → a ≡ b
-  same_some a b e = ap (value_or a) e
-
   pub none_or : (o : Option A) → (o ≡ None) ⊎ ((a : A) × (o ≡ Some a))
   none_or None = inl refl
   none_or (Some a) = inr (a, refl)
@@ -58,14 +44,6 @@ module _ {A : Type 0} where
   pub sum_within : (f : A → ℕ) → ((a : A) → f a ≤ 1) → (l : List A) → sum_by f l ≤ length l
   sum_within f small [] = omega arith
   sum_within f small (x ∷ xs) = omega (arith, sum_by-cons f x xs, small x, sum_within f small xs)
-
-  abbrev rest_of : List A → List A
-  rest_of [] = []
-  rest_of (x ∷ xs) = xs
-
-  pub cancel : (front a b : List A) → front ++ a ≡ front ++ b → a ≡ b
-  cancel [] a b e = e
-  cancel (x ∷ xs) a b e = cancel xs a b (ap rest_of e)
 
   pub not_longer : (l : List A) (a : A) → l ≡ l ++ a ∷ [] → ⊥
   not_longer l a e = let same = ap length e in let long = length-append l (a ∷ []) in let n : ℕ = length l in let m : ℕ = length (l ++ a ∷ []) in let p : n ≡ m = same in let q : m ≡ n + 1 = long in absurd (omega arith)

@@ -1,5 +1,5 @@
 -- The passes of a line in one vector, as it opens and as it closes.
-use Rattle.std.proofs.Common.{◌≡◌, ℕ, zero, suc, ◌+◌, ◌<◌, List, [], ◌∷◌, ◌++◌, length, get_or, insert, remove, None, sym, refl, ap, subst, ◌∙◌, arith, length-append}
+use Rattle.std.proofs.Common.{◌≡◌, ℕ, zero, suc, ◌+◌, ◌<◌, List, [], ◌∷◌, ◌++◌, length, get_or, None, sym, refl, ap, subst, ◌∙◌, arith, length-append}
 use mathlib.Core.Option.{some}
 use lib.ListN.{get_elem?}
 use Rattle.bt_line.specs.declared.object.Entry.{Entry}
@@ -30,11 +30,6 @@ module _ {A : Type 0} where
   pub pushed_length : (l new : List A) (a : A) → new ≡ l ++ a ∷ [] → length new ≡ length l + 1
   pushed_length l new a is = ap length is ∙ length-append l (a ∷ [])
 
-  -- and after one more at the front
-  pub each_fronted : (Q : ℕ → A → Type 0) (l : List A) (a : A) → Q 0 a → ((i : ℕ) (d : A) → i < length l → Q (i + 1) (get_or l i d)) → (i : ℕ) (d : A) → i < length (insert l 0 a) → Q i (get_or (insert l 0 a) i d)
-  each_fronted Q l a first each zero d h = first
-  each_fronted Q l a first each (suc i) d h = let next : i + 1 ≡ suc i = omega arith in subst (λ (k : ℕ). Q k (get_or l i d)) next (each i d (omega arith))
-
 module _ {O C R A : Type 0} (view : A → View O C R) where
   abbrev V : Type 0
   V = View O C R
@@ -48,19 +43,6 @@ module _ {O C R A : Type 0} (view : A → View O C R) where
     pub same : (i : ℕ) (d : A) → i < length now → get_or now i d ≡ get_or all (i + 1) d
     pub seen : (d : A) → lead.seen ≡ (view (get_or all 0 d)).seen
     pub kept : (i : ℕ) (d : A) → i < length lead.kept → get_elem? lead.kept i ≡ some (view (get_or all (length now + 1 + i) d)).seen
-
-  pub taking_first : (all : List A) (first : A) → 0 < length all → first ≡ get_or all 0 first → (view first).base ≡ None → ((i : ℕ) (d : A) → i < length all → (view (get_or all i d)).number ≡ i)
-      → ((d : A) → ((view (get_or all 0 d)).count ≡ length all) × ((view (get_or all 0 d)).kept ≡ [])) → Taking all (remove all 0) (view first)
-  taking_first [] first any is base order whole = absurd (omega arith)
-  taking_first (a ∷ all) first any is base order whole = record {
-    number = ap (λ p. (view p).number) is ∙ order 0 first any;
-    base = base;
-    count = ap (λ p. (view p).count) is ∙ (whole first).0;
-    sum = let none_yet = ap (λ p. length (view p).kept) is ∙ ap length (whole first).1 in let n : ℕ = length (view first).kept in let z : n ≡ 0 = none_yet in omega arith;
-    same = λ i d h. let next : suc i ≡ i + 1 = omega arith in ap (λ k. get_or (a ∷ all) k d) next;
-    seen = λ d. ap (λ p. (view p).seen) is;
-    kept = λ i d h. let none_yet = ap (λ p. length (view p).kept) is ∙ ap length (whole first).1 in let n : ℕ = length (view first).kept in let z : n ≡ 0 = none_yet in absurd (omega arith);
-  }
 
   -- the pass that is taken in next is one of all
   pub taking_has : (all now new : List A) (lead : V) (p : A) (P : A → Type 0) → Taking all now lead → now ≡ new ++ p ∷ [] → ((i : ℕ) (d : A) → i < length all → P (get_or all i d)) → P p

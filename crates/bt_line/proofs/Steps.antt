@@ -6,6 +6,8 @@ use mathlib.Core.Option as maybe
 use native.Mathlib.Decide.{ℕ_discrete}
 use lib.ListN.{get_elem?}
 use Rattle.std.proofs.lemmas.List.Sums.{sum_by_push}
+use Rattle.std.proofs.lemmas.List.{append_cancel_left}
+use Rattle.std.proofs.lemmas.Option.{none-some, same_Some}
 use Rattle.atomic_table.specs.Table.{State, Me, step, keeps, takes, gives, stepped, put_back, rest, Allows, Splits, Joins, opening, Final, Seen}
 use Rattle.atomic_table.proofs.Lists.{at_set, set_else, at_longer, one_turn}
 use Rattle.bt_line.specs.declared.object.Entry.{Entry}
@@ -13,7 +15,7 @@ use Rattle.bt_line.specs.declared.view.View.{View}
 use Rattle.bt_line.specs.Legal.{Legal, calls_by, entry_of}
 use Rattle.bt_line.specs.Passes.{HasSeen, Gains}
 use Rattle.bt_line.specs.Turns.{waits, one_of, gone, opening_view, admits, admitted, joined, rested, Knows, IsHome, IsOut, Leads, Kept, IsIdle, drawn, looked, passed, MayGive}
-use Rattle.bt_line.proofs.Lists.{none_some, same_some, none_or, sum_set, set_at, at_below, there_is, at_push, sum_within, cancel, not_longer, calls_more, calls_same, seen_longer, seen_all, legal_more}
+use Rattle.bt_line.proofs.Lists.{none_or, sum_set, set_at, at_below, there_is, at_push, sum_within, not_longer, calls_more, calls_same, seen_longer, seen_all, legal_more}
 
 one_of_small : (ticket : Option ℕ) → one_of ticket ≤ 1
 one_of_small None = omega arith
@@ -43,13 +45,13 @@ module _ {O C R : Type 0} (steps : O → ℕ → C → R → O → Type 0) (hist
   live s r id v at not = ⊎_elim (λ e. absurd (not e)) (λ k. k) (r.each id v at)
 
   started : (v : V) → v.start ≡ Some x → v ≡ gone → ⊥
-  started v start e = none_some x (ap (λ (u : V). u.start) (sym e) ∙ start)
+  started v start e = none-some x (ap (λ (u : V). u.start) (sym e) ∙ start)
 
   ticketed : (v : V) (k : ℕ) → v.ticket ≡ Some k → v ≡ gone → ⊥
-  ticketed v k ticket e = none_some k (ap (λ (u : V). u.ticket) (sym e) ∙ ticket)
+  ticketed v k ticket e = none-some k (ap (λ (u : V). u.ticket) (sym e) ∙ ticket)
 
   based : (v : V) (b : L) → v.base ≡ Some b → v ≡ gone → ⊥
-  based v b base e = none_some b (ap (λ (u : V). u.base) (sym e) ∙ base)
+  based v b base e = none-some b (ap (λ (u : V). u.base) (sym e) ∙ base)
 
   counted : (v : V) → 0 < v.count → v ≡ gone → ⊥
   counted v any e = let none_given = ap (λ (u : V). u.count) e in absurd (omega arith)
@@ -154,8 +156,8 @@ module _ {O C R : Type 0} (steps : O → ℕ → C → R → O → Type 0) (hist
           start_is = know.start_is;
           number_is = know.number_is;
           seen = know.seen;
-          ticket = λ k' e. let same : k ≡ k' = same_some k k' e in (omega arith, omega arith);
-          base = λ b e. absurd (none_some b (sym idle.1 ∙ e));
+          ticket = λ k' e. let same : k ≡ k' = same_Some k k' e in (omega arith, omega arith);
+          base = λ b e. absurd (none-some b (sym idle.1 ∙ e));
         })
         (λ j u other e old. record {
           start_is = old.start_is;
@@ -164,7 +166,7 @@ module _ {O C R : Type 0} (steps : O → ℕ → C → R → O → Type 0) (hist
           ticket = λ k' t. let was = old.ticket k' t in let low = was.0 in let high = was.1 in (low, omega arith);
           base = old.base;
         })
-        (λ j u k' other e t t'. let was = bounds s r j u k' e t in let high = was.1 in let same : k ≡ k' = same_some k k' t' in absurd (omega arith))
+        (λ j u k' other e t t'. let was = bounds s r j u k' e t in let high = was.1 in let same : k ≡ k' = same_Some k k' t' in absurd (omega arith))
         r.legal
         r.stored
         (place_stays s (set s.words 0 ((get_or s.words 0 0 + 1) % 2 ^ 64)) r.object r.log id v w at refl r.place)
@@ -184,7 +186,7 @@ module _ {O C R : Type 0} (steps : O → ℕ → C → R → O → Type 0) (hist
       let home : IsHome r.object s = ⊎_elim (λ h. h) (λ (h : IsOut r.log s). let other = live s r h.1.0 h.1.1 h.1.2 (based h.1.1 r.log h.1.3) in
       let same : h.1.0 ≡ id = r.apart h.1.0 id h.1.1 v r.turn h.1.2 at (other.base r.log h.1.3).0 mine in
       let is : h.1.1 ≡ v = some-injective h.1.1 v (sym h.1.2 ∙ subst (λ (n : ℕ). get_elem? s.views n ≡ some v) (sym same) at) in
-      absurd (none_some r.log (sym base ∙ (ap (λ (z : V). z.base) (sym is) ∙ h.1.3)))) r.place in
+      absurd (none-some r.log (sym base ∙ (ap (λ (z : V). z.base) (sym is) ∙ h.1.3)))) r.place in
       let w : V = record v { base = Some r.log } in (
         w,
         takes 0 (Some r.object),
@@ -192,7 +194,7 @@ module _ {O C R : Type 0} (steps : O → ℕ → C → R → O → Type 0) (hist
         seat_step s r id v w r.turn r.out r.log r.object _ _ at (ticketed v k ticket)
             (ap (λ ws. set ws 1 (get_or ws 1 0)) r.words_are)
             refl
-            (record { start_is = know.start_is; number_is = know.number_is; seen = know.seen; ticket = know.ticket; base = λ b e. (mine, sym (same_some r.log b e)) })
+            (record { start_is = know.start_is; number_is = know.number_is; seen = know.seen; ticket = know.ticket; base = λ b e. (mine, sym (same_Some r.log b e)) })
             (λ j u other e old. old)
             (λ j u k' other e t t'. other (r.apart j id u v k' e at t t'))
             r.legal
@@ -202,12 +204,12 @@ module _ {O C R : Type 0} (steps : O → ℕ → C → R → O → Type 0) (hist
             refl
             (λ n list other seen. seen)
             r.strangers,
-        λ k' t. let same : Some k ≡ Some k' = sym ticket ∙ t in let is : k ≡ k' = same_some k k' same in (
+        λ k' t. let same : Some k ≡ Some k' = sym ticket ∙ t in let is : k ≡ k' = same_Some k k' same in (
           λ _. (
             r.log,
             r.object,
             (λ i. (record v { ticket = t i; base = Some r.log }, (0, Some r.object) ∷ empty i)),
-            (λ y start. let as_started : x ≡ y = same_some x y (sym know.start_is ∙ start) in subst (λ (z : O). Legal steps z r.log r.object × (history r.object ≡ history z ++ r.log)) as_started (r.legal, r.stored)),
+            (λ y start. let as_started : x ≡ y = same_Some x y (sym know.start_is ∙ start) in subst (λ (z : O). Legal steps z r.log r.object × (history r.object ≡ history z ++ r.log)) as_started (r.legal, r.stored)),
             subst (λ (n : ℕ). HasSeen r.log n v.seen) (sym know.number_is) know.seen,
           ),
           λ not. absurd (not (e ∙ ap (λ n. n % 2 ^ 64) is)),
@@ -230,7 +232,7 @@ module _ {O C R : Type 0} (steps : O → ℕ → C → R → O → Type 0) (hist
             refl
             (λ n list other seen. seen)
             r.strangers,
-        λ k' t. (λ e. absurd (not (e ∙ ap (λ n. n % 2 ^ 64) (same_some k' k (sym t ∙ ticket)))), λ _. refl),
+        λ k' t. (λ e. absurd (not (e ∙ ap (λ n. n % 2 ^ 64) (same_Some k' k (sym t ∙ ticket)))), λ _. refl),
       ))
 
   -- the object comes back, with the log that follows
@@ -241,11 +243,11 @@ module _ {O C R : Type 0} (steps : O → ℕ → C → R → O → Type 0) (hist
   returns_object s r id me p k log seen at ticket base carried legal stored has_seen grows strangers = let v : V = me.0 in let w : V = rested v seen in let know = live s r id v at (ticketed v k ticket) in
       let mine : v.ticket ≡ Some r.turn = (know.base r.log base).0 in let range = know.ticket r.turn mine in let more = range.1 in
       let alone : (j : ℕ) (u : V) → j ≢ id → get_elem? s.views j ≡ some u → u.ticket ≡ Some r.turn → ⊥ = λ j u other e t. other (r.apart j id u v r.turn e at t mine) in
-      let out : s.homes ≡ none ∷ [] = ⊎_elim (λ (h : IsHome r.object s). absurd (none_some r.log (sym (h.1 id v at) ∙ base))) (λ (h : IsOut r.log s). h.0) r.place in
+      let out : s.homes ≡ none ∷ [] = ⊎_elim (λ (h : IsHome r.object s). absurd (none-some r.log (sym (h.1 id v at) ∙ base))) (λ (h : IsOut r.log s). h.0) r.place in
       seat_step s r id v w (r.turn + 1) (r.out - 1) log p _ _ at (ticketed v k ticket)
       (ap (λ ws. set ws 1 ((get_or ws 1 0 + 1) % 2 ^ 64)) r.words_are ∙ (λ i. two (sums r.turn r.out more i) (next r.turn i)))
       (ap (λ (t : Option ℕ). r.out - 1 + one_of t) mine ∙ omega arith)
-      (record { start_is = know.start_is; number_is = know.number_is; seen = has_seen; ticket = λ k' e. absurd (none_some k' e); base = λ b e. absurd (none_some b e) })
+      (record { start_is = know.start_is; number_is = know.number_is; seen = has_seen; ticket = λ k' e. absurd (none-some k' e); base = λ b e. absurd (none-some b e) })
       (λ j u other e old. record {
         start_is = old.start_is;
         number_is = old.number_is;
@@ -253,7 +255,7 @@ module _ {O C R : Type 0} (steps : O → ℕ → C → R → O → Type 0) (hist
         ticket = λ k' t. let was = old.ticket k' t in let low = was.0 in let high = was.1 in let later : r.turn ≢ k' = λ same. alone j u other e (t ∙ ap (λ n. Some n) (sym same)) in (omega arith, omega arith);
         base = λ b eb. absurd (alone j u other e (old.base b eb).0);
       })
-      (λ j u k' other e t t'. none_some k' t')
+      (λ j u k' other e t t'. none-some k' t')
       legal
       stored
       (inl (
@@ -285,9 +287,9 @@ module _ {O C R : Type 0} (steps : O → ℕ → C → R → O → Type 0) (hist
       → (y q : O) (d : L) → me.0.start ≡ Some y → me.0.base ≡ Some d → me.1 ≡ (0, Some q) ∷ []
       → (history q ≡ history y ++ d → seen ≡ me.0.seen) × ((e : Entry C R) → history q ≡ history y ++ d ++ e ∷ [] → seen ≡ d ++ e ∷ [])
   tells me p b log seen start base carried stored none_made made y q d start' base' carried' =
-      let is_x : x ≡ y = same_some x y (sym start ∙ start') in let is_b : b ≡ d = same_some b d (sym base ∙ base') in let is_p : p ≡ q = held p q (sym carried ∙ carried') in
+      let is_x : x ≡ y = same_Some x y (sym start ∙ start') in let is_b : b ≡ d = same_Some b d (sym base ∙ base') in let is_p : p ≡ q = held p q (sym carried ∙ carried') in
       subst (λ (z : O × O × L). (history z.1 ≡ history z.0 ++ z.2 → seen ≡ me.0.seen) × ((e : Entry C R) → history z.1 ≡ history z.0 ++ z.2 ++ e ∷ [] → seen ≡ z.2 ++ e ∷ [])) (λ i. (is_x i, is_p i, is_b i))
-      ((λ same. none_made (cancel (history x) log b (sym stored ∙ same))), (λ e same. made e (cancel (history x) log (b ++ e ∷ []) (sym stored ∙ (same ∙ append_assoc (history x) b (e ∷ []))))))
+      ((λ same. none_made (append_cancel_left (history x) log b (sym stored ∙ same))), (λ e same. made e (append_cancel_left (history x) log (b ++ e ∷ []) (sym stored ∙ (same ∙ append_assoc (history x) b (e ∷ []))))))
     where
       first : O → List (ℕ × Option O) → O
       first d ((k, Some o) ∷ more) = o
@@ -336,7 +338,7 @@ module _ {O C R : Type 0} (steps : O → ℕ → C → R → O → Type 0) (hist
     out_is = refl;
     few = omega arith;
     each = λ j u e. only j u e;
-    apart = λ i j v w k ev ew tv tw. ⊎_elim (λ (t : v ≡ opening_view x). absurd (none_some k (ap (λ (z : V). z.ticket) (sym t) ∙ tv))) (λ (n : ⊥). absurd n) (one i v ev);
+    apart = λ i j v w k ev ew tv tw. ⊎_elim (λ (t : v ≡ opening_view x). absurd (none-some k (ap (λ (z : V). z.ticket) (sym t) ∙ tv))) (λ (n : ⊥). absurd n) (one i v ev);
     legal = refl;
     stored = sym (append-nil (history x));
     place = inl (refl, λ j u e. ⊎_elim (λ (t : u ≡ opening_view x). ap (λ (z : V). z.base) t) (λ (n : ⊥). absurd n) (one j u e));
@@ -353,8 +355,8 @@ module _ {O C R : Type 0} (steps : O → ℕ → C → R → O → Type 0) (hist
         start_is = refl;
         number_is = refl;
         seen = record { begins = ([], refl); own = refl };
-        ticket = λ k e. absurd (none_some k e);
-        base = λ b e. absurd (none_some b e);
+        ticket = λ k e. absurd (none-some k e);
+        base = λ b e. absurd (none-some b e);
       }))
       only (suc j) u e = absurd (some-ne-none u (sym e))
 
@@ -382,11 +384,11 @@ module _ {O C R : Type 0} (steps : O → ℕ → C → R → O → Type 0) (hist
               start_is = know.start_is;
               number_is = count ∙ (sym long ∙ sym t.0);
               seen = record { begins = (r.log, refl); own = r.strangers j (omega (arith, long, t.0)) };
-              ticket = λ k e. absurd (none_some k e);
-              base = λ b e. absurd (none_some b e);
+              ticket = λ k e. absurd (none-some k e);
+              base = λ b e. absurd (none-some b e);
             })))
             (at_push old n u j e);
-        apart = λ i j a b k ea eb ta tb. let no : (u : V) → n ≡ u → u.ticket ≡ Some k → ⊥ = λ u is t. none_some k (ap (λ (z : V). z.ticket) is ∙ t) in
+        apart = λ i j a b k ea eb ta tb. let no : (u : V) → n ≡ u → u.ticket ≡ Some k → ⊥ = λ u is t. none-some k (ap (λ (z : V). z.ticket) is ∙ t) in
             let was : (m : ℕ) (u : V) → get_elem? old m ≡ some u → u.ticket ≡ Some k → (z : V) × (get_elem? s.views m ≡ some z) × (z.ticket ≡ Some k) = λ m u e t. ⊎_elim
             (λ (q : (m ≡ id) × (w ≡ u)). (v, subst (λ (l : ℕ). get_elem? s.views l ≡ some v) (sym q.0) at, ap (λ (z : V). z.ticket) q.1 ∙ t)) (λ (q : (m ≢ id) × (get_elem? s.views m ≡ some u)). (u, q.1, t)) (at_set s.views id m w u e) in
             ⊎_elim (λ fa. ⊎_elim (λ fb. let p = was i a fa ta in let q = was j b fb tb in r.apart i j p.0 q.0 k p.1 q.1 p.2 q.2) (λ (t : (j ≡ length old) × (n ≡ b)). absurd (no b t.1 tb)) (at_push old n b j eb))
@@ -440,7 +442,7 @@ module _ {O C R : Type 0} (steps : O → ℕ → C → R → O → Type 0) (hist
       λ m u not e. dite (ℕ_discrete m id)
       (λ same. (both, set_else old other m gone not ∙ subst (λ (l : ℕ). get_elem? old l ≡ some both) (sym same) (set_at s.views id v both at), ap (λ (z : V). z.base) (is_v m u same e)))
       (λ differ. (u, set_else old other m gone not ∙ (set_else s.views id m both differ ∙ e), refl)) in
-      let no_turn : (u : V) (k : ℕ) → u ≡ gone → u.ticket ≡ Some k → ⊥ = λ u k e t. none_some k (sym (ap (λ (z : V). z.ticket) e) ∙ t) in
+      let no_turn : (u : V) (k : ℕ) → u ≡ gone → u.ticket ≡ Some k → ⊥ = λ u k e t. none-some k (sym (ap (λ (z : V). z.ticket) e) ∙ t) in
       let long_old : length old ≡ length s.views = length-set s.views id both in let long_new : length new ≡ length old = length-set old other gone in record {
         turn = r.turn;
         out = r.out;
@@ -458,7 +460,7 @@ module _ {O C R : Type 0} (steps : O → ℕ → C → R → O → Type 0) (hist
         stored = r.stored;
         place = ⊎_elim
             (λ (h : IsHome r.object s). inl (h.0, λ j u e. ⊎_elim (λ g. ap (λ (z : V). z.base) g) (λ t. sym t.3 ∙ h.1 j t.0 t.1) (was j u e)))
-            (λ (h : IsOut r.log s). let not : h.1.0 ≢ other = λ e. none_some r.log (sym no_base ∙ (ap (λ (z : V). z.base) (some-injective w h.1.1 (sym at_other ∙ subst (λ (n : ℕ). get_elem? s.views n ≡ some h.1.1) e h.1.2)) ∙ h.1.3)) in
+            (λ (h : IsOut r.log s). let not : h.1.0 ≢ other = λ e. none-some r.log (sym no_base ∙ (ap (λ (z : V). z.base) (some-injective w h.1.1 (sym at_other ∙ subst (λ (n : ℕ). get_elem? s.views n ≡ some h.1.1) e h.1.2)) ∙ h.1.3)) in
             let n = now h.1.0 h.1.1 not h.1.2 in inr (h.0, (h.1.0, n.0, n.1, n.2 ∙ h.1.3)))
             r.place;
         leads = record {
@@ -489,7 +491,7 @@ module _ {O C R : Type 0} (steps : O → ℕ → C → R → O → Type 0) (hist
       let leads_v : Leads r.log s.views v = subst (Leads r.log s.views) (sym is) r.leads in let count = leads_v.count_is in
       let long : ℕ = length v.kept in let all' : long + 1 ≡ v.count = all in
       let home : IsHome r.object s = ⊎_elim (λ h. h) (λ (h : IsOut r.log s). let j : ℕ = h.1.0 in dite (ℕ_discrete j 0)
-      (λ zero_is. absurd (none_some r.log (sym no_base ∙ (ap (λ (z : V). z.base) (some-injective v h.1.1 (sym at0 ∙ subst (λ (n : ℕ). get_elem? s.views n ≡ some h.1.1) zero_is h.1.2)) ∙ h.1.3))))
+      (λ zero_is. absurd (none-some r.log (sym no_base ∙ (ap (λ (z : V). z.base) (some-injective v h.1.1 (sym at0 ∙ subst (λ (n : ℕ). get_elem? s.views n ≡ some h.1.1) zero_is h.1.2)) ∙ h.1.3))))
       (λ later. let below = at_below s.views j h.1.1 h.1.2 in let total : ℕ = length s.views in let c : v.count ≡ total = count in let b : j < total = below in
       let t = there_is v.kept (j - 1) (omega arith) in let k = leads_v.kept (j - 1) t.0 t.1 in let seat : v.count - long + (j - 1) ≡ j = omega arith in
       absurd (based h.1.1 r.log h.1.3 (some-injective h.1.1 gone (sym h.1.2 ∙ subst (λ (n : ℕ). get_elem? s.views n ≡ some gone) seat k.0))))) r.place in (

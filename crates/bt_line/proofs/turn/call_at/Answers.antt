@@ -1,9 +1,10 @@
 use Rattle.std.proofs.Common.{rules, ◌≡◌, [], ◌∷◌, ◌++◌, Some, ap, sym, ◌∙◌, subst, refl}
+use Rattle.std.proofs.lemmas.Option.{same_Some}
 use Rattle.atomic_table.specs.Table.{rest}
 use Rattle.bt_line.specs.Legal.{Legal}
 use Rattle.bt_line.specs.Passes.{HasSeen}
 use Rattle.bt_line.specs.Turns.{MayGive}
-use Rattle.bt_line.proofs.Lists.{same_held, same_some, legal_keeps}
+use Rattle.bt_line.proofs.Lists.{same_held, legal_keeps}
 use Rattle.bt_line.proofs.Steps.{may_give, learns}
 use Rattle.bt_line.proofs.turn.call_at.Goals as goal
 
@@ -14,7 +15,7 @@ exchange-requires g c = let turn = c.take_turn.ensures.turn.1 in let o = turn.1 
 pub apply-answer-requires : goal.apply-answer-requires
 apply-answer-requires g c = let turn = c.take_turn.ensures.turn.1 in let o = turn.1 in let carried : c.take_turn.new.place.me.1 ≡ (0, Some o) ∷ [] = ap (λ m. m.1) turn.2 in
     let got : c.exchange.result ≡ Some o = same_held (Some o) c.exchange.result c.take_turn.new.place.me.1 carried (_, c.exchange.ensures.2) in
-    let is : o ≡ c.unwrap-object.result = same_some o c.unwrap-object.result (sym got ∙ c.unwrap-object.ensures) in
+    let is : o ≡ c.unwrap-object.result = same_Some o c.unwrap-object.result (sym got ∙ c.unwrap-object.ensures) in
     let known = turn.3 c.args.top.now.key.value c.requires.start in
     subst (λ p. g.O.Object.takes p c.args.call) is
     (legal_keeps g.O.Object.steps (λ p. g.O.Object.takes p c.args.call) (λ a k d r p step. g.met.O.Object.keeps_test a k d r p step c.args.call) c.args.top.now.key.value o turn.0 known.0 c.requires.test)
@@ -22,7 +23,7 @@ apply-answer-requires g c = let turn = c.take_turn.ensures.turn.1 in let o = tur
 pub give_back-requires-clause-may : goal.give_back-requires-clause-may
 give_back-requires-clause-may g c = let turn = c.take_turn.ensures.turn.1 in let o = turn.1 in let carried : c.take_turn.new.place.me.1 ≡ (0, Some o) ∷ [] = ap (λ m. m.1) turn.2 in
     let got : c.exchange.result ≡ Some o = same_held (Some o) c.exchange.result c.take_turn.new.place.me.1 carried (_, c.exchange.ensures.2) in
-    let is : o ≡ c.unwrap-object.result = same_some o c.unwrap-object.result (sym got ∙ c.unwrap-object.ensures) in
+    let is : o ≡ c.unwrap-object.result = same_Some o c.unwrap-object.result (sym got ∙ c.unwrap-object.ensures) in
     let known = turn.3 c.args.top.now.key.value c.requires.start in let now = c.exchange.ensures.3 in
     let legal : Legal g.O.Object.steps c.args.top.now.key.value turn.0 c.unwrap-object.result = subst (Legal g.O.Object.steps c.args.top.now.key.value turn.0) is known.0 in
     let stored : g.O.Object.history c.unwrap-object.result ≡ g.O.Object.history c.args.top.now.key.value ++ turn.0 = ap g.O.Object.history (sym is) ∙ known.1 in
@@ -39,7 +40,7 @@ give_back-requires-clause-may g c = let turn = c.take_turn.ensures.turn.1 in let
 pub returns-clause-call : goal.returns-clause-call
 returns-clause-call g c = let turn = c.take_turn.ensures.turn.1 in let o = turn.1 in let carried : c.take_turn.new.place.me.1 ≡ (0, Some o) ∷ [] = ap (λ m. m.1) turn.2 in
     let got : c.exchange.result ≡ Some o = same_held (Some o) c.exchange.result c.take_turn.new.place.me.1 carried (_, c.exchange.ensures.2) in
-    let is : o ≡ c.unwrap-object.result = same_some o c.unwrap-object.result (sym got ∙ c.unwrap-object.ensures) in
+    let is : o ≡ c.unwrap-object.result = same_Some o c.unwrap-object.result (sym got ∙ c.unwrap-object.ensures) in
     let known = turn.3 c.args.top.now.key.value c.requires.start in let now = c.exchange.ensures.3 in
     let legal : Legal g.O.Object.steps c.args.top.now.key.value turn.0 c.unwrap-object.result = subst (Legal g.O.Object.steps c.args.top.now.key.value turn.0) is known.0 in
     let stored : g.O.Object.history c.unwrap-object.result ≡ g.O.Object.history c.args.top.now.key.value ++ turn.0 = ap g.O.Object.history (sym is) ∙ known.1 in

@@ -1,7 +1,7 @@
 use Rattle.std.proofs.Common.{rules, arith, ◌≡◌, [], ◌∷◌, ◌++◌, Some, length, vec_len, sym, ap, subst, ◌∙◌}
+use Rattle.std.proofs.lemmas.Option.{none-some, same_Some}
 use mathlib.Core.Option.{some-injective}
 use Rattle.bt_line.specs.Legal.{Legal}
-use Rattle.bt_line.proofs.Lists.{none_some, same_some}
 use Rattle.bt_line.proofs.Steps.{joins, closes}
 use Rattle.bt_line.proofs.Passes.{Taking, taking_has, taking_number, taking_sum, taking_next, taking_all, taking_ends}
 use Rattle.bt_line.proofs.line.Line.close.Goals as goal
@@ -25,12 +25,12 @@ loop-pass-preserved g c = let t = c.loop-pass.invariant.1 in let p = c.in-Some.p
 pub unreachable-requires : goal.unreachable-requires
 unreachable-requires g c = let t = c.loop-pass.invariant.1 in let none_left : length c.loop-pass.passes.items ≡ 0 = grind (arith, c.in_default.ensures.cases) in
     let end = closes g.O.Object.steps g.O.Object.history c.args.self.table.shared.key.value _ _ _ _ t.number t.base (taking_all (λ q. q.place.me.0) _ _ _ t none_left) c.close_with-closed.ensures.values.2 in
-    none_some end.1 (sym c.in-None.is ∙ some-injective c.take-taken.result (Some end.1) (sym c.take-taken.ensures.value ∙ end.2))
+    none-some end.1 (sym c.in-None.is ∙ some-injective c.take-taken.result (Some end.1) (sym c.take-taken.ensures.value ∙ end.2))
 
 pub returns : goal.returns
 returns g c = let t = c.loop-pass.invariant.1 in let long : vec_len c.args.passes ≡ length c.args.passes.items = grind arith in let none_left : length c.loop-pass.passes.items ≡ 0 = grind (arith, c.in_default.ensures.cases) in
     let end = closes g.O.Object.steps g.O.Object.history c.args.self.table.shared.key.value _ _ _ _ t.number t.base (taking_all (λ q. q.place.me.0) _ _ _ t none_left) c.close_with-closed.ensures.values.2 in
-    let is : end.1 ≡ c.in-Some-taken.object = same_some end.1 c.in-Some-taken.object (sym (some-injective c.take-taken.result (Some end.1) (sym c.take-taken.ensures.value ∙ end.2)) ∙ c.in-Some-taken.is) in record {
+    let is : end.1 ≡ c.in-Some-taken.object = same_Some end.1 c.in-Some-taken.object (sym (some-injective c.take-taken.result (Some end.1) (sym c.take-taken.ensures.value ∙ end.2)) ∙ c.in-Some-taken.is) in record {
       history = (
         end.0,
         record { legal = subst (Legal g.O.Object.steps c.args.self.table.shared.key.value end.0) is end.3; stored = ap g.O.Object.history (sym is) ∙ end.4 },
