@@ -16,7 +16,7 @@ use Rattle.indexmap.specs.IndexMap.{IndexMap, get, insert_entry}
 use Rattle.indexmap.specs.IndexSet.{insert_key}
 use Rattle.indexmap.proofs.CallerLemmas.{insert_entry-new}
 use Rattle.bt_frame.specs.declared.numbers.BeamNo.{BeamNo}
-use Rattle.bt_frame.specs.declared.numbers.TermNo.{TermNo}
+use Rattle.bt_frame.proofs.OneNumber.{numbered}
 use Rattle.bt_net.specs.Name.{is_name, is_reserved, is_terminal_name}
 use Rattle.bt_net.specs.Network.{names_of, AreNames, AreTerminals}
 
@@ -109,10 +109,6 @@ no_place is_good names word are bad = by (position (bytes_eq word) names) refl
 
 no_name : (word : List ℕ) → is_name word ≡ false → IsTrue (is_terminal_name word) → ⊥
 no_name word bad good = true≢false (sym (and_parts (is_name word) (not (is_reserved word)) good).0 ∙ bad)
-
--- a terminal by its number
-abbrev numbered : ℕ → TermNo
-numbered place = record { 0 = place }
 
 -- a word that has not the shape of a name names no terminal
 pub names_none : (beams : List (List ℕ)) (terminals : List (List ℕ × BeamNo)) (word : List ℕ) → AreTerminals beams terminals → is_name word ≡ false

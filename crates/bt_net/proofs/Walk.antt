@@ -34,10 +34,6 @@ done x = Ok x
 ok_is : {A : Type 0} (x y : A) → done x ≡ done y → x ≡ y
 ok_is x y is = cc
 
-ok_or_is : {A : Type 0} (found : Option A) (fault : NetFault) (x : A) → ok_or found fault ≡ Ok x → found ≡ Some x
-ok_or_is None fault x is = absurd cc
-ok_or_is (Some y) fault x is = ap Some (ok_is y x is)
-
 checked_is : (place : Path) (is_good is_taken : Bool) → (x : Unit {0}) → checked place is_good is_taken ≡ Ok x → (is_good ≡ true) × (is_taken ≡ false)
 unfolding checked
 checked_is place true true x is = absurd cc
