@@ -1,5 +1,6 @@
 -- Which messages have a spelling: those with each field in its range.
 use Rattle.std.specs.Prelude.{◌≡◌, ℕ, ◌<◌, ◌≤◌, length, List, IfSome, All, AllPairs}
+use Rattle.bt_frame.specs.declared.limits.TheConstants.{LAST_COMMAND, LAST_MARK, LAST_SLOT, LAST_TERMINAL, MOST_BEAMS, MOST_SLOTS}
 use Rattle.bt_frame.specs.declared.mode.Mode.{Mode}
 use Rattle.bt_frame.specs.Range.{IsWithin}
 use Rattle.bt_frame.specs.declared.numbers.Command.{Command}
@@ -19,31 +20,31 @@ IsWord number = IsWithin 0 4294967295 number
 
 -- commands are counted from 1
 abbrev pub IsCommand : Command → Type 0
-IsCommand command = IsWithin 1 4294967295 command.0
+IsCommand command = IsWithin 1 LAST_COMMAND command.0
 
 -- a superframe is at most the last mark
 abbrev pub IsMark : Mark → Type 0
-IsMark mark = IsWithin 0 4000000000 mark.0
+IsMark mark = IsWithin 0 LAST_MARK mark.0
 
 -- a superframe to come is not the first
 abbrev pub IsDue : Mark → Type 0
-IsDue due = IsWithin 1 4000000000 due.0
+IsDue due = IsWithin 1 LAST_MARK due.0
 
--- there are at most 64 terminals
+-- a terminal has a number that a network can give it
 abbrev pub IsTerminalNumber : TermNo → Type 0
-IsTerminalNumber terminal = IsWithin 0 63 terminal.0
+IsTerminalNumber terminal = IsWithin 0 LAST_TERMINAL terminal.0
 
 -- a mode of so many beams, each with one of them as its downlink
 pub record IsModeOf (beams : ℕ) (mode : Mode) : Type 0 where
-  pub duration : IsWithin 1 4096 mode.duration
+  pub duration : IsWithin 1 MOST_SLOTS mode.duration
   pub width : length mode.perm ≡ beams
   pub downlinks : All (λ down. down < beams) mode.perm
 
 -- modes that a message can carry: all for equally many beams, and for one at least where there are any
 pub record AreModes (modes : List Mode) : Type 0 where
-  pub beams : beams_of modes ≤ 16
+  pub beams : beams_of modes ≤ MOST_BEAMS
   pub some : 0 < length modes → 0 < beams_of modes
-  pub count : length modes ≤ 4096
+  pub count : length modes ≤ MOST_SLOTS
   pub each : All (IsModeOf (beams_of modes)) modes
 
 -- a change that is to come
@@ -63,12 +64,12 @@ pub record IsStatus (status : Telemetry) : Type 0 where
 pub record IsBurstOf (from : TermNo) (burst : Burst) : Type 0 where
   pub sender : burst.from ≡ from
   pub receiver : IsTerminalNumber burst.to
-  pub start : IsWithin 0 4095 burst.start
-  pub slots : IsWithin 1 4096 burst.length
+  pub start : IsWithin 0 LAST_SLOT burst.start
+  pub slots : IsWithin 1 MOST_SLOTS burst.length
 
 -- bursts that a message can carry to the terminal that sends them
 pub record AreBurstsOf (from : TermNo) (bursts : List Burst) : Type 0 where
-  pub count : length bursts ≤ 4096
+  pub count : length bursts ≤ MOST_SLOTS
   pub each : All (IsBurstOf from) bursts
   pub ordered : AllPairs IsNotAfter bursts
 

@@ -5,7 +5,8 @@ ghost use Rattle.bt_air.specs.Field.{Takes, command_in, last_command_in, edition
 use crate::AirFault;
 use crate::unread::Unread;
 use bt_frame::{
-    Command, EditionNo, LAST_MARK, MOST_BEAMS, MOST_SLOTS, MOST_TERMINALS, Mark, TermNo,
+    Command, EditionNo, LAST_COMMAND, LAST_EDITION, LAST_MARK, LAST_SLOT, LAST_TERMINAL,
+    MOST_BEAMS, MOST_SLOTS, Mark, TermNo,
 };
 
 impl Unread<'_> {
@@ -13,21 +14,21 @@ impl Unread<'_> {
     pub fn command(&mut self) -> Result<Command, AirFault>
         ensures { Takes (λ command. command) result self.new (command_in self.old) }
     {
-        Ok(Command(self.word_within(1, u32::MAX)?))
+        Ok(Command(self.word_within(1, LAST_COMMAND)?))
     }
 
     /// The last command that was accepted, 0 before the first.
     pub fn last_command(&mut self) -> Result<Command, AirFault>
         ensures { Takes (λ command. command) result self.new (last_command_in self.old) }
     {
-        Ok(Command(self.word_within(0, u32::MAX)?))
+        Ok(Command(self.word_within(0, LAST_COMMAND)?))
     }
 
     /// An edition.
     pub fn edition(&mut self) -> Result<EditionNo, AirFault>
         ensures { Takes (λ edition. edition) result self.new (edition_in self.old) }
     {
-        Ok(EditionNo(self.word_within(0, u32::MAX)?))
+        Ok(EditionNo(self.word_within(0, LAST_EDITION)?))
     }
 
     /// A superframe.
@@ -48,7 +49,7 @@ impl Unread<'_> {
     pub fn terminal(&mut self) -> Result<TermNo, AirFault>
         ensures { Takes (λ terminal. terminal) result self.new (terminal_in self.old) }
     {
-        Ok(TermNo(self.byte_within(0, MOST_TERMINALS as u8 - 1)?))
+        Ok(TermNo(self.byte_within(0, LAST_TERMINAL)?))
     }
 
     /// 1 where something follows, else 0.
@@ -102,7 +103,7 @@ impl Unread<'_> {
     pub fn start(&mut self) -> Result<u16, AirFault>
         ensures { Takes (λ start. start) result self.new (start_in self.old) }
     {
-        self.short_within(0, MOST_SLOTS as u16 - 1)
+        self.short_within(0, LAST_SLOT as u16)
     }
 
     /// The slots of a burst.

@@ -1,6 +1,7 @@
 // What is left of the bytes of a message, and the numbers at its front.
 ghost use Rattle.std.specs.Prelude.{◌≡◌, ◌≤◌, ◌==◌, length};
 ghost use Rattle.std.specs.Int.{w8, w16, w32};
+ghost use Rattle.bt_frame.specs.declared.limits.TheConstants.{MOST_TEXT_BYTES};
 ghost use Rattle.bt_air.specs.Field.{Takes, number_in, ranged_in};
 ghost use Rattle.bt_air.specs.MessageText.{end_in};
 ghost use Rattle.bt_air.specs.Reading.{Gives};
@@ -19,18 +20,19 @@ pub struct Unread<'a> {
 impl<'a> Model for Unread<'a> {
     ghost use Rattle.std.specs.Prelude.{◌+◌, ◌≤◌, length};
     ghost use Rattle.bt_air.specs.Field.{Left};
+    ghost use Rattle.bt_frame.specs.declared.limits.TheConstants.{MOST_TEXT_BYTES};
 
     ghost Value = { Left };
 
     ghost view = { λ a. record { bytes = a.bytes.now; place = a.place } };
 
-    ghost invariant = { λ a. a.place + length a.bytes.now ≤ 67108864 };
+    ghost invariant = { λ a. a.place + length a.bytes.now ≤ MOST_TEXT_BYTES };
 }
 
 impl<'a> Unread<'a> {
     /// All the bytes of a message.
     pub fn of(bytes: &'a [u8]) -> Self
-        requires { length bytes.now ≤ 67108864 }
+        requires { length bytes.now ≤ MOST_TEXT_BYTES }
         ensures { result ≡ record { bytes = bytes.now; place = 0 } }
     {
         Unread { bytes, place: 0 }

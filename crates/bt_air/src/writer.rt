@@ -1,6 +1,7 @@
 // Writing a message as its bytes.
 ghost use Rattle.std.specs.Prelude.{◌≡◌, ◌≤◌, ◌++◌, ◌∷◌, [], IfOk, OnOk, length};
 ghost use Rattle.std.specs.List.{flat_map};
+ghost use Rattle.bt_frame.specs.declared.limits.TheConstants.{LAST_SLOT, MOST_BEAMS, MOST_MESSAGE_BYTES, MOST_SLOTS};
 ghost use Rattle.bt_air.specs.Range.{AreBurstsOf, AreModes, IsInRange};
 ghost use Rattle.bt_air.specs.Spelling.{armed_bytes, beams_of, burst_bytes, bursts_bytes, message_bytes, mode_bytes, modes_bytes, optional, short, word};
 
@@ -9,12 +10,12 @@ use bt_demand::{Burst, Bursts};
 use bt_frame::{Command, EditionNo, Mark, Mode, Modes, OutOfMemory, TermNo};
 use std::alloc::Global;
 
-/// The bytes of a message, as `decode` reads them: at most 81,932, which are those of a Load of 4,096 modes of 16
-/// beams.
+/// The bytes of a message, as `decode` reads them: at most `MOST_MESSAGE_BYTES`, which are those of a Load of the most
+/// modes of the most beams.
 pub fn encode(alloc: Global, message: &Message) -> Result<Vec<u8>, OutOfMemory>
     requires in_range { IsInRange message.now }
     ensures bytes { IfOk result (λ bytes. bytes.items ≡ message_bytes message.now) }
-    ensures short { IfOk result (λ bytes. length bytes.items ≤ 81932) }
+    ensures short { IfOk result (λ bytes. length bytes.items ≤ MOST_MESSAGE_BYTES) }
 {
     let mut bytes = Vec::new(alloc);
     write_message(message, &mut bytes)?;
@@ -183,7 +184,7 @@ fn write_modes(modes: &Modes, bytes: &mut Vec<u8>) -> Result<(), OutOfMemory>
 
 // How many beams each of the modes has, 0 where there are none.
 fn beams(modes: &[Mode]) -> u8
-    requires { beams_of modes.now ≤ 16 }
+    requires { beams_of modes.now ≤ MOST_BEAMS }
     ensures { result ≡ beams_of modes.now }
 {
     match modes {
@@ -242,8 +243,8 @@ fn write_bursts(from: TermNo, bursts: &Bursts, bytes: &mut Vec<u8>) -> Result<()
 
 // Appends a burst: its receiver, its first slot and its slots.
 fn write_burst(burst: Burst, bytes: &mut Vec<u8>) -> Result<(), OutOfMemory>
-    requires start { burst.start ≤ 4095 }
-    requires slots { burst.length ≤ 4096 }
+    requires start { burst.start ≤ LAST_SLOT }
+    requires slots { burst.length ≤ MOST_SLOTS }
     ensures { OnOk result (bytes.new.items ≡ bytes.old.items ++ burst_bytes burst) }
 {
     bytes.push(burst.to.0)?;

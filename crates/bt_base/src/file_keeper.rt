@@ -3,7 +3,8 @@ ghost use Rattle.std.specs.Prelude.{◌≡◌, ◌≤◌, None, IfOk, vec_len};
 ghost use Rattle.bt_base.specs.Told.{Rose};
 
 use crate::dir_files::read_one_past;
-use crate::{KeepFault, Keeper, STORE_LAST};
+use crate::{KeepFault, Keeper};
+use bt_frame::MOST_JOURNAL_BYTES;
 use std::alloc::Global;
 use std::fs::{OpenFile, OpenOptions};
 use std::io::{ErrorKind, Write};
@@ -119,10 +120,10 @@ fn cut_and_sync<R: rt::Files>(rt: &R, path: &str, length: u64) -> io::Result<()>
 
 /// The bytes of the file, as many as are read from a store.
 fn read_store<R: rt::Files>(rt: &R, alloc: Global, path: &str) -> Result<Vec<u8>, KeepFault>
-    ensures short { IfOk result (λ bytes. vec_len bytes ≤ STORE_LAST) }
+    ensures short { IfOk result (λ bytes. vec_len bytes ≤ MOST_JOURNAL_BYTES) }
 {
     match read_past_last(rt, alloc, path) {
-        Ok(bytes) if bytes.len() as u64 <= STORE_LAST => Ok(bytes),
+        Ok(bytes) if bytes.len() as u64 <= MOST_JOURNAL_BYTES => Ok(bytes),
         Ok(_) => Err(KeepFault::TooLong),
         Err(e) if e.kind() == ErrorKind::OutOfMemory => Err(KeepFault::OutOfMemory),
         Err(_) => Err(KeepFault::Failed),
@@ -132,7 +133,7 @@ fn read_store<R: rt::Files>(rt: &R, alloc: Global, path: &str) -> Result<Vec<u8>
 /// The bytes of the file, and one more than are read from a store where it has more.
 fn read_past_last<R: rt::Files>(rt: &R, alloc: Global, path: &str) -> io::Result<Vec<u8>> {
     let file = open(rt, path)?;
-    read_one_past(alloc, file, STORE_LAST)
+    read_one_past(alloc, file, MOST_JOURNAL_BYTES)
 }
 
 #[cfg(test)]

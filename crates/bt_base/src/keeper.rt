@@ -1,13 +1,11 @@
 // The store in which the centre keeps its records.
 ghost use Rattle.std.specs.Prelude.{◌≡◌, ◌≤◌, ◌⊎◌, ℕ, List, Option, OnOk, IfOk, IsErrOf, vec_len};
+ghost use Rattle.bt_frame.specs.declared.limits.TheConstants.{MOST_JOURNAL_BYTES};
 ghost use Rattle.bt_base.specs.declared.keeper.KeepFault.TheVariants.{OutOfMemory};
 ghost use Rattle.bt_base.specs.Told.{Gives, IsLonger, HasBytes, gained, GainsPrefix, shortened, HasCause};
 
 use std::alloc::{AllocError, AllocFailed, Global};
 use thiserror::Error;
-
-/// The most bytes that are read from a store.
-pub const STORE_LAST: u64 = 67_108_864;
 
 /// Why a call on the store did not do its work.
 #[derive(Clone, Copy, Debug, PartialEq, Eq, Error)]
@@ -60,11 +58,11 @@ pub trait Keeper {
         ensures not_too_long { IsErrOf result KeepFault.TooLong → ⊥ }
         ensures cause { HasCause KeepFault.Failed (fault_count self.old) (fault_count self.new) result };
 
-    /// All the bytes, at most 67,108,864. No answer changes them.
+    /// All the bytes, at most `MOST_JOURNAL_BYTES`. No answer changes them.
     fn read_all(&mut self, alloc: Global) -> Result<Vec<u8>, KeepFault>
         ensures bytes { IfOk result (λ bytes. Gives (told self.old) bytes.items) }
-        ensures short { IfOk result (λ bytes. vec_len bytes ≤ STORE_LAST) }
-        ensures too_long { IsErrOf result KeepFault.TooLong → IsLonger (told self.old) STORE_LAST }
+        ensures short { IfOk result (λ bytes. vec_len bytes ≤ MOST_JOURNAL_BYTES) }
+        ensures too_long { IsErrOf result KeepFault.TooLong → IsLonger (told self.old) MOST_JOURNAL_BYTES }
         ensures same_count { IsErrOf result KeepFault.OutOfMemory → fault_count self.new ≡ fault_count self.old }
         ensures cause { HasCause KeepFault.Failed (fault_count self.old) (fault_count self.new) result }
         ensures same { told self.new ≡ told self.old };

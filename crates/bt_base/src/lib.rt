@@ -29,7 +29,7 @@ pub use dir_files::DirFiles;
 pub use fail::Fail;
 pub use file_keeper::FileKeeper;
 pub use files::{FileFault, Files};
-pub use keeper::{KeepFault, Keeper, STORE_LAST};
+pub use keeper::{KeepFault, Keeper};
 pub use mem_files::MemFiles;
 pub use mem_keeper::MemKeeper;
 pub use mem_sink::MemSink;

@@ -5,7 +5,8 @@ ghost use Rattle.bt_base.specs.Calls.{fail_at, Counts};
 
 use crate::fail::Calls;
 use crate::mem_sink::keep_first;
-use crate::{Fail, KeepFault, Keeper, STORE_LAST};
+use crate::{Fail, KeepFault, Keeper};
+use bt_frame::MOST_JOURNAL_BYTES;
 use std::alloc::Global;
 use std::marker::Model;
 
@@ -85,8 +86,8 @@ impl Keeper for MemKeeper {
 
     fn read_all(&mut self, alloc: Global) -> Result<Vec<u8>, KeepFault>
         ensures bytes { IfOk result (λ bytes. Gives (Some self.old.bytes) bytes.items) }
-        ensures short { IfOk result (λ bytes. vec_len bytes ≤ STORE_LAST) }
-        ensures too_long { IsErrOf result KeepFault.TooLong → IsLonger (Some self.old.bytes) STORE_LAST }
+        ensures short { IfOk result (λ bytes. vec_len bytes ≤ MOST_JOURNAL_BYTES) }
+        ensures too_long { IsErrOf result KeepFault.TooLong → IsLonger (Some self.old.bytes) MOST_JOURNAL_BYTES }
         ensures same_count { IsErrOf result KeepFault.OutOfMemory → self.new.calls.faults ≡ self.old.calls.faults }
         ensures cause { HasCause KeepFault.Failed self.old.calls.faults self.new.calls.faults result }
         ensures same { Some self.new.bytes ≡ Some self.old.bytes }
@@ -143,11 +144,11 @@ impl Keeper for MemKeeper {
 /// A copy of the bytes where they are no more than are read from a store.
 fn copy_all(alloc: Global, bytes: &[u8]) -> Result<Vec<u8>, KeepFault>
     ensures bytes { IfOk result (λ copy. copy.items ≡ bytes.now) }
-    ensures short { IfOk result (λ copy. vec_len copy ≤ STORE_LAST) }
-    ensures too_long { IsErrOf result KeepFault.TooLong → IsLonger (Some bytes.now) STORE_LAST }
+    ensures short { IfOk result (λ copy. vec_len copy ≤ MOST_JOURNAL_BYTES) }
+    ensures too_long { IsErrOf result KeepFault.TooLong → IsLonger (Some bytes.now) MOST_JOURNAL_BYTES }
     ensures not_failed { IsErrOf result KeepFault.Failed → ⊥ }
 {
-    if bytes.len() as u64 > STORE_LAST {
+    if bytes.len() as u64 > MOST_JOURNAL_BYTES {
         return Err(KeepFault::TooLong);
     }
     Ok(Vec::from_slice(alloc, bytes)?)

@@ -2,7 +2,8 @@
 ghost use Rattle.std.specs.Prelude.{◌≡◌, ◌≤◌, ◌⊎◌, ℕ, Some, OnOk, IfOk, IsErrOf, vec_len};
 ghost use Rattle.bt_base.specs.Told.{Gives, IsLonger, HasBytes, gained, GainsPrefix, shortened, HasCause};
 
-use crate::{KeepFault, Keeper, STORE_LAST};
+use crate::{KeepFault, Keeper};
+use bt_frame::MOST_JOURNAL_BYTES;
 use std::alloc::Global;
 use std::marker::Model;
 
@@ -60,14 +61,14 @@ impl Keeper for SureKeeper {
 
     fn read_all(&mut self, alloc: Global) -> Result<Vec<u8>, KeepFault>
         ensures bytes { IfOk result (λ bytes. Gives (Some self.old) bytes.items) }
-        ensures short { IfOk result (λ bytes. vec_len bytes ≤ STORE_LAST) }
-        ensures too_long { IsErrOf result KeepFault.TooLong → IsLonger (Some self.old) STORE_LAST }
+        ensures short { IfOk result (λ bytes. vec_len bytes ≤ MOST_JOURNAL_BYTES) }
+        ensures too_long { IsErrOf result KeepFault.TooLong → IsLonger (Some self.old) MOST_JOURNAL_BYTES }
         ensures same_count { IsErrOf result KeepFault.OutOfMemory → let none : ℕ = 0 in none ≡ none }
         ensures cause { HasCause KeepFault.Failed 0 0 result }
         ensures same { Some self.new ≡ Some self.old }
         ensures not_failed { IsErrOf result KeepFault.Failed → ⊥ }
     {
-        if self.bytes.len() as u64 > STORE_LAST {
+        if self.bytes.len() as u64 > MOST_JOURNAL_BYTES {
             return Err(KeepFault::TooLong);
         }
         Ok(Vec::from_slice(alloc, self.bytes.as_slice())?)

@@ -1,5 +1,6 @@
 // The opening of a board.
 ghost use Rattle.std.specs.Prelude.{◌≡◌, ◌+◌, ◌<◌, ◌≤◌, ◌^◌, Some, IfOk, IfErr, MatchResult, [], ◌∷◌, ◌++◌, drop, length, All};
+ghost use Rattle.bt_frame.specs.declared.limits.TheConstants.{MOST_READERS};
 ghost use Rattle.left_right.specs.Sides.{view};
 ghost use Rattle.bt_board.specs.Log.{head_of};
 ghost use Rattle.bt_board.specs.Rule.{Knows};
@@ -43,7 +44,7 @@ fn open<R: Wait>(
     shown: &Shown,
     readers: u32,
 ) -> Result<BoardWriter, OutOfMemory>
-    requires readers { (1 ≤ readers) × (readers ≤ 64) }
+    requires readers { (1 ≤ readers) × (readers ≤ MOST_READERS) }
     ensures shown { IfOk result (λ d. d.desk.shown.value.seen ≡ shown.now.seen) }
     ensures pending { IfOk result (λ d. drop d.behind d.log.items ≡ []) }
     ensures view { IfOk result (λ d. Knows (view d.desk.place) shown.now.seen.book) }
@@ -87,7 +88,7 @@ pub fn board<R: Wait>(
     plan: Plan,
     readers: u32,
 ) -> Result<(Publisher, Vec<Reader>), OutOfMemory>
-    requires readers { (1 ≤ readers) × (readers ≤ 64) }
+    requires readers { (1 ≤ readers) × (readers ≤ MOST_READERS) }
     ensures plans { IfOk result (λ b. b.0.plans ≡ plan ∷ []) }
     ensures count { IfOk result (λ b. length b.1.items ≡ readers) }
     ensures same { IfOk result (λ b. All (λ r. r ≡ b.0) b.1.items) }

@@ -6,7 +6,7 @@ use Rattle.std.proofs.lemmas.List.{append-nil}
 use Rattle.std.proofs.lemmas.List.Elements.{filter_map-append}
 use Rattle.std.proofs.lemmas.List.Folds.{list_any-append}
 use Rattle.std.proofs.lemmas.List.Sums.{sum_by-append, sum_by-cons}
-use Rattle.bt_base.specs.declared.keeper.TheConstants.{STORE_LAST}
+use Rattle.bt_frame.specs.declared.limits.TheConstants.{MOST_JOURNAL_BYTES}
 use Rattle.bt_frame.specs.declared.schedule.Critical.{Critical}
 use Rattle.bt_net.specs.Network.{Net, IsSound}
 use Rattle.bt_matrix.specs.Traffic.{IsHeaviest}
@@ -156,7 +156,7 @@ counts_made : (net : Net) (changes : List Change) (count edits bytes line : ℕ)
 counts_made net changes count edits bytes line old edit same counts can line_is =
     let longer = length-append changes (change.Edit edit ∷ []) in
     let sum = bytes_of-push net changes (change.Edit edit) in
-    let room : bytes_with net changes (change.Edit edit) ≤ STORE_LAST = subst (λ (c : List Change). bytes_with net c (change.Edit edit) ≤ STORE_LAST) same can.room in
+    let room : bytes_with net changes (change.Edit edit) ≤ MOST_JOURNAL_BYTES = subst (λ (c : List Change). bytes_with net c (change.Edit edit) ≤ MOST_JOURNAL_BYTES) same can.room in
     record {
       counted = omega (arith, counts.counted, longer);
       edited = omega (arith, counts.edited, edition-more changes edit);
@@ -172,7 +172,7 @@ counts_other : (net : Net) (changes : List Change) (count edits bytes line : ℕ
 counts_other net changes count edits bytes line old one same none counts can line_is =
     let longer = length-append changes (one ∷ []) in
     let sum = bytes_of-push net changes one in
-    let room : bytes_with net changes one ≤ STORE_LAST = subst (λ (c : List Change). bytes_with net c one ≤ STORE_LAST) same can.room in
+    let room : bytes_with net changes one ≤ MOST_JOURNAL_BYTES = subst (λ (c : List Change). bytes_with net c one ≤ MOST_JOURNAL_BYTES) same can.room in
     record {
       counted = omega (arith, counts.counted, longer);
       edited = omega (arith, counts.edited, edition-other changes one none);
@@ -200,7 +200,7 @@ few_plans net changes count edits bytes number installed placed is counts lists 
 
 -- no more than bytes are read from a store
 pub few_orders : (net : Net) (changes : List Change) (count edits bytes number : ℕ) (installed : List Plan) (placed : List Order) → number ≡ length placed
-    → Counts net changes count edits bytes → Lists changes installed placed → number ≤ STORE_LAST
+    → Counts net changes count edits bytes → Lists changes installed placed → number ≤ MOST_JOURNAL_BYTES
 few_orders net changes count edits bytes number installed placed is counts lists =
     omega (arith, is, ap length lists.places, filter_map-le order_in changes, counts.counted, counts.covered, counts.readable)
 

@@ -3,7 +3,7 @@ use Rattle.std.proofs.Common.{◌≡◌, ℕ, zero, suc, ◌+◌, ◌-◌, ◌<�
 use Rattle.std.proofs.lemmas.List.{set-get_or}
 use Rattle.bt_frame.specs.declared.numbers.BeamNo.{BeamNo}
 use Rattle.bt_frame.specs.declared.numbers.TermNo.{TermNo}
-use Rattle.bt_frame.specs.declared.limits.TheConstants.{MOST_SLOTS, MOST_UNITS, SUM_LAST}
+use Rattle.bt_frame.specs.declared.limits.TheConstants.{MOST_SLOTS, MOST_UNITS, MOST_SUM}
 use Rattle.bt_frame.specs.declared.schedule.Critical.{Critical}
 use Rattle.bt_frame.specs.declared.schedule.Critical.TheVariants.{Row, Column}
 use Rattle.bt_net.specs.Network.{Net}
@@ -85,9 +85,9 @@ matrix-more net old new matrix next from to units up down is gains up_is down_is
 
 -- a link and the lines of its beams have room for units
 pub record HasRoom (net : Net) (links : List Link) (matrix : List (List ℕ)) (from to : TermNo) (units up down : ℕ) : Type 0 where
-  pub link : units_of links from to + units ≤ SUM_LAST
-  pub row : row_sum matrix up + units ≤ SUM_LAST
-  pub column : column_sum matrix down + units ≤ SUM_LAST
+  pub link : units_of links from to + units ≤ MOST_SUM
+  pub row : row_sum matrix up + units ≤ MOST_SUM
+  pub column : column_sum matrix down + units ≤ MOST_SUM
 
 pub has_room : (net : Net) (links : List Link) (matrix : List (List ℕ)) (from to : TermNo) (units : ℕ) (up down : BeamNo) → matrix ≡ matrix_of net links
     → HasSumsTo MOST_SLOTS (matrix_of net links) → units ≤ MOST_UNITS → IsInBeam net from up → IsInBeam net to down

@@ -3,7 +3,7 @@ use Rattle.std.proofs.Common.{◌≡◌, ℕ, ◌<◌, ◌≤◌, ◌==◌, ◌&
 use Rattle.std.proofs.lemmas.Bool.{cases_eq}
 use Rattle.std.proofs.lemmas.Bool.Decides.{nat_tests}
 use Rattle.std.proofs.lemmas.List.Sums.{sum_by-cons, get_or-le-sum_by}
-use Rattle.bt_frame.specs.declared.limits.TheConstants.{SUM_LAST, MOST_SLOTS}
+use Rattle.bt_frame.specs.declared.limits.TheConstants.{MOST_SUM, MOST_SLOTS}
 use Rattle.bt_frame.specs.declared.numbers.TermNo.{TermNo}
 use Rattle.bt_net.specs.Network.{Net}
 use Rattle.bt_net.specs.Terminals.{IsBetweenTerminals}
@@ -59,7 +59,7 @@ are_of_network net changes links is keeps i d within =
     (omega (arith, some, among, its_own link, keeps.adds_up (is_link link.from link.to)))
 
 -- and no line has more than the checker takes
-pub small_sums : (net : Net) (changes : List Change) (links : List Link) → net.slots ≤ MOST_SLOTS → KeepsUp net changes links → HasSumsTo SUM_LAST (matrix_of net links)
+pub small_sums : (net : Net) (changes : List Change) (links : List Link) → net.slots ≤ MOST_SLOTS → KeepsUp net changes links → HasSumsTo MOST_SUM (matrix_of net links)
 small_sums net changes links few keeps line within = omega (arith, few, keeps.fits line within)
 
 -- both, as a demand and a network that are handed out have it
@@ -68,7 +68,7 @@ pub kept_of_network : (net now : Net) (changes : List Change) (links result : Li
 kept_of_network net now changes links result same is_links is keeps = rw (← same, is_links) (are_of_network net changes links is keeps)
 
 pub kept_small : (net now : Net) (changes : List Change) (links result : List Link) {slots : ℕ} → net ≡ now → result ≡ links → slots ≤ MOST_SLOTS → slots ≡ net.slots
-    → KeepsUp net changes links → HasSumsTo SUM_LAST (matrix_of now result)
+    → KeepsUp net changes links → HasSumsTo MOST_SUM (matrix_of now result)
 kept_small net now changes links result same is_links few slots_is keeps =
     rw (← same, is_links) (small_sums net changes links (omega (arith, few, slots_is)) keeps)
 
@@ -79,6 +79,6 @@ redone_of_network net now changes number links result same is_links is redone =
     kept_of_network net now redone.before links result same is_links is redone.keeps
 
 pub redone_small : (net now : Net) (changes : List Change) (number : ℕ) (links result : List Link) {slots : ℕ} → net ≡ now → result ≡ links → slots ≤ MOST_SLOTS
-    → slots ≡ net.slots → IsRedone net changes number links → HasSumsTo SUM_LAST (matrix_of now result)
+    → slots ≡ net.slots → IsRedone net changes number links → HasSumsTo MOST_SUM (matrix_of now result)
 redone_small net now changes number links result same is_links few slots_is redone =
     kept_small net now redone.before links result same is_links few slots_is redone.keeps

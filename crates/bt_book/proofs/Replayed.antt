@@ -3,7 +3,7 @@ use Rattle.std.proofs.Common.{◌≡◌, ℕ, ◌+◌, ◌-◌, ◌≤◌, List,
 use Rattle.std.proofs.lemmas.List.Sums.{sum_by-cons}
 use Rattle.std.proofs.Math.Seq.{take-append_seam}
 use native.Mathlib.Numerals.{unary_clauses}
-use Rattle.bt_base.specs.declared.keeper.TheConstants.{STORE_LAST}
+use Rattle.bt_frame.specs.declared.limits.TheConstants.{MOST_JOURNAL_BYTES}
 use Rattle.bt_text.specs.Text.{lines}
 use Rattle.bt_text.proofs.FirstLine.{HasFirst, lines-HasFirst}
 use Rattle.bt_text.proofs.TextLines.{first_line_lacks, text_from_first_line}
@@ -93,8 +93,8 @@ pub length-line_read : (rest line after : List ℕ) → lines rest ≡ line ∷ 
 length-line_read rest line after is = sym (ap length (line_read rest line after is) ∙ ended_length line)
 
 -- the lines so far, and the next, are not too long
-pub short_so_far : (net : Net) (text rest line after : List ℕ) (machine : Records) → Stands net text rest machine → length text ≤ STORE_LAST → lines rest ≡ line ∷ lines after
-    → bytes_of machine.net machine.state.changes + length (take (length line + 1) rest) ≤ STORE_LAST
+pub short_so_far : (net : Net) (text rest line after : List ℕ) (machine : Records) → Stands net text rest machine → length text ≤ MOST_JOURNAL_BYTES → lines rest ≡ line ∷ lines after
+    → bytes_of machine.net machine.state.changes + length (take (length line + 1) rest) ≤ MOST_JOURNAL_BYTES
 short_so_far net text rest line after machine stands short is =
     let rest_is = text_from_first_line rest line after is in
     let read = length-line_read rest line after is in

@@ -2,7 +2,7 @@
 use Rattle.std.proofs.Common.{◌≡◌, ℕ, ◌≤◌, Bool, true, false, if◌then◌else◌, List, [], ◌∷◌, ◌++◌, length, take, Option, Some, None, refl, sym, ap, ◌∙◌, subst, arith, length-append, inl, inr}
 use Rattle.std.proofs.lemmas.List.{append-nil, length-take}
 use Rattle.std.proofs.lemmas.List.Elements.{filter_map-append}
-use Rattle.bt_base.specs.declared.keeper.TheConstants.{STORE_LAST}
+use Rattle.bt_frame.specs.declared.limits.TheConstants.{MOST_JOURNAL_BYTES}
 use Rattle.bt_base.specs.Told.{gained, GainsPrefix}
 use Rattle.bt_net.specs.Network.{Net, IsSound}
 use Rattle.bt_journal.specs.declared.call.Call.{Call}
@@ -183,20 +183,20 @@ kept_part net (Some bytes) new changes one gains kept =
 
 -- the bytes that are told are not more than are read
 readable_gains : (net : Net) (told new : Option (List ℕ)) (changes : List Change) (one : Change) → new ≡ gained told (line_behind net changes one) → IsKept net told changes []
-    → bytes_with net changes one ≤ STORE_LAST → IsReadable new
+    → bytes_with net changes one ≤ MOST_JOURNAL_BYTES → IsReadable new
 readable_gains net None new changes one is kept room = rw is tt
 readable_gains net (Some bytes) new changes one is kept room =
     let line = line_behind net changes one in
-    let few : length (bytes ++ line) ≤ STORE_LAST = omega (arith, room, ap length kept, length-append bytes line) in
+    let few : length (bytes ++ line) ≤ MOST_JOURNAL_BYTES = omega (arith, room, ap length kept, length-append bytes line) in
     rw is few
 
 -- nor are they with a first part of the line
 readable_part : (net : Net) (told new : Option (List ℕ)) (changes : List Change) (one : Change) → GainsPrefix told (line_behind net changes one) new → IsKept net told changes []
-    → bytes_with net changes one ≤ STORE_LAST → IsReadable new
+    → bytes_with net changes one ≤ MOST_JOURNAL_BYTES → IsReadable new
 readable_part net None new changes one gains kept room = rw gains.1 tt
 readable_part net (Some bytes) new changes one gains kept room =
     let line = line_behind net changes one in
-    let few : length (bytes ++ take gains.0 line) ≤ STORE_LAST =
+    let few : length (bytes ++ take gains.0 line) ≤ MOST_JOURNAL_BYTES =
     omega (arith, room, ap length kept, length-append bytes (take gains.0 line), length-take gains.0 line) in
     rw gains.1 few
 

@@ -2,7 +2,7 @@
 -- changes.
 use Rattle.std.specs.Prelude.{◌≡◌, ◌≢◌, ℕ, ◌+◌, ◌≤◌, ◌<◌, Bool, true, false, List, [], ◌∷◌, ◌++◌, length, sum_by, Option, Some, None}
 use Rattle.std.specs.List.{list_any}
-use Rattle.bt_base.specs.declared.keeper.TheConstants.{STORE_LAST}
+use Rattle.bt_frame.specs.declared.limits.TheConstants.{MOST_JOURNAL_BYTES}
 use Rattle.bt_frame.specs.declared.numbers.TermNo.{TermNo}
 use Rattle.bt_frame.specs.declared.limits.TheConstants.{MOST_SLOTS}
 use Rattle.bt_net.specs.Network.{Net}
@@ -62,7 +62,7 @@ pub record Counts (net : Net) (changes : List Change) (count edits bytes : ℕ) 
   pub fewer : edits ≤ count
   pub summed : bytes ≡ bytes_of net changes
   pub covered : count ≤ bytes
-  pub readable : bytes ≤ STORE_LAST
+  pub readable : bytes ≤ MOST_JOURNAL_BYTES
 
 -- what holds of the lists kept beside the changes
 pub record Lists (changes : List Change) (installed : List Plan) (placed : List Order) : Type 0 where
@@ -113,7 +113,7 @@ IsFirstCause net changes asked (Some reply) = (is_refusal reply ≡ true) × IsC
 pub record CanJoin (net : Net) (old : State) (asked : Change) : Type 0 where
   pub runs : old.stopped ≡ false
   pub good : IsGood net old.changes asked
-  pub room : bytes_with net old.changes asked ≤ STORE_LAST
+  pub room : bytes_with net old.changes asked ≤ MOST_JOURNAL_BYTES
 
 -- the call that asks for a change
 abbrev pub call_of : Change → Call

@@ -1,6 +1,6 @@
 -- What a journal tells: the changes of its lines, or the first line that is of no change, or whose change does not follow.
 use Rattle.std.specs.Prelude.{◌≡◌, ◌≢◌, ◌⊎◌, ℕ, ◌+◌, ◌-◌, ◌≤◌, true, List, [], ◌∷◌, ◌++◌, length, take, slice_index_or, Option, IfSome, option_map}
-use Rattle.bt_base.specs.declared.keeper.TheConstants.{STORE_LAST}
+use Rattle.bt_frame.specs.declared.limits.TheConstants.{MOST_JOURNAL_BYTES}
 use Rattle.bt_base.specs.Told.{IsLonger, Rose}
 use Rattle.bt_text.specs.Text.{lines, lacks}
 use Rattle.bt_net.specs.Network.{Net}
@@ -78,14 +78,14 @@ MaybeCut old new = (new ≡ old) ⊎ (new ≡ option_map whole old)
 
 -- no more bytes are told than are read from a store
 abbrev pub IsReadable : Option (List ℕ) → Type 0
-IsReadable told = IfSome told (λ bytes. length bytes ≤ STORE_LAST)
+IsReadable told = IfSome told (λ bytes. length bytes ≤ MOST_JOURNAL_BYTES)
 
 -- what a recovery that failed says of the bytes told before it, and what is told after it, with the counts of faults
 abbrev pub IsRecoverFault : Net → Option (List ℕ) → Option (List ℕ) → ℕ → ℕ → RecoverFault → Type 0
 IsRecoverFault net old new before now (J1 number) = (new ≡ old) × IsReadable old × IfSome old (λ bytes. IsFirstNoLine net bytes number)
 IsRecoverFault net old new before now (J2 number) = (new ≡ old) × IsReadable old × IfSome old (λ bytes. IsFirstStray net bytes number)
 IsRecoverFault net old new before now StoreFault = MaybeCut old new × Rose before now
-IsRecoverFault net old new before now TooLong = (new ≡ old) × IsLonger old STORE_LAST
+IsRecoverFault net old new before now TooLong = (new ≡ old) × IsLonger old MOST_JOURNAL_BYTES
 IsRecoverFault net old new before now OutOfMemory = MaybeCut old new
 
 -- the fault says nothing of the lines: the store failed or holds too much, or memory ran out

@@ -1,6 +1,7 @@
 // The book of changes, with the store that keeps their lines.
 ghost use Rattle.std.specs.Prelude.{◌≡◌, ◌<◌, ◌≤◌, ◌++◌, ◌∷◌, [], length, slice_index_or, option_map, IfOk, IfErr, IfSome, IsErrAnd, MatchResult, OnErr, List, ℕ, ◌⊎◌};
 ghost use Rattle.std.specs.List.{HoldsAt};
+ghost use Rattle.bt_frame.specs.declared.limits.TheConstants.{MOST_JOURNAL_BYTES};
 ghost use Rattle.bt_book.specs.Changes.{edition, empty_plan, newest, orders, plans, IsDemandAfter, IsDemandAt};
 ghost use Rattle.bt_book.specs.Causes.{Follows, IsChangeOn};
 ghost use Rattle.bt_book.specs.Machine.{line_behind, running, ChangeStep, IsOfNetwork, Step};
@@ -209,7 +210,7 @@ impl<K: Keeper> Book<K> {
     /// How many orders were placed.
     pub fn order_count(&self) -> u32
         ensures count { result ≡ length (orders self.now.state.changes) }
-        ensures few { result ≤ 67108864 }
+        ensures few { result ≤ MOST_JOURNAL_BYTES }
     {
         self.machine.order_count()
     }

@@ -1,6 +1,6 @@
 // The demand of an earlier edition.
 ghost use Rattle.std.specs.Prelude.{◌≡◌, ◌<◌, ◌≤◌, ◌++◌, [], IfOk, OnOk};
-ghost use Rattle.bt_frame.specs.declared.limits.TheConstants.{SUM_LAST};
+ghost use Rattle.bt_frame.specs.declared.limits.TheConstants.{MOST_SUM};
 ghost use Rattle.bt_demand.specs.Traffic.{matrix_of, AreOfNetwork, HasSumsTo};
 ghost use Rattle.bt_journal.specs.Journal.{changes_of};
 ghost use Rattle.bt_book.specs.Changes.{edition, IsDemandAt};
@@ -20,7 +20,7 @@ impl Machine {
         requires { number.0 ≤ edition self.now.state.changes }
         ensures demand { IfOk result (λ demand. IsDemandAt self.now.state.changes number.0 demand) }
         ensures network { IfOk result (λ demand. AreOfNetwork self.now.net demand) }
-        ensures sums { IfOk result (λ demand. HasSumsTo SUM_LAST (matrix_of self.now.net demand)) }
+        ensures sums { IfOk result (λ demand. HasSumsTo MOST_SUM (matrix_of self.now.net demand)) }
     {
         let mut occupancy = Occupancy::new(alloc, self.network())?;
         // This is there for what holds of each network: its frame has at most 4096 slots.

@@ -1,8 +1,8 @@
 // The machine: the changes made so far, and what is kept beside them so that an edit looks at no earlier one.
 ghost use Rattle.std.specs.Prelude.{◌≡◌, ◌<◌, ◌≤◌, ℕ, [], length, IfOk, slice_index_or};
 ghost use Rattle.std.specs.List.{HoldsAt};
-ghost use Rattle.bt_base.specs.declared.keeper.TheConstants.{STORE_LAST};
-ghost use Rattle.bt_frame.specs.declared.limits.TheConstants.{SUM_LAST};
+ghost use Rattle.bt_frame.specs.declared.limits.TheConstants.{MOST_JOURNAL_BYTES};
+ghost use Rattle.bt_frame.specs.declared.limits.TheConstants.{MOST_SUM};
 ghost use Rattle.bt_net.specs.Network.{IsSound};
 ghost use Rattle.bt_demand.specs.Traffic.{matrix_of, AreOfNetwork, HasSumsTo};
 ghost use Rattle.bt_book.specs.Changes.{edition, empty_plan, newest, orders, plans, IsDemandAfter};
@@ -101,7 +101,7 @@ impl Machine {
     pub(crate) fn demand(&self) -> &Demand
         ensures demand { IsDemandAfter self.now.state.changes result.now }
         ensures network { AreOfNetwork self.now.net result.now }
-        ensures sums { HasSumsTo SUM_LAST (matrix_of self.now.net result.now) }
+        ensures sums { HasSumsTo MOST_SUM (matrix_of self.now.net result.now) }
     {
         // This is there for what holds of each network: its frame has at most 4096 slots.
         let _slots = self.occupancy.slots();
@@ -134,7 +134,7 @@ impl Machine {
     /// How many orders were placed.
     pub(crate) fn order_count(&self) -> u32
         ensures count { result ≡ length (orders self.now.state.changes) }
-        ensures few { result ≤ STORE_LAST }
+        ensures few { result ≤ MOST_JOURNAL_BYTES }
     {
         self.orders.as_slice().len() as u32
     }

@@ -13,7 +13,7 @@ ghost use Rattle.bt_book.specs.Records.{EditsLinks, GainsFirst, LosesThen, Holds
 use bt_demand::Demand;
 use bt_frame::{BeamNo, MOST_SLOTS, OutOfMemory, TermNo, Units};
 use bt_journal::Edit;
-use bt_matrix::{Dense, SUM_LAST, Traffic};
+use bt_matrix::{Dense, MOST_SUM, Traffic};
 use bt_net::Network;
 use std::alloc::Global;
 use std::marker::Model;
@@ -106,7 +106,7 @@ impl Occupancy {
         ensures beam { IsInBeam self.now.net from result.0 }
         ensures in_range { result.0.0 < length self.now.net.beams }
         ensures sum { result.1 ≡ row_sum (matrix_of self.now.net self.now.links) result.0.0 }
-        ensures small { result.1 ≤ SUM_LAST }
+        ensures small { result.1 ≤ MOST_SUM }
     {
         let beam = self.net.beam_of(from);
         // This is there for what holds of each matrix.
@@ -120,7 +120,7 @@ impl Occupancy {
         ensures beam { IsInBeam self.now.net to result.0 }
         ensures in_range { result.0.0 < length self.now.net.beams }
         ensures sum { result.1 ≡ column_sum (matrix_of self.now.net self.now.links) result.0.0 }
-        ensures small { result.1 ≤ SUM_LAST }
+        ensures small { result.1 ≤ MOST_SUM }
     {
         let beam = self.net.beam_of(to);
         // This is there for what holds of each matrix.

@@ -1,6 +1,6 @@
 // The lines of a journal, whose changes are made again one after the other.
 ghost use Rattle.std.specs.Prelude.{◌≡◌, ◌↔◌, ◌+◌, ◌≤◌, ◌++◌, ◌∷◌, [], length, take, IfOk, IfErr, IsTrue, OnOk, OnErr};
-ghost use Rattle.bt_base.specs.declared.keeper.TheConstants.{STORE_LAST};
+ghost use Rattle.bt_frame.specs.declared.limits.TheConstants.{MOST_JOURNAL_BYTES};
 ghost use Rattle.bt_book.specs.Causes.{IsChangeOn};
 ghost use Rattle.bt_book.specs.Machine.{bytes_of, line_behind, running};
 ghost use Rattle.bt_book.specs.Records.{CanJoin, IsLineFault, IsTextFault, TakesLine};
@@ -24,7 +24,7 @@ impl Machine {
         net: &Network,
         text: &[u8],
     ) -> Result<(Machine, usize), RecoverFault>
-        requires { length text.now ≤ STORE_LAST }
+        requires { length text.now ≤ MOST_JOURNAL_BYTES }
         ensures net { IfOk result (λ told. told.0.net ≡ net.now) }
         ensures history { IfOk result (λ told. told.0.history ≡ []) }
         ensures state { IfOk result (λ told. told.0.state ≡ running told.0.state.changes) }
@@ -46,7 +46,7 @@ impl Machine {
     /// Makes the change of the next line again. The line has its newline.
     fn take_line(&mut self, alloc: Global, line: &[u8]) -> Result<(), RecoverFault>
         requires history { self.old.history ≡ [] }
-        requires short { bytes_of self.old.net self.old.state.changes + length line.now ≤ STORE_LAST }
+        requires short { bytes_of self.old.net self.old.state.changes + length line.now ≤ MOST_JOURNAL_BYTES }
         ensures taken { OnOk result (TakesLine self.old.net self.old.state.changes line.now self.new.state) }
         ensures net { self.new.net ≡ self.old.net }
         ensures history { self.new.history ≡ [] }

@@ -8,8 +8,8 @@ use anyhow::{Result, bail, ensure};
 use bt_case_text::{Part, number_of, put_lines};
 use bt_cut::cut;
 use bt_demand::{Demand, traffic_of};
-use bt_frame::{EditionNo, Schedule};
-use bt_matrix::{SUM_LAST, Traffic};
+use bt_frame::{EditionNo, MOST_SLOTS, Schedule};
+use bt_matrix::{MOST_SUM, Traffic};
 use bt_net::Network;
 use bt_plan::plan_text;
 use bt_verdict::{Verdict, check_modes};
@@ -41,7 +41,7 @@ fn cut_text(
     schedule: Schedule,
 ) -> Result<Vec<u8>>
     requires terminals { AreOfNetwork net.now demand.now }
-    requires sums { HasSumsTo 4096 (matrix_of net.now demand.now) }
+    requires sums { HasSumsTo MOST_SLOTS (matrix_of net.now demand.now) }
 {
     see_good(alloc, net, demand, &schedule)?;
     let Ok(plan) = cut(alloc, net, demand, edition, schedule) else {
@@ -56,21 +56,21 @@ fn cut_text(
 /// No line of the demand's matrix has more slots than the longest frame.
 fn see_fit(alloc: Global, net: &Network, demand: &Demand) -> Result<()>
     requires terminals { AreOfNetwork net.now demand.now }
-    requires sums { HasSumsTo SUM_LAST (matrix_of net.now demand.now) }
-    ensures { OnOk result (HasSumsTo 4096 (matrix_of net.now demand.now)) }
+    requires sums { HasSumsTo MOST_SUM (matrix_of net.now demand.now) }
+    ensures { OnOk result (HasSumsTo MOST_SLOTS (matrix_of net.now demand.now)) }
 {
     let Ok(matrix) = traffic_of(alloc, net, demand) else {
         bail!("out of memory");
     };
     let (_, most) = matrix.heaviest();
-    ensure!(most <= 4096, "too much for a frame");
+    ensure!(most <= MOST_SLOTS, "too much for a frame");
     Ok(())
 }
 
 /// The schedule is good for the demand's matrix.
 fn see_good(alloc: Global, net: &Network, demand: &Demand, schedule: &Schedule) -> Result<()>
     requires terminals { AreOfNetwork net.now demand.now }
-    requires sums { HasSumsTo 4096 (matrix_of net.now demand.now) }
+    requires sums { HasSumsTo MOST_SLOTS (matrix_of net.now demand.now) }
     ensures { OnOk result (IsGood (matrix_of net.now demand.now) schedule.now) }
 {
     let Ok(matrix) = traffic_of(alloc, net, demand) else {

@@ -4,7 +4,7 @@ use anyhow::{Result, bail, ensure};
 use bt_case_text::{byte_of, number_of};
 use bt_demand::Demand;
 use bt_frame::TermNo;
-use bt_matrix::SUM_LAST;
+use bt_matrix::MOST_SUM;
 use std::alloc::Global;
 
 /// The link gains so many slots. Appends all links of a copy.
@@ -18,7 +18,7 @@ pub fn put_gain(
     let (from, to, units) = (byte_of(from)?, byte_of(to)?, number_of(units)?);
     let held = demand.units(TermNo(from), TermNo(to));
     ensure!(from != to && 0 < units, "no gain");
-    ensure!(held <= SUM_LAST && units <= SUM_LAST - held, "too much");
+    ensure!(held <= MOST_SUM && units <= MOST_SUM - held, "too much");
     if demand.add(alloc, TermNo(from), TermNo(to), units).is_err() {
         bail!("out of memory");
     }

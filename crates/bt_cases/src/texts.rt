@@ -8,8 +8,8 @@ ghost use Rattle.bt_matrix.specs.Traffic.{IsLine};
 use anyhow::{Context, Result, bail, ensure};
 use bt_case_text::{Part, Shelf, number_of, put_lines, take_bytes};
 use bt_demand::{Demand, traffic_of};
-use bt_frame::{BeamNo, Critical, Schedule, TermNo};
-use bt_matrix::{Dense, SUM_LAST, Traffic};
+use bt_frame::{BeamNo, Critical, MOST_BEAMS, MOST_TEXT_BYTES, Schedule, TermNo};
+use bt_matrix::{Dense, MOST_SUM, Traffic};
 use bt_net::Network;
 use bt_plan::{plan_text, read_demand, read_matrix, read_plan, read_schedule, schedule_text};
 use bt_text::{next_line, number, number_text};
@@ -170,7 +170,7 @@ fn put_schedule(alloc: Global, beams: &str, bytes: &[u8], out: &mut String) -> R
 
 /// Appends a plan, read, copied, and written again.
 fn put_plan(alloc: Global, net: &[u8], bytes: &[u8], out: &mut String) -> Result<()> {
-    ensure!(bytes.len() <= 67_108_864, "a long text");
+    ensure!(bytes.len() <= MOST_TEXT_BYTES, "a long text");
     let net = network_from(alloc, net)?;
     let Ok(plan) = read_plan(alloc, &net, bytes) else {
         bail!("no plan");
@@ -225,7 +225,10 @@ pub fn matrix_from(alloc: Global, bytes: &[u8]) -> Result<Dense> {
 pub fn schedule_from(alloc: Global, beams: u32, bytes: &[u8]) -> Result<Schedule>
     ensures { IfOk result (λ schedule. IsOfBeams beams schedule.critical) }
 {
-    ensure!(beams <= 16 && bytes.len() <= 67_108_864, "too much");
+    ensure!(
+        beams <= MOST_BEAMS as u32 && bytes.len() <= MOST_TEXT_BYTES,
+        "too much"
+    );
     match read_schedule(alloc, beams, bytes) {
         Ok(schedule) => Ok(schedule),
         Err(_fault) => bail!("no schedule"),
@@ -243,7 +246,7 @@ pub fn network_from(alloc: Global, bytes: &[u8]) -> Result<Network> {
 /// The demand of a text that is one.
 pub fn demand_from(alloc: Global, net: &Network, bytes: &[u8]) -> Result<Demand>
     ensures terminals { IfOk result (AreOfNetwork net.now) }
-    ensures sums { IfOk result (λ demand. HasSumsTo SUM_LAST (matrix_of net.now demand)) }
+    ensures sums { IfOk result (λ demand. HasSumsTo MOST_SUM (matrix_of net.now demand)) }
 {
     match read_demand(alloc, net, bytes) {
         Ok(demand) => Ok(demand),

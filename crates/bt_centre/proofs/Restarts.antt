@@ -2,7 +2,7 @@
 use Rattle.std.proofs.Common.{◌≡◌, ◌≢◌, ℕ, ◌<◌, ◌≤◌, Bool, List, [], ◌∷◌, ◌++◌, length, reverse, Option, Some, None, refl, sym, ap, ◌∙◌, subst, arith, inl, inr}
 use Rattle.std.specs.Prelude.{IfSome, option_map}
 use Rattle.std.specs.Option.{is_some}
-use Rattle.bt_base.specs.declared.keeper.TheConstants.{STORE_LAST}
+use Rattle.bt_frame.specs.declared.limits.TheConstants.{MOST_JOURNAL_BYTES}
 use Rattle.bt_base.specs.Told.{IsLonger}
 use Rattle.bt_net.specs.Network.{IsSound, Net}
 use Rattle.bt_air.specs.declared.event.Event.{Event}
@@ -104,7 +104,7 @@ never_outside : (net : Net) (told : Option (List ℕ)) (changes lost : List Chan
 never_outside net (Some bytes) changes lost P Q never (next, is, on) outside = absurd (never (outside next is))
 never_outside net None changes lost P Q never next outside = tt
 
-never_long : (told : Option (List ℕ)) (Q : Type 0) → IsReadable told → IsLonger told STORE_LAST → IfSome told (λ _. Q)
+never_long : (told : Option (List ℕ)) (Q : Type 0) → IsReadable told → IsLonger told MOST_JOURNAL_BYTES → IfSome told (λ _. Q)
 never_long (Some bytes) Q short long = absurd (omega (arith, short, long))
 never_long None Q short long = tt
 

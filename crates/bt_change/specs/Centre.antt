@@ -1,6 +1,7 @@
 -- The centre: its state, and what each thing that happens to it does.
 use Rattle.std.specs.Prelude.{◌≡◌, ℕ, ◌+◌, ◌≤◌, ◌&&◌, not, if◌then◌else◌, Bool, List, [], ◌∷◌, length, Option, Some, None, IfSome}
 use Rattle.std.specs.List.{range_with_len, list_any}
+use Rattle.bt_frame.specs.declared.limits.TheConstants.{LAST_COMMAND, MOST_TERMINALS}
 use Rattle.bt_frame.specs.declared.numbers.EditionNo.{EditionNo}
 use Rattle.bt_frame.specs.declared.numbers.Mark.{Mark}
 use Rattle.bt_frame.specs.declared.numbers.TermNo.{TermNo}
@@ -57,7 +58,7 @@ is_missing s terminal = is_load (last_order s.orders) && (has s.needs terminal &
 
 -- some terminal has still to confirm
 abbrev pub some_missing : State → Bool
-some_missing s = list_any (λ number. is_missing s (record { 0 = number })) (range_with_len 0 64)
+some_missing s = list_any (λ number. is_missing s (record { 0 = number })) (range_with_len 0 MOST_TERMINALS)
 
 -- the turns waited, with the present one
 abbrev pub waited_now : State → ℕ
@@ -92,13 +93,13 @@ abbrev pub AreNumbered : List Order → Type 0
 AreNumbered [] = Unit {0}
 AreNumbered (order ∷ earlier) = ((command_of order).0 ≡ length earlier + 1) × AreNumbered earlier
 
--- the order has the number after those of these, which is one of four bytes
+-- the order has the number after those of these, which a command can have
 pub record IsNext (orders : List Order) (order : Order) : Type 0 where
   pub number : (command_of order).0 ≡ length orders + 1
-  pub in_range : (command_of order).0 ≤ 4294967295
+  pub in_range : (command_of order).0 ≤ LAST_COMMAND
 
 -- what holds of every centre: its orders are numbered, and the one that is wanted has the next number
 pub record IsCentre (s : State) : Type 0 where
   pub numbered : AreNumbered s.orders
-  pub few : length s.orders ≤ 4294967295
+  pub few : length s.orders ≤ LAST_COMMAND
   pub next : IfSome s.wanted (IsNext s.orders)

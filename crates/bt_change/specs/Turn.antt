@@ -1,5 +1,6 @@
 -- What the centre does in its turn.
 use Rattle.std.specs.Prelude.{ℕ, ◌+◌, ◌==◌, ◌&&◌, ◌||◌, nat_le, nat_lt, not, min, if◌then◌else◌, Bool, Option, Some, None}
+use Rattle.bt_frame.specs.declared.limits.TheConstants.{LAST_MARK, MOST_PATIENCE}
 use Rattle.bt_frame.specs.declared.numbers.Command.{Command}
 use Rattle.bt_frame.specs.declared.numbers.EditionNo.{EditionNo}
 use Rattle.bt_air.specs.declared.order.Order.{Order}
@@ -9,9 +10,9 @@ use Rattle.bt_air.specs.declared.sent.Act.{Act}
 use Rattle.bt_air.specs.declared.sent.Act.TheVariants.{Quiet, RepeatLoad, RepeatArm, Want}
 use Rattle.bt_change.specs.declared.turn.Turn.{Turn}
 
--- one turn more was waited, and 32 stand for all further ones
+-- one turn more was waited, and the most patience stands for all further ones
 abbrev pub one_more : ℕ → ℕ
-one_more waited = min 32 (waited + 1)
+one_more waited = min MOST_PATIENCE (waited + 1)
 
 -- a status is of a superframe before the one of the change
 abbrev pub is_before : Status → ℕ → Bool
@@ -23,7 +24,7 @@ is_ready turn = not turn.some_missing || nat_le turn.patience turn.waited
 
 -- the satellite has the last Load, the terminals are ready, and the change would come by the last superframe
 abbrev pub may_arm : Turn → Status → Command → Bool
-may_arm turn status command = status.last.0 == command.0 && (is_ready turn && nat_le (turn.mark.0 + turn.lead) 4000000000)
+may_arm turn status command = status.last.0 == command.0 && (is_ready turn && nat_le (turn.mark.0 + turn.lead) LAST_MARK)
 
 -- a new change begins, with the command after this one, where the newest edition is later than the one known
 abbrev pub attempt : Option EditionNo → EditionNo → ℕ → Act

@@ -1,5 +1,6 @@
 // The centre, a machine that wants the orders by which a new edition comes to the front, and says what its turn calls for.
 ghost use Rattle.std.specs.Prelude.{◌≡◌, ◌<◌, ◌≤◌, drop, length, reverse, slice_get, vec_len, IfOk, OnErr, IsSome, Some};
+ghost use Rattle.bt_frame.specs.declared.limits.TheConstants.{MOST_LEAD, MOST_PLACED};
 ghost use Rattle.bt_change.specs.Centre.{AreNumbered, act_at, after_turn, begins_with, having_confirmed, having_lost, having_noted, having_placed, is_missing, known_to, some_missing, turn_at};
 ghost use Rattle.bt_change.specs.Last.{last_order};
 ghost use Rattle.bt_change.specs.Terminals.{has};
@@ -43,7 +44,7 @@ impl Centre {
     /// the last one.
     pub fn from_orders(orders: Vec<Order>, needs: TermSet) -> Centre
         requires numbered { AreNumbered (reverse orders.items) }
-        requires few { vec_len orders ≤ 4000000000 }
+        requires few { vec_len orders ≤ MOST_PLACED }
         ensures state { result ≡ begins_with (reverse orders.items) needs }
     {
         Centre {
@@ -76,7 +77,7 @@ impl Centre {
 
     /// Notes that a terminal holds its bursts of an edition.
     pub fn confirm(&mut self, mark: Mark, terminal: TermNo, edition: EditionNo)
-        requires { terminal.0 < 64 }
+        requires { terminal.0 < MOST_TERMINALS }
         ensures { self.new ≡ having_confirmed self.old mark.0 terminal edition }
     {
         let is_last = is_load_of(self.last_order(), edition);
@@ -91,7 +92,7 @@ impl Centre {
 
     /// Notes that a terminal has restarted.
     pub fn lost(&mut self, terminal: TermNo)
-        requires { terminal.0 < 64 }
+        requires { terminal.0 < MOST_TERMINALS }
         ensures { self.new ≡ having_lost self.old terminal }
     {
         self.confirmed = without_terminal(self.confirmed, terminal);
@@ -102,8 +103,8 @@ impl Centre {
     /// superframes from an Arm to its change, and `patience` the turns that are waited for confirmations.
     pub fn turn(&mut self, mark: Mark, newest: EditionNo, lead: u32, patience: u32) -> Act
         requires mark { mark.0 ≤ LAST_MARK }
-        requires lead { lead ≤ 32 }
-        requires few { length self.old.orders ≤ 4000000000 }
+        requires lead { lead ≤ MOST_LEAD }
+        requires few { length self.old.orders ≤ MOST_PLACED }
         ensures act { result ≡ act_at self.old mark newest lead patience }
         ensures state { self.new ≡ after_turn self.old mark newest lead patience }
     {
@@ -123,7 +124,7 @@ impl Centre {
 
     /// The terminal has still to confirm the edition of the last order.
     pub fn missing(&self, terminal: TermNo) -> bool
-        requires { terminal.0 < 64 }
+        requires { terminal.0 < MOST_TERMINALS }
         ensures { result ≡ is_missing self.now terminal }
     {
         is_load(self.last_order()) && has(self.needs, terminal) && !has(self.confirmed, terminal)
@@ -131,7 +132,7 @@ impl Centre {
 
     /// The terminal has restarted, and asks for its bursts until it holds the edition known.
     pub fn asking(&self, terminal: TermNo) -> bool
-        requires { terminal.0 < 64 }
+        requires { terminal.0 < MOST_TERMINALS }
         ensures { result ≡ has self.now.asking terminal }
     {
         has(self.asking, terminal)

@@ -1,10 +1,11 @@
 // What the centre does in its turn.
 ghost use Rattle.std.specs.Prelude.{◌≡◌, ◌≤◌};
+ghost use Rattle.bt_frame.specs.declared.limits.TheConstants.{MOST_LEAD, MOST_PLACED};
 ghost use Rattle.bt_change.specs.Last.{number_of};
 ghost use Rattle.bt_change.specs.Turn.{act_of, arm_after, attempt, is_ready, may_arm, one_more, waited_with, wanted_by};
 
 use bt_air::{Act, Order, Status};
-use bt_frame::{Command, EditionNo, LAST_MARK, Mark};
+use bt_frame::{Command, EditionNo, LAST_MARK, MOST_PATIENCE, Mark};
 
 /// What a turn goes by.
 #[derive(Clone, Copy)]
@@ -30,8 +31,8 @@ pub struct Turn {
 #[rattlefmt::skip]
 pub(crate) fn act_of(turn: &Turn, wanted: Option<Order>, kept: Option<Status>, last: Option<Order>) -> Act
     requires mark { turn.now.mark.0 ≤ LAST_MARK }
-    requires lead { turn.now.lead ≤ 32 }
-    requires few { number_of last ≤ 4000000000 }
+    requires lead { turn.now.lead ≤ MOST_LEAD }
+    requires few { number_of last ≤ MOST_PLACED }
     ensures { result ≡ act_of turn.now wanted kept last }
 {
     use Act::*;
@@ -50,8 +51,8 @@ pub(crate) fn act_of(turn: &Turn, wanted: Option<Order>, kept: Option<Status>, l
 // The Arm that follows a Load.
 fn arm(turn: &Turn, command: Command, edition: EditionNo) -> Order
     requires mark { turn.now.mark.0 ≤ LAST_MARK }
-    requires lead { turn.now.lead ≤ 32 }
-    requires few { command.0 ≤ 4000000000 }
+    requires lead { turn.now.lead ≤ MOST_LEAD }
+    requires few { command.0 ≤ MOST_PLACED }
     ensures { result ≡ arm_after turn.now command edition }
 {
     Order::Arm {
@@ -63,7 +64,7 @@ fn arm(turn: &Turn, command: Command, edition: EditionNo) -> Order
 
 // A new change begins, with the command after the last one, where the newest edition is later than the one known.
 fn attempt(turn: &Turn, last: u32) -> Act
-    requires { last ≤ 4000000000 }
+    requires { last ≤ MOST_PLACED }
     ensures { result ≡ attempt turn.now.in_force turn.now.newest last }
 {
     match turn.in_force {
@@ -78,7 +79,7 @@ fn attempt(turn: &Turn, last: u32) -> Act
 // The satellite has the last Load, the terminals are ready, and the change would come by the last superframe.
 fn may_arm(turn: &Turn, status: &Status, command: Command) -> bool
     requires mark { turn.now.mark.0 ≤ LAST_MARK }
-    requires lead { turn.now.lead ≤ 32 }
+    requires lead { turn.now.lead ≤ MOST_LEAD }
     ensures { result ≡ may_arm turn.now status.now command }
 {
     status.last == command && is_ready(turn) && turn.mark.0 + turn.lead <= LAST_MARK
@@ -107,11 +108,15 @@ pub(crate) fn waited_with(
     }
 }
 
-// One turn more was waited, and 32 stand for all further ones.
+// One turn more was waited, and the most patience stands for all further ones.
 fn one_more(waited: u32) -> u32
     ensures { result ≡ one_more waited }
 {
-    if waited < 32 { waited + 1 } else { 32 }
+    if waited < MOST_PATIENCE {
+        waited + 1
+    } else {
+        MOST_PATIENCE
+    }
 }
 
 /// The order that an act wants, if it wants one.

@@ -1,6 +1,6 @@
 -- A told store that fails in no call comes to one thing: changes, a first faulty line, or too many bytes.
 use Rattle.std.proofs.Common.{◌≡◌, ℕ, ◌<◌, ◌≤◌, ◌⊎◌, inl, inr, List, [], ◌∷◌, length, codes, decimal, Option, Some, IfSome, sym, ap, ◌∙◌, subst, arith}
-use Rattle.bt_base.specs.declared.keeper.TheConstants.{STORE_LAST}
+use Rattle.bt_frame.specs.declared.limits.TheConstants.{MOST_JOURNAL_BYTES}
 use Rattle.bt_frame.specs.declared.numbers.TermNo.{TermNo}
 use Rattle.bt_net.specs.Network.{Net, IsSound}
 use Rattle.bt_demand.specs.declared.demand.Link.{Link}
@@ -27,26 +27,26 @@ pub record Laws : Type 0 where
 pub record HasChanges (Done : List Change → Outcome → Type 0) (net : Net) (bytes : List ℕ) (outcome : Outcome) : Type 0 where
   pub changes : List Change
   pub told : Recovered net bytes changes
-  pub short : length bytes ≤ STORE_LAST
+  pub short : length bytes ≤ MOST_JOURNAL_BYTES
   pub done : Done changes outcome
 
 -- or they have a first line that is of no change
 pub record HasNoLine (net : Net) (bytes : List ℕ) (outcome : Outcome) : Type 0 where
   pub number : ℕ
   pub first : IsFirstNoLine net bytes number
-  pub short : length bytes ≤ STORE_LAST
+  pub short : length bytes ≤ MOST_JOURNAL_BYTES
   pub says : NamesRecoverFault (J1 number) outcome
 
 -- or one of a change that does not follow
 pub record HasStray (net : Net) (bytes : List ℕ) (outcome : Outcome) : Type 0 where
   pub number : ℕ
   pub first : IsFirstStray net bytes number
-  pub short : length bytes ≤ STORE_LAST
+  pub short : length bytes ≤ MOST_JOURNAL_BYTES
   pub says : NamesRecoverFault (J2 number) outcome
 
 -- or they are too many
 pub record IsTooLong (bytes : List ℕ) (outcome : Outcome) : Type 0 where
-  pub longer : STORE_LAST < length bytes
+  pub longer : MOST_JOURNAL_BYTES < length bytes
   pub says : NamesRecoverFault TooLong outcome
 
 abbrev pub Comes : (List Change → Outcome → Type 0) → Net → List ℕ → Outcome → Type 0
@@ -64,12 +64,12 @@ told o held P is so = subst (λ (t : Option (List ℕ)). IfSome t P) is so
 pub fault_comes : (Done : List Change → Outcome → Type 0) (net : Net) (held : List ℕ) (stored : Stored) (fault : RecoverFault) (outcome : Outcome) → stored.before ≡ Some held → IsSteady stored
     → IsRecoverFault net stored.before stored.after stored.faults_before stored.faults_after fault → NamesRecoverFault fault outcome → Comes Done net held outcome
 fault_comes Done net held stored (J1 number) outcome is steady failed says =
-    inr (inl (record { number = number; first = told stored.before held (λ bytes. IsFirstNoLine net bytes number) is failed.2; short = told stored.before held (λ bytes. length bytes ≤ STORE_LAST) is failed.1; says = says }))
+    inr (inl (record { number = number; first = told stored.before held (λ bytes. IsFirstNoLine net bytes number) is failed.2; short = told stored.before held (λ bytes. length bytes ≤ MOST_JOURNAL_BYTES) is failed.1; says = says }))
 fault_comes Done net held stored (J2 number) outcome is steady failed says =
-    inr (inr (inl (record { number = number; first = told stored.before held (λ bytes. IsFirstStray net bytes number) is failed.2; short = told stored.before held (λ bytes. length bytes ≤ STORE_LAST) is failed.1; says = says })))
+    inr (inr (inl (record { number = number; first = told stored.before held (λ bytes. IsFirstStray net bytes number) is failed.2; short = told stored.before held (λ bytes. length bytes ≤ MOST_JOURNAL_BYTES) is failed.1; says = says })))
 fault_comes Done net held stored StoreFault outcome is steady failed says = absurd (steady failed.1)
 fault_comes Done net held stored TooLong outcome is steady failed says =
-    inr (inr (inr (record { longer = told stored.before held (λ bytes. STORE_LAST < length bytes) is failed.1; says = says })))
+    inr (inr (inr (record { longer = told stored.before held (λ bytes. MOST_JOURNAL_BYTES < length bytes) is failed.1; says = says })))
 fault_comes Done net held stored OutOfMemory outcome is steady failed says = absurd says
 
 fault_same : (code : List ℕ) (a b : Outcome) (number other : ℕ) → number ≡ other → Says (codes "fault" ∷ code ∷ decimal number ∷ []) 8 a → Says (codes "fault" ∷ code ∷ decimal other ∷ []) 8 b → a ≡ b

@@ -1,6 +1,6 @@
 -- A replay of one told store has one outcome.
 use Rattle.std.proofs.Common.{◌≡◌, ℕ, ◌≤◌, inl, inr, List, length, Option, Some, sym, ap, ◌∙◌}
-use Rattle.bt_base.specs.declared.keeper.TheConstants.{STORE_LAST}
+use Rattle.bt_frame.specs.declared.limits.TheConstants.{MOST_JOURNAL_BYTES}
 use Rattle.bt_net.specs.Network.{Net}
 use Rattle.bt_demand.specs.declared.demand.Link.{Link}
 use Rattle.bt_journal.specs.declared.call.Change.{Change}
@@ -20,7 +20,7 @@ comes net held stored outcome is steady (sound, inl (changes, recovered, printed
     inl (record {
       changes = changes;
       told = told stored.before held (λ bytes. Recovered net bytes changes) is recovered.told;
-      short = told stored.before held (λ bytes. length bytes ≤ STORE_LAST) is recovered.readable;
+      short = told stored.before held (λ bytes. length bytes ≤ MOST_JOURNAL_BYTES) is recovered.readable;
       done = printed;
     })
 comes net held stored outcome is steady (sound, inr (fault, failed, says)) = fault_comes (PrintsState net) net held stored fault outcome is steady failed says

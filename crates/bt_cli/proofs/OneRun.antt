@@ -2,7 +2,7 @@
 -- they have one outcome.
 use Rattle.std.proofs.Common.{◌≡◌, ◌≢◌, ℕ, zero, suc, ◌≤◌, inl, inr, List, [], length, Option, Some, refl, ap, ◌∙◌, subst, arith}
 use Rattle.std.proofs.lemmas.Option.{same_Some}
-use Rattle.bt_base.specs.declared.keeper.TheConstants.{STORE_LAST}
+use Rattle.bt_frame.specs.declared.limits.TheConstants.{MOST_JOURNAL_BYTES}
 use Rattle.bt_base.specs.Told.{Rose}
 use Rattle.bt_net.specs.Network.{Net}
 use Rattle.bt_air.specs.declared.event.Event.{Event}
@@ -93,7 +93,7 @@ run_comes net script held stored outcome histories events is steady memory (inr 
     inl (record {
       changes = run.opening;
       told = told stored.before held (λ bytes. Recovered net bytes run.opening) is run.opens.told;
-      short = told stored.before held (λ bytes. length bytes ≤ STORE_LAST) is run.opens.readable;
+      short = told stored.before held (λ bytes. length bytes ≤ MOST_JOURNAL_BYTES) is run.opens.readable;
       done = parts_ended net held script.items outcome.text stored run.opening outcome.status histories events is steady memory run.ends;
     })
 

@@ -3,6 +3,7 @@
 -- Possible outcomes are put together from 'what comes after' functions in the order of the work, so that each refusal
 -- stands where its step stands.
 use Rattle.std.specs.Prelude.{◌≡◌, ℕ, ◌≤◌, ◌⊎◌, List, [], ◌∷◌, length, codes, Option, Result, Err, Ok}
+use Rattle.bt_frame.specs.declared.limits.TheConstants.{MOST_FILE_BYTES}
 use Rattle.bt_base.specs.Told.{Gives, IsLonger, Rose}
 use Rattle.bt_timeline.specs.Lines.{line_of}
 use Rattle.bt_centre.specs.Output.{Output, Prints}
@@ -37,9 +38,9 @@ pub record Kind (Value Fault : Type 0) : Type 0 where
   pub fault_words : Fault → List (List ℕ)
   pub fault_status : ℕ
 
--- the bytes of a file that was read: those told, where they are told, and no more than the limit of 4 MiB
+-- the bytes of a file that was read: those told, where they are told, and no more than a file may have
 abbrev pub IsContent : (List ℕ → Option (List ℕ)) → List ℕ → List ℕ → Type 0
-IsContent told name bytes = Gives (told name) bytes × (length bytes ≤ 4194304)
+IsContent told name bytes = Gives (told name) bytes × (length bytes ≤ MOST_FILE_BYTES)
 
 -- the file spells this value
 abbrev pub IsLoaded : {Value Fault : Type 0} → Kind Value Fault → (List ℕ → Option (List ℕ)) → List ℕ → Value → Type 0
@@ -49,7 +50,7 @@ IsLoaded kind told name value = (bytes : List ℕ) × IsContent told name bytes 
 abbrev pub CannotRead : (List ℕ → Option (List ℕ)) → Type 0 → List ℕ → Outcome → Type 0
 CannotRead told failed name outcome =
     (failed × Says (codes "fault" ∷ codes "read" ∷ name ∷ []) 5 outcome)
-    ⊎ (IsLonger (told name) 4194304 × Says (codes "fault" ∷ codes "too" ∷ codes "long" ∷ name ∷ []) 10 outcome)
+    ⊎ (IsLonger (told name) MOST_FILE_BYTES × Says (codes "fault" ∷ codes "too" ∷ codes "long" ∷ name ∷ []) 10 outcome)
 
 -- the file spells no value, and its first fault is named
 abbrev pub Misspells : {Value Fault : Type 0} → Kind Value Fault → (List ℕ → Option (List ℕ)) → List ℕ → Outcome → Type 0

@@ -15,7 +15,7 @@ use crate::fit::test_fit;
 use crate::load::{load_demand, load_network, load_plan};
 use bt_base::Files;
 use bt_demand::{Demand, Plan};
-use bt_matrix::SUM_LAST;
+use bt_matrix::MOST_SUM;
 use bt_net::Network;
 use bt_timeline::verdict_text;
 use bt_verdict::{Verdict, check};
@@ -57,7 +57,7 @@ fn check_demand<F: Files>(
     plan: &str,
 ) -> Result<Answer, Stop>
     requires terminals { AreOfNetwork net.now demand.now }
-    requires sums { HasSumsTo SUM_LAST (matrix_of net.now demand.now) }
+    requires sums { HasSumsTo MOST_SUM (matrix_of net.now demand.now) }
     ensures { CameTo (WhereItFits net.now demand.now (ChecksPlanText (F.told files.old) (Rose (F.fault_count files.old) (F.fault_count files.new)) plan.now net.now demand.now)) result }
 {
     test_fit(alloc, net, demand)?;
@@ -72,7 +72,7 @@ fn check_plan_file<F: Files>(
     plan: &str,
 ) -> Result<Answer, Stop>
     requires terminals { AreOfNetwork net.now demand.now }
-    requires sums { HasSumsTo SUM_LAST (matrix_of net.now demand.now) }
+    requires sums { HasSumsTo MOST_SUM (matrix_of net.now demand.now) }
     ensures { CameTo (ChecksPlanText (F.told files.old) (Rose (F.fault_count files.old) (F.fault_count files.new)) plan.now net.now demand.now) result }
 {
     let plan = load_plan(alloc, files, plan, net)?;
@@ -84,7 +84,7 @@ fn judge_plan(alloc: Global, net: &Network, demand: &Demand, plan: &Plan) -> Res
     requires demand { AreOfNetwork net.now demand.now }
     requires bursts { AreBetweenTerminals net.now plan.now.bursts }
     requires critical { IsOfBeams (length net.now.beams) plan.now.schedule.critical }
-    requires sums { HasSumsTo SUM_LAST (matrix_of net.now demand.now) }
+    requires sums { HasSumsTo MOST_SUM (matrix_of net.now demand.now) }
     ensures { CameTo (JudgesPlan net.now demand.now plan.now) result }
 {
     let _links = demand.as_slice();
@@ -101,7 +101,7 @@ fn verdict_on(net: &Network, demand: &Demand, plan: &Plan) -> Verdict
     requires demand { AreOfNetwork net.now demand.now }
     requires bursts { AreBetweenTerminals net.now plan.now.bursts }
     requires critical { IsOfBeams (length net.now.beams) plan.now.schedule.critical }
-    requires sums { HasSumsTo SUM_LAST (matrix_of net.now demand.now) }
+    requires sums { HasSumsTo MOST_SUM (matrix_of net.now demand.now) }
     ensures verdict { IsPlanVerdict net.now demand.now plan.now result }
     ensures names { CanName (Some net.now) result }
 {

@@ -8,7 +8,7 @@ ghost use Rattle.bt_cli.specs.Outcome.{Says};
 use crate::answer::Stop;
 use bt_demand::{Demand, traffic_of};
 use bt_frame::Critical;
-use bt_matrix::{SUM_LAST, Traffic};
+use bt_matrix::{MOST_SUM, Traffic};
 use bt_net::Network;
 use bt_timeline::Word;
 use std::alloc::Global;
@@ -16,7 +16,7 @@ use std::alloc::Global;
 /// The demand fits the frame, or the answer that names its heaviest line.
 pub fn test_fit(alloc: Global, net: &Network, demand: &Demand) -> Result<(), Stop>
     requires terminals { AreOfNetwork net.now demand.now }
-    requires sums { HasSumsTo SUM_LAST (matrix_of net.now demand.now) }
+    requires sums { HasSumsTo MOST_SUM (matrix_of net.now demand.now) }
     ensures fits { OnOk result (Fits net.now demand.now) }
     ensures stops { IfErr result (StopIs (NamesOverload net.now demand.now)) }
 {

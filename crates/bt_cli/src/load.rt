@@ -1,5 +1,6 @@
 // Files, read and tested one after the other.
 ghost use Rattle.std.specs.Prelude.{◌≡◌, ◌≤◌, All, IfOk, IfErr, length};
+ghost use Rattle.bt_frame.specs.declared.limits.TheConstants.{MOST_BEAMS};
 ghost use Rattle.bt_base.specs.Told.{Rose};
 ghost use Rattle.bt_frame.specs.Critical.{IsOfBeams};
 ghost use Rattle.bt_verdict.specs.PlanVerdict.{AreBetweenTerminals};
@@ -13,16 +14,13 @@ use crate::answer::Stop;
 use crate::stops::{network_stop, script_stop, text_stop};
 use bt_base::{FileFault, Files};
 use bt_demand::{Demand, Plan};
-use bt_frame::Schedule;
-use bt_matrix::{Dense, SUM_LAST};
+use bt_frame::{MOST_FILE_BYTES, Schedule};
+use bt_matrix::{Dense, MOST_SUM};
 use bt_net::Network;
 use bt_plan::{read_demand, read_matrix, read_plan, read_schedule};
 use bt_script::Script;
 use bt_timeline::Word;
 use std::alloc::Global;
-
-/// The most bytes that a file may have: 4 MiB.
-pub const FILE_LAST: u64 = 4_194_304;
 
 /// The file's bytes.
 pub fn read_file<F: Files>(alloc: Global, files: &mut F, name: &str) -> Result<Vec<u8>, Stop>
@@ -32,7 +30,7 @@ pub fn read_file<F: Files>(alloc: Global, files: &mut F, name: &str) -> Result<V
     ensures later { F.fault_count files.old ≤ F.fault_count files.new }
     ensures same { F.told files.new ≡ F.told files.old }
 {
-    match files.read(alloc, name, FILE_LAST) {
+    match files.read(alloc, name, MOST_FILE_BYTES) {
         Ok(bytes) => Ok(bytes),
         Err(FileFault::Failed) => {
             let words = [Word::Text("fault"), Word::Text("read"), Word::Text(name)];
@@ -68,7 +66,7 @@ pub fn load_schedule<F: Files>(
     name: &str,
     size: u32,
 ) -> Result<Schedule, Stop>
-    requires few { size ≤ 16 }
+    requires few { size ≤ MOST_BEAMS }
     ensures critical { IfOk result (λ schedule. IsOfBeams size schedule.critical) }
     ensures loaded { IfOk result (λ schedule. IsLoaded (schedule_file size) (F.told files.old) name.now schedule) }
     ensures stops { IfErr result (StopIs (StopsAtLoad (schedule_file size) (F.told files.old)
@@ -89,7 +87,7 @@ pub fn load_demand<F: Files>(
     net: &Network,
 ) -> Result<Demand, Stop>
     ensures terminals { IfOk result (λ demand. AreOfNetwork net.now demand) }
-    ensures sums { IfOk result (λ demand. HasSumsTo SUM_LAST (matrix_of net.now demand)) }
+    ensures sums { IfOk result (λ demand. HasSumsTo MOST_SUM (matrix_of net.now demand)) }
     ensures loaded { IfOk result (λ demand. IsLoaded (demand_file net.now) (F.told files.old) name.now demand) }
     ensures stops { IfErr result (StopIs (StopsAtLoad (demand_file net.now) (F.told files.old)
         (Rose (F.fault_count files.old) (F.fault_count files.new)) name.now)) }

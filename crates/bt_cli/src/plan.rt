@@ -19,7 +19,7 @@ use bt_base::{Files, Sink};
 use bt_cut::make_plan;
 use bt_demand::Demand;
 use bt_frame::EditionNo;
-use bt_matrix::SUM_LAST;
+use bt_matrix::MOST_SUM;
 use bt_net::Network;
 use bt_plan::plan_text;
 use std::alloc::Global;
@@ -83,7 +83,7 @@ fn plan_demand_file<F: Files>(
 /// The text of a plan, where the demand fits.
 fn plan_demand(alloc: Global, net: &Network, demand: &Demand) -> Result<Answer, Stop>
     requires terminals { AreOfNetwork net.now demand.now }
-    requires sums { HasSumsTo SUM_LAST (matrix_of net.now demand.now) }
+    requires sums { HasSumsTo MOST_SUM (matrix_of net.now demand.now) }
     ensures { CameTo (WhereItFits net.now demand.now (PrintsPlan net.now demand.now)) result }
 {
     test_fit(alloc, net, demand)?;

@@ -78,7 +78,7 @@ impl<K> Ended<K> {
 /// | 7 | the store failed: it could not be read or cut, or a line of a run was not kept |
 /// | 8 | a line of the journal is of no change, or of one that does not follow |
 /// | 9 | the verdict of `check` is not good |
-/// | 10 | a file is longer than 4,194,304 bytes, or the store than 67,108,864 |
+/// | 10 | a file is longer than `MOST_FILE_BYTES`, or the store than `MOST_JOURNAL_BYTES` |
 pub fn centre_main<R: Threads + Wait + Sync, F: Files, O: Sink, K: Keeper + Send>(
     rt: &R,
     alloc: Global,

@@ -97,5 +97,5 @@ pub record HasSlots (modes : List Mode) (up down place taken : ℕ) (connection 
 
 -- The table has each connection between so many beams at its place, with the slots of the modes before a place.
 pub record IsTable (modes : List Mode) (beams place : ℕ) (taken : ℕ → ℕ → ℕ) (table : List Connection) : Type 0 where
-  pub count : length table ≡ 256
+  pub count : length table ≡ MOST_BEAMS * MOST_BEAMS
   pub each : (up down : ℕ) (other : Connection) → up < beams → down < beams → HasSlots modes up down place (taken up down) (slice_index_or table (up * MOST_BEAMS + down) other)

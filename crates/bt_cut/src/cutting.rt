@@ -16,7 +16,7 @@ use std::alloc::Global;
 
 /// The plan of a demand that goes through the modes of this schedule, which is good for the demand's matrix.
 ///
-/// No line of the matrix asks for more than 4096 slots. Each connection gives its slots to its links one after the
+/// No line of the matrix asks for more than `MOST_SLOTS` slots. Each connection gives its slots to its links one after the
 /// other; slots that no link asks for stay silent.
 pub fn cut(
     alloc: Global,

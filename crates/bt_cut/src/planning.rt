@@ -14,7 +14,7 @@ use bt_modes::schedule;
 use bt_net::Network;
 use std::alloc::Global;
 
-/// A plan of the demand, than which none is shorter. No line of its matrix asks for more than 4096 slots.
+/// A plan of the demand, than which none is shorter. No line of its matrix asks for more than `MOST_SLOTS` slots.
 pub fn make_plan(
     alloc: Global,
     net: &Network,

@@ -11,8 +11,8 @@ use crate::connection::{Connection, Span};
 use bt_frame::{BeamNo, MOST_BEAMS, Mode, OutOfMemory};
 use std::alloc::Global;
 
-/// Places of a table: 16 uplink beams by 16 downlink beams.
-const CONNECTIONS: u32 = 256;
+/// Places of a table: one for each uplink beam and each downlink beam that a network may have.
+const CONNECTIONS: u32 = MOST_BEAMS as u32 * MOST_BEAMS as u32;
 
 /// The place of a connection in the table: the row of the uplink beam, the column of the downlink beam.
 pub(crate) fn place_of(up: BeamNo, down: BeamNo) -> usize

@@ -2,7 +2,7 @@
 use Rattle.std.proofs.Common.{◌≡◌, ℕ, ◌+◌, ◌<◌, ◌≤◌, ◌&&◌, if◌then◌else◌, List, [], Some, length, map, replicate, take, get_or, slice_get, option_map, sym, ap, ◌∙◌, arith}
 use Rattle.std.proofs.lemmas.List.Sums.{sum_by-take-le, sum_by_more}
 use Rattle.bt_lists.proofs.Images.{numbers_below, images-replicate}
-use Rattle.bt_frame.specs.declared.limits.TheConstants.{SUM_LAST}
+use Rattle.bt_frame.specs.declared.limits.TheConstants.{MOST_SUM}
 use Rattle.bt_frame.specs.declared.numbers.BeamNo.{BeamNo}
 use Rattle.bt_frame.specs.declared.numbers.TermNo.{TermNo}
 use Rattle.bt_frame.specs.declared.schedule.Critical.TheVariants.{Row, Column}
@@ -40,12 +40,12 @@ Gains-more links k d within test = sum_by_more (λ (link : Link). if test link.f
 
 -- What one more link asks of the matrix of the links before it.
 pub record IsStep (net : Net) (links : List Link) (k up down units : ℕ) : Type 0 where
-  pub row : row_sum (matrix_of net (take k links)) up + units ≤ SUM_LAST
-  pub column : column_sum (matrix_of net (take k links)) down + units ≤ SUM_LAST
+  pub row : row_sum (matrix_of net (take k links)) up + units ≤ MOST_SUM
+  pub column : column_sum (matrix_of net (take k links)) down + units ≤ MOST_SUM
   pub next : matrix_of net (take (k + 1) links)
       ≡ with_entry (matrix_of net (take k links)) up down (entry (matrix_of net (take k links)) up down + units)
 
-pub step : (net : Net) (links : List Link) (k : ℕ) (d : Link) (up down : BeamNo) → HasSumsTo SUM_LAST (matrix_of net links) → k < length links
+pub step : (net : Net) (links : List Link) (k : ℕ) (d : Link) (up down : BeamNo) → HasSumsTo MOST_SUM (matrix_of net links) → k < length links
     → option_map (λ t. t.1) (slice_get net.terminals (get_or links k d).from.0) ≡ Some up
     → option_map (λ t. t.1) (slice_get net.terminals (get_or links k d).to.0) ≡ Some down
     → up.0 < length net.beams → down.0 < length net.beams → IsStep net links k up.0 down.0 (get_or links k d).units

@@ -1,7 +1,7 @@
 -- The demand as a list of links, each with its terminals and its slots per frame.
 use Rattle.std.specs.Prelude.{◌≡◌, ◌≢◌, ℕ, ◌+◌, ◌<◌, ◌≤◌, ◌==◌, ◌&&◌, if◌then◌else◌, Bool, List, length, take, drop, sum_by, All, AllPairs}
 use Rattle.std.specs.List.{HoldsAt}
-use Rattle.bt_frame.specs.declared.limits.TheConstants.{SUM_LAST}
+use Rattle.bt_frame.specs.declared.limits.TheConstants.{MOST_SUM}
 use Rattle.bt_frame.specs.declared.numbers.TermNo.{TermNo}
 use Rattle.bt_demand.specs.declared.demand.Link.{Link}
 
@@ -22,7 +22,7 @@ pub record IsBefore (a b : Ends) : Type 0 where
 pub record IsLink (link : Link) : Type 0 where
   pub differ : link.from.0 ≢ link.to.0
   pub some : 0 < link.units
-  pub few : link.units ≤ SUM_LAST
+  pub few : link.units ≤ MOST_SUM
 
 -- what holds of every demand: its links are in order, so that each stands once
 pub record IsDemand (links : List Link) : Type 0 where

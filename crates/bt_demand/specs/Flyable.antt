@@ -1,6 +1,6 @@
 -- Plans that can be flown, whatever demand they are for, and what of them each terminal holds.
 use Rattle.std.specs.Prelude.{◌≡◌, ◌≤◌, All}
-use Rattle.bt_frame.specs.declared.limits.TheConstants.{MOST_SLOTS}
+use Rattle.bt_frame.specs.declared.limits.TheConstants.{MOST_SLOTS, LAST_SLOT}
 use Rattle.bt_frame.specs.declared.numbers.TermNo.{TermNo}
 use Rattle.bt_frame.specs.Range.{IsWithin}
 use Rattle.bt_net.specs.Network.{Net}
@@ -26,5 +26,5 @@ pub record IsFlyable (net : Net) (plan : Plan) : Type 0 where
 pub record IsSentBy (net : Net) (terminal : TermNo) (burst : Burst) : Type 0 where
   pub sender : burst.from ≡ terminal
   pub receiver : IsTerminal net burst.to
-  pub start : IsWithin 0 4095 burst.start
-  pub slots : IsWithin 1 4096 burst.length
+  pub start : IsWithin 0 LAST_SLOT burst.start
+  pub slots : IsWithin 1 MOST_SLOTS burst.length

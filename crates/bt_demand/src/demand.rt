@@ -2,7 +2,7 @@
 ghost use Rattle.std.specs.Prelude.{◌≡◌, ◌≢◌, ◌+◌, ◌<◌, ◌≤◌, [], IfOk, IfErr, OnOk, OnErr};
 ghost use Rattle.bt_demand.specs.Demand.{units_of, Gains, IsAt, IsDemand, IsGapFor};
 
-use bt_frame::{OutOfMemory, SUM_LAST, TermNo};
+use bt_frame::{MOST_SUM, OutOfMemory, TermNo};
 use std::alloc::Global;
 use std::marker::Model;
 
@@ -19,7 +19,7 @@ pub struct Link {
 
 /// The links that ask for slots, in order of the terminal that sends and then of the one that receives.
 ///
-/// Each link stands once, its ends differ, and it asks for 1 to `SUM_LAST` slots.
+/// Each link stands once, its ends differ, and it asks for 1 to `MOST_SUM` slots.
 #[derive(Debug, Drop)]
 pub struct Demand {
     links: Vec<Link>,
@@ -93,7 +93,7 @@ impl Demand {
     ) -> Result<(), OutOfMemory>
         requires differ { from.0 ≢ to.0 }
         requires positive { 0 < units }
-        requires fits { units_of self.old from to + units ≤ SUM_LAST }
+        requires fits { units_of self.old from to + units ≤ MOST_SUM }
         ensures ok { OnOk result (Gains self.old self.new from to units) }
         ensures err { OnErr result (self.new ≡ self.old) }
         ensures demand { IsDemand self.new }

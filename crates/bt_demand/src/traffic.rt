@@ -3,7 +3,7 @@ ghost use Rattle.std.specs.Prelude.{◌≡◌, ◌<◌, length, IfOk};
 ghost use Rattle.bt_demand.specs.Traffic.{matrix_of, AreOfNetwork, HasSumsTo};
 
 use crate::Demand;
-use bt_frame::{OutOfMemory, SUM_LAST};
+use bt_frame::{MOST_SUM, OutOfMemory};
 use bt_matrix::{Dense, Traffic};
 use bt_net::Network;
 use std::alloc::Global;
@@ -13,7 +13,7 @@ use std::alloc::Global;
 /// It looks once at each link. Both ends of a link may be in one beam.
 pub fn traffic_of(alloc: Global, net: &Network, demand: &Demand) -> Result<Dense, OutOfMemory>
     requires terminals { AreOfNetwork net.now demand.now }
-    requires sums { HasSumsTo SUM_LAST (matrix_of net.now demand.now) }
+    requires sums { HasSumsTo MOST_SUM (matrix_of net.now demand.now) }
     ensures { IfOk result (λ matrix. matrix ≡ matrix_of net.now demand.now) }
 {
     let mut matrix = Dense::new(alloc, net.beam_count())?;

@@ -2,6 +2,7 @@
 ghost use Rattle.std.specs.Prelude.{◌≡◌, ◌≤◌};
 ghost use Rattle.std.specs.Option.{SomeIff};
 
+use crate::MOST_UNITS;
 use std::alloc::{AllocError, AllocFailed};
 use std::marker::Model;
 
@@ -29,7 +30,7 @@ pub struct Command(pub u32);
 #[derive(Clone, Copy, Debug, PartialEq, Eq)]
 pub struct TermSet(pub u64);
 
-/// Units of traffic of one edit or one link line, in slots per frame: 1 to 4096.
+/// Units of traffic of one edit or one link line, in slots per frame: 1 to `MOST_UNITS`.
 #[derive(Clone, Copy, Debug, PartialEq, Eq)]
 pub struct Units {
     number: u32,
@@ -37,22 +38,23 @@ pub struct Units {
 
 impl Model for Units {
     ghost use Rattle.std.specs.Prelude.{ℕ, ◌≤◌};
+    ghost use Rattle.bt_frame.specs.declared.limits.TheConstants.{MOST_UNITS};
 
     ghost Value = { ℕ };
 
     ghost view = { λ a. a.number };
 
-    ghost invariant = { λ a. (1 ≤ a.number) × (a.number ≤ 4096) };
+    ghost invariant = { λ a. (1 ≤ a.number) × (a.number ≤ MOST_UNITS) };
 
     ghost inverse = { λ n. record { number = n } };
 }
 
 impl Units {
-    /// The units of that number, or None outside 1 to 4096.
+    /// The units of that number, or None outside 1 to `MOST_UNITS`.
     pub fn new(number: u32) -> Option<Units>
-        ensures { SomeIff result ((1 ≤ number) × (number ≤ 4096)) number }
+        ensures { SomeIff result ((1 ≤ number) × (number ≤ MOST_UNITS)) number }
     {
-        if 1 <= number && number <= 4096 {
+        if 1 <= number && number <= MOST_UNITS {
             Some(Units { number })
         } else {
             None
@@ -62,7 +64,7 @@ impl Units {
     /// The number of units.
     pub fn get(self) -> u32
         ensures same { result ≡ self }
-        ensures in_range { (1 ≤ result) × (result ≤ 4096) }
+        ensures in_range { (1 ≤ result) × (result ≤ MOST_UNITS) }
     {
         self.number
     }

@@ -1,7 +1,7 @@
 -- The lines of a journal, one for each change, and which bytes keep a list of changes.
 use Rattle.std.specs.Prelude.{◌≡◌, ℕ, ◌+◌, ◌≤◌, codes, decimal, List, [], ◌∷◌, ◌++◌}
 use Rattle.bt_text.specs.Text.{spaced}
-use Rattle.bt_frame.specs.declared.limits.TheConstants.{MOST_UNITS}
+use Rattle.bt_frame.specs.declared.limits.TheConstants.{MOST_UNITS, LAST_COMMAND, LAST_EDITION}
 use Rattle.bt_frame.specs.declared.numbers.EditionNo.{EditionNo}
 use Rattle.bt_net.specs.Network.{Net}
 use Rattle.bt_net.specs.Terminals.{name_at}
@@ -46,15 +46,15 @@ units_in (Move _ _ _ _ units) = units
 -- an edit of this edition that a line can spell for the network
 pub record IsEditInRange (net : Net) (made : ℕ) (edit : Edit) : Type 0 where
   pub some : 1 ≤ made
-  pub number : made ≤ 4294967295
+  pub number : made ≤ LAST_EDITION
   pub terminals : NamesTerminals net edit
   pub units : 1 ≤ units_in edit
   pub few : units_in edit ≤ MOST_UNITS
 
 -- an order that a line can spell
 abbrev pub IsOrderInRange : Order → Type 0
-IsOrderInRange (Load command edition) = (1 ≤ command.0) × (command.0 ≤ 4294967295) × (edition.0 ≤ 4294967295)
-IsOrderInRange (Arm command edition due) = (1 ≤ command.0) × (command.0 ≤ 4294967295) × (edition.0 ≤ 4294967295) × IsDue due
+IsOrderInRange (Load command edition) = (1 ≤ command.0) × (command.0 ≤ LAST_COMMAND) × (edition.0 ≤ LAST_EDITION)
+IsOrderInRange (Arm command edition due) = (1 ≤ command.0) × (command.0 ≤ LAST_COMMAND) × (edition.0 ≤ LAST_EDITION) × IsDue due
 
 -- a change, with the edition that it makes where it is an edit, that a line can spell for the network
 abbrev pub IsChangeInRange : Net → ℕ → Change → Type 0

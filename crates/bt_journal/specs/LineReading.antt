@@ -2,7 +2,7 @@
 use Rattle.std.specs.Prelude.{◌≡◌, ℕ, zero, suc, ◌+◌, ◌==◌, ◌||◌, if◌then◌else◌, nat_le, codes, length, drop, List, [], ◌∷◌, ◌++◌, Option, Some, None, option_map, option_and_then, Result, Ok, Err}
 use Rattle.bt_text.specs.Text.{is_word}
 use Rattle.bt_text.specs.WordReader.{first_word, number_to}
-use Rattle.bt_frame.specs.declared.limits.TheConstants.{MOST_UNITS, LAST_MARK}
+use Rattle.bt_frame.specs.declared.limits.TheConstants.{MOST_UNITS, LAST_MARK, LAST_COMMAND, LAST_EDITION}
 use Rattle.bt_frame.specs.declared.numbers.EditionNo.{EditionNo}
 use Rattle.bt_frame.specs.declared.numbers.TermNo.{TermNo}
 use Rattle.bt_net.specs.Network.{Net}
@@ -65,15 +65,15 @@ Said = EditionNo × Change
 
 -- the words behind `edit`
 abbrev pub said_edit : Net → List (List ℕ) → Option Said
-said_edit net ws = option_and_then (λ number. option_map (λ edit. (record { 0 = number }, change.Edit edit)) (edit_in net (drop 1 ws))) (number_from 1 4294967295 ws)
+said_edit net ws = option_and_then (λ number. option_map (λ edit. (record { 0 = number }, change.Edit edit)) (edit_in net (drop 1 ws))) (number_from 1 LAST_EDITION ws)
 
 -- the words behind `load`
 abbrev pub said_load : List (List ℕ) → Option Said
-said_load ws = option_and_then (λ command. option_and_then (λ edition. at_end (drop 1 (drop 1 ws)) (record { 0 = edition }, change.Order (Load (record { 0 = command }) (record { 0 = edition })))) (number_from 0 4294967295 (drop 1 ws))) (number_from 1 4294967295 ws)
+said_load ws = option_and_then (λ command. option_and_then (λ edition. at_end (drop 1 (drop 1 ws)) (record { 0 = edition }, change.Order (Load (record { 0 = command }) (record { 0 = edition })))) (number_from 0 LAST_EDITION (drop 1 ws))) (number_from 1 LAST_COMMAND ws)
 
 -- the words behind `arm`
 abbrev pub said_arm : List (List ℕ) → Option Said
-said_arm ws = option_and_then (λ command. option_and_then (λ edition. option_and_then (λ due. at_end (drop 1 (drop 1 (drop 1 ws))) (record { 0 = edition }, change.Order (Arm (record { 0 = command }) (record { 0 = edition }) (record { 0 = due })))) (number_from 1 LAST_MARK (drop 1 (drop 1 ws)))) (number_from 0 4294967295 (drop 1 ws))) (number_from 1 4294967295 ws)
+said_arm ws = option_and_then (λ command. option_and_then (λ edition. option_and_then (λ due. at_end (drop 1 (drop 1 (drop 1 ws))) (record { 0 = edition }, change.Order (Arm (record { 0 = command }) (record { 0 = edition }) (record { 0 = due })))) (number_from 1 LAST_MARK (drop 1 (drop 1 ws)))) (number_from 0 LAST_EDITION (drop 1 ws))) (number_from 1 LAST_COMMAND ws)
 
 -- a change of one of the kinds but a plan, by its first word and the words behind
 abbrev pub said_small : Net → List ℕ → List (List ℕ) → Option Said

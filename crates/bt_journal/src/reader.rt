@@ -1,5 +1,6 @@
 // Reading the line of a change.
 ghost use Rattle.std.specs.Prelude.{◌≡◌, ◌≤◌, ◌+◌, ◌∷◌, [], ℕ, List, IfOk, IsErrOf, IfSome, IfNone, drop, length};
+ghost use Rattle.bt_frame.specs.declared.limits.TheConstants.{MOST_BEAMS, MOST_TEXT_BYTES};
 ghost use Rattle.bt_text.specs.Text.{words, lines};
 ghost use Rattle.bt_journal.specs.declared.call.Change.{Change};
 ghost use Rattle.bt_journal.specs.JournalLines.{change_line, edition_said, IsChangeInRange};
@@ -7,14 +8,14 @@ ghost use Rattle.bt_journal.specs.LineReading.{number_from, terminal_in, ends_in
 
 use crate::{Change, Edit, LineFault};
 use bt_air::Order;
-use bt_frame::{Command, EditionNo, LAST_MARK, MOST_UNITS, Mark, OutOfMemory, TermNo, Units};
+use bt_frame::{
+    Command, EditionNo, LAST_COMMAND, LAST_EDITION, LAST_MARK, MOST_UNITS, Mark, OutOfMemory,
+    TermNo, Units,
+};
 use bt_net::Network;
 use bt_plan::{TextFault, read_plan};
 use bt_text::{WordReader, first_line, is_word};
 use std::alloc::Global;
-
-/// The last number of an edition, and of a command.
-const LAST_NUMBER: u32 = 4_294_967_295;
 
 /// The change of a line, which ends with its newline, and the edition that it says: the one that an edit makes, and that
 /// of the plan or of the order.
@@ -23,7 +24,7 @@ pub fn read_change(
     net: &Network,
     line: &[u8],
 ) -> Result<(EditionNo, Change), LineFault>
-    requires short { length line.now ≤ 67108864 }
+    requires short { length line.now ≤ MOST_TEXT_BYTES }
     ensures line { IfOk result (λ read. line.now ≡ change_line net.now read.0.0 read.1) }
     ensures range { IfOk result (λ read. IsChangeInRange net.now read.0.0 read.1) }
     ensures edition { IfOk result (λ read. read.0 ≡ edition_said read.0.0 read.1) }
@@ -48,7 +49,7 @@ fn text_of(line: &[u8]) -> Option<&[u8]>
 
 // The change of a line, its newline left out.
 fn said_in(alloc: Global, net: &Network, text: &[u8]) -> Result<(EditionNo, Change), LineFault>
-    requires short { length text.now + 1 ≤ 67108864 }
+    requires short { length text.now + 1 ≤ MOST_TEXT_BYTES }
     ensures { Answers result (said_in net.now (words text.now)) }
 {
     let mut words = WordReader::of(text);
@@ -80,7 +81,7 @@ fn said_small(net: &Network, kind: &[u8], words: WordReader<'_>) -> Option<(Edit
 fn said_edit(net: &Network, mut words: WordReader<'_>) -> Option<(EditionNo, Change)>
     ensures { result ≡ said_edit net.now words.entry }
 {
-    let number = number_from(1, LAST_NUMBER, &mut words)?;
+    let number = number_from(1, LAST_EDITION, &mut words)?;
     let edit = edit_in(net, words)?;
     Some((EditionNo(number), Change::Edit(edit)))
 }
@@ -181,8 +182,8 @@ fn number_from(least: u32, most: u32, words: &mut WordReader<'_>) -> Option<u32>
 fn said_load(mut words: WordReader<'_>) -> Option<(EditionNo, Change)>
     ensures { result ≡ said_load words.entry }
 {
-    let command = number_from(1, LAST_NUMBER, &mut words)?;
-    let edition = number_from(0, LAST_NUMBER, &mut words)?;
+    let command = number_from(1, LAST_COMMAND, &mut words)?;
+    let edition = number_from(0, LAST_EDITION, &mut words)?;
     if !words.is_done() {
         return None;
     }
@@ -195,8 +196,8 @@ fn said_load(mut words: WordReader<'_>) -> Option<(EditionNo, Change)>
 fn said_arm(mut words: WordReader<'_>) -> Option<(EditionNo, Change)>
     ensures { result ≡ said_arm words.entry }
 {
-    let command = number_from(1, LAST_NUMBER, &mut words)?;
-    let edition = number_from(0, LAST_NUMBER, &mut words)?;
+    let command = number_from(1, LAST_COMMAND, &mut words)?;
+    let edition = number_from(0, LAST_EDITION, &mut words)?;
     let due = number_from(1, LAST_MARK, &mut words)?;
     if !words.is_done() {
         return None;
@@ -211,7 +212,7 @@ fn said_arm(mut words: WordReader<'_>) -> Option<(EditionNo, Change)>
 
 // What a line says that begins with `plan`.
 fn said_plan(alloc: Global, net: &Network, text: &[u8]) -> Result<(EditionNo, Change), LineFault>
-    requires short { length text.now + 1 ≤ 67108864 }
+    requires short { length text.now + 1 ≤ MOST_TEXT_BYTES }
     ensures { Answers result (said_plan net.now (words text.now)) }
 {
     let plan = in_lines(alloc, net.beam_count(), text)?;
@@ -224,8 +225,8 @@ fn said_plan(alloc: Global, net: &Network, text: &[u8]) -> Result<(EditionNo, Ch
 
 // The words of a line as the lines of a plan's text.
 fn in_lines(alloc: Global, beams: u32, text: &[u8]) -> Result<Vec<u8>, OutOfMemory>
-    requires few { beams ≤ 16 }
-    requires short { length text.now + 1 ≤ 67108864 }
+    requires few { beams ≤ MOST_BEAMS }
+    requires short { length text.now + 1 ≤ MOST_TEXT_BYTES }
     ensures lines { IfOk result (λ plan. plan.items ≡ in_lines beams 0 (words text.now)) }
 {
     let mut plan = Vec::with_capacity(alloc, text.len() + 1)?;
@@ -241,7 +242,7 @@ fn in_lines(alloc: Global, beams: u32, text: &[u8]) -> Result<Vec<u8>, OutOfMemo
 
 // How many words of a line of a plan's text are left behind this one, where so many were left before.
 fn left_behind(beams: u32, left: u32, word: &[u8]) -> u32
-    requires few { beams ≤ 16 }
+    requires few { beams ≤ MOST_BEAMS }
     ensures { result ≡ left_behind beams left word.now }
 {
     if left == 0 {
@@ -253,7 +254,7 @@ fn left_behind(beams: u32, left: u32, word: &[u8]) -> u32
 
 // How many words stand behind this one where it begins a line of a plan's text.
 fn words_behind(beams: u32, word: &[u8]) -> u32
-    requires few { beams ≤ 16 }
+    requires few { beams ≤ MOST_BEAMS }
     ensures { result ≡ words_behind beams word.now }
 {
     if is_word(word, b"burst") {

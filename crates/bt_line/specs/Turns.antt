@@ -2,6 +2,7 @@
 -- line: the entries that the object has stored since the line started.
 use Rattle.std.specs.Prelude.{◌≡◌, ◌≢◌, ◌⊎◌, ℕ, ◌+◌, ◌-◌, ◌%◌, ◌^◌, ◌<◌, ◌≤◌, List, [], ◌∷◌, ◌++◌, length, sum_by, Option, Some, None}
 use mathlib.Core.Option.{some, none}
+use Rattle.bt_frame.specs.declared.limits.TheConstants.{MOST_CALLERS}
 use lib.ListN.{get_elem?}
 use Rattle.atomic_table.specs.Table.{State, Me, Step}
 use Rattle.atomic_table.specs.Seated.{TableId}
@@ -80,7 +81,7 @@ module _ {O C R : Type 0} where
 
   -- The rule of the table.
   -- Words: the next ticket is the one that is served and as many more as seats wait. Tickets have no bound, and the
-  -- words hold them modulo 2 ^ 64; at most 64 are out, so no two of them agree there.
+  -- words hold them modulo 2 ^ 64; at most as many are out as a line has callers, so no two of them agree there.
   -- Slot: the object is at home and no seat has a base, or it is out and a seat has the log as its base.
   -- Log: it is legal from the object at the start to the object as it is, or as it was when it went out, and the
   -- object's stored history is that of the start, and then the log.
@@ -94,7 +95,7 @@ module _ {O C R : Type 0} where
     pub lead : View O C R
     pub words_are : s.words ≡ (turn + out) % 2 ^ 64 ∷ turn % 2 ^ 64 ∷ []
     pub out_is : sum_by waits s.views ≡ out
-    pub few : length s.views ≤ 64
+    pub few : length s.views ≤ MOST_CALLERS
     pub each : (j : ℕ) (view : View O C R) → get_elem? s.views j ≡ some view → (view ≡ gone) ⊎ Knows start turn out log j view
     pub apart : (i j : ℕ) (v w : View O C R) (k : ℕ) → get_elem? s.views i ≡ some v → get_elem? s.views j ≡ some w → v.ticket ≡ Some k → w.ticket ≡ Some k → i ≡ j
     pub legal : Legal steps start log object

@@ -1,5 +1,6 @@
 // The line, and the passes of its callers.
 ghost use Rattle.std.specs.Prelude.{◌≡◌, ℕ, ◌<◌, ◌≤◌, [], List, MatchResult, IfOk, IfErr, vec_len, slice_index_or};
+ghost use Rattle.bt_frame.specs.declared.limits.TheConstants.{MOST_CALLERS};
 ghost use Rattle.bt_line.specs.declared.object.Entry.{Entry};
 ghost use Rattle.bt_line.specs.Legal.{IsHistory, calls_by, entry_of};
 ghost use Rattle.bt_line.specs.Passes.{HasSeen, Gains, IsOfLine, IsPass, IsSamePass, seen_at};
@@ -35,10 +36,10 @@ pub struct Pass<O: Object> {
 }
 
 impl<O: Object> Line<O> {
-    /// A line for so many callers, 1 to 64, and their passes: the pass at place `k` has the number `k`, and has seen
+    /// A line for so many callers, 1 to `MOST_CALLERS`, and their passes: the pass at place `k` has the number `k`, and has seen
     /// nothing yet. Where memory runs out, the object comes back.
     pub fn start(alloc: Global, object: O, seats: u32) -> Result<(Line<O>, Vec<Pass<O>>), O>
-        requires { (0 < seats) × (seats ≤ 64) }
+        requires { (0 < seats) × (seats ≤ MOST_CALLERS) }
         ensures start { IfOk result (λ made. made.0.table.shared.key.value ≡ object) }
         ensures count { IfOk result (λ made. vec_len made.1 ≡ seats) }
         ensures passes { IfOk result (λ made. (i : ℕ) (d : _) → i < vec_len made.1

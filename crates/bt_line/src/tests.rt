@@ -1,5 +1,6 @@
 // What only a run shows: the calls of several threads are all made, and memory that is there suffices for them.
 ghost use Rattle.std.specs.Prelude.{◌≡◌, ◌≤◌, ◌<◌, ℕ, length, slice_index_or};
+ghost use Rattle.bt_frame.specs.declared.limits.TheConstants.{MOST_CALLERS};
 ghost use Rattle.bt_line.specs.Passes.{IsPass, IsOfLine, IsSamePass};
 
 use crate::adder::Adder;
@@ -58,7 +59,7 @@ fn entries_and_sum<R: Threads + Wait + Sync>(
     seats: u32,
     calls: u32,
 ) -> Option<(usize, u64)>
-    requires { (0 < seats) × (seats ≤ 64) }
+    requires { (0 < seats) × (seats ≤ MOST_CALLERS) }
 {
     let Ok((line, mut passes)) = Line::start(alloc, Adder::new(alloc, 10), seats) else {
         return None;

@@ -6,7 +6,9 @@ use crate::shown::{act_told, order_told};
 use anyhow::{Context, Result, bail, ensure};
 use bt_case_text::{byte_of, number_of};
 use bt_change::{Centre, with_terminal};
-use bt_frame::{EditionNo, LAST_MARK, Mark, TermNo, TermSet};
+use bt_frame::{
+    EditionNo, LAST_MARK, MOST_LEAD, MOST_PLACED, MOST_TERMINALS, Mark, TermNo, TermSet,
+};
 use std::alloc::Global;
 
 /// Does what a line of the centre says; false where the words are another line.
@@ -49,12 +51,12 @@ fn note(centre: &mut Centre, words: &[&str]) -> Result<()> {
     Ok(())
 }
 
-/// The number of a terminal, below 64.
+/// The number of a terminal, below `MOST_TERMINALS`.
 fn terminal_of(word: &str) -> Result<TermNo>
-    ensures { IfOk result (λ terminal. terminal.0 < 64) }
+    ensures { IfOk result (λ terminal. terminal.0 < MOST_TERMINALS) }
 {
     let number = byte_of(word)?;
-    ensure!(number < 64, "no terminal");
+    ensure!(usize::from(number) < MOST_TERMINALS, "no terminal");
     Ok(TermNo(number))
 }
 
@@ -73,8 +75,11 @@ fn put_turn(alloc: Global, centre: &mut Centre, turn: [&str; 4], out: &mut Strin
     let [mark, newest, lead, patience] = turn;
     let (mark, newest) = (number_of(mark)?, EditionNo(number_of(newest)?));
     let (lead, patience) = (number_of(lead)?, number_of(patience)?);
-    ensure!(mark <= LAST_MARK && lead <= 32, "no superframe or no lead");
-    ensure!(centre.order_count() <= 4_000_000_000, "too many orders");
+    ensure!(
+        mark <= LAST_MARK && lead <= MOST_LEAD,
+        "no superframe or no lead"
+    );
+    ensure!(centre.order_count() <= MOST_PLACED, "too many orders");
     let act = act_told(alloc, centre.turn(Mark(mark), newest, lead, patience))?;
     out.push_str(&format!(in alloc; ">{act}\n")?)?;
     Ok(())

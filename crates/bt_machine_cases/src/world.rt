@@ -11,7 +11,10 @@ use anyhow::{Result, bail, ensure};
 use bt_air::{Event, Place, Sent, Shown};
 use bt_case_text::{Part, byte_of, number_of, put_lines};
 use bt_demand::{Bursts, Plan, good_plans_are_flyable};
-use bt_frame::{BeamNo, Critical, EditionNo, LAST_MARK, Modes, Schedule, TermNo};
+use bt_frame::{
+    BeamNo, Critical, EditionNo, LAST_MARK, MOST_COUNTED, MOST_SLOTS, MOST_TEXT_BYTES, Modes,
+    Schedule, TermNo,
+};
 use bt_net::Network;
 use bt_plan::{read_demand, read_plan};
 use bt_timeline::sent_text;
@@ -160,7 +163,7 @@ impl Flight {
         requires { Meets self.old.world.opening (past_of self.old.world) event }
     {
         let (sent, orders) = (self.world.sent_count(), self.world.order_count());
-        ensure!(sent <= 2_000_000_000 && orders <= 2_000_000_000, "too much");
+        ensure!(sent <= MOST_COUNTED && orders <= MOST_COUNTED, "too much");
         match self.world.step(alloc, &self.net, event) {
             Ok(shown) => Ok(shown),
             Err(_full) => bail!("out of memory"),
@@ -209,14 +212,14 @@ fn is_named(net: &Network, sent: &Sent) -> bool
 fn good_plan_from(alloc: Global, net: &Network, traffic: &[u8], plan: &[u8]) -> Result<Plan>
     ensures { IfOk result (IsFlyable net.now) }
 {
-    ensure!(plan.len() <= 67_108_864, "a long text");
+    ensure!(plan.len() <= MOST_TEXT_BYTES, "a long text");
     let Ok(demand) = read_demand(alloc, net, traffic) else {
         bail!("no demand");
     };
     let Ok(plan) = read_plan(alloc, net, plan) else {
         bail!("no plan");
     };
-    ensure!(plan.schedule.length <= 4096, "a long frame");
+    ensure!(plan.schedule.length <= MOST_SLOTS, "a long frame");
     good_plans_are_flyable();
     match check(net, &demand, &plan) {
         Verdict::Good => Ok(plan),

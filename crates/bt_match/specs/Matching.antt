@@ -40,7 +40,7 @@ IsBelowSize columns = (row down : ℕ) → column_of columns row ≡ Some down �
 abbrev pub HasOwnColumns : List (Option ℕ) → Type 0
 HasOwnColumns columns = (row other down : ℕ) → column_of columns row ≡ Some down → column_of columns other ≡ Some down → row ≡ other
 
--- a partial injective map of 1 to 16 rows to columns below that number
+-- a partial injective map of rows, as many as a network may have beams, to columns below that number
 pub record IsPartial (columns : List (Option ℕ)) : Type 0 where
   pub some_rows : 1 ≤ length columns
   pub few_rows : length columns ≤ MOST_BEAMS

@@ -10,7 +10,7 @@ use bt_matrix::Traffic;
 use std::alloc::Global;
 use std::marker::Model;
 
-/// A column for some of 1 to 16 rows, each below their number and no column twice.
+/// A column for some of 1 to `MOST_BEAMS` rows, each below their number and no column twice.
 #[derive(Debug, Drop)]
 pub struct Partial {
     columns: [Option<u8>; MOST_BEAMS],
@@ -20,16 +20,17 @@ pub struct Partial {
 impl Model for Partial {
     ghost use Rattle.std.specs.Prelude.{ℕ, List, Option, take, ◌≤◌};
     ghost use Rattle.bt_match.specs.Matching.{IsPartial};
+    ghost use Rattle.bt_frame.specs.declared.limits.TheConstants.{MOST_BEAMS};
 
     ghost Value = { List (Option ℕ) };
 
     ghost view = { λ a. take a.size a.columns };
 
-    ghost invariant = { λ a. (a.size ≤ 16) × IsPartial (take a.size a.columns) };
+    ghost invariant = { λ a. (a.size ≤ MOST_BEAMS) × IsPartial (take a.size a.columns) };
 }
 
 impl Partial {
-    /// No row of so many, 1 to 16, has a column.
+    /// No row of so many, 1 to `MOST_BEAMS`, has a column.
     pub fn empty(_alloc: Global, size: u32) -> Result<Partial, OutOfMemory>
         requires some { 1 ≤ size }
         requires few { size ≤ MOST_BEAMS }

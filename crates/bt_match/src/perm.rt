@@ -6,7 +6,7 @@ ghost use Rattle.bt_match.specs.Matching.{IsPartial, IsWhole};
 use bt_frame::MOST_BEAMS;
 use std::marker::Model;
 
-/// A permutation of 1 to 16 beams: place `i` has the downlink beam of uplink beam `i`.
+/// A permutation of 1 to `MOST_BEAMS` beams: place `i` has the downlink beam of uplink beam `i`.
 #[derive(Debug, Drop)]
 pub struct Perm {
     columns: [u8; MOST_BEAMS],
@@ -16,12 +16,13 @@ pub struct Perm {
 impl Model for Perm {
     ghost use Rattle.std.specs.Prelude.{ℕ, List, take, ◌≤◌};
     ghost use Rattle.bt_matrix.specs.Good.{IsPermutation};
+    ghost use Rattle.bt_frame.specs.declared.limits.TheConstants.{MOST_BEAMS};
 
     ghost Value = { List ℕ };
 
     ghost view = { λ a. take a.size a.columns };
 
-    ghost invariant = { λ a. (1 ≤ a.size) × (a.size ≤ 16) × IsPermutation a.size (take a.size a.columns) };
+    ghost invariant = { λ a. (1 ≤ a.size) × (a.size ≤ MOST_BEAMS) × IsPermutation a.size (take a.size a.columns) };
 }
 
 impl Perm {

@@ -5,7 +5,7 @@ use Rattle.std.specs.List.{slice_index_or}
 use Rattle.bt_frame.specs.declared.schedule.Critical.{Critical}
 use Rattle.bt_frame.specs.declared.schedule.Critical.TheVariants.{Row, Column}
 use Rattle.bt_frame.specs.Critical.{IsOfBeams}
-use Rattle.bt_frame.specs.declared.limits.TheConstants.{MOST_BEAMS, SUM_LAST}
+use Rattle.bt_frame.specs.declared.limits.TheConstants.{MOST_BEAMS, MOST_SUM}
 
 -- a row of the matrix
 abbrev pub row_of : List (List ℕ) → ℕ → List ℕ
@@ -39,13 +39,13 @@ IsBefore (Row _) (Column _) = Unit {0}
 IsBefore (Column _) (Row _) = ⊥
 IsBefore (Column i) (Column j) = i.0 < j.0
 
--- a square matrix of at least one beam and at most 16, whose line sums are within the limit
+-- a square matrix of at least one beam and at most as many as a network may have, whose line sums are within the limit
 pub record IsTraffic (rows : List (List ℕ)) : Type 0 where
   pub some_beams : 1 ≤ length rows
   pub few_beams : length rows ≤ MOST_BEAMS
   pub square : All (λ row. length row ≡ length rows) rows
-  pub row_sums : (up : ℕ) → up < length rows → row_sum rows up ≤ SUM_LAST
-  pub column_sums : (down : ℕ) → down < length rows → column_sum rows down ≤ SUM_LAST
+  pub row_sums : (up : ℕ) → up < length rows → row_sum rows up ≤ MOST_SUM
+  pub column_sums : (down : ℕ) → down < length rows → column_sum rows down ≤ MOST_SUM
 
 -- the first line that has the greatest line sum, and that sum
 pub record IsHeaviest (rows : List (List ℕ)) (line : Critical) (most : ℕ) : Type 0 where

@@ -3,7 +3,7 @@ ghost use Rattle.std.specs.Prelude.{◌≡◌, ℕ, ◌-◌, ◌<◌, ◌≤◌,
 ghost use Rattle.bt_matrix.specs.Traffic.{row_sum, column_sum, IsTraffic};
 
 use crate::{Traffic, heaviest_line};
-use bt_frame::{BeamNo, Critical, MOST_BEAMS, OutOfMemory, SUM_LAST};
+use bt_frame::{BeamNo, Critical, MOST_BEAMS, MOST_SUM, OutOfMemory};
 use std::alloc::Global;
 use std::marker::Model;
 
@@ -30,7 +30,7 @@ impl Model for Dense {
 }
 
 impl Dense {
-    /// A matrix of so many beams, 1 to 16, that asks for nothing.
+    /// A matrix of so many beams, 1 to `MOST_BEAMS`, that asks for nothing.
     pub fn new(alloc: Global, size: u32) -> Result<Dense, OutOfMemory>
         requires some { 1 ≤ size }
         requires few { size ≤ MOST_BEAMS }
@@ -120,7 +120,7 @@ fn row_sums_of(rows: &[Vec<u32>]) -> [u32; MOST_BEAMS]
 
 /// The sum of these numbers.
 fn sum_of(numbers: &[u32]) -> u32
-    requires { sum numbers.now ≤ SUM_LAST }
+    requires { sum numbers.now ≤ MOST_SUM }
     ensures { result ≡ sum numbers.now }
 {
     numbers.iter().sum()
@@ -142,7 +142,7 @@ fn column_sums_of(rows: &[Vec<u32>]) -> [u32; MOST_BEAMS]
 /// The sum of one column.
 fn column_sum_of(rows: &[Vec<u32>], down: usize) -> u32
     requires long { All (λ row. down < length row.items) rows.now }
-    requires small { sum_by (λ row. slice_index row.items down) rows.now ≤ SUM_LAST }
+    requires small { sum_by (λ row. slice_index row.items down) rows.now ≤ MOST_SUM }
     ensures { result ≡ sum_by (λ row. slice_index row.items down) rows.now }
 {
     let mut sum = 0;

@@ -6,7 +6,7 @@ ghost use Rattle.bt_matrix.specs.Dense.{AreLineSums, IsFirstGreatest};
 use bt_frame::{BeamNo, Critical, MOST_BEAMS};
 
 /// The first line that has the greatest sum, rows before columns, and that sum, of a matrix whose rows and columns
-/// have these sums. It has 1 to 16 beams.
+/// have these sums. It has 1 to `MOST_BEAMS` beams.
 pub fn heaviest_line(row_sums: &[u32], column_sums: &[u32]) -> (Critical, u32)
     requires square { length column_sums.now ≡ length row_sums.now }
     requires some { 0 < length row_sums.now }

@@ -9,7 +9,7 @@ mod heaviest;
 mod laws;
 mod traffic;
 
-pub use bt_frame::SUM_LAST;
+pub use bt_frame::MOST_SUM;
 pub use dense::Dense;
 pub use heaviest::heaviest_line;
 pub use laws::{no_schedule_is_shorter, one_line_is_heaviest};

@@ -2,12 +2,12 @@
 ghost use Rattle.std.specs.Prelude.{◌≡◌, ℕ, ◌+◌, ◌-◌, ◌<◌, ◌≤◌, ◌⊎◌, List, length, OnOk, OnErr};
 ghost use Rattle.bt_matrix.specs.Traffic.{row_sum, column_sum, entry, with_entry, IsTraffic, IsHeaviest};
 
-use bt_frame::{BeamNo, Critical, OutOfMemory, SUM_LAST};
+use bt_frame::{BeamNo, Critical, MOST_SUM, OutOfMemory};
 use std::alloc::Global;
 
 /// A square matrix of slots per frame, indexed by uplink beam and then by downlink beam.
 ///
-/// It has 1 to 16 beams, and no line sum passes `SUM_LAST`.
+/// It has 1 to `MOST_BEAMS` beams, and no line sum passes `MOST_SUM`.
 pub trait Traffic {
     /// The rows, one for each uplink beam.
     ghost rows: { Self → List (List ℕ) };
@@ -55,8 +55,8 @@ pub trait Traffic {
         requires positive { 0 < units }
         requires up { up.0 < length (rows self.old) }
         requires down { down.0 < length (rows self.old) }
-        requires row { row_sum (rows self.old) up.0 + units ≤ SUM_LAST }
-        requires column { column_sum (rows self.old) down.0 + units ≤ SUM_LAST }
+        requires row { row_sum (rows self.old) up.0 + units ≤ MOST_SUM }
+        requires column { column_sum (rows self.old) down.0 + units ≤ MOST_SUM }
         requires room { (0 < entry (rows self.old) up.0 down.0) ⊎ (1 ≤ room self.old) }
         ensures rows { rows self.new
             ≡ with_entry (rows self.old) up.0 down.0 (entry (rows self.old) up.0 down.0 + units) }

@@ -5,7 +5,7 @@ ghost use Rattle.bt_match.specs.Matching.{HasLineSums};
 ghost use Rattle.bt_modes.specs.Padding.{IsPaddingOf, IsRaised, HasLinesWithin, IsPartPadding};
 
 use bt_frame::{BeamNo, OutOfMemory};
-use bt_matrix::{SUM_LAST, Traffic};
+use bt_matrix::{MOST_SUM, Traffic};
 use std::alloc::Global;
 
 /// A matrix all of whose line sums are equal.
@@ -22,7 +22,7 @@ pub struct Padded<M: Traffic> {
 /// The matrix is given up where memory is wanting.
 pub fn pad<M: Traffic + Drop>(alloc: Global, mut matrix: M) -> Result<Padded<M>, OutOfMemory>
     ensures padding { IfOk result (λ padded. IsPaddingOf (M.rows matrix) (M.rows padded.matrix) padded.sum) }
-    ensures limit { IfOk result (λ padded. padded.sum ≤ SUM_LAST) }
+    ensures limit { IfOk result (λ padded. padded.sum ≤ MOST_SUM) }
 {
     let (_, sum) = matrix.heaviest();
     matrix.reserve(alloc, 2 * matrix.size() - 1)?;
@@ -36,7 +36,7 @@ pub fn pad<M: Traffic + Drop>(alloc: Global, mut matrix: M) -> Result<Padded<M>,
 /// fewer entries than there are lines.
 fn fill_lines<M: Traffic>(matrix: &mut M, sum: u32)
     requires within { HasLinesWithin (M.rows matrix.old) sum }
-    requires limit { sum ≤ SUM_LAST }
+    requires limit { sum ≤ MOST_SUM }
     requires room { 2 * length (M.rows matrix.old) ≤ M.room matrix.old + 1 }
     ensures size { length (M.rows matrix.new) ≡ length (M.rows matrix.old) }
     ensures raised { IsRaised (M.rows matrix.old) (M.rows matrix.new) }
@@ -60,7 +60,7 @@ fn fill_entry<M: Traffic>(matrix: &mut M, up: BeamNo, down: BeamNo, sum: u32)
     requires down { down.0 < length (M.rows matrix.old) }
     requires traffic { IsTraffic (M.rows matrix.old) }
     requires within { HasLinesWithin (M.rows matrix.old) sum }
-    requires limit { sum ≤ SUM_LAST }
+    requires limit { sum ≤ MOST_SUM }
     requires room { 1 ≤ M.room matrix.old }
     ensures filled { IsPartPadding (M.rows matrix.old) (M.rows matrix.new) sum }
     ensures one_line { (row_sum (M.rows matrix.new) up.0 ≡ sum) ⊎ (column_sum (M.rows matrix.new) down.0 ≡ sum) }

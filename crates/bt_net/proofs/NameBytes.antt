@@ -1,5 +1,5 @@
 -- A word with the shape of a name is ASCII.
-use Rattle.std.proofs.Common.{◌≡◌, ℕ, ◌<◌, true, leb, ◌&&◌, List, [], ◌∷◌, length, IsTrue, arith}
+use Rattle.std.proofs.Common.{◌≡◌, ℕ, ◌<◌, true, nat_lt, ◌&&◌, List, [], ◌∷◌, length, IsTrue, arith}
 use Rattle.std.specs.List.{list_all, AllByRecursion}
 use Rattle.std.specs.Char.{is_ascii_alphabetic}
 use Rattle.std.specs.Str.{IsUtf8}
@@ -8,6 +8,7 @@ use Rattle.std.proofs.lemmas.Bool.Decides.{nat_tests}
 use Rattle.std.proofs.lemmas.Str.{IsUtf8-from_ascii}
 use Rattle.std.proofs.lemmas.Str.Ascii.{IsAscii-from_all}
 use Rattle.std.proofs.lemmas.List.Elements.{All-from_recursion}
+use Rattle.bt_frame.specs.declared.limits.TheConstants.{MOST_NAME_BYTES}
 use Rattle.bt_net.specs.Name.{is_name_byte, is_name}
 
 byte_small : (b : ℕ) → is_name_byte b ≡ true → b < 128
@@ -25,8 +26,8 @@ bytes_small (b ∷ bs) is =
 name_small : (word : List ℕ) → is_name word ≡ true → AllByRecursion (λ b. b < 128) word
 name_small [] is = tt
 name_small (first ∷ rest) is =
-    let parts = and_parts (is_ascii_alphabetic first && leb (length rest) 15) (list_all is_name_byte rest) is in
-    (letter_small first (and_parts (is_ascii_alphabetic first) (leb (length rest) 15) parts.0).0, bytes_small rest parts.1)
+    let parts = and_parts (is_ascii_alphabetic first && nat_lt (length rest) MOST_NAME_BYTES) (list_all is_name_byte rest) is in
+    (letter_small first (and_parts (is_ascii_alphabetic first) (nat_lt (length rest) MOST_NAME_BYTES) parts.0).0, bytes_small rest parts.1)
 
 -- a word with the shape of a name is text
 pub utf8_from_name : (word : List ℕ) → IsTrue (is_name word) → IsUtf8 word

@@ -1,7 +1,7 @@
 -- What contracts see of a network, and what always holds of it.
 use Rattle.std.specs.Prelude.{◌≢◌, ℕ, ◌<◌, List, length, map, Bool, All, AllPairs, IsTrue}
 use Rattle.bt_frame.specs.declared.numbers.BeamNo.{BeamNo}
-use Rattle.bt_frame.specs.declared.limits.TheConstants.{MOST_BEAMS, MOST_TERMINALS, MOST_SLOTS}
+use Rattle.bt_frame.specs.declared.limits.TheConstants.{MOST_BEAMS, MOST_TERMINALS, MOST_SLOTS, MOST_FRAMES, LEAST_LEAD, MOST_LEAD, MOST_PATIENCE, LEAST_JOURNAL_BYTES, MOST_JOURNAL_BYTES}
 use Rattle.bt_frame.specs.Range.{IsWithin}
 use Rattle.bt_net.specs.Name.{is_name, is_terminal_name}
 
@@ -40,7 +40,7 @@ pub record IsSound (net : Net) : Type 0 where
   pub beams : AreBeams net.beams
   pub terminals : AreTerminals net.beams net.terminals
   pub slots : IsWithin 1 MOST_SLOTS net.slots
-  pub frames : IsWithin 1 64 net.frames
-  pub lead : IsWithin 2 32 net.lead
-  pub patience : IsWithin 1 32 net.patience
-  pub journal : IsWithin 32 67108864 net.journal
+  pub frames : IsWithin 1 MOST_FRAMES net.frames
+  pub lead : IsWithin LEAST_LEAD MOST_LEAD net.lead
+  pub patience : IsWithin 1 MOST_PATIENCE net.patience
+  pub journal : IsWithin LEAST_JOURNAL_BYTES MOST_JOURNAL_BYTES net.journal

@@ -7,7 +7,7 @@ use Rattle.serde_json.specs.Data.{Data, Items, no_items, item}
 use Rattle.serde_json.specs.Find.{get, as_u64, as_number, as_str, as_array, as_object}
 use Rattle.serde_json.specs.Read as json
 use Rattle.bt_text.specs.Reading.{◌>>=◌}
-use Rattle.bt_frame.specs.declared.limits.TheConstants.{MOST_BEAMS, MOST_TERMINALS, MOST_SLOTS}
+use Rattle.bt_frame.specs.declared.limits.TheConstants.{MOST_BEAMS, MOST_TERMINALS, MOST_SLOTS, MOST_FRAMES, LEAST_LEAD, MOST_LEAD, MOST_PATIENCE, LEAST_JOURNAL_BYTES, MOST_JOURNAL_BYTES}
 use Rattle.bt_frame.specs.declared.numbers.BeamNo.{BeamNo}
 use Rattle.bt_net.specs.declared.fault.NetFault.{NetFault}
 use Rattle.bt_net.specs.declared.fault.NetFault.TheVariants.{N1, N2, N3, N4, N5, N6, OutOfMemory}
@@ -94,8 +94,8 @@ terminals_of beams value = entries_at path.Terminals MOST_TERMINALS (codes "term
 
 -- the limit of the journal; where the field is missing, the greatest that there is
 abbrev pub journal_found : Option Data → Data → Result ℕ NetFault
-journal_found None value = Ok 67108864
-journal_found (Some found) value = number_at path.Journal 32 67108864 (codes "journal") value
+journal_found None value = Ok MOST_JOURNAL_BYTES
+journal_found (Some found) value = number_at path.Journal LEAST_JOURNAL_BYTES MOST_JOURNAL_BYTES (codes "journal") value
 
 unfoldable pub journal_of : Data → Result ℕ NetFault
 journal_of value = journal_found (get (codes "journal") value) value
@@ -107,9 +107,9 @@ network_of value = do
   beams ← beams_of value
   terminals ← terminals_of beams value
   slots ← number_at path.Slots 1 MOST_SLOTS (codes "slots") value
-  frames ← number_at path.Frames 1 64 (codes "frames") value
-  lead ← number_at path.Lead 2 32 (codes "lead") value
-  patience ← number_at path.Patience 1 32 (codes "patience") value
+  frames ← number_at path.Frames 1 MOST_FRAMES (codes "frames") value
+  lead ← number_at path.Lead LEAST_LEAD MOST_LEAD (codes "lead") value
+  patience ← number_at path.Patience 1 MOST_PATIENCE (codes "patience") value
   journal ← journal_of value
   Ok (record { beams = beams; terminals = terminals; slots = slots; frames = frames; lead = lead; patience = patience; journal = journal })
 

@@ -4,6 +4,8 @@ ghost use Rattle.std.specs.List.{list_all};
 ghost use Rattle.bt_net.specs.Name.{is_name_byte, is_reserved, is_name as is_name_of, is_terminal_name as is_terminal_name_of};
 ghost use Rattle.bt_net.specs.Terminals.{are_names as are_names_of};
 
+use bt_frame::MOST_NAME_BYTES;
+
 fn is_name_byte(byte: u8) -> bool
     ensures { result ≡ is_name_byte byte }
 {
@@ -16,14 +18,15 @@ fn are_name_bytes(bytes: &[u8]) -> bool
     bytes.iter().all(|byte| is_name_byte(*byte))
 }
 
-/// Whether a word has the shape of a name: a letter, and at most fifteen letters, digits or underscores behind it.
+/// Whether a word has the shape of a name: a letter, and letters, digits or underscores behind it, in at most
+/// `MOST_NAME_BYTES` bytes.
 pub fn is_name(word: &[u8]) -> bool
     ensures { result ≡ is_name_of word.now }
 {
     match word {
         [] => false,
         [first, rest @ ..] => {
-            first.is_ascii_alphabetic() && rest.len() <= 15 && are_name_bytes(rest)
+            first.is_ascii_alphabetic() && rest.len() < MOST_NAME_BYTES && are_name_bytes(rest)
         }
     }
 }

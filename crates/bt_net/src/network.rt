@@ -3,6 +3,7 @@ ghost use Rattle.std.specs.Prelude.{◌≡◌, ◌<◌, Some, IfSome, IfNone, If
 ghost use Rattle.std.specs.Option.{option_map};
 ghost use Rattle.bt_net.specs.Name.{is_name as is_name_of, is_terminal_name};
 ghost use Rattle.std.specs.Str.{bytes_eq};
+ghost use Rattle.bt_frame.specs.declared.limits.TheConstants.{MOST_BEAMS, MOST_TERMINALS, MOST_SLOTS, MOST_FRAMES, LEAST_LEAD, MOST_LEAD, MOST_PATIENCE, LEAST_JOURNAL_BYTES, MOST_JOURNAL_BYTES};
 ghost use Rattle.bt_net.specs.Network.{IsSound, names_of};
 ghost use Rattle.bt_net.specs.Terminals.{terminal_of, IsTerminal};
 ghost use Rattle.bt_frame.specs.Range.{IsWithin};
@@ -42,7 +43,7 @@ impl Network {
     /// The number of beams.
     pub fn beam_count(&self) -> u32
         ensures count { result ≡ length self.now.beams }
-        ensures in_range { IsWithin 1 16 result }
+        ensures in_range { IsWithin 1 MOST_BEAMS result }
         ensures sound { IsSound self.now }
     {
         self.beams.len() as u32
@@ -51,7 +52,7 @@ impl Network {
     /// The number of terminals.
     pub fn terminal_count(&self) -> u32
         ensures count { result ≡ length self.now.terminals }
-        ensures in_range { IsWithin 1 64 result }
+        ensures in_range { IsWithin 1 MOST_TERMINALS result }
         ensures sound { IsSound self.now }
     {
         self.terminals.len() as u32
@@ -60,7 +61,7 @@ impl Network {
     /// Traffic slots of a frame.
     pub fn slots(&self) -> u32
         ensures same { result ≡ self.now.slots }
-        ensures in_range { IsWithin 1 4096 result }
+        ensures in_range { IsWithin 1 MOST_SLOTS result }
     {
         self.slots
     }
@@ -68,7 +69,7 @@ impl Network {
     /// Frames of a superframe.
     pub fn frames(&self) -> u32
         ensures same { result ≡ self.now.frames }
-        ensures in_range { IsWithin 1 64 result }
+        ensures in_range { IsWithin 1 MOST_FRAMES result }
     {
         self.frames
     }
@@ -76,7 +77,7 @@ impl Network {
     /// Superframes from the command that arms a change to the change.
     pub fn lead(&self) -> u32
         ensures same { result ≡ self.now.lead }
-        ensures in_range { IsWithin 2 32 result }
+        ensures in_range { IsWithin LEAST_LEAD MOST_LEAD result }
     {
         self.lead
     }
@@ -84,7 +85,7 @@ impl Network {
     /// Turns for which the centre waits for terminals that have not confirmed.
     pub fn patience(&self) -> u32
         ensures same { result ≡ self.now.patience }
-        ensures in_range { IsWithin 1 32 result }
+        ensures in_range { IsWithin 1 MOST_PATIENCE result }
     {
         self.patience
     }
@@ -92,7 +93,7 @@ impl Network {
     /// The most bytes of a journal.
     pub fn journal(&self) -> u32
         ensures same { result ≡ self.now.journal }
-        ensures in_range { IsWithin 32 67108864 result }
+        ensures in_range { IsWithin LEAST_JOURNAL_BYTES MOST_JOURNAL_BYTES result }
     {
         self.journal
     }
@@ -102,7 +103,7 @@ impl Network {
         requires { terminal.0 < length self.now.terminals }
         ensures beam { option_map (λ t. t.1) (slice_get self.now.terminals terminal.0) ≡ Some result }
         ensures in_range { result.0 < length self.now.beams }
-        ensures few { result.0 < 16 }
+        ensures few { result.0 < MOST_BEAMS }
     {
         self.terminals.at(terminal.0 as usize).1
     }

@@ -13,12 +13,12 @@ use crate::beams::Beams;
 use crate::fault::{NetFault, Path};
 use crate::name::{is_name, is_terminal_name};
 use crate::terminals::Terminals;
-use bt_frame::{BeamNo, MOST_BEAMS, MOST_SLOTS, MOST_TERMINALS};
+use bt_frame::{
+    BeamNo, LEAST_JOURNAL_BYTES, LEAST_LEAD, MOST_BEAMS, MOST_FRAMES, MOST_JOURNAL_BYTES,
+    MOST_LEAD, MOST_PATIENCE, MOST_SLOTS, MOST_TERMINALS,
+};
 use serde_json::{Error, Value};
 use std::alloc::Global;
-
-/// The limit of a journal where the file gives none.
-const JOURNAL_LAST: u32 = 67_108_864;
 
 fn array_at<'v>(value: &'v Value, key: &str) -> Option<&'v [Value]>
     ensures { option_map (λ entries. map view entries.now) result ≡ array_at key.now (view value.now) }
@@ -72,11 +72,17 @@ fn number_at(value: &Value, key: &str, path: Path, least: u32, most: u32) -> Res
 #[tactic(auto, unfolding(crate::specs::Reading::journal_of))]
 fn journal_of(value: &Value) -> Result<u32, NetFault>
     ensures walk { Gives (λ number. number) result (journal_of (view value.now)) }
-    ensures in_range { IfOk result (IsWithin 32 67108864) }
+    ensures in_range { IfOk result (IsWithin LEAST_JOURNAL_BYTES MOST_JOURNAL_BYTES) }
 {
     match value.get("journal") {
-        Some(_) => number_at(value, "journal", Path::Journal, 32, JOURNAL_LAST),
-        None => Ok(JOURNAL_LAST),
+        Some(_) => number_at(
+            value,
+            "journal",
+            Path::Journal,
+            LEAST_JOURNAL_BYTES,
+            MOST_JOURNAL_BYTES as u32,
+        ),
+        None => Ok(MOST_JOURNAL_BYTES as u32),
     }
 }
 
@@ -96,7 +102,7 @@ fn check_name(path: Path, is_good: bool, is_taken: bool) -> Result<(), NetFault>
 
 #[tactic(auto, unfolding(crate::specs::Reading::with_beam))]
 fn add_beam(alloc: Global, beams: &mut Beams, entry: &Value) -> Result<(), NetFault>
-    requires { length beams.old < 16 }
+    requires { length beams.old < MOST_BEAMS }
     ensures walk { Gives (λ _. beams.new) result (with_beam beams.old (view entry.now)) }
     ensures count { OnOk result (length beams.new ≡ length beams.old + 1) }
 {
@@ -108,7 +114,7 @@ fn add_beam(alloc: Global, beams: &mut Beams, entry: &Value) -> Result<(), NetFa
 }
 
 fn add_beams(alloc: Global, entries: &[Value]) -> Result<Beams, NetFault>
-    requires { IsWithin 1 16 (length entries.now) }
+    requires { IsWithin 1 MOST_BEAMS (length entries.now) }
     ensures walk { Gives (λ beams. beams) result (through with_beam [] (map view entries.now)) }
     ensures sound { IfOk result AreBeams }
 {
@@ -134,8 +140,8 @@ fn add_terminal(
     terminals: &mut Terminals,
     entry: &Value,
 ) -> Result<(), NetFault>
-    requires few { length terminals.old < 64 }
-    requires beams { length beams.now ≤ 16 }
+    requires few { length terminals.old < MOST_TERMINALS }
+    requires beams { length beams.now ≤ MOST_BEAMS }
     ensures walk { Gives (λ _. terminals.new) result (with_terminal beams.now terminals.old (view entry.now)) }
     ensures count { OnOk result (length terminals.new ≡ length terminals.old + 1) }
 {
@@ -153,7 +159,7 @@ fn add_terminal(
 
 #[tactic(auto, unfolding(crate::specs::Reading::beam_at))]
 fn beam_at(entry: &Value, path: Path, beams: &Beams) -> Result<BeamNo, NetFault>
-    requires { length beams.now ≤ 16 }
+    requires { length beams.now ≤ MOST_BEAMS }
     ensures { Gives (λ beam. beam) result (beam_at path (view entry.now) beams.now) }
 {
     let name = text_at(entry, "beam", path)?;
@@ -162,8 +168,8 @@ fn beam_at(entry: &Value, path: Path, beams: &Beams) -> Result<BeamNo, NetFault>
 }
 
 fn add_terminals(alloc: Global, beams: &Beams, entries: &[Value]) -> Result<Terminals, NetFault>
-    requires few { IsWithin 1 64 (length entries.now) }
-    requires beams { length beams.now ≤ 16 }
+    requires few { IsWithin 1 MOST_TERMINALS (length entries.now) }
+    requires beams { length beams.now ≤ MOST_BEAMS }
     ensures walk { Gives (λ terminals. terminals) result (through (with_terminal beams.now) [] (map view entries.now)) }
     ensures sound { IfOk result (AreTerminals beams.now) }
 {
@@ -176,7 +182,7 @@ fn add_terminals(alloc: Global, beams: &Beams, entries: &[Value]) -> Result<Term
 
 #[tactic(auto, unfolding(crate::specs::Reading::terminals_of))]
 fn terminals_of(alloc: Global, beams: &Beams, value: &Value) -> Result<Terminals, NetFault>
-    requires { length beams.now ≤ 16 }
+    requires { length beams.now ≤ MOST_BEAMS }
     ensures walk { Gives (λ terminals. terminals) result (terminals_of beams.now (view value.now)) }
     ensures sound { IfOk result (AreTerminals beams.now) }
 {
@@ -197,9 +203,9 @@ fn network_of(alloc: Global, value: &Value) -> Result<Network, NetFault>
         terminals: terminals_of(alloc, &beams, value)?,
         beams,
         slots: number_at(value, "slots", Path::Slots, 1, MOST_SLOTS)?,
-        frames: number_at(value, "frames", Path::Frames, 1, 64)?,
-        lead: number_at(value, "lead", Path::Lead, 2, 32)?,
-        patience: number_at(value, "patience", Path::Patience, 1, 32)?,
+        frames: number_at(value, "frames", Path::Frames, 1, MOST_FRAMES)?,
+        lead: number_at(value, "lead", Path::Lead, LEAST_LEAD, MOST_LEAD)?,
+        patience: number_at(value, "patience", Path::Patience, 1, MOST_PATIENCE)?,
         journal: journal_of(value)?,
     })
 }

@@ -1,5 +1,5 @@
 -- The terminal of a name, and the name of a terminal.
-use Rattle.std.proofs.Common.{◌≡◌, ℕ, ◌<◌, true, false, leb, ◌&&◌, not, ◌==◌, List, [], ◌∷◌, length, get_or, position, Option, Some, None, option_map, unwrap_or, refl, sym, ap, subst, ◌∙◌, true≢false, arith}
+use Rattle.std.proofs.Common.{◌≡◌, ℕ, ◌<◌, true, false, nat_lt, ◌&&◌, not, ◌==◌, List, [], ◌∷◌, length, get_or, position, Option, Some, None, option_map, unwrap_or, refl, sym, ap, subst, ◌∙◌, true≢false, arith}
 use Rattle.std.specs.List.{list_all}
 use Rattle.std.specs.Char.{is_ascii_alphabetic}
 use Rattle.std.specs.Str.{bytes_eq}
@@ -11,6 +11,7 @@ use Rattle.std.proofs.lemmas.List.Quantifiers.{position-Some}
 use Rattle.std.proofs.lemmas.Option.{slice_get-map, slice_get-get_or}
 use Rattle.std.proofs.lemmas.Slice.Eq.{bytes_eq-Decides}
 use Rattle.bt_text.specs.Text.{lacks}
+use Rattle.bt_frame.specs.declared.limits.TheConstants.{MOST_NAME_BYTES}
 use Rattle.bt_frame.specs.declared.numbers.BeamNo.{BeamNo}
 use Rattle.bt_frame.specs.declared.numbers.TermNo.{TermNo}
 use Rattle.bt_net.specs.Name.{is_name, is_name_byte, is_reserved}
@@ -84,7 +85,7 @@ bytes_lack byte (b ∷ bs) other are =
 pub name_lacks : (byte : ℕ) (word : List ℕ) → is_name_byte byte ≡ false → is_name word ≡ true → lacks byte word ≡ true
 name_lacks byte [] other is = refl
 name_lacks byte (first ∷ rest) other is =
-    let parts = and_parts (is_ascii_alphabetic first && leb (length rest) 15) (list_all is_name_byte rest) is in
-    let letter = (and_parts (is_ascii_alphabetic first) (leb (length rest) 15) parts.0).0 in
+    let parts = and_parts (is_ascii_alphabetic first && nat_lt (length rest) MOST_NAME_BYTES) (list_all is_name_byte rest) is in
+    let letter = (and_parts (is_ascii_alphabetic first) (nat_lt (length rest) MOST_NAME_BYTES) parts.0).0 in
     let here : not (first == byte) ≡ true = grind (arith, nat_tests, letter, other) in
     rw (here, bytes_lack byte rest other parts.1)

@@ -1,6 +1,6 @@
 -- Links kept in a table with a place for each pair of terminals. Only bodies use it.
 use Rattle.std.specs.Prelude.{ℕ, zero, suc, ◌≡◌, ◌≢◌, ◌+◌, ◌*◌, ◌/◌, ◌%◌, ◌<◌, ◌≤◌, List, [], ◌∷◌, length}
-use Rattle.bt_frame.specs.declared.limits.TheConstants.{MOST_TERMINALS, SUM_LAST}
+use Rattle.bt_frame.specs.declared.limits.TheConstants.{MOST_TERMINALS, MOST_SUM}
 use Rattle.bt_frame.specs.declared.numbers.TermNo.{TermNo}
 use Rattle.bt_demand.specs.declared.demand.Link.{Link}
 
@@ -29,7 +29,7 @@ links_from place (units ∷ rest) = with_place place units (links_from (place + 
 -- what a place may ask for: nothing between a terminal and itself, and no more than a line may have
 pub record IsPlace (place units : ℕ) : Type 0 where
   pub differ : 0 < units → place / MOST_TERMINALS ≢ place % MOST_TERMINALS
-  pub few : units ≤ SUM_LAST
+  pub few : units ≤ MOST_SUM
 
 -- places that follow each other, the first of which is this one
 unfoldable pub ArePlaces : ℕ → List ℕ → Type 0

@@ -1,5 +1,6 @@
 -- How a burst time plan is spelled: its lines, each as its words, and a newline behind each of them.
 use Rattle.std.specs.Prelude.{ℕ, ◌<◌, ◌≤◌, codes, decimal, length, map, List, [], ◌∷◌, ◌++◌, All, AllPairs}
+use Rattle.bt_frame.specs.declared.limits.TheConstants.{LAST_EDITION, LAST_TEXT_SLOT, MOST_TEXT_SLOTS}
 use Rattle.bt_text.specs.Text.{spaced, ended}
 use Rattle.bt_frame.specs.declared.numbers.EditionNo.{EditionNo}
 use Rattle.bt_net.specs.Network.{Net}
@@ -27,15 +28,15 @@ plan_spelling net plan = ended (plan_lines net plan)
 
 -- a burst that a text can spell for this network
 pub record IsBurstInRange (net : Net) (burst : Burst) : Type 0 where
-  pub start : burst.start ≤ 65535
+  pub start : burst.start ≤ LAST_TEXT_SLOT
   pub some : 1 ≤ burst.length
-  pub few : burst.length ≤ 65536
+  pub few : burst.length ≤ MOST_TEXT_SLOTS
   pub sends : burst.from.0 < length net.terminals
   pub receives : burst.to.0 < length net.terminals
 
 -- a plan that a text can spell for this network
 pub record IsPlanInRange (net : Net) (plan : Plan) : Type 0 where
-  pub edition : plan.edition.0 ≤ 4294967295
+  pub edition : plan.edition.0 ≤ LAST_EDITION
   pub schedule : IsInRange (length net.beams) plan.schedule
   pub bursts : All (IsBurstInRange net) plan.bursts
   pub ordered : AllPairs IsNotAfter plan.bursts

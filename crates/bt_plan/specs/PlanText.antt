@@ -1,5 +1,6 @@
 -- The text of a burst time plan for a network: its edition, its length, its critical line, its modes, its bursts, and `end`.
 use Rattle.std.specs.Prelude.{ℕ, ◌+◌, if◌then◌else◌, nat_le, codes, Bool, false, length, List, [], ◌∷◌, Option, Some, None, Ok, Err, option_map, option_and_then}
+use Rattle.bt_frame.specs.declared.limits.TheConstants.{LAST_EDITION, LAST_TEXT_SLOT, MOST_TEXT_SLOTS}
 use Rattle.bt_text.specs.Text.{words, lines, is_word}
 use Rattle.bt_frame.specs.declared.mode.Mode.{Mode}
 use Rattle.bt_frame.specs.declared.numbers.EditionNo.{EditionNo}
@@ -18,16 +19,16 @@ use Rattle.bt_net.specs.Terminals.{are_names}
 
 -- `plan E`
 abbrev pub edition_in : List (List ℕ) → Option EditionNo
-edition_in (name ∷ edition ∷ []) = if is_word (codes "plan") name then option_map (λ number. record { 0 = number }) (number_to 4294967295 edition) else None
+edition_in (name ∷ edition ∷ []) = if is_word (codes "plan") name then option_map (λ number. record { 0 = number }) (number_to LAST_EDITION edition) else None
 edition_in _ = None
 
 -- a length of at least one slot
 abbrev pub span_of : ℕ → ℕ → Option (ℕ × ℕ)
 span_of start slots = if nat_le 1 slots then Some (start, slots) else None
 
--- a start of at most 65535, and a length from 1 to 65536
+-- a start and a length of at least one slot, both such as a text may have
 abbrev pub span_in : List ℕ → List ℕ → Option (ℕ × ℕ)
-span_in start slots = option_and_then (λ first. option_and_then (span_of first) (number_to 65536 slots)) (number_to 65535 start)
+span_in start slots = option_and_then (λ first. option_and_then (span_of first) (number_to MOST_TEXT_SLOTS slots)) (number_to LAST_TEXT_SLOT start)
 
 -- the burst of so many slots between two terminals
 abbrev pub burst_with : Net → ℕ → ℕ × ℕ → List ℕ → List ℕ → Reading Burst

@@ -1,5 +1,6 @@
 -- How a switching schedule is spelled: its lines, each as its words, and a newline behind each of them.
 use Rattle.std.specs.Prelude.{◌≡◌, ℕ, ◌≤◌, codes, decimal, length, map, List, [], ◌∷◌, ◌++◌, All}
+use Rattle.bt_frame.specs.declared.limits.TheConstants.{MOST_TEXT_SLOTS}
 use Rattle.bt_text.specs.Text.{spaced, ended}
 use Rattle.bt_frame.specs.declared.mode.Mode.{Mode}
 use Rattle.bt_frame.specs.declared.schedule.Critical.{Critical}
@@ -30,12 +31,12 @@ schedule_spelling schedule = ended (schedule_lines schedule)
 
 -- a mode that a text can spell for so many beams
 pub record IsModeInRange (size : ℕ) (mode : Mode) : Type 0 where
-  pub duration : mode.duration ≤ 65536
+  pub duration : mode.duration ≤ MOST_TEXT_SLOTS
   pub beams : length mode.perm ≡ size
   pub columns : All (λ down. down ≤ 255) mode.perm
 
 -- a schedule that a text can spell for so many beams
 pub record IsInRange (size : ℕ) (schedule : Schedule) : Type 0 where
-  pub slots : schedule.length ≤ 65536
+  pub slots : schedule.length ≤ MOST_TEXT_SLOTS
   pub critical : IsOfBeams size schedule.critical
   pub modes : All (IsModeInRange size) schedule.modes

@@ -1,6 +1,7 @@
 -- The text of a switching schedule for so many beams: its length, its critical line, its modes, and `end`.
 use Rattle.std.specs.Prelude.{ℕ, ◌+◌, ◌==◌, ◌&&◌, if◌then◌else◌, nat_le, nat_lt, codes, length, List, [], ◌∷◌, Option, Some, None, Ok, Err, option_and_then}
 use Rattle.std.specs.List.{list_all}
+use Rattle.bt_frame.specs.declared.limits.TheConstants.{MOST_TEXT_SLOTS}
 use Rattle.bt_text.specs.Text.{words, lines, is_word, number_of, numbers_of}
 use Rattle.bt_text.specs.WordReader.{number_to}
 use Rattle.bt_frame.specs.declared.mode.Mode.{Mode}
@@ -13,7 +14,7 @@ use Rattle.bt_plan.specs.Reading.{Reading}
 
 -- `length L`
 abbrev pub length_in : List (List ℕ) → Option ℕ
-length_in (name ∷ slots ∷ []) = if is_word (codes "length") name then number_to 65536 slots else None
+length_in (name ∷ slots ∷ []) = if is_word (codes "length") name then number_to MOST_TEXT_SLOTS slots else None
 length_in _ = None
 
 -- `row` or `column`, and a beam below the size
@@ -27,7 +28,7 @@ critical_in size _ = None
 
 -- a duration and a downlink for each uplink beam
 abbrev pub mode_with : ℕ → List ℕ → Option Mode
-mode_with size (duration ∷ perm) = if nat_le duration 65536 && (length perm == size && list_all (λ down. nat_le down 255) perm) then Some (record { duration = duration; perm = perm }) else None
+mode_with size (duration ∷ perm) = if nat_le duration MOST_TEXT_SLOTS && (length perm == size && list_all (λ down. nat_le down 255) perm) then Some (record { duration = duration; perm = perm }) else None
 mode_with size [] = None
 
 -- `mode D P0 P1 ..`

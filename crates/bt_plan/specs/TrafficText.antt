@@ -1,6 +1,6 @@
 -- The text of a demand: a line for each link, in any order.
 use Rattle.std.specs.Prelude.{◌≡◌, ◌≢◌, ℕ, ◌+◌, ◌<◌, ◌≤◌, ◌==◌, ◌&&◌, ◌||◌, if◌then◌else◌, nat_le, nat_lt, codes, Bool, false, length, unwrap_or, option_map, List, [], ◌∷◌, Ok, Err}
-use Rattle.bt_frame.specs.declared.limits.TheConstants.{MOST_UNITS, SUM_LAST}
+use Rattle.bt_frame.specs.declared.limits.TheConstants.{MOST_UNITS, MOST_SUM}
 use Rattle.bt_text.specs.Text.{words, lines, number_of, is_word}
 use Rattle.bt_frame.specs.declared.numbers.TermNo.{TermNo}
 use Rattle.bt_text.specs.Reading.{◌>>=◌, or_fault}
@@ -14,7 +14,7 @@ use Rattle.bt_plan.specs.Reading.{Reading}
 use Rattle.bt_plan.specs.TerminalNames.{ends_in}
 use Rattle.bt_demand.specs.Traffic.{matrix_of, AreOfNetwork}
 
--- units from 1 to 4096
+-- units from 1 to as many as a link may have in a text
 abbrev pub units_in : ℕ → ℕ → Reading ℕ
 units_in at units = if nat_le 1 units && nat_le units MOST_UNITS then Ok units else Err (T3, at)
 
@@ -55,11 +55,11 @@ stands_in links link = nat_lt 0 (units_of links link.from link.to)
 
 -- the row of the matrix that is of the sending terminal's beam is within the limit of sums
 abbrev pub row_fits : Net → List Link → TermNo → Bool
-row_fits net links from = unwrap_or (option_map (λ up. nat_le (row_sum (matrix_of net links) up.0) SUM_LAST) (beam_at net from)) false
+row_fits net links from = unwrap_or (option_map (λ up. nat_le (row_sum (matrix_of net links) up.0) MOST_SUM) (beam_at net from)) false
 
 -- the column of the matrix that is of the receiving terminal's beam is within the limit of sums
 abbrev pub column_fits : Net → List Link → TermNo → Bool
-column_fits net links to = unwrap_or (option_map (λ down. nat_le (column_sum (matrix_of net links) down.0) SUM_LAST) (beam_at net to)) false
+column_fits net links to = unwrap_or (option_map (λ down. nat_le (column_sum (matrix_of net links) down.0) MOST_SUM) (beam_at net to)) false
 
 -- the links with that of line `at`, where both of its sums are within the limit
 abbrev pub fitting : ℕ → Net → List Link → Link → Reading (List Link)
@@ -83,7 +83,7 @@ links_in net at links _ = Err (T1, at)
 abbrev pub demand_of : Net → List ℕ → Reading (List Link)
 demand_of net text = links_in net 1 [] (lines text)
 
--- a link that a line can spell: between two terminals of the network, for 1 to 4096 slots
+-- a link that a line can spell: between two terminals of the network, for at least one slot and at most as many as a line may have
 pub record IsSpelled (net : Net) (link : Link) : Type 0 where
   pub sends : link.from.0 < length net.terminals
   pub receives : link.to.0 < length net.terminals

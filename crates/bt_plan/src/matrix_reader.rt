@@ -9,13 +9,10 @@ ghost use Rattle.bt_plan.specs.LineNumbers.{numbers_to, are_numbers};
 ghost use Rattle.bt_plan.specs.MatrixText.{size_in, row_in, rows_in, matrix_of};
 
 use crate::{TextCode, TextFault};
-use bt_frame::{MOST_BEAMS, OutOfMemory};
+use bt_frame::{MOST_BEAMS, MOST_UNITS, OutOfMemory};
 use bt_matrix::Dense;
 use bt_text::{WordReader, fault_at, first_line, number};
 use std::alloc::Global;
-
-/// The greatest entry of a matrix in a text, in slots.
-const ENTRY_LAST: u32 = 4096;
 
 /// The traffic matrix that a text spells, or the first line with a fault.
 pub fn read_matrix(alloc: Global, bytes: &[u8]) -> Result<Dense, TextFault>
@@ -104,7 +101,7 @@ fn read_row(alloc: Global, size: u32, at: u32, line: &[u8]) -> Result<Vec<u32>, 
 fn row_of_numbers(alloc: Global, size: u32, at: u32, line: &[u8]) -> Result<Vec<u32>, TextFault>
     requires { size ≤ MOST_BEAMS }
     ensures { Gives (λ row. row.items) result
-        (or_fault (X2, at) (numbers_to 4096 size (words line.now))) }
+        (or_fault (X2, at) (numbers_to MOST_UNITS size (words line.now))) }
 {
     read_entries(alloc, size, WordReader::of(line))?.ok_or(fault_at(TextCode::X2, at))
 }
@@ -124,18 +121,18 @@ fn are_numbers(size: u32, mut words: WordReader<'_>) -> bool
     words.is_done()
 }
 
-// So many entries, each at most 4096.
+// So many entries, each at most `MOST_UNITS`.
 fn read_entries(
     alloc: Global,
     size: u32,
     mut words: WordReader<'_>,
 ) -> Result<Option<Vec<u32>>, OutOfMemory>
     requires { size ≤ MOST_BEAMS }
-    ensures { IfOk result (λ found. option_map (λ v. v.items) found ≡ numbers_to 4096 size words.entry) }
+    ensures { IfOk result (λ found. option_map (λ v. v.items) found ≡ numbers_to MOST_UNITS size words.entry) }
 {
     let mut entries = Vec::with_capacity(alloc, size as usize)?;
     for _ in 0..size {
-        let Some(units) = words.number_to(ENTRY_LAST) else {
+        let Some(units) = words.number_to(MOST_UNITS) else {
             return Ok(None);
         };
         entries.push(units)?;

@@ -1,6 +1,7 @@
 // The text of a burst time plan: its edition, its length, its critical line, its modes and its bursts in a line
 // each, and `end`.
 ghost use Rattle.std.specs.Prelude.{◌≡◌, ◌<◌, ◌≤◌, ◌+◌, ◌==◌, ◌^◌, ◌-◌, None, Some, Ok, Err, length, IfOk, IsTrue, AllPairs, if◌then◌else◌};
+ghost use Rattle.bt_frame.specs.declared.limits.TheConstants.{MOST_TEXT_BYTES};
 ghost use Rattle.bt_text.specs.Text.{words, lines};
 ghost use Rattle.bt_text.specs.declared.fault.LineFault.TheVariants.{At};
 ghost use Rattle.bt_text.specs.Reading.{or_fault, Gives};
@@ -16,23 +17,14 @@ use crate::names::ends_of;
 use crate::schedule_reader::{read_critical, read_length, read_mode};
 use crate::{TextCode, TextFault};
 use bt_demand::{Burst, Bursts, Plan};
-use bt_frame::{EditionNo, Mode, Modes, Schedule};
+use bt_frame::{EditionNo, LAST_EDITION, LAST_TEXT_SLOT, MOST_TEXT_SLOTS, Mode, Modes, Schedule};
 use bt_net::{Network, are_names};
 use bt_text::{WordReader, fault_at, first_line, is_word};
 use std::alloc::Global;
 
-/// The greatest number of an edition.
-const EDITION_LAST: u32 = 4_294_967_295;
-
-/// The greatest start of a burst in a text, in slots.
-const START_LAST: u32 = 65535;
-
-/// The greatest length of a burst in a text, in slots.
-const LENGTH_LAST: u32 = 65536;
-
 /// The plan that a text spells for this network, or the first line with a fault.
 pub fn read_plan(alloc: Global, net: &Network, bytes: &[u8]) -> Result<Plan, TextFault>
-    requires short { length bytes.now ≤ 67108864 }
+    requires short { length bytes.now ≤ MOST_TEXT_BYTES }
     ensures reading { Gives (λ plan. plan) result (plan_of net.now bytes.now) }
     ensures terminals { IfOk result (λ plan. AreBetweenTerminals net.now plan.bursts) }
     ensures critical { IfOk result (λ plan. IsOfBeams (length net.now.beams) plan.schedule.critical) }
@@ -64,7 +56,7 @@ fn edition_of_words(mut words: WordReader<'_>) -> Option<EditionNo>
     if !words.next_is(b"plan") {
         return None;
     }
-    let edition = words.number_to(EDITION_LAST)?;
+    let edition = words.number_to(LAST_EDITION)?;
     if words.is_done() {
         Some(EditionNo(edition))
     } else {
@@ -79,7 +71,7 @@ fn read_from_length(
     edition: EditionNo,
     text: &[u8],
 ) -> Result<Plan, TextFault>
-    requires short { length text.now ≤ 67108864 }
+    requires short { length text.now ≤ MOST_TEXT_BYTES }
     ensures reading { Gives (λ plan. plan) result (length_behind net.now edition (lines text.now)) }
     ensures terminals { IfOk result (λ plan. AreBetweenTerminals net.now plan.bursts) }
     ensures critical { IfOk result (λ plan. IsOfBeams (length net.now.beams) plan.schedule.critical) }
@@ -99,7 +91,7 @@ fn read_from_critical(
     slots: u32,
     text: &[u8],
 ) -> Result<Plan, TextFault>
-    requires short { length text.now ≤ 67108864 }
+    requires short { length text.now ≤ MOST_TEXT_BYTES }
     ensures reading { Gives (λ plan. plan) result
         (critical_behind net.now edition slots (lines text.now)) }
     ensures terminals { IfOk result (λ plan. AreBetweenTerminals net.now plan.bursts) }
@@ -128,7 +120,7 @@ fn read_modes_and_bursts(
     net: &Network,
     text: &[u8],
 ) -> Result<(Modes, Bursts), TextFault>
-    requires short { length text.now ≤ 67108864 }
+    requires short { length text.now ≤ MOST_TEXT_BYTES }
     ensures { Gives (λ parts. parts) result (modes_and_bursts net.now 4 (lines text.now)) }
 {
     let mut modes = Vec::new(alloc);
@@ -164,7 +156,7 @@ fn read_plan_mode(alloc: Global, net: &Network, at: u32, line: &[u8]) -> Result<
 
 // The bursts, the first of them in line `first`, then `end` and nothing behind it.
 fn read_bursts(alloc: Global, net: &Network, first: u32, text: &[u8]) -> Result<Bursts, TextFault>
-    requires short { first + length text.now ≤ 67108868 }
+    requires short { first + length text.now ≤ MOST_TEXT_BYTES + 4 }
     ensures { Gives (λ bursts. bursts) result (bursts_in net.now first None (lines text.now)) }
 {
     let mut bursts = Vec::new(alloc);
@@ -187,7 +179,7 @@ fn read_bursts(alloc: Global, net: &Network, first: u32, text: &[u8]) -> Result<
 // The bursts, if nothing stands behind the newline of `end`.
 fn read_end(bursts: Vec<Burst>, at: u32, rest: &[u8]) -> Result<Bursts, TextFault>
     requires ordered { AllPairs IsNotAfter bursts.items }
-    requires few { length bursts.items ≤ 67108868 }
+    requires few { length bursts.items ≤ MOST_TEXT_BYTES + 4 }
     ensures { Gives (λ bursts. bursts) result
         (if length rest.now == 0 then Ok bursts.items else Err (P1, at)) }
 {
@@ -231,10 +223,10 @@ fn burst_of_words(net: &Network, at: u32, mut words: WordReader<'_>) -> Result<B
 fn burst_behind(net: &Network, at: u32, mut words: WordReader<'_>) -> Result<Burst, TextFault>
     ensures { Gives (λ burst. burst) result (burst_behind net.now at words.entry) }
 {
-    let Some(start) = words.number_to(START_LAST) else {
+    let Some(start) = words.number_to(LAST_TEXT_SLOT) else {
         return Err(fault(at));
     };
-    let Some(slots) = words.number_to(LENGTH_LAST) else {
+    let Some(slots) = words.number_to(MOST_TEXT_SLOTS) else {
         return Err(fault(at));
     };
     if slots == 0 {

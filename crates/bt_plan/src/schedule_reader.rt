@@ -1,6 +1,6 @@
 // The text of a switching schedule: its length, its critical line, its modes in a line each, and `end`.
 ghost use Rattle.std.specs.Prelude.{◌≡◌, ◌≤◌, ◌<◌, ◌-◌, ◌^◌, ◌==◌, length, Some, Ok, Err, IfOk, if◌then◌else◌};
-ghost use Rattle.bt_frame.specs.declared.limits.TheConstants.{MOST_BEAMS};
+ghost use Rattle.bt_frame.specs.declared.limits.TheConstants.{MOST_BEAMS, MOST_TEXT_BYTES};
 ghost use Rattle.bt_text.specs.Text.{words, lines};
 ghost use Rattle.bt_plan.specs.declared.text_fault.TextCode.TheVariants.{M1};
 ghost use Rattle.bt_frame.specs.Critical.{IsOfBeams};
@@ -10,20 +10,16 @@ ghost use Rattle.bt_plan.specs.LineNumbers.{numbers_to};
 ghost use Rattle.bt_plan.specs.ScheduleText.{length_in, line_in, critical_in, mode_in, modes_in, critical_and_modes, schedule_of};
 
 use crate::{TextCode, TextFault};
-use bt_frame::{BeamNo, Columns, Critical, Mode, Modes, OutOfMemory, Schedule};
+use bt_frame::{
+    BeamNo, Columns, Critical, LAST_BEAM, MOST_TEXT_SLOTS, Mode, Modes, OutOfMemory, Schedule,
+};
 use bt_text::{WordReader, fault_at, first_line, is_word};
 use std::alloc::Global;
-
-/// The greatest length of a schedule and of a mode in a text, in slots.
-const SLOTS_LAST: u32 = 65536;
-
-/// The greatest number of a beam.
-const BEAM_LAST: u32 = 15;
 
 /// The schedule for so many beams that a text spells, or the first line with a fault.
 pub fn read_schedule(alloc: Global, size: u32, bytes: &[u8]) -> Result<Schedule, TextFault>
     requires few { size ≤ MOST_BEAMS }
-    requires short { length bytes.now ≤ 67108864 }
+    requires short { length bytes.now ≤ MOST_TEXT_BYTES }
     ensures reading { Gives (λ schedule. schedule) result (schedule_of size bytes.now) }
     ensures critical { IfOk result (λ schedule. IsOfBeams size schedule.critical) }
 {
@@ -54,7 +50,7 @@ fn slots_of_words(mut words: WordReader<'_>) -> Option<u32>
     if !words.next_is(b"length") {
         return None;
     }
-    let slots = words.number_to(SLOTS_LAST)?;
+    let slots = words.number_to(MOST_TEXT_SLOTS)?;
     if words.is_done() { Some(slots) } else { None }
 }
 
@@ -66,7 +62,7 @@ fn read_critical_and_modes(
     text: &[u8],
 ) -> Result<Schedule, TextFault>
     requires few { size ≤ MOST_BEAMS }
-    requires short { length text.now ≤ 67108864 }
+    requires short { length text.now ≤ MOST_TEXT_BYTES }
     ensures { Gives (λ schedule. schedule) result (critical_and_modes size slots (lines text.now)) }
 {
     let Some((line, rest)) = first_line(text) else {
@@ -103,7 +99,7 @@ fn critical_of_words(size: u32, mut words: WordReader<'_>) -> Option<Critical>
         return None;
     }
     let kind = words.next()?;
-    let beam = words.number_to(BEAM_LAST)?;
+    let beam = words.number_to(LAST_BEAM)?;
     if words.is_done() {
         matrix_line(size, kind, beam)
     } else {
@@ -132,7 +128,7 @@ fn matrix_line(size: u32, kind: &[u8], beam: u32) -> Option<Critical>
 // The modes, the first of them in line 3, then `end` and nothing behind it.
 fn read_modes(alloc: Global, size: u32, text: &[u8]) -> Result<Modes, TextFault>
     requires few { size ≤ MOST_BEAMS }
-    requires short { length text.now ≤ 67108864 }
+    requires short { length text.now ≤ MOST_TEXT_BYTES }
     ensures { Gives (λ modes. modes) result (modes_in size 3 (lines text.now)) }
 {
     let mut modes = Vec::new(alloc);
@@ -151,7 +147,7 @@ fn read_modes(alloc: Global, size: u32, text: &[u8]) -> Result<Modes, TextFault>
 
 // The modes, if nothing stands behind the newline of `end`.
 fn read_end(modes: Vec<Mode>, at: u32, rest: &[u8]) -> Result<Modes, TextFault>
-    requires { length modes.items ≤ 67108864 }
+    requires { length modes.items ≤ MOST_TEXT_BYTES }
     ensures { Gives (λ modes. modes) result
         (if length rest.now == 0 then Ok modes.items else Err (M1, at)) }
 {
@@ -188,7 +184,7 @@ fn mode_of_words(
     if !words.next_is(b"mode") {
         return Ok(None);
     }
-    let Some(duration) = words.number_to(SLOTS_LAST) else {
+    let Some(duration) = words.number_to(MOST_TEXT_SLOTS) else {
         return Ok(None);
     };
     let Some(perm) = read_columns(alloc, size, words)? else {

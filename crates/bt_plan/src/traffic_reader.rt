@@ -11,7 +11,7 @@ use crate::link_table::LinkTable;
 use crate::names::ends_of;
 use crate::{TextCode, TextFault};
 use bt_demand::{Demand, Link};
-use bt_frame::{MOST_UNITS, SUM_LAST, TermNo};
+use bt_frame::{MOST_SUM, MOST_UNITS, TermNo};
 use bt_matrix::{Dense, Traffic};
 use bt_net::{Network, are_names};
 use bt_text::{WordReader, fault_at, first_line, number};
@@ -23,7 +23,7 @@ use std::alloc::Global;
 pub fn read_demand(alloc: Global, net: &Network, bytes: &[u8]) -> Result<Demand, TextFault>
     ensures reading { Gives (λ demand. demand) result (demand_of net.now bytes.now) }
     ensures terminals { IfOk result (AreOfNetwork net.now) }
-    ensures sums { IfOk result (λ demand. HasSumsTo SUM_LAST (matrix_of net.now demand)) }
+    ensures sums { IfOk result (λ demand. HasSumsTo MOST_SUM (matrix_of net.now demand)) }
 {
     let mut links = LinkTable::new(alloc)?;
     let mut matrix = Dense::new(alloc, net.beam_count())?;
@@ -79,10 +79,10 @@ fn add_link(
     }
     let up = net.beam_of(link.from);
     let down = net.beam_of(link.to);
-    if matrix.row_sum(up) + link.units > SUM_LAST {
+    if matrix.row_sum(up) + link.units > MOST_SUM {
         return Err(fault_at(TextCode::T3, at));
     }
-    if matrix.column_sum(down) + link.units > SUM_LAST {
+    if matrix.column_sum(down) + link.units > MOST_SUM {
         return Err(fault_at(TextCode::T3, at));
     }
     links.add(link.from, link.to, link.units);

@@ -13,17 +13,17 @@ use crate::workers::{Job, Worker};
 use bt_base::Keeper;
 use bt_board::{Publisher, Reader};
 use bt_book::Book;
-use bt_frame::OutOfMemory;
+use bt_frame::{MOST_DESKS, OutOfMemory};
 use bt_journal::{Call, Reply};
 use bt_line::{Line, Object, Pass};
 use bt_script::{DeskLine, DeskLines, Round};
 use std::alloc::Global;
 
 /// How many desks a round can have: one of each number from 1 on.
-pub const DESKS: u32 = 16;
+pub const DESKS: u32 = MOST_DESKS as u32;
 
 /// How many workers a round has: the centre's worker, the planner, and the desks.
-pub(crate) const SEATS: u32 = 18;
+pub(crate) const SEATS: u32 = DESKS + 2;
 
 /// What the workers of a round have, before they have their places and after they left them.
 pub(crate) struct Crew<K: Keeper>

@@ -11,16 +11,12 @@ ghost use Rattle.bt_round.specs.Worker.{IsRunning};
 
 use crate::waiting::Waiting;
 use bt_air::{Event, Order, Shown};
-use bt_frame::{EditionNo, Mark, OutOfMemory};
+use bt_frame::{EditionNo, MOST_COUNTED, Mark, OutOfMemory};
 use bt_net::Network;
 use bt_timeline::sent_text;
 use bt_world::World;
 use std::alloc::Global;
 use std::marker::Model;
-
-/// How many messages and how many orders there are at most when an event happens. So many would not fit in memory, so
-/// that more are answered as want of it.
-const MOST_COUNTED: u32 = 2_000_000_000;
 
 /// The centre's worker.
 #[derive(Drop)]

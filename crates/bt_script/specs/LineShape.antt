@@ -1,5 +1,6 @@
 -- The shape of a line of a script: its words, where names are still words and numbers may be out of range.
 use Rattle.std.specs.Prelude.{ℕ, ◌==◌, if◌then◌else◌, codes, length, List, [], ◌∷◌, Option, Some, None, option_map, option_and_then}
+use Rattle.bt_frame.specs.declared.limits.TheConstants.{MOST_DIGITS}
 use Rattle.bt_text.specs.Text.{words, is_word, number_of_digits}
 use Rattle.bt_net.specs.Name.{is_name}
 use Rattle.bt_net.specs.Terminals.{are_names}
@@ -55,7 +56,7 @@ LinkWords = (List ℕ × List ℕ) × ℕ
 
 -- `FROM TO UNITS`, and no more words
 abbrev pub link_in : List (List ℕ) → Option (LinkWords)
-link_in (from ∷ to ∷ units ∷ []) = if are_names from to then option_map (λ u. ((from, to), u)) (number_of_digits 10 units) else None
+link_in (from ∷ to ∷ units ∷ []) = if are_names from to then option_map (λ u. ((from, to), u)) (number_of_digits MOST_DIGITS units) else None
 link_in _ = None
 
 -- `FROM TO NEWFROM NEWTO UNITS`, and no more words
@@ -79,7 +80,7 @@ desk_shape kind rest =
 
 -- the words behind `desk`: its number, and what it does
 abbrev pub desk_in : List (List ℕ) → Option Shape
-desk_in (desk ∷ kind ∷ rest) = option_and_then (λ number. option_map (λ line. Desk number line) (desk_shape kind rest)) (number_of_digits 10 desk)
+desk_in (desk ∷ kind ∷ rest) = option_and_then (λ number. option_map (λ line. Desk number line) (desk_shape kind rest)) (number_of_digits MOST_DIGITS desk)
 desk_in _ = None
 
 -- a receiver: `sat`, `centre`, or the name of a terminal
@@ -96,7 +97,7 @@ lose_in _ = None
 
 -- the words behind `deliver`: the number of a message, and a receiver
 abbrev pub deliver_in : List (List ℕ) → Option (AirShape (List ℕ))
-deliver_in (number ∷ word ∷ []) = option_and_then (λ message. option_map (λ receiver. Deliver message receiver) (receiver_of word)) (number_of_digits 10 number)
+deliver_in (number ∷ word ∷ []) = option_and_then (λ message. option_map (λ receiver. Deliver message receiver) (receiver_of word)) (number_of_digits MOST_DIGITS number)
 deliver_in _ = None
 
 -- a line of one word

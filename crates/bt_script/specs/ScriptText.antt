@@ -1,11 +1,10 @@
 -- The text of a script: rounds, in each round the lines of its desks, of its planner and of the air, and the restarts
 -- of the centre between them.
 use Rattle.std.specs.Prelude.{ℕ, zero, suc, ◌+◌, ◌==◌, if◌then◌else◌, nat_le, Bool, true, false, List, [], ◌∷◌, ◌++◌, count_by, flat_map, Ok, Err}
+use Rattle.bt_frame.specs.declared.limits.TheConstants.{MOST_DESKS, MOST_LINES}
 use Rattle.bt_text.specs.Text.{lines}
 use Rattle.bt_text.specs.Reading.{◌>>=◌}
 use Rattle.bt_net.specs.Network.{Net}
-use Rattle.bt_script.specs.declared.desk_no.TheConstants.{MOST_DESKS}
-use Rattle.bt_script.specs.declared.reader.TheConstants.{MOST_LINES}
 use Rattle.bt_script.specs.declared.fault.ScriptCode.TheVariants.{S1, S5}
 use Rattle.bt_script.specs.declared.line.ScriptLine.{ScriptLine}
 use Rattle.bt_script.specs.declared.line.ScriptLine.TheVariants as line

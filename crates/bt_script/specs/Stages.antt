@@ -1,6 +1,6 @@
 -- A line of a script is read in four stages: its shape, its names, its ranges, and whether it may stand where it stands.
 use Rattle.std.specs.Prelude.{ℕ, if◌then◌else◌, Bool, true, List, Option, Some, Ok, Err, option_map, option_and_then}
-use Rattle.bt_frame.specs.declared.limits.TheConstants.{MOST_UNITS}
+use Rattle.bt_frame.specs.declared.limits.TheConstants.{MOST_UNITS, MOST_DESKS, LAST_MESSAGE}
 use Rattle.bt_frame.specs.declared.numbers.TermNo.{TermNo}
 use Rattle.bt_net.specs.Network.{Net}
 use Rattle.bt_net.specs.Terminals.{terminal_of}
@@ -9,8 +9,6 @@ use Rattle.bt_air.specs.declared.sent.Place.TheVariants as place
 use Rattle.bt_journal.specs.declared.call.Edit.TheVariants as edit
 use Rattle.bt_text.specs.Reading.{◌>>=◌, or_fault}
 use Rattle.bt_script.specs.declared.fault.ScriptCode.TheVariants.{S1, S2, S3, S4}
-use Rattle.bt_script.specs.declared.desk_no.TheConstants.{MOST_DESKS}
-use Rattle.bt_script.specs.declared.ranges.TheConstants.{LAST_MESSAGE}
 use Rattle.bt_script.specs.declared.shape.Receiver.{Receiver}
 use Rattle.bt_script.specs.declared.shape.Receiver.TheVariants as receiver
 use Rattle.bt_script.specs.declared.shape.DeskShape.{DeskShape}
@@ -68,7 +66,7 @@ with_terminals net (shape.Desk desk line) = option_map (λ named. shape.Desk des
 with_terminals net shape.Plan = Some shape.Plan
 with_terminals net (shape.Air line) = option_map (λ named. shape.Air named) (air_terminals net line)
 
--- the line of a desk, where its units are 1 to 4096
+-- the line of a desk, where it has units, and no more than a link may have
 abbrev pub desk_in_range : DeskShape TermNo → Option DeskLine
 desk_in_range (desk_shape.Add from to units) = option_map (λ u. desk_line.Edit (edit.Add from to u)) (within MOST_UNITS units)
 desk_in_range (desk_shape.Drop from to units) = option_map (λ u. desk_line.Edit (edit.Drop from to u)) (within MOST_UNITS units)
@@ -81,7 +79,7 @@ place_of receiver.Satellite = place.Satellite
 place_of receiver.Centre = place.Centre
 place_of (receiver.Terminal terminal) = place.Terminal terminal
 
--- the line of the air, where its message is 0 to 4294967295
+-- the line of the air, where its message is one that there can be
 abbrev pub air_in_range : AirShape TermNo → Option AirLine
 air_in_range air_shape.Tick = Some air_line.Tick
 air_in_range air_shape.Turn = Some air_line.Turn
@@ -92,7 +90,7 @@ air_in_range (air_shape.Deliver message receiver) = option_map (λ number. air_l
 air_in_range air_shape.Frame = Some air_line.Frame
 air_in_range (air_shape.Reset terminal) = Some (air_line.Reset terminal)
 
--- the line, where its numbers are in range: a desk is numbered 1 to 16
+-- the line, where its numbers are in range: a desk is numbered from 1 to the most desks
 abbrev pub in_range : LineShape TermNo → Option ScriptLine
 in_range shape.Remark = Some line.Remark
 in_range shape.Round = Some line.Round

@@ -1,15 +1,13 @@
 // The number of a desk.
 ghost use Rattle.std.specs.Prelude.{◌≡◌};
+ghost use Rattle.bt_frame.specs.declared.limits.TheConstants.{MOST_DESKS};
 ghost use Rattle.bt_frame.specs.Range.{IsWithin};
-ghost use Rattle.bt_script.specs.declared.desk_no.TheConstants.{MOST_DESKS};
 ghost use Rattle.bt_script.specs.Range.{within};
 
+use bt_frame::MOST_DESKS;
 use std::marker::Model;
 
-/// The most desks: they are numbered from 1.
-pub const MOST_DESKS: u8 = 16;
-
-/// The number of a desk: 1 to 16.
+/// The number of a desk: 1 to `MOST_DESKS`.
 #[derive(Clone, Copy, Debug, PartialEq, Eq)]
 pub struct DeskNo {
     number: u8,
@@ -18,18 +16,19 @@ pub struct DeskNo {
 impl Model for DeskNo {
     ghost use Rattle.std.specs.Prelude.{ℕ};
     ghost use Rattle.bt_frame.specs.Range.{IsWithin};
+    ghost use Rattle.bt_frame.specs.declared.limits.TheConstants.{MOST_DESKS};
 
     ghost Value = { ℕ };
 
     ghost view = { λ a. a.number };
 
-    ghost invariant = { λ a. IsWithin 1 16 a.number };
+    ghost invariant = { λ a. IsWithin 1 MOST_DESKS a.number };
 
     ghost inverse = { λ n. record { number = n } };
 }
 
 impl DeskNo {
-    /// The desk of that number, or None outside 1 to 16.
+    /// The desk of that number, or None outside 1 to `MOST_DESKS`.
     pub fn new(number: u64) -> Option<DeskNo>
         ensures { result ≡ within MOST_DESKS number }
     {

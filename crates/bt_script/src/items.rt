@@ -1,14 +1,12 @@
 // The rounds and restarts that the lines of a script say.
 ghost use Rattle.std.specs.Prelude.{◌≡◌, ◌+◌, ◌<◌, ◌≤◌, ◌++◌, ◌∷◌, [], ℕ, length, vec_len, count_by, flat_map, All, IfOk, OnOk};
 ghost use Rattle.std.specs.List.{slice_index_or};
-ghost use Rattle.bt_script.specs.declared.desk_no.TheConstants.{MOST_DESKS};
-ghost use Rattle.bt_script.specs.declared.reader.TheConstants.{MOST_LINES};
+ghost use Rattle.bt_frame.specs.declared.limits.TheConstants.{MOST_DESKS, MOST_LINES};
 ghost use Rattle.bt_script.specs.ScriptText.{ends_round, round_lines, own_lines, is_plan, air_lines, entry_of, round_of, items_at, items_of};
 
-use crate::desk_no::MOST_DESKS;
 use crate::line::ScriptLine;
 use crate::{AirLine, AirLines, DeskLines, Desks, Item, Items, Round};
-use bt_frame::OutOfMemory;
+use bt_frame::{MOST_DESKS, OutOfMemory};
 use std::alloc::Global;
 use std::mem;
 

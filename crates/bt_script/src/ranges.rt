@@ -1,7 +1,6 @@
 // The ranges of a line's numbers: the third of its four stages.
 ghost use Rattle.std.specs.Prelude.{◌≡◌};
-ghost use Rattle.bt_frame.specs.declared.limits.TheConstants.{MOST_UNITS};
-ghost use Rattle.bt_script.specs.declared.ranges.TheConstants.{LAST_MESSAGE};
+ghost use Rattle.bt_frame.specs.declared.limits.TheConstants.{MOST_UNITS, LAST_MESSAGE};
 ghost use Rattle.bt_script.specs.Range.{up_to, within};
 ghost use Rattle.bt_script.specs.Stages.{desk_in_range, place_of, air_in_range, in_range};
 
@@ -10,11 +9,8 @@ use crate::line::ScriptLine;
 use crate::shape::{AirShape, DeskShape, LineShape, Receiver};
 use crate::{AirLine, DeskLine, Losing};
 use bt_air::Place;
-use bt_frame::{MOST_UNITS, TermNo, Units};
+use bt_frame::{LAST_MESSAGE, MOST_UNITS, TermNo, Units};
 use bt_journal::Edit;
-
-/// The last number that a message of a script may have.
-const LAST_MESSAGE: u32 = 4_294_967_295;
 
 /// The line, or None where a number is out of range.
 pub fn in_range(named: LineShape<TermNo>) -> Option<ScriptLine>

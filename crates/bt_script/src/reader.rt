@@ -1,7 +1,7 @@
 // A script from its text.
 ghost use Rattle.std.specs.Prelude.{◌≡◌, ◌+◌, ◌≤◌, [], length, vec_len, false, All, IfOk, OnOk};
+ghost use Rattle.bt_frame.specs.declared.limits.TheConstants.{MOST_LINES, MOST_TEXT_BYTES};
 ghost use Rattle.bt_text.specs.Text.{lines};
-ghost use Rattle.bt_script.specs.declared.reader.TheConstants.{MOST_LINES};
 ghost use Rattle.bt_script.specs.Length.{script_length};
 ghost use Rattle.bt_script.specs.Named.{HasDesksInOrder, IsItemFor};
 ghost use Rattle.bt_text.specs.Reading.{Gives};
@@ -10,12 +10,10 @@ ghost use Rattle.bt_script.specs.ScriptText.{is_open_behind, limited_line, added
 use crate::items::items_of;
 use crate::line::{ScriptLine, read_line};
 use crate::{DeskLine, Script, ScriptCode, ScriptFault};
+use bt_frame::MOST_LINES;
 use bt_net::Network;
 use bt_text::{fault_at, first_line};
 use std::alloc::Global;
-
-/// The most lines of a script; remarks count.
-const MOST_LINES: u32 = 20000;
 
 impl Script {
     /// The script that the bytes spell for this network, or the first line with a fault.
@@ -24,7 +22,7 @@ impl Script {
     /// than a text may have.
     #[tactic(auto, using(crate::proofs::Naming::items_named, crate::proofs::Order::items_in_order, crate::proofs::Counting::items_short))]
     pub fn read(alloc: Global, net: &Network, bytes: &[u8]) -> Result<Script, ScriptFault>
-        requires { length bytes.now ≤ 67108864 }
+        requires { length bytes.now ≤ MOST_TEXT_BYTES }
         ensures reading { Gives (λ script. script) result (script_of net.now bytes.now) }
         ensures terminals { IfOk result (λ script. All (IsItemFor net.now) script.items) }
         ensures ascending { IfOk result (λ script. All HasDesksInOrder script.items) }

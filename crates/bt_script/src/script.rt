@@ -69,7 +69,7 @@ impl DeskLines {
     }
 }
 
-/// The numbers of desks, each with its lines. They ascend from 1 to 16 at most, and each of them has a line.
+/// The numbers of desks, each with its lines. They ascend from 1 to `MOST_DESKS` at most, and each of them has a line.
 #[derive(Debug, Drop)]
 pub struct Desks {
     desks: Vec<(u8, DeskLines)>,

@@ -3,11 +3,9 @@ ghost use Rattle.std.specs.Prelude.{◌≡◌, option_map};
 ghost use Rattle.bt_text.specs.Text.{number_of_digits};
 ghost use Rattle.bt_script.specs.LineShape.{receiver_name, desk_names, air_names, each_name, link_in, links_in, name_in, desk_shape, desk_in, receiver_of, lose_in, deliver_in, lone_shape, several_shape, words_shape, shape_of};
 
+use bt_frame::MOST_DIGITS;
 use bt_net::{are_names, is_name};
 use bt_text::{WordReader, is_word, number_of_digits};
-
-/// The most digits of a number.
-const DIGITS: usize = 10;
 
 /// Who receives a message; a terminal is still a `Name`.
 #[derive(Clone, Copy, Debug, PartialEq, Eq)]
@@ -171,11 +169,11 @@ fn desk_in<'a>(mut words: WordReader<'a>) -> Option<LineShape<&'a [u8]>>
     Some(LineShape::Desk { desk, line })
 }
 
-// The number that a word of at most ten digits is.
+// The number that a word of at most `MOST_DIGITS` digits is.
 fn number_of(word: &[u8]) -> Option<u64>
-    ensures { result ≡ number_of_digits 10 word.now }
+    ensures { result ≡ number_of_digits MOST_DIGITS word.now }
 {
-    number_of_digits(word, DIGITS)
+    number_of_digits(word, MOST_DIGITS)
 }
 
 // What a desk does, by the word that says it.

@@ -10,7 +10,7 @@ ghost use Rattle.bt_frame.specs.Critical.{IsOfBeams};
 ghost use Rattle.bt_demand.specs.Traffic.{matrix_of, AreOfNetwork, HasSumsTo};
 
 use bt_demand::Link;
-use bt_frame::{Critical, MOST_BEAMS, SUM_LAST, Schedule};
+use bt_frame::{Critical, MOST_BEAMS, MOST_SUM, Schedule};
 use bt_matrix::{Traffic, heaviest_line};
 use bt_net::Network;
 
@@ -60,7 +60,7 @@ pub(crate) fn heavier_in_demand(
     schedule: &Schedule,
 ) -> Option<(Critical, u32)>
     requires of_network { AreOfNetwork net.now links.now }
-    requires sums { HasSumsTo SUM_LAST (matrix_of net.now links.now) }
+    requires sums { HasSumsTo MOST_SUM (matrix_of net.now links.now) }
     requires critical { IsOfBeams (length net.now.beams) schedule.now.critical }
     ensures { MatchOption result
         (IsLeast (matrix_of net.now links.now) schedule.now)
@@ -82,7 +82,7 @@ pub(crate) fn heavier_in_demand(
 fn line_sums(net: &Network, links: &[Link]) -> LineSums
     requires beams { IsWithin 1 MOST_BEAMS (length net.now.beams) }
     requires of_network { AreOfNetwork net.now links.now }
-    requires sums { HasSumsTo SUM_LAST (matrix_of net.now links.now) }
+    requires sums { HasSumsTo MOST_SUM (matrix_of net.now links.now) }
     ensures { KeepsSums (matrix_of net.now links.now) result.rows result.columns }
 {
     let mut rows = [0; MOST_BEAMS];

@@ -14,7 +14,7 @@ use crate::mode_faults::{duration_sum, first_bad, first_empty};
 use crate::plan_laws::plans_are_good_by_their_parts;
 use crate::serving::first_unserved;
 use bt_demand::{Demand, Link, Plan};
-use bt_frame::SUM_LAST;
+use bt_frame::MOST_SUM;
 use bt_net::Network;
 
 /// What is wrong first with a burst time plan for that demand, or that it is good.
@@ -27,7 +27,7 @@ pub fn check(net: &Network, demand: &Demand, plan: &Plan) -> Verdict
     requires demand { AreOfNetwork net.now demand.now }
     requires bursts { AreBetweenTerminals net.now plan.now.bursts }
     requires critical { IsOfBeams (length net.now.beams) plan.now.schedule.critical }
-    requires sums { HasSumsTo SUM_LAST (matrix_of net.now demand.now) }
+    requires sums { HasSumsTo MOST_SUM (matrix_of net.now demand.now) }
     ensures { IsPlanVerdict net.now demand.now plan.now result }
 {
     let links = demand.as_slice();
@@ -41,7 +41,7 @@ pub fn check(net: &Network, demand: &Demand, plan: &Plan) -> Verdict
 fn modes_fault(net: &Network, links: &[Link], plan: &Plan) -> Option<Verdict>
     requires links { AreOfNetwork net.now links.now }
     requires critical { IsOfBeams (length net.now.beams) plan.now.schedule.critical }
-    requires sums { HasSumsTo SUM_LAST (matrix_of net.now links.now) }
+    requires sums { HasSumsTo MOST_SUM (matrix_of net.now links.now) }
     ensures { MatchOption result
         (HasGoodModes net.now links.now plan.now.schedule)
         (IsPlanVerdict net.now links.now plan.now) }

@@ -10,7 +10,7 @@ use bt_frame::{BeamNo, MOST_BEAMS, Mode, Modes, Schedule};
 use bt_matrix::Traffic;
 
 /// A place for each two beams.
-const CONNECTIONS: usize = 256;
+const CONNECTIONS: usize = MOST_BEAMS * MOST_BEAMS;
 
 /// A connection that gets too few slots.
 #[derive(Clone, Copy)]
@@ -64,8 +64,8 @@ pub(crate) fn first_short<M: Traffic>(matrix: &M, schedule: &Schedule) -> Option
     None
 }
 
-/// The slots that the modes give to each connection: that from one beam to another has the place 16 times the first
-/// and the second.
+/// The slots that the modes give to each connection: that from one beam to another has the place `MOST_BEAMS` times the
+/// first and the second.
 fn slots_by_connection(modes: &Modes) -> [u64; CONNECTIONS]
     requires { All IsOfTable modes.now }
     ensures { (up down : ℕ) → down < MOST_BEAMS → All (λ m. up < length m.perm) modes.now

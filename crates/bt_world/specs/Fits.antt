@@ -1,5 +1,6 @@
 -- What must hold of an opening and of each event.
 use Rattle.std.specs.Prelude.{◌≡◌, ◌<◌, ◌≤◌, true, false, List, [], ◌∷◌, length, All, AllPairs, IsSome}
+use Rattle.bt_frame.specs.declared.limits.TheConstants.{LAST_MARK, MOST_COUNTED}
 use Rattle.bt_frame.specs.declared.numbers.EditionNo.{EditionNo}
 use Rattle.bt_frame.specs.declared.schedule.Critical.TheVariants.{Row}
 use Rattle.bt_demand.specs.declared.plan.Plan.{Plan}
@@ -42,7 +43,7 @@ HasPlan all order = IsSome (plan_of all (edition_ordered order))
 -- no order arms for a superframe past the last mark
 abbrev pub IsInTime : Order → Type 0
 IsInTime (Load command edition) = Unit {0}
-IsInTime (Arm command edition due) = due.0 ≤ 4000000000
+IsInTime (Arm command edition due) = due.0 ≤ LAST_MARK
 
 -- What must hold of an opening: editions ascend from the empty plan, each plan can be flown, and the orders are
 -- numbered, each for an edition that has a plan.
@@ -52,7 +53,7 @@ pub record IsOpening (o : Opening) : Type 0 where
   pub numbered : AreNumbered o.orders
   pub planned : All (HasPlan o.plans) o.orders
   pub in_time : All IsInTime o.orders
-  pub few : length o.orders ≤ 2000000000
+  pub few : length o.orders ≤ MOST_COUNTED
 
 -- a place of the network
 abbrev pub IsPlace : Opening → Place → Type 0
@@ -62,7 +63,7 @@ IsPlace o (Terminal terminal) = IsTerminal o.net terminal
 
 -- what must hold of an event of each kind
 abbrev pub Meets : Opening → List Happening → Event → Type 0
-Meets o past Tick = mark o past < 4000000000
+Meets o past Tick = mark o past < LAST_MARK
 Meets o past (Turn newest) = newest ≡ newest_of (plans o past)
 Meets o past Ordered = IsSome (wanted past)
 Meets o past (Deliver number place) = (number < length (sent o past)) × IsPlace o place

@@ -1,6 +1,7 @@
 -- What contracts see of a world, and what it keeps beside that.
 use Rattle.std.specs.Prelude.{◌≡◌, ℕ, ◌&&◌, Bool, ◌<◌, ◌≤◌, List, [], ◌∷◌, ◌++◌, map, reverse, length, Option, Some, None, slice_get, slice_index_or as get_or, All}
 use Rattle.std.specs.List.{range_with_len}
+use Rattle.bt_frame.specs.declared.limits.TheConstants.{LAST_MESSAGE, MOST_COUNTED, MOST_TERMINALS}
 use Rattle.bt_frame.specs.declared.numbers.EditionNo.{EditionNo}
 use Rattle.bt_frame.specs.declared.numbers.TermNo.{TermNo}
 use Rattle.bt_net.specs.Network.{Net, IsSound}
@@ -36,8 +37,8 @@ having_had life event = record { opening = life.opening; events = life.events ++
 -- an event may come next: what must hold of it does, and neither messages nor orders are too many
 pub record MayCome (life : Life) (event : Event) : Type 0 where
   pub meets : Meets life.opening (past_of life) event
-  pub few_sent : length (sent life.opening (past_of life)) ≤ 2000000000
-  pub few_orders : length (orders life.opening (past_of life)) ≤ 2000000000
+  pub few_sent : length (sent life.opening (past_of life)) ≤ MOST_COUNTED
+  pub few_orders : length (orders life.opening (past_of life)) ≤ MOST_COUNTED
 
 -- the plans that events install; both have the latest first
 abbrev pub installs : List Event → List Plan
@@ -85,7 +86,7 @@ pub record Index : Type 0 where
 pub record IsIndexed (logged : Logged) (index : Index) : Type 0 where
   pub starts : StartsEmpty (plans_in logged)
   pub stored : All IsStored (plans_in logged)
-  pub few : logged.terminals ≤ 64
+  pub few : logged.terminals ≤ MOST_TERMINALS
   pub editions : index.editions ≡ map (λ (plan : Plan). plan.edition) (reverse (plans_in logged))
   pub shares : index.shares ≡ map (λ (plan : Plan). shares_of logged.terminals plan.bursts) (reverse (plans_in logged))
   pub places : map (λ (place : ℕ). installed_by (slice_get logged.events place)) index.places ≡ map (λ (plan : Plan). Some plan) (reverse (installs (reverse logged.events)))
@@ -117,7 +118,7 @@ pub record IsKept (life : Life) (kept : Kept) : Type 0 where
   pub sound : IsSound life.opening.net
   pub world : IsWorld life.opening (reverse life.events)
   pub stored : AreStored life.opening (past_of life)
-  pub few : length kept.sent ≤ 4294967295
+  pub few : length kept.sent ≤ LAST_MESSAGE
   pub terminal_count : kept.terminal_count ≡ length life.opening.net.terminals
   pub sent : kept.sent ≡ sent life.opening (past_of life)
   pub satellite : kept.satellite ≡ satellite life.opening (past_of life)

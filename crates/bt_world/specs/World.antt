@@ -187,7 +187,7 @@ abbrev pub waited_more : Option Order → Option Status → ℕ → ℕ
 waited_more None (Some status) before = one_more before
 waited_more _ _ before = before
 
--- the turns since the last order joined and the centre's start that found no order wanted and a status kept, 32 at most
+-- the turns since the last order joined and the centre's start that found no order wanted and a status kept, at most the most patience
 abbrev pub waited : List Happening → ℕ
 waited [] = 0
 waited (Turns newest act ∷ past) = waited_more (wanted past) (kept past) (waited past)

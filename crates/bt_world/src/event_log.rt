@@ -1,6 +1,7 @@
 // The events of a world, and where its plans stand.
 ghost use Rattle.std.specs.Prelude.{◌≡◌, ◌<◌, ◌≤◌, ◌++◌, ◌∷◌, [], length, reverse, slice_index_or, All, IfOk, MatchOption, OnOk, OnErr, None};
 ghost use Rattle.std.specs.Option.{option_copied};
+ghost use Rattle.bt_frame.specs.declared.limits.TheConstants.{MOST_TERMINALS};
 ghost use Rattle.bt_demand.specs.declared.plan.Plan.{Plan};
 ghost use Rattle.bt_air.specs.Range.{IsWord};
 ghost use Rattle.bt_world.specs.Centre.{needed_by};
@@ -48,7 +49,7 @@ impl EventLog {
         terminals: u32,
         opening: Vec<Plan>,
     ) -> Result<EventLog, OutOfMemory>
-        requires few { terminals ≤ 64 }
+        requires few { terminals ≤ MOST_TERMINALS }
         requires starts { StartsEmpty (reverse opening.items) }
         ensures terminals { IfOk result (λ log. log.terminals ≡ terminals) }
         ensures opening { IfOk result (λ log. log.opening ≡ opening.items) }
@@ -95,7 +96,7 @@ impl EventLog {
     /// The number of terminals.
     pub(crate) fn terminal_count(&self) -> u32
         ensures count { result ≡ self.now.terminals }
-        ensures few { result ≤ 64 }
+        ensures few { result ≤ MOST_TERMINALS }
     {
         self.terminals
     }

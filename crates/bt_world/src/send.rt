@@ -1,6 +1,7 @@
 // Messages that are sent with an order or in a turn of the centre. There is room for them.
 ghost use Rattle.std.specs.Prelude.{◌≡◌, ◌+◌, ◌<◌, ◌≤◌, ◌++◌, List, vec_len, vec_capacity, Some};
 ghost use Rattle.std.specs.List.{filter};
+ghost use Rattle.bt_frame.specs.declared.limits.TheConstants.{MOST_TERMINALS};
 ghost use Rattle.bt_air.specs.declared.order.Order.{Order};
 ghost use Rattle.bt_change.specs.Centre.{is_missing};
 ghost use Rattle.bt_change.specs.Last.{last_order};
@@ -83,7 +84,7 @@ pub(crate) fn send_asking(sent: &mut Vec<Sent>, log: &EventLog, centre: &Centre,
 // The terminal asks the centre, and transmits in the edition.
 fn is_answered(log: &EventLog, centre: &Centre, edition: EditionNo, terminal: TermNo) -> bool
     requires known { terminal.0 < log.now.terminals }
-    requires few { terminal.0 < 64 }
+    requires few { terminal.0 < MOST_TERMINALS }
     ensures { result ≡ is_answered (plan_of (plans_in log.now) edition) centre.now terminal }
 {
     centre.asking(terminal) && log.has_burst(edition, terminal)

@@ -1,5 +1,6 @@
 // The world.
 ghost use Rattle.std.specs.Prelude.{◌≡◌, ◌<◌, ◌≤◌, ◌↔◌, [], length, map, reverse, IfOk, IfSome, IsNone, Some, slice_get};
+ghost use Rattle.bt_frame.specs.declared.limits.TheConstants.{MOST_TERMINALS};
 ghost use Rattle.bt_matrix.specs.Good.{total_duration};
 ghost use Rattle.bt_change.specs.Last.{last_order};
 ghost use Rattle.bt_switch.specs.Slots.{HasSlot};
@@ -173,7 +174,7 @@ pub(crate) fn last_of(orders: &[Order]) -> Option<Order>
 
 // So many terminals that have heard nothing, by number.
 fn new_terminals(alloc: Global, count: u32) -> Result<Vec<Terminal>, OutOfMemory>
-    requires { count ≤ 64 }
+    requires { count ≤ MOST_TERMINALS }
     ensures { IfOk result (λ terminals. terminals.items ≡ map new_of (terminals_of count)) }
 {
     let mut terminals = Vec::with_capacity(alloc, count as usize)?;
