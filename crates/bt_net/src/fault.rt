@@ -38,7 +38,14 @@ impl Path {
     ghost use Rattle.bt_net.specs.Fault.{path_text};
 
     /// The place as it is printed, such as `beams[1]` or `terminals[3].name`.
-    pub fn text(self, alloc: Global) -> Result<String, AllocError>
+    pub fn text(self, alloc: Global) -> Result<String, bt_frame::OutOfMemory>
+        ensures { IfOk result (λ text. string_bytes text ≡ path_text self) }
+    {
+        let text = self.printed(alloc)?;
+        Ok(text)
+    }
+
+    fn printed(self, alloc: Global) -> Result<String, AllocError>
         ensures { IfOk result (λ text. string_bytes text ≡ path_text self) }
     {
         match self {
