@@ -4,8 +4,8 @@
 //! (`bt_text`). `docs/formats.md` has each message with its fields. What is promised stands in `specs/MessageText.antt`,
 //! each kind of message as its fields with the fault of each, in `specs/Field.antt`, the fields with their ranges, in
 //! `specs/Spelling.antt`, the one spelling of each message, in `specs/Range.antt`, which messages have one, in
-//! `specs/Orders.antt`, the orders and what a list of them says, and in `laws.rt`, what holds of messages whatever the
-//! program does. `specs/Reading.antt` is for bodies alone.
+//! `specs/Orders.antt`, the orders and what a list of them says, in `specs/Editions.antt`, the edition that is named,
+//! and in `laws.rt`, what holds of messages whatever the program does. `specs/Reading.antt` is for bodies alone.
 #![tactic(auto)]
 
 mod event;

@@ -73,7 +73,7 @@ impl<K: Keeper> Book<K> {
             → IsErrAnd result (λ end. (end.1 ≡ RecoverFault.J2 number) ⊎ IsOutside end.1)) }
         ensures fault_later { IfErr result (λ end. K.fault_count store ≤ K.fault_count end.0) }
     {
-        // These are there for what holds of each network, and of the lines of changes.
+        // These are there for what holds of each network, that it is sound, and of the lines of changes.
         let _beams = net.beam_count();
         lines_end_once();
         lines_tell_changes();
@@ -150,7 +150,7 @@ impl<K: Keeper> Book<K> {
             self.old.told self.new.told self.old.faults self.new.faults) }
         ensures err { OnErr result (self.new ≡ self.old) }
     {
-        // This is there for what holds of each network.
+        // This is there for what holds of each network: it is sound.
         let _net = self.machine.network();
         let reply = self.machine.change(alloc, caller, asked, &mut self.store)?;
         Ok(reply)

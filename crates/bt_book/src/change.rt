@@ -80,15 +80,16 @@ impl Machine {
         ensures number { result.0 ≡ edition self.now.state.changes + edits_in asked.now }
         ensures range { IsChangeInRange self.now.net result.0 asked.now }
     {
-        // This is there for what holds of each network.
+        // This is there for what holds of each network: it is sound.
         let _slots = self.occupancy.slots();
         match asked {
             Change::Edit(edit) => {
+                // This is there for the range of its units.
                 let _units = units_in(edit);
                 EditionNo(self.edits + 1)
             }
             Change::Install(plan) => {
-                // This is there for what holds of all bursts.
+                // This is there for what holds of the bursts of each plan: they are in order.
                 let _bursts = plan.bursts.as_slice();
                 EditionNo(self.edits)
             }

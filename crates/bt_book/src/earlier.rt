@@ -23,7 +23,7 @@ impl Machine {
         ensures sums { IfOk result (λ demand. HasSumsTo MOST_SUM (matrix_of self.now.net demand)) }
     {
         let mut occupancy = Occupancy::new(alloc, self.network())?;
-        // This is there for what holds of each network: its frame has at most 4096 slots.
+        // This is there for what holds of each network: its frame has at most `MOST_SLOTS` slots.
         let _slots = occupancy.slots();
         redo(
             alloc,
@@ -49,7 +49,7 @@ fn redo(
     requires made { number ≤ edition (opening.now ++ changes_of history.now) }
     ensures { OnOk result (IsRedone occupancy.old.net (opening.now ++ changes_of history.now) number occupancy.new.links) }
 {
-    // This is there for what holds of each network: its frame has at most 4096 slots.
+    // This is there for what holds of each network: its frame has at most `MOST_SLOTS` slots.
     let _slots = occupancy.slots();
     let mut left = number;
     for change in opening {

@@ -103,7 +103,7 @@ impl Machine {
         ensures network { AreOfNetwork self.now.net result.now }
         ensures sums { HasSumsTo MOST_SUM (matrix_of self.now.net result.now) }
     {
-        // This is there for what holds of each network: its frame has at most 4096 slots.
+        // This is there for what holds of each network: its frame has at most `MOST_SLOTS` slots.
         let _slots = self.occupancy.slots();
         self.occupancy.demand()
     }

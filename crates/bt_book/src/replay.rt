@@ -120,7 +120,7 @@ impl Machine {
         ensures history { self.new.history ≡ [] }
         ensures err { OnErr result (self.new ≡ self.old) }
     {
-        // This is there for what holds of each network: its terminals have beams, and its frame at most 4096 slots.
+        // This is there for what holds of each network: its terminals have beams, and its frame at most `MOST_SLOTS` slots.
         let _slots = self.occupancy.slots();
         self.opening.reserve(1)?;
         self.occupancy.edit(alloc, &edit)?;

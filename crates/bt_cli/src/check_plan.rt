@@ -87,6 +87,7 @@ fn judge_plan(alloc: Global, net: &Network, demand: &Demand, plan: &Plan) -> Res
     requires sums { HasSumsTo MOST_SUM (matrix_of net.now demand.now) }
     ensures { CameTo (JudgesPlan net.now demand.now plan.now) result }
 {
+    // This is there for what holds of each demand: its links are in order.
     let _links = demand.as_slice();
     let verdict = verdict_on(net, demand, plan);
     let mut text = Vec::new(alloc);

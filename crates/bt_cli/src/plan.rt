@@ -96,8 +96,10 @@ fn plan_answer(alloc: Global, net: &Network, demand: &Demand) -> Result<Answer, 
     requires fits { Fits net.now demand.now }
     ensures { CameTo (PrintsPlan net.now demand.now) result }
 {
+    // This is there for what holds of each network: its frame has at most `MOST_SLOTS` slots.
     let _slots = net.slots();
     let plan = make_plan(alloc, net, demand, EDITION)?;
+    // And this, of the bursts of each plan: they are in order.
     let _bursts = plan.bursts.as_slice();
     let text = plan_text(alloc, net, &plan)?;
     Ok(Answer { text, status: 0 })

@@ -66,7 +66,7 @@ fn replay_store<O: Sink, K: Keeper>(alloc: Global, net: &Network, out: &mut O, s
         (record { before = O.told out.old; after = O.told out.new; faults_before = O.fault_count out.old; faults_after = O.fault_count out.new })
         (record { before = K.told store; after = K.told result.1; faults_before = K.fault_count store; faults_after = K.fault_count result.1 }) result.0 }
 {
-    // This is there for what holds of each network.
+    // This is there for what holds of each network: it is sound.
     let _beams = net.beam_count();
     match Book::recover(alloc, net, store) {
         Ok(book) => {
@@ -82,7 +82,7 @@ fn state_answer<K: Keeper>(alloc: Global, net: &Network, book: &Book<K>) -> Resu
     requires follow { Follows net.now book.now.state.changes }
     ensures { CameTo (PrintsState net.now book.now.state.changes) result }
 {
-    // This is there for what holds of each network.
+    // This is there for what holds of each network: it is sound.
     let _beams = net.beam_count();
     demands_fit_the_frame();
     let (edition, newest, orders) = (book.edition(), book.newest(), book.order_count());

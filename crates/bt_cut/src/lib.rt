@@ -1,7 +1,8 @@
 //! Cutting: how the slots of the modes become the bursts of the links.
 //!
-//! `specs/Cutting.antt` has the rule of the cutting. `specs/Serving.antt` and `specs/Parts.antt` say the same by the
-//! numbers of slots and units, as the code counts them, and are for bodies alone.
+//! `specs/Cutting.antt` has the rule of the cutting, which is promised. `specs/Serving.antt` and `specs/Parts.antt` say
+//! the same by the numbers of slots and units, as the code counts them, and `specs/Bucket.antt` how bursts are put in
+//! order: these are for bodies alone.
 //!
 //! It stands on `bt_modes` for the modes, on `bt_demand` for demands and plans, and on `bt_verdict` for what makes a
 //! plan good.

@@ -1,5 +1,6 @@
 //! The demand of the terminals and the burst time plan that serves it, as values.
 //!
+//! It stands on the network's terminals (`bt_net`) and on matrices (`bt_matrix`). All of specs/ is promise:
 //! `specs/Demand.antt` says what a demand is, `specs/Traffic.antt` what its traffic matrix is, `specs/Burst.antt` and
 //! `specs/Plan.antt` what bursts and a plan are and when no plan is shorter, `specs/Apart.antt` which bursts meet,
 //! `specs/Flyable.antt` which plans can be flown. `demand_laws.rt` and `plan_laws.rt` have what holds of every demand and

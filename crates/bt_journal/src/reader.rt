@@ -31,6 +31,7 @@ pub fn read_change(
     ensures bad { IsErrOf result LineFault.Bad → (number : ℕ) → (change : Change)
         → IsChangeInRange net.now number change → line.now ≡ change_line net.now number change → ⊥ }
 {
+    // This is there for what holds of each network: it is sound.
     let _beams = net.beam_count();
     let Some(text) = text_of(line) else {
         return Err(LineFault::Bad);

@@ -144,6 +144,7 @@ fn install_text(alloc: Global, net: &Network, plan: &Plan) -> Result<Vec<u8>, Ou
     requires range { IsPlanInRange net.now plan.now }
     ensures { IfOk result (λ text. text.items ≡ spaced (plan_lines net.now plan.now)) }
 {
+    // This is there for what holds of each network: it is sound.
     let _beams = net.beam_count();
     let mut text = plan_text(alloc, net, plan)?;
     join_lines(&mut text);

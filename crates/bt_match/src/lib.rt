@@ -1,7 +1,7 @@
 //! Permutations inside the positive entries of a traffic matrix whose line sums are equal and positive.
 //!
-//! `specs/Matching.antt` says what partial maps of rows to columns are, `specs/Search.antt` what the search for
-//! the column of one row keeps and finds.
+//! It stands on matrices (`bt_matrix`). `specs/Matching.antt`, what partial maps of rows to columns are, is promised;
+//! `specs/Search.antt`, what the search for the column of one row keeps and finds, is for bodies alone.
 #![tactic(auto)]
 
 mod matching;

@@ -1,7 +1,9 @@
 //! Traffic matrices: the slots per frame that each uplink beam asks for to each downlink beam.
 //!
-//! `specs/Traffic.antt` says what a matrix and its line sums are, `specs/Good.antt` when a switching
-//! schedule is good for a matrix. `docs/definitions.md` has both in words.
+//! It stands on the words of the field (`bt_frame`) and on lemmas of lists (`bt_lists`). Promises are in
+//! `specs/Traffic.antt`, what a matrix and its line sums are; `specs/Good.antt`, when a switching schedule is good for a
+//! matrix; and `specs/Dense.antt`, line sums that stand beside a matrix, where `KeepsSums` and `IsFirstGreatest` are for
+//! bodies alone. `laws.rt` has what holds of every matrix. `docs/definitions.md` has them in words.
 #![tactic(auto)]
 
 mod dense;

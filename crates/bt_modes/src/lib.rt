@@ -1,7 +1,8 @@
 //! Switching schedules of the least length. A traffic matrix is padded until all of its line sums are equal,
 //! and then taken apart into modes: permutations inside its positive entries, each held for its least entry.
 //!
-//! `specs/Padding.antt` says what a padding is, `specs/Decomposition.antt` when modes together are a matrix.
+//! It stands on matrices (`bt_matrix`) and on permutations inside them (`bt_match`). Promises are in
+//! `specs/Padding.antt`, what a padding is, and in `specs/Decomposition.antt`, when modes together are a matrix.
 //! `docs/definitions.md` has both in words.
 #![tactic(auto)]
 

@@ -63,7 +63,7 @@ fn plan_once<R: Wait, G: Gate, K: Keeper>(
     ensures posted { OnOk result (HasPosted caller.new publisher.new.plans) }
     ensures done { OnOk result (PlannerDone net.now 1 publisher.old.plans publisher.new.plans (own_of caller.old) (own_of caller.new) text.old.items text.new.items) }
 {
-    // This is there for what holds of each network: its frame has at most 4096 slots.
+    // This is there for what holds of each network: its frame has at most `MOST_SLOTS` slots.
     let _beams = net.beam_count();
     demands_fit_the_frame();
     replies_name_beams_of_the_network();

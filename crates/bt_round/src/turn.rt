@@ -42,7 +42,7 @@ impl CentreWorker {
     {
         demands_fit_the_frame();
         good_plans_are_flyable();
-        // This is there for what holds of each network.
+        // This is there for what holds of each network: it is sound.
         let _beams = net.beam_count();
         let after = self.newest();
         let Entry { reply, .. } = caller.ask(rt, alloc, net, Call::Newest { after })?;

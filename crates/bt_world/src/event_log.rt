@@ -218,6 +218,7 @@ fn edition_of(plan: &Plan) -> EditionNo
     ensures edition { result ≡ plan.now.edition }
     ensures stored { IsStored plan.now }
 {
+    // This is there for what holds of the bursts of each plan: they are in order.
     let _bursts = plan.bursts.as_slice();
     held(plan.edition)
 }
