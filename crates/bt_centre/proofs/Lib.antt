@@ -7,3 +7,6 @@ pub mod Opens
 pub mod Joins
 pub mod Ended
 pub mod Ends
+pub mod Orderly
+pub mod OrdersPlayed
+pub mod OrdersJoin

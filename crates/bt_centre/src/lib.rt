@@ -3,11 +3,13 @@
 //! It stands on the outside (`bt_base`), on the book and its store, on the world, and on the rounds of a script
 //! (`bt_round`). A run begins with the changes that its store tells, and reads them again at each restart of the centre.
 //! `specs/Run.antt`, `specs/Lines.antt`, `specs/Output.antt`, `specs/Stored.antt` and `specs/RecoverFaults.antt` are
-//! promises: what a run is, and how it ends; `Progress` is for bodies alone.
+//! promises: what a run is, and how it ends; `Progress` is for bodies alone. `specs/Joining.antt` is one too: which order
+//! joins the world at a restart; `joining_laws.rt` has what holds of that in all runs.
 #![tactic(auto)]
 
 mod fault;
 mod history;
+mod joining_laws;
 mod open;
 mod play;
 mod playing;
@@ -19,4 +21,5 @@ mod total;
 
 pub use bt_round::{Gate, NoGate};
 pub use history::{Histories, History};
+pub use joining_laws::orders_join_as_told;
 pub use script::{RunEnd, run_script};
