@@ -1,12 +1,13 @@
 -- How the parts of a script end, from what is left of the run and from what was written.
-use Rattle.std.proofs.Common.{◌≡◌, ◌≢◌, ◌⊎◌, ℕ, ◌+◌, ◌<◌, ◌≤◌, get_or, inl, inr, List, [], ◌∷◌, ◌++◌, length, take, drop, reverse, All, Option, Some, None, Result, Ok, Err, IsErrOf, refl, sym, ap, ◌∙◌, subst, append_assoc, arith}
+use Rattle.std.proofs.Common.{◌≡◌, ◌⊎◌, ℕ, ◌+◌, ◌<◌, ◌≤◌, get_or, inl, inr, List, [], ◌∷◌, ◌++◌, length, take, drop, reverse, All, Option, Some, None, Result, Err, IsErrOf, refl, sym, ap, ◌∙◌, subst, append_assoc, arith}
 use Rattle.std.specs.Prelude.{IfSome}
 use Rattle.std.specs.Option.{is_some}
 use Rattle.std.proofs.Math.Seq.{take-append-add}
 use Rattle.std.proofs.lemmas.List.{append-nil, take-append-drop}
+use Rattle.bt_base.specs.declared.sink.SinkFault.{SinkFault}
+use Rattle.bt_base.specs.declared.sink.SinkFault.TheVariants as sink
 use Rattle.bt_base.specs.Told.{GainsPrefix, Rose, gained}
 use Rattle.bt_net.specs.Network.{Net}
-use Rattle.bt_demand.specs.declared.burst.Burst.{Burst}
 use Rattle.bt_air.specs.declared.event.Event.{Event}
 use Rattle.bt_journal.specs.declared.call.Change.{Change}
 use Rattle.bt_journal.specs.declared.entry.Entry.{Entry}
@@ -15,23 +16,18 @@ use Rattle.bt_book.specs.declared.fault.RecoverFault.TheVariants.{OutOfMemory, S
 use Rattle.bt_book.specs.Book.{Books}
 use Rattle.bt_book.specs.Causes.{Follows, IsGoodForItsEdition}
 use Rattle.bt_book.specs.Changes.{installs}
-use Rattle.bt_book.specs.Store.{IsKept, RoseBy, lost_of}
-use Rattle.bt_world.specs.Air.{AreFlyable, IsAir, IsSafe, modes_in_front}
-use Rattle.bt_world.specs.Event.{Frame, Opening}
+use Rattle.bt_book.specs.Store.{IsKept, lost_of}
+use Rattle.bt_world.specs.Event.{Opening}
 use Rattle.bt_world.specs.Fits.{IsWorld}
-use Rattle.bt_world.specs.World.{log}
 use Rattle.bt_script.specs.declared.script.Item.{Item}
 use Rattle.bt_script.specs.declared.script.Item.TheVariants as item
 use Rattle.bt_timeline.specs.Timeline.{restart_line}
-use Rattle.bt_centre.specs.declared.fault.Stop.{Stop}
-use Rattle.bt_centre.specs.declared.fault.Stop.TheVariants.{WriteFailed}
-use Rattle.bt_centre.specs.declared.fault.Stop.TheVariants.{OutOfMemory as out_of_memory}
 use Rattle.bt_centre.specs.declared.history.History.{History}
 use Rattle.bt_centre.specs.Lines.{total_of}
 use Rattle.bt_centre.specs.Output.{Output, Prints}
-use Rattle.bt_centre.specs.Progress.{Hand, IsBegun, IsLeftAtRestart, IsLeftEarly, IsLeftOf, IsLegalHand, ItemFailed, ItemPlayed, ItemsDone, ItemsWritten, Left, PartsEnded, PrintsNamed, histories_in, start_of}
-use Rattle.bt_centre.specs.RecoverFaults.{recover_line, recover_status}
-use Rattle.bt_centre.specs.Run.{AreLegalTimes, BreaksOff, EndsFrom, FramesAreSafe, IsRun, LeavesStore, PlansAreGood, PrintsFault, RunsPartly, RunsToRestart, RunsWhole, Stand, at_start, changes_at, entries_of, first_line, histories_at, lost_in, opening_on, status_after, whole_text}
+use Rattle.bt_centre.specs.Progress.{Hand, IsBegun, IsLeftAtRestart, IsLeftEarly, IsLeftOf, IsLegalHand, ItemFailed, ItemPlayed, ItemsDone, ItemsWritten, Left, PartsEnded, histories_in, start_of}
+use Rattle.bt_centre.specs.RecoverFaults.{PrintsNamed, recover_line, recover_status}
+use Rattle.bt_centre.specs.Run.{AreLegalTimes, IsRun, LeavesStore, changes_at, entries_of, first_line, lost_in, opening_on, status_after, whole_text}
 use Rattle.bt_centre.specs.Stored.{Stored}
 use Rattle.bt_round.proofs.Closing.{ran_nothing}
 use Rattle.bt_centre.proofs.Going.{breaks_off, left_early, legal_times}
@@ -129,14 +125,14 @@ ended_partly net items first more output begun hand lines left status good parts
 }
 
 -- a text was not written
-pub not_written : (net : Net) (items first more : List Item) (output : Output) (begun : Books) (hand : Hand) (lines : List ℕ) (left : Left) (stop : Stop) (status : ℕ) → AreGood net
-    → items ≡ first ++ more → ItemsDone net begun first hand lines → IsLeftOf hand left → (stop ≡ WriteFailed → Rose output.faults_before output.faults_after)
-    → (stop ≡ WriteFailed → GainsPrefix output.before (first_line net begun.state.changes ++ lines) output.after
+pub not_written : (net : Net) (items first more : List Item) (output : Output) (begun : Books) (hand : Hand) (lines : List ℕ) (left : Left) (why : SinkFault) (status : ℕ) → AreGood net
+    → items ≡ first ++ more → ItemsDone net begun first hand lines → IsLeftOf hand left → (why ≡ sink.Failed → Rose output.faults_before output.faults_after)
+    → (why ≡ sink.Failed → GainsPrefix output.before (first_line net begun.state.changes ++ lines) output.after
     ⊎ ((more ≡ []) × GainsPrefix output.before (whole_text net begun.state.changes lines left.histories) output.after))
-    → (stop ≡ out_of_memory → status ≡ 1) → (stop ≡ WriteFailed → status ≡ 6) → PartsEnded net items output begun left status
-not_written net items first more output begun hand lines left out_of_memory status good parts so is failed written early partly =
+    → (why ≡ sink.OutOfMemory → status ≡ 1) → (why ≡ sink.Failed → status ≡ 6) → PartsEnded net items output begun left status
+not_written net items first more output begun hand lines left sink.OutOfMemory status good parts so is failed written early partly =
     ended_early net items output begun so.end.opening hand left status so.so_far (left_early net hand left so.so_far.network so.so_far.follow is) (early refl)
-not_written net items first more output begun hand lines left WriteFailed status good parts so is failed written early partly =
+not_written net items first more output begun hand lines left sink.Failed status good parts so is failed written early partly =
     ended_partly net items first more output begun hand lines left status good parts so is (failed refl) (written refl) (partly refl)
 
 -- all was written
@@ -236,34 +232,34 @@ not_played net items index one begun old left before between after f0 f1 f2 faul
     ended_at_restart net items index begun old left before between after f0 f1 f2 fault status good (parts_at items index one within is restart) so later at printed
 
 -- the first line was not written
-pub not_begun : (net : Net) (items : List Item) (hand : Hand) (left : Left) (stop : Stop) (before after : Option (List ℕ)) (f0 f2 : ℕ) (status : ℕ) → AreGood net → IsBegun net hand → IsLeftOf hand left
-    → (stop ≡ WriteFailed → Rose f0 f2) → (stop ≡ WriteFailed → GainsPrefix before (start_of hand) after) → (stop ≡ out_of_memory → status ≡ 1) → (stop ≡ WriteFailed → status ≡ 6)
+pub not_begun : (net : Net) (items : List Item) (hand : Hand) (left : Left) (why : SinkFault) (before after : Option (List ℕ)) (f0 f2 : ℕ) (status : ℕ) → AreGood net → IsBegun net hand → IsLeftOf hand left
+    → (why ≡ sink.Failed → Rose f0 f2) → (why ≡ sink.Failed → GainsPrefix before (start_of hand) after) → (why ≡ sink.OutOfMemory → status ≡ 1) → (why ≡ sink.Failed → status ≡ 6)
     → PartsEnded net items (output_of before after f0 f2) hand.book left status
-not_begun net items hand left stop before after f0 f2 status good begun is failed gains early partly =
-    not_written net items [] items (output_of before after f0 f2) hand.book hand [] left stop status good refl (items_begin net hand begun) is failed
+not_begun net items hand left why before after f0 f2 status good begun is failed gains early partly =
+    not_written net items [] items (output_of before after f0 f2) hand.book hand [] left why status good refl (items_begin net hand begun) is failed
     (λ so. inl (subst (λ (t : List ℕ). GainsPrefix before t after) (start_is net hand begun ∙ sym (append-nil (first_line net hand.book.state.changes))) (gains so))) early partly
 
 -- a part was played, and its text was not written
-pub not_shown : (net : Net) (items : List Item) (index : ℕ) (one : Item) (begun : Books) (old new : Hand) (own : List ℕ) (left : Left) (stop : Stop) (before between after : Option (List ℕ)) (f0 f1 f2 : ℕ) (status : ℕ)
+pub not_shown : (net : Net) (items : List Item) (index : ℕ) (one : Item) (begun : Books) (old new : Hand) (own : List ℕ) (left : Left) (why : SinkFault) (before between after : Option (List ℕ)) (f0 f1 f2 : ℕ) (status : ℕ)
     → AreGood net → index < length items → one ≡ get_or items index one → ItemsWritten net begun (take index items) old before between → f0 ≤ f1 → ItemPlayed net one old new own → IsLeftOf new left
-    → (stop ≡ WriteFailed → Rose f1 f2) → (stop ≡ WriteFailed → GainsPrefix between own after) → (stop ≡ out_of_memory → status ≡ 1) → (stop ≡ WriteFailed → status ≡ 6)
+    → (why ≡ sink.Failed → Rose f1 f2) → (why ≡ sink.Failed → GainsPrefix between own after) → (why ≡ sink.OutOfMemory → status ≡ 1) → (why ≡ sink.Failed → status ≡ 6)
     → PartsEnded net items (output_of before after f0 f2) begun left status
-not_shown net items index one begun old new own left stop before between after f0 f1 f2 status good within is so later played left_is failed gains early partly =
+not_shown net items index one begun old new own left why before between after f0 f1 f2 status good within is so later played left_is failed gains early partly =
     let front = first_line net begun.state.changes in
-    not_written net items (take index items ++ one ∷ []) (drop (index + 1) items) (output_of before after f0 f2) begun new (so.lines ++ own) left stop status good
+    not_written net items (take index items ++ one ∷ []) (drop (index + 1) items) (output_of before after f0 f2) begun new (so.lines ++ own) left why status good
     (sym (take-append-drop (index + 1) items) ∙ ap (λ (l : List Item). l ++ drop (index + 1) items) (next_parts items index one within is))
     (item_goes_on net begun (take index items) one old new so.lines own so.done played) left_is (λ so. rose_from f0 f1 f2 later (failed so))
     (λ stopped. inl (subst (λ (t : List ℕ). GainsPrefix before t after) (append_assoc front so.lines own) (prefix_behind before between after (front ++ so.lines) own so.wrote (gains stopped)))) early partly
 
 -- the last line was not written
-pub not_totalled : (net : Net) (items : List Item) (begun : Books) (hand : Hand) (left : Left) (stop : Stop) (before between after : Option (List ℕ)) (f0 f1 f2 : ℕ) (status : ℕ)
+pub not_totalled : (net : Net) (items : List Item) (begun : Books) (hand : Hand) (left : Left) (why : SinkFault) (before between after : Option (List ℕ)) (f0 f1 f2 : ℕ) (status : ℕ)
     → AreGood net → ItemsWritten net begun items hand before between → f0 ≤ f1 → IsLeftOf hand left
-    → (stop ≡ WriteFailed → Rose f1 f2) → (stop ≡ WriteFailed → GainsPrefix between (total_of (entries_of left.histories)) after) → (stop ≡ out_of_memory → status ≡ 1) → (stop ≡ WriteFailed → status ≡ 6)
+    → (why ≡ sink.Failed → Rose f1 f2) → (why ≡ sink.Failed → GainsPrefix between (total_of (entries_of left.histories)) after) → (why ≡ sink.OutOfMemory → status ≡ 1) → (why ≡ sink.Failed → status ≡ 6)
     → PartsEnded net items (output_of before after f0 f2) begun left status
-not_totalled net items begun hand left stop before between after f0 f1 f2 status good so later left_is failed gains early partly =
+not_totalled net items begun hand left why before between after f0 f1 f2 status good so later left_is failed gains early partly =
     let front = first_line net begun.state.changes in
     let total = total_of (entries_of left.histories) in
-    not_written net items items [] (output_of before after f0 f2) begun hand so.lines left stop status good (sym (append-nil items)) so.done left_is (λ stopped. rose_from f0 f1 f2 later (failed stopped))
+    not_written net items items [] (output_of before after f0 f2) begun hand so.lines left why status good (sym (append-nil items)) so.done left_is (λ stopped. rose_from f0 f1 f2 later (failed stopped))
     (λ stopped. inr (refl, prefix_behind before between after (front ++ so.lines) total so.wrote (gains stopped))) early partly
 
 -- it was
@@ -290,6 +286,6 @@ same_end net items output begun left told faults histories events status s told_
     )) ended)
 
 -- a failure of that kind
-pub err_is : (stop : Stop) → stop ≡ WriteFailed → (let failed : Result (Unit {0}) Stop = Err stop in IsErrOf failed WriteFailed)
-err_is WriteFailed is = refl
-err_is out_of_memory is = absurd cc
+pub err_is : (why : SinkFault) → why ≡ sink.Failed → (let failed : Result (Unit {0}) SinkFault = Err why in IsErrOf failed sink.Failed)
+err_is sink.Failed is = refl
+err_is sink.OutOfMemory is = absurd cc

@@ -1,5 +1,5 @@
 -- How a run ends, from how its parts ended behind the recovery.
-use Rattle.std.proofs.Common.{◌≡◌, ℕ, ◌≤◌, Bool, inl, inr, List, [], ◌∷◌, ◌++◌, length, reverse, Option, Some, None, refl, sym, ap, ◌∙◌, subst, arith}
+use Rattle.std.proofs.Common.{◌≡◌, ℕ, ◌≤◌, Bool, inl, inr, List, [], ◌∷◌, ◌++◌, length, reverse, Option, ap, ◌∙◌, subst}
 use Rattle.std.specs.Prelude.{IfSome, option_map}
 use Rattle.std.specs.Option.{is_some}
 use Rattle.bt_net.specs.Network.{Net}
@@ -8,7 +8,6 @@ use Rattle.bt_demand.specs.declared.burst.Burst.{Burst}
 use Rattle.bt_journal.specs.declared.call.Change.{Change}
 use Rattle.bt_book.specs.declared.fault.RecoverFault.{RecoverFault}
 use Rattle.bt_book.specs.declared.fault.RecoverFault.TheVariants.{StoreFault}
-use Rattle.bt_book.specs.Book.{Books}
 use Rattle.bt_book.specs.Recovery.{IsReadable, IsRecoverFault, Recovered, whole}
 use Rattle.bt_world.specs.Air.{AreFlyable, IsAir, IsSafe, modes_in_front}
 use Rattle.bt_world.specs.Event.{Frame, Opening}
@@ -18,8 +17,9 @@ use Rattle.bt_script.specs.declared.script.Item.{Item}
 use Rattle.bt_script.specs.declared.script.Script.{Script}
 use Rattle.bt_centre.specs.declared.history.History.{History}
 use Rattle.bt_centre.specs.Output.{Output}
-use Rattle.bt_centre.specs.Progress.{Hand, IsBegun, Left, PartsEnded, PrintsNamed}
-use Rattle.bt_centre.specs.Run.{AreLegalTimes, EndsFrom, FramesAreSafe, LeavesStore, PlaysItems, RunsFrom, RunsTo, Stand, at_start, lost_in, opening_on}
+use Rattle.bt_centre.specs.Progress.{Hand, IsBegun, Left, PartsEnded}
+use Rattle.bt_centre.specs.RecoverFaults.{PrintsNamed}
+use Rattle.bt_centre.specs.Run.{AreLegalTimes, EndsFrom, FramesAreSafe, IsRun, LeavesStore, PlaysItems, RunsFrom, RunsTo, Stand, at_start, lost_in, opening_on}
 use Rattle.bt_centre.specs.Stored.{Stored}
 use Rattle.bt_centre.proofs.Ended.{only_fault}
 use Rattle.bt_centre.proofs.Restarts.{cut_at_fault, tells_whole}
@@ -51,10 +51,23 @@ leaves_from : (net : Net) (told given after : Option (List ℕ)) (faults begun n
     → LeavesStore net (stored_from told after begun now) histories end → LeavesStore net (stored_from given after faults now) histories end
 leaves_from net told given after faults begun now histories end later left = record { bytes = left.bytes; count = rose_since (length (lost_in histories)) faults begun now later left.count }
 
+-- a run over a store is one over another that tells its bytes where that one does
+run_over : (net : Net) (tells other : Bool) (opening : List Change) (items : List Item) (histories : List History) (events : List Event) (lines : List ℕ) → tells ≡ other
+    → IsRun net tells opening items histories events lines → IsRun net other opening items histories events lines
+run_over net tells other opening items histories events lines same run = record {
+  end = run.end;
+  played = subst (λ (b : Bool). PlaysItems net b (at_start net opening) items lines run.end) same run.played;
+  history = run.history;
+  legal = subst (λ (b : Bool). AreLegalTimes net b opening run.end.opening histories) same run.legal;
+  events_are = run.events_are;
+  good = run.good;
+}
+
 -- the store told bytes before the recovery as behind it, or not, and its count of faults did not fall in it
 ends_from : (net : Net) (items : List Item) (output : Output) (told given after : Option (List ℕ)) (faults begun now : ℕ) (opening : List Change) (status : ℕ) (histories : List History) (events : List Event)
     → is_some told ≡ is_some given → faults ≤ begun → EndsFrom net items output (stored_from told after begun now) opening status histories events
     → EndsFrom net items output (stored_from given after faults now) opening status histories events
+unfolding run_over
 ends_from net items output told given after faults begun now opening status histories events tells later (inl breaks) = inl (record {
   last = breaks.last;
   legal = subst (λ (b : Bool). AreLegalTimes net b opening breaks.last histories) tells breaks.legal;
@@ -69,14 +82,7 @@ ends_from net items output told given after faults begun now opening status hist
 })
 ends_from net items output told given after faults begun now opening status histories events tells later (inr (inl whole)) = inr (inl (record {
   lines = whole.lines;
-  run = record {
-    end = whole.run.end;
-    played = subst (λ (b : Bool). PlaysItems net b (at_start net opening) items whole.lines whole.run.end) tells whole.run.played;
-    history = whole.run.history;
-    legal = subst (λ (b : Bool). AreLegalTimes net b opening whole.run.end.opening histories) tells whole.run.legal;
-    events_are = whole.run.events_are;
-    good = whole.run.good;
-  };
+  run = run_over net (is_some told) (is_some given) opening items histories events whole.lines tells whole.run;
   left = leaves_from net told given after faults begun now histories whole.run.end later whole.left;
   written = whole.written;
   status_is = whole.status_is;
@@ -86,14 +92,7 @@ ends_from net items output told given after faults begun now opening status hist
   more = part.more;
   lines = part.lines;
   parts = part.parts;
-  run = record {
-    end = part.run.end;
-    played = subst (λ (b : Bool). PlaysItems net b (at_start net opening) part.first part.lines part.run.end) tells part.run.played;
-    history = part.run.history;
-    legal = subst (λ (b : Bool). AreLegalTimes net b opening part.run.end.opening histories) tells part.run.legal;
-    events_are = part.run.events_are;
-    good = part.run.good;
-  };
+  run = run_over net (is_some told) (is_some given) opening part.first histories events part.lines tells part.run;
   left = leaves_from net told given after faults begun now histories part.run.end later part.left;
   failed = part.failed;
   written = part.written;
@@ -104,14 +103,7 @@ ends_from net items output told given after faults begun now opening status hist
   more = fails.more;
   lines = fails.lines;
   parts = fails.parts;
-  run = record {
-    end = fails.run.end;
-    played = subst (λ (b : Bool). PlaysItems net b (at_start net opening) fails.first fails.lines fails.run.end) tells fails.run.played;
-    history = fails.run.history;
-    legal = subst (λ (b : Bool). AreLegalTimes net b opening fails.run.end.opening histories) tells fails.run.legal;
-    events_are = fails.run.events_are;
-    good = fails.run.good;
-  };
+  run = run_over net (is_some told) (is_some given) opening fails.first histories events fails.lines tells fails.run;
   told = fails.told;
   faults = fails.faults;
   left = leaves_from net told given fails.told faults begun fails.faults histories fails.run.end later fails.left;

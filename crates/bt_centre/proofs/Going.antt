@@ -1,13 +1,12 @@
 -- A run goes on by legal times.
-use Rattle.std.proofs.Common.{◌≡◌, ℕ, ◌+◌, ◌≤◌, Bool, List, [], ◌∷◌, ◌++◌, length, reverse, Option, refl, sym, ap, ◌∙◌, subst, arith, inl, inr}
+use Rattle.std.proofs.Common.{◌≡◌, ℕ, ◌+◌, List, [], ◌∷◌, ◌++◌, length, reverse, refl, sym, ap, ◌∙◌, subst, arith, inl}
 use Rattle.std.specs.Option.{is_some}
-use Rattle.std.proofs.lemmas.List.{append-nil}
 use Rattle.bt_net.specs.Network.{Net}
 use Rattle.bt_journal.specs.declared.call.Change.{Change}
 use Rattle.bt_journal.specs.declared.entry.Entry.{Entry}
 use Rattle.bt_book.specs.Book.{Books}
 use Rattle.bt_book.specs.Causes.{Follows}
-use Rattle.bt_book.specs.Machine.{Legal, State, running, state_after, state_from}
+use Rattle.bt_book.specs.Machine.{Legal, State, running, state_after}
 use Rattle.bt_book.specs.Store.{IsKept, lost_of}
 use Rattle.bt_book.proofs.Histories.{state_from-none}
 use Rattle.bt_centre.specs.declared.history.History.{History}
@@ -17,8 +16,7 @@ use Rattle.bt_round.proofs.Closing.{ran_nothing}
 use Rattle.bt_world.specs.Event.{Opening}
 use Rattle.bt_world.specs.Fits.{IsWorld}
 use Rattle.bt_centre.specs.Progress.{GoesOn, Hand, IsBegun, IsLeftEarly, IsLeftOf, IsLegalHand, Left, RestartPlayed, histories_in, history_in}
-use Rattle.bt_centre.specs.Run.{AreLegalTimes, AreTimes, BreaksOff, IsLegalHistory, lost_in, opening_on}
-use Rattle.bt_centre.specs.Stored.{Stored}
+use Rattle.bt_centre.specs.Run.{AreLegalTimes, AreTimes, BreaksOff, IsLegalHistory, lost_in}
 use Rattle.bt_centre.proofs.Times.{lost_count, lost_more, next_time, rose_on, rose_still, times_more}
 
 -- a book that was asked nothing

@@ -1,12 +1,12 @@
 -- Whether the order that the centre wanted joins the others at a restart.
-use Rattle.std.proofs.Common.{◌≡◌, ◌≢◌, ℕ, ◌+◌, Bool, true, false, List, length, get_or, refl, sym, ap, ◌∙◌, subst, Option, Some, None, arith}
+use Rattle.std.proofs.Common.{◌≡◌, ◌≢◌, ℕ, ◌+◌, Bool, true, false, List, length, get_or, refl, sym, ap, ◌∙◌, subst, Option, Some, None}
 use Rattle.bt_air.specs.declared.order.Order.{Order}
 use Rattle.bt_journal.specs.declared.call.Change.{Change}
 use Rattle.bt_book.specs.Changes.{orders}
 use Rattle.bt_world.specs.World.{wanted}
 use Rattle.bt_round.specs.AirLines.{AirState, happened, orders_in}
-use Rattle.bt_centre.specs.Progress.{HasJoined, TellsJoined}
-use Rattle.bt_centre.specs.Run.{IsJoining, JoinsOrder}
+use Rattle.bt_centre.specs.Progress.{TellsJoined}
+use Rattle.bt_centre.specs.Run.{JoinsOrder}
 
 -- the order at the place is this one, or another is
 pub tells_joined : (changes : List Change) (placed : ℕ) (order held : Order) (result : Bool) → length (orders changes) ≡ placed + 1

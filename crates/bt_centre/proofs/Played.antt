@@ -1,16 +1,16 @@
 -- Parts of a script, played one after the other.
-use Rattle.std.proofs.Common.{◌≡◌, ℕ, suc, ◌+◌, ◌<◌, ◌≤◌, Bool, List, [], ◌∷◌, ◌++◌, length, take, drop, get_or, Option, Some, None, refl, sym, ap, ◌∙◌, subst, append_assoc, arith}
+use Rattle.std.proofs.Common.{◌≡◌, ℕ, suc, ◌+◌, ◌<◌, ◌≤◌, Bool, List, [], ◌∷◌, ◌++◌, length, take, get_or, Option, Some, None, refl, sym, ap, ◌∙◌, subst, append_assoc, arith}
 use Rattle.std.specs.List.{Contains}
 use Rattle.std.specs.Option.{is_some}
 use Rattle.std.proofs.Math.Seq.{take-suc}
-use Rattle.std.proofs.lemmas.List.{append-nil, take-append-drop}
+use Rattle.std.proofs.lemmas.List.{append-nil}
 use Rattle.std.proofs.lemmas.List.Elements.{All-append, All-nil}
 use Rattle.bt_lists.proofs.Pairs.{AllPairs-append}
-use Rattle.bt_base.specs.Told.{GainsPrefix, gained}
+use Rattle.bt_base.specs.Told.{gained}
 use Rattle.bt_net.specs.Network.{Net}
 use Rattle.bt_journal.specs.declared.call.Change.{Change}
 use Rattle.bt_journal.specs.declared.entry.Entry.{Entry}
-use Rattle.bt_journal.specs.Journal.{calls_of, changes_of}
+use Rattle.bt_journal.specs.Journal.{changes_of}
 use Rattle.bt_book.specs.Book.{Books}
 use Rattle.bt_book.specs.Causes.{Follows}
 use Rattle.bt_book.specs.Changes.{edition, newest, plans}
@@ -21,8 +21,7 @@ use Rattle.bt_script.specs.declared.script.Round.{Round}
 use Rattle.bt_timeline.specs.Timeline.{start_line}
 use Rattle.bt_centre.specs.declared.history.History.{History}
 use Rattle.bt_round.specs.AirLines.{AirState, PlaysAirLines, mark_of}
-use Rattle.bt_round.specs.Desks.{IsNotOlder, Sight, desks_text}
-use Rattle.bt_round.specs.Planning.{planner_text}
+use Rattle.bt_round.specs.Desks.{IsNotOlder, Sight}
 use Rattle.bt_round.specs.Rounds.{newest_at}
 use Rattle.bt_round.proofs.Installed.{newest_ascends}
 use Rattle.bt_centre.specs.Progress.{CentreBegan, Hand, IsBegun, ItemPlayed, ItemsDone, ItemsWritten, RestartPlayed, RoundPlayed, histories_in, start_of}

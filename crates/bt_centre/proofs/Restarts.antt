@@ -1,5 +1,5 @@
 -- The centre restarts over the store's changes, or they could not be recovered.
-use Rattle.std.proofs.Common.{◌≡◌, ◌≢◌, ℕ, ◌<◌, ◌≤◌, Bool, List, [], ◌∷◌, ◌++◌, length, reverse, Option, Some, None, refl, sym, ap, ◌∙◌, subst, arith, inl, inr}
+use Rattle.std.proofs.Common.{◌≡◌, ◌≢◌, ℕ, ◌≤◌, List, [], ◌∷◌, ◌++◌, length, reverse, Option, Some, None, refl, sym, ap, ◌∙◌, subst, arith, inl, inr}
 use Rattle.std.specs.Prelude.{IfSome, option_map}
 use Rattle.std.specs.Option.{is_some}
 use Rattle.bt_frame.specs.declared.limits.TheConstants.{MOST_JOURNAL_BYTES}
@@ -16,11 +16,10 @@ use Rattle.bt_book.specs.Machine.{running}
 use Rattle.bt_book.specs.Recovery.{IsOutside, IsReadable, IsRecoverFault, MaybeCut, Recovered, whole}
 use Rattle.bt_book.specs.Store.{IsKept, IsNextOpening, IsStored, lost_of}
 use Rattle.bt_script.specs.declared.script.Item.TheVariants as item
-use Rattle.bt_world.specs.Event.{Opening}
 use Rattle.bt_world.specs.Fits.{IsWorld}
 use Rattle.bt_round.specs.AirLines.{AirState}
 use Rattle.bt_centre.specs.declared.history.History.{History}
-use Rattle.bt_centre.specs.Progress.{BeganAgain, CentreBegan, GoesOn, Hand, IsLeftAtRestart, IsLeftBehind, IsLeftEarly, ItemFailed, Left, RestartPlayed, histories_in}
+use Rattle.bt_centre.specs.Progress.{BeganAgain, CentreBegan, Hand, IsLeftAtRestart, IsLeftBehind, IsLeftEarly, ItemFailed, Left, RestartPlayed, histories_in}
 use Rattle.bt_centre.proofs.Going.{ran_none}
 
 -- a store tells its next opening

@@ -1,5 +1,5 @@
 -- The times of a run, one after the other, and what its store lost in them.
-use Rattle.std.proofs.Common.{◌≡◌, ℕ, ◌+◌, ◌≤◌, Bool, true, false, List, [], ◌∷◌, ◌++◌, length, length-append, Option, Some, None, refl, sym, ap, ◌∙◌, subst, arith, inl, inr}
+use Rattle.std.proofs.Common.{◌≡◌, ℕ, ◌+◌, ◌≤◌, Bool, true, false, List, [], ◌∷◌, ◌++◌, length, length-append, Option, Some, None, refl, ap, ◌∙◌, subst, arith, inl, inr}
 use Rattle.std.specs.Prelude.{IfSome}
 use Rattle.std.specs.Option.{is_some}
 use Rattle.std.proofs.lemmas.List.{append-nil}
@@ -11,7 +11,7 @@ use Rattle.bt_journal.specs.declared.entry.Entry.{Entry}
 use Rattle.bt_journal.specs.Journal.{changes_of}
 use Rattle.bt_book.specs.Store.{IsNextOpening, RoseBy, change_lost, lost_of}
 use Rattle.bt_centre.specs.declared.history.History.{History}
-use Rattle.bt_centre.specs.Run.{AreLegalTimes, AreTimes, IsLegalHistory, IsNextTime, entries_of, lost_in}
+use Rattle.bt_centre.specs.Run.{AreTimes, IsLegalHistory, IsNextTime, entries_of, lost_in}
 
 -- the changes that more entries lost stand behind the others
 pub lost_of-append : (a b : List Entry) → lost_of (a ++ b) ≡ lost_of a ++ lost_of b

@@ -26,8 +26,7 @@ use Rattle.bt_round.specs.AirLines.{AirState, having, mark_of}
 use Rattle.bt_round.specs.Desks.{IsNotOlder, Sight}
 use Rattle.bt_round.specs.Rounds.{BookRan, RoundDone, newest_at}
 use Rattle.bt_centre.specs.Output.{Output}
-use Rattle.bt_centre.specs.Run.{AreTimes, EndsFrom, JoinsOrder, PlaysItems, PrintsFault, Stand, at_start, first_line, lost_in, opening_on}
-use Rattle.bt_centre.specs.Stored.{Stored}
+use Rattle.bt_centre.specs.Run.{AreTimes, EndsFrom, JoinsOrder, PlaysItems, Stand, at_start, first_line, lost_in, opening_on}
 
 -- What a run has in hand: the histories of the times that are over, how many changes the book had when the present time began, the
 -- book, the air, and the rounds so far.
@@ -198,10 +197,6 @@ pub record IsLeftAtRestart (net : Net) (old : Hand) (left : Left) (fault : Recov
 -- a part could not be played: memory ran out, or it was a restart, and the recovery failed
 abbrev pub ItemFailed : Net → Item → Hand → Left → RecoverFault → Type 0
 ItemFailed net one old left fault = ((fault ≡ OutOfMemory) × IsLeftEarly old left) ⊎ ((one ≡ item.Restart) × IsLeftAtRestart net old left fault)
-
--- memory ran out, or the line of the fault, which has one, was written behind this text
-abbrev pub PrintsNamed : Output → List ℕ → RecoverFault → ℕ → Type 0
-PrintsNamed output text fault status = (status ≡ 1) ⊎ ((fault ≢ OutOfMemory) × PrintsFault output text fault status)
 
 -- how the parts of a script ended, from a book on, and the world in which they did
 pub record PartsEnded (net : Net) (items : List Item) (output : Output) (begun : Books) (left : Left) (status : ℕ) : Type 0 where

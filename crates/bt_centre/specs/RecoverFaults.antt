@@ -1,8 +1,9 @@
--- The line and the status of a recovery that failed.
-use Rattle.std.specs.Prelude.{ℕ, codes, decimal, List, [], ◌∷◌}
+-- The line and the status of a recovery that failed, and how they are printed.
+use Rattle.std.specs.Prelude.{◌≡◌, ◌≢◌, ◌⊎◌, ℕ, ◌++◌, codes, decimal, List, [], ◌∷◌}
 use Rattle.bt_book.specs.declared.fault.RecoverFault.{RecoverFault}
 use Rattle.bt_book.specs.declared.fault.RecoverFault.TheVariants.{J1, J2, StoreFault, TooLong, OutOfMemory}
 use Rattle.bt_timeline.specs.Lines.{line_of}
+use Rattle.bt_centre.specs.Output.{Output, Prints}
 
 -- the words of its line; want of memory has none
 abbrev pub recover_words : RecoverFault → List (List ℕ)
@@ -23,3 +24,12 @@ recover_status (J2 line) = 8
 recover_status StoreFault = 7
 recover_status TooLong = 10
 recover_status OutOfMemory = 1
+
+-- the line of the fault was written behind this text, and the status is its own; or the sink failed, a first part of both was written,
+-- and it is 6
+abbrev pub PrintsFault : Output → List ℕ → RecoverFault → ℕ → Type 0
+PrintsFault output text fault status = Prints output (text ++ recover_line fault) (recover_status fault) status
+
+-- memory ran out, or the line of the fault, which has one, was written behind this text
+abbrev pub PrintsNamed : Output → List ℕ → RecoverFault → ℕ → Type 0
+PrintsNamed output text fault status = (status ≡ 1) ⊎ ((fault ≢ OutOfMemory) × PrintsFault output text fault status)

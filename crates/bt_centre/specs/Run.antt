@@ -33,8 +33,8 @@ use Rattle.bt_round.specs.AirLines.{AirState, PlaysAirLines, happened, having, m
 use Rattle.bt_round.specs.Desks.{Sight, IsNotOlder, asked_by, desks_text, shown_to, shows_of}
 use Rattle.bt_round.specs.Planning.{PlaysPlans, planner_text}
 use Rattle.bt_centre.specs.Lines.{total_of}
-use Rattle.bt_centre.specs.Output.{Output, HasFailed, Prints}
-use Rattle.bt_centre.specs.RecoverFaults.{recover_line, recover_status}
+use Rattle.bt_centre.specs.Output.{Output, HasFailed}
+use Rattle.bt_centre.specs.RecoverFaults.{PrintsFault}
 use Rattle.bt_centre.specs.Stored.{Stored}
 
 -- How far a run has come. A time of a run is what lies between two starts of the centre: the histories of the times that are over,
@@ -219,11 +219,6 @@ pub record IsOpening (net : Net) (stored : Stored) (opening : List Change) : Typ
   pub told : IfSome stored.before (λ bytes. Recovered net bytes opening)
   pub readable : IsReadable stored.before
   pub follow : Follows net opening
-
--- the line of the fault was written behind this text, and the status is its own; or the sink failed, a first part of both was written,
--- and it is 6
-abbrev pub PrintsFault : Output → List ℕ → RecoverFault → ℕ → Type 0
-PrintsFault output text fault status = Prints output (text ++ recover_line fault) (recover_status fault) status
 
 -- nothing was run
 pub record RunsNone (stored : Stored) (histories : List History) (events : List Event) : Type 0 where

@@ -13,13 +13,20 @@ mod joining_laws;
 mod open;
 mod play;
 mod playing;
+mod print;
 mod restart;
 mod run;
 mod script;
 mod station;
+mod status;
 mod total;
 
 pub use bt_round::{Gate, NoGate};
+pub use fault::print_fault;
 pub use history::{Histories, History};
-pub use joining_laws::orders_join_as_told;
+pub use print::print_text;
 pub use script::{RunEnd, run_script};
+pub use status::{
+    DONE, FAULTY_JOURNAL, FAULTY_TEXT, FAULTY_WORDS, NO_NETWORK, NOT_GOOD, OUT_OF_MEMORY,
+    READ_FAILED, STORE_FAILED, TOO_LONG, WRITE_FAILED,
+};

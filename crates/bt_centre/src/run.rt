@@ -6,10 +6,11 @@ ghost use Rattle.bt_centre.specs.Output.{Output};
 ghost use Rattle.bt_centre.specs.Progress.{IsBegun, ItemsWritten, PartsEnded, start_of};
 
 use crate::RunEnd;
-use crate::fault::{Stop, write, write_restart_fault};
+use crate::fault::print_restart_fault;
 use crate::play::play_item;
 use crate::playing::Playing;
-use bt_base::{Keeper, Sink};
+use crate::print::unwritten;
+use bt_base::{Keeper, Sink, SinkFault};
 use bt_book::installed_plans_are_good;
 use bt_net::Network;
 use bt_round::Gate;
@@ -39,19 +40,19 @@ pub(crate) fn play_items<R: Threads + Wait + Sync, G: Gate + Sync, O: Sink, K: K
     ensures later { O.fault_count out.old ≤ O.fault_count out.new }
 {
     installed_plans_are_good();
-    if let Err(stop) = write_start(alloc, &playing, out) {
-        return Err(playing.stop(rt).end(stop.status()));
+    if let Err(fault) = write_start(alloc, &playing, out) {
+        return Err(playing.stop(rt).end(unwritten(fault)));
     }
     for item in items {
         match play_item(rt, alloc, net, gate, item, playing) {
             Ok((next, text)) => {
                 playing = next;
-                if let Err(stop) = write(alloc, text.as_slice(), out) {
-                    return Err(playing.stop(rt).end(stop.status()));
+                if let Err(fault) = out.write(alloc, text.as_slice()) {
+                    return Err(playing.stop(rt).end(unwritten(fault)));
                 }
             }
             Err((remains, fault)) => {
-                return Err(remains.end(write_restart_fault(alloc, fault, out)));
+                return Err(remains.end(print_restart_fault(alloc, fault, out)));
             }
         }
     }
@@ -63,10 +64,10 @@ fn write_start<O: Sink, K: Keeper>(
     alloc: Global,
     playing: &Playing<K>,
     out: &mut O,
-) -> Result<(), Stop>
+) -> Result<(), SinkFault>
     ensures ok { OnOk result (O.told out.new ≡ gained (O.told out.old) (start_of playing.now)) }
-    ensures failed { IsErrOf result Stop.WriteFailed → GainsPrefix (O.told out.old) (start_of playing.now) (O.told out.new) }
-    ensures cause { IsErrOf result Stop.WriteFailed → Rose (O.fault_count out.old) (O.fault_count out.new) }
+    ensures failed { IsErrOf result SinkFault.Failed → GainsPrefix (O.told out.old) (start_of playing.now) (O.told out.new) }
+    ensures cause { IsErrOf result SinkFault.Failed → Rose (O.fault_count out.old) (O.fault_count out.new) }
     ensures later { O.fault_count out.old ≤ O.fault_count out.new }
 {
     let book = &playing.station.book;
@@ -81,7 +82,7 @@ fn write_start<O: Sink, K: Keeper>(
     )
     .is_err()
     {
-        return Err(Stop::OutOfMemory);
+        return Err(SinkFault::OutOfMemory);
     }
-    write(alloc, text.as_slice(), out)
+    out.write(alloc, text.as_slice())
 }

@@ -7,14 +7,16 @@ ghost use Rattle.bt_centre.specs.Lines.{total_of};
 ghost use Rattle.bt_centre.specs.Progress.{IsBegun, PartsEnded};
 ghost use Rattle.bt_centre.specs.Run.{RunsTo, entries_of, status_after};
 
-use crate::fault::{STORE_FAILED, Stop, write, write_fault};
+use crate::fault::print_fault;
 use crate::open::open;
 use crate::playing::Playing;
+use crate::print::unwritten;
 use crate::run::play_items;
+use crate::status::{DONE, STORE_FAILED};
 use crate::total::{add_total, has_lost};
 use crate::{Histories, History};
 use bt_air::Event;
-use bt_base::{Keeper, Sink};
+use bt_base::{Keeper, Sink, SinkFault};
 use bt_book::installed_plans_are_good;
 use bt_net::Network;
 use bt_round::Gate;
@@ -62,7 +64,7 @@ pub fn run_script<R: Threads + Wait + Sync, G: Gate + Sync, O: Sink, K: Keeper +
     match open(rt, alloc, net, store) {
         Ok(playing) => run_from(rt, alloc, net, script, gate, playing, out),
         Err((store, fault)) => RunEnd {
-            status: write_fault(alloc, fault, out),
+            status: print_fault(alloc, fault, out),
             store,
             histories: Histories::none(alloc),
             events: Vec::new(alloc),
@@ -95,7 +97,7 @@ fn run_from<R: Threads + Wait + Sync, G: Gate + Sync, O: Sink, K: Keeper + Send>
                     let status = status_after(remains.histories.as_slice());
                     remains.end(status)
                 }
-                Err(stop) => remains.end(stop.status()),
+                Err(fault) => remains.end(unwritten(fault)),
             }
         }
         Err(end) => end,
@@ -103,22 +105,26 @@ fn run_from<R: Threads + Wait + Sync, G: Gate + Sync, O: Sink, K: Keeper + Send>
 }
 
 /// Writes the last line of a run with these histories.
-fn write_total<O: Sink>(alloc: Global, histories: &[History], out: &mut O) -> Result<(), Stop>
+fn write_total<O: Sink>(alloc: Global, histories: &[History], out: &mut O) -> Result<(), SinkFault>
     ensures ok { OnOk result (O.told out.new ≡ gained (O.told out.old) (total_of (entries_of histories.now))) }
-    ensures failed { IsErrOf result Stop.WriteFailed → GainsPrefix (O.told out.old) (total_of (entries_of histories.now)) (O.told out.new) }
-    ensures cause { IsErrOf result Stop.WriteFailed → Rose (O.fault_count out.old) (O.fault_count out.new) }
+    ensures failed { IsErrOf result SinkFault.Failed → GainsPrefix (O.told out.old) (total_of (entries_of histories.now)) (O.told out.new) }
+    ensures cause { IsErrOf result SinkFault.Failed → Rose (O.fault_count out.old) (O.fault_count out.new) }
     ensures later { O.fault_count out.old ≤ O.fault_count out.new }
 {
     let mut text = Vec::new(alloc);
     if add_total(alloc, histories, &mut text).is_err() {
-        return Err(Stop::OutOfMemory);
+        return Err(SinkFault::OutOfMemory);
     }
-    write(alloc, text.as_slice(), out)
+    out.write(alloc, text.as_slice())
 }
 
 /// The status of a run with these histories that came to its end.
 fn status_after(histories: &[History]) -> u8
     ensures { result ≡ status_after histories.now }
 {
-    if has_lost(histories) { STORE_FAILED } else { 0 }
+    if has_lost(histories) {
+        STORE_FAILED
+    } else {
+        DONE
+    }
 }

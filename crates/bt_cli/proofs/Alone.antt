@@ -1,16 +1,17 @@
 -- Commands that ask for no store, and a replay.
 use Rattle.std.proofs.Common.{◌≡◌, ℕ, List, [], Option, Bor, refl, sym, subst}
-use Rattle.bt_cli.specs.declared.request.Command.{Command}
-use Rattle.bt_cli.specs.declared.request.Command.TheVariants as command
-use Rattle.bt_cli.specs.Command.{asked}
+use Rattle.bt_centre.specs.Stored.{Stored}
+use Rattle.bt_cli.specs.declared.command_line.CommandLine.{CommandLine}
+use Rattle.bt_cli.specs.declared.command_line.CommandLine.TheVariants as command
+use Rattle.bt_cli.specs.CommandLine.{asked}
 use Rattle.bt_centre.specs.Output.{Output}
 use Rattle.bt_cli.specs.Outcome.{Input}
 use Rattle.bt_cli.specs.Request.{Request, Faulty, CheckModes, CheckPlan, PlanModes, PlanDemand, RunScript, ReplayJournal}
-use Rattle.bt_cli.specs.Replay.{EndsReplayWords, Stored}
+use Rattle.bt_cli.specs.Replay.{EndsReplayWords}
 use Rattle.bt_cli.specs.Run.{BeginsNoRun, End}
-use Rattle.bt_cli.specs.Top.{Answered, AsksNoStore, Ends}
+use Rattle.bt_cli.specs.Top.{Reported, AsksNoStore, Ends}
 
-none_asked : (read : Command) → ((net script journal : Bor (List ℕ)) → read ≡ command.RunScript net script journal → ⊥)
+none_asked : (read : CommandLine) → ((net script journal : Bor (List ℕ)) → read ≡ command.RunScript net script journal → ⊥)
     → ((net journal : Bor (List ℕ)) → read ≡ command.ReplayJournal net journal → ⊥) → AsksNoStore (asked read)
 none_asked command.Faulty no_run no_replay = tt
 none_asked (command.CheckModes _ _) no_run no_replay = tt
@@ -21,7 +22,7 @@ none_asked (command.RunScript net script journal) no_run no_replay = absurd (no_
 none_asked (command.ReplayJournal net journal) no_run no_replay = absurd (no_replay net journal refl)
 
 -- words that are not read as a run or a replay ask for none
-pub asks_none : (read : Command) (request : Request) → asked read ≡ request → ((net script journal : Bor (List ℕ)) → read ≡ command.RunScript net script journal → ⊥)
+pub asks_none : (read : CommandLine) (request : Request) → asked read ≡ request → ((net script journal : Bor (List ℕ)) → read ≡ command.RunScript net script journal → ⊥)
     → ((net journal : Bor (List ℕ)) → read ≡ command.ReplayJournal net journal → ⊥) → AsksNoStore request
 asks_none read request is no_run no_replay = subst AsksNoStore is (none_asked read no_run no_replay)
 
@@ -29,7 +30,7 @@ asks_none read request is no_run no_replay = subst AsksNoStore is (none_asked re
 pub runs_one : (net script journal : List ℕ) (request : Request) → RunScript net script journal ≡ request → AsksNoStore request → ⊥
 runs_one net script journal request is none = subst AsksNoStore (sym is) none
 
-ends_so : (input : Input) (output : Output) (stored : Stored) (request : Request) (end : End) → AsksNoStore request → BeginsNoRun stored end → Answered input output request end.status
+ends_so : (input : Input) (output : Output) (stored : Stored) (request : Request) (end : End) → AsksNoStore request → BeginsNoRun stored end → Reported input output request end.status
     → Ends input output stored request end
 ends_so input output stored Faulty end none nothing so = (nothing, so)
 ends_so input output stored (CheckModes _ _) end none nothing so = (nothing, so)
@@ -41,8 +42,8 @@ ends_so input output stored (ReplayJournal _ _) end none nothing so = absurd non
 
 -- a command that asks for no store ends so
 pub ends_alone : (input : Input) (output : Output) (stored : Stored) (request : Request) (end : End) (status : ℕ) → AsksNoStore request → BeginsNoRun stored end
-    → end.status ≡ status → Answered input output request status → Ends input output stored request end
-ends_alone input output stored request end status none nothing is so = ends_so input output stored request end none nothing (subst (λ s. Answered input output request s) (sym is) so)
+    → end.status ≡ status → Reported input output request status → Ends input output stored request end
+ends_alone input output stored request end status none nothing is so = ends_so input output stored request end none nothing (subst (λ s. Reported input output request s) (sym is) so)
 
 -- what a store tells between two calls
 abbrev pub stored_of : {Store : Type 0} → (Store → Option (List ℕ)) → (Store → ℕ) → Store → Store → Stored

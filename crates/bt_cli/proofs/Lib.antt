@@ -1,12 +1,13 @@
 pub mod Loads
 pub mod Others
 pub mod Words
-pub mod OneAnswer
+pub mod OneReport
 pub mod Kept
+pub mod NamedFaults
 pub mod OneJournal
 pub mod OneReplay
 pub mod OneRun
-pub mod OneAnswerWith
+pub mod OneReportWith
 pub mod Printed
 pub mod Misspelt
 pub mod Named

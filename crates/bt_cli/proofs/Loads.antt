@@ -1,9 +1,9 @@
 -- Loads that follow one another: what a later load says of its own start holds from the first one's start on.
 use Rattle.std.proofs.Common.{◌≡◌, ℕ, ◌≤◌, inl, inr, List, Option, Result, Ok, Err, subst, arith}
 use Rattle.bt_base.specs.Told.{Rose}
-use Rattle.bt_cli.specs.declared.answer.Answer.{Answer}
-use Rattle.bt_cli.specs.declared.answer.Stop.{Stop}
-use Rattle.bt_cli.specs.declared.answer.Stop.TheVariants.{Early, OutOfMemory}
+use Rattle.bt_cli.specs.declared.report.Report.{Report}
+use Rattle.bt_cli.specs.declared.report.Stop.{Stop}
+use Rattle.bt_cli.specs.declared.report.Stop.TheVariants.{Early, OutOfMemory}
 use Rattle.bt_net.specs.Network.{Net}
 use Rattle.bt_demand.specs.declared.demand.Link.{Link}
 use Rattle.bt_cli.specs.Kinds.{demand_file, plan_file}
@@ -19,17 +19,17 @@ Rose-sooner before between now sooner (inl rose) = inl (omega arith)
 Rose-sooner before between now sooner (inr last) = inr last
 
 -- what came to one of these outcomes came to one of those that they all are among
-pub CameTo-among : (P Q : Outcome → Type 0) → ((outcome : Outcome) → P outcome → Q outcome) → (result : Result Answer Stop) → CameTo P result → CameTo Q result
-CameTo-among P Q among (Ok answer) came = among _ came
-CameTo-among P Q among (Err (Early answer)) came = among _ came
+pub CameTo-among : (P Q : Outcome → Type 0) → ((outcome : Outcome) → P outcome → Q outcome) → (result : Result Report Stop) → CameTo P result → CameTo Q result
+CameTo-among P Q among (Ok report) came = among _ came
+CameTo-among P Q among (Err (Early report)) came = among _ came
 CameTo-among P Q among (Err OutOfMemory) came = tt
 
 -- what came to one of these outcomes, and was printed, was one of them
-pub came_printed : (output : Output) (Outcomes : Outcome → Type 0) (result : Result Answer Stop) (status : ℕ) → CameTo Outcomes result → EndsWith output result status → PrintsOneOf output Outcomes status
-came_printed output Outcomes (Ok answer) status came (inl none) = inl none
-came_printed output Outcomes (Ok answer) status came (inr printed) = inr (text_alone answer.text.items answer.status, came, printed)
-came_printed output Outcomes (Err (Early answer)) status came (inl none) = inl none
-came_printed output Outcomes (Err (Early answer)) status came (inr printed) = inr (text_alone answer.text.items answer.status, came, printed)
+pub came_printed : (output : Output) (Outcomes : Outcome → Type 0) (result : Result Report Stop) (status : ℕ) → CameTo Outcomes result → EndsWith output result status → PrintsOneOf output Outcomes status
+came_printed output Outcomes (Ok report) status came (inl none) = inl none
+came_printed output Outcomes (Ok report) status came (inr printed) = inr (text_alone report.text.items report.status, came, printed)
+came_printed output Outcomes (Err (Early report)) status came (inl none) = inl none
+came_printed output Outcomes (Err (Early report)) status came (inr printed) = inr (text_alone report.text.items report.status, came, printed)
 came_printed output Outcomes (Err OutOfMemory) status came none = inl none
 
 -- what was printed of one of these outcomes was one of those
@@ -57,12 +57,12 @@ Loads-sooner kind told later sooner rise name after outcome (inl (inr misspelt))
 Loads-sooner kind told later sooner rise name after outcome (inr loaded) = inr loaded
 
 -- a load went well, and what comes after it came to one of its outcomes
-pub CameTo-loaded : {Value Fault : Type 0} (kind : Kind Value Fault) (told : List ℕ → Option (List ℕ)) (failed : Type 0) (name : List ℕ) (after : Value → Outcome → Type 0) (value : Value) → IsLoaded kind told name value → (result : Result Answer Stop) → CameTo (after value) result → CameTo (Loads kind told failed name after) result
+pub CameTo-loaded : {Value Fault : Type 0} (kind : Kind Value Fault) (told : List ℕ → Option (List ℕ)) (failed : Type 0) (name : List ℕ) (after : Value → Outcome → Type 0) (value : Value) → IsLoaded kind told name value → (result : Result Report Stop) → CameTo (after value) result → CameTo (Loads kind told failed name after) result
 CameTo-loaded kind told failed name after value loaded result came =
     CameTo-among (after value) (Loads kind told failed name after) (λ outcome so. inr (value, loaded, so)) result came
 
 -- a load after another: its own start is the later one, with the same files
-pub CameTo-sooner : {Value Fault : Type 0} (kind : Kind Value Fault) (told now : List ℕ → Option (List ℕ)) (before between end : ℕ) (name : List ℕ) (after : Value → Outcome → Type 0) → now ≡ told → before ≤ between → (result : Result Answer Stop) → CameTo (Loads kind now (Rose between end) name after) result → CameTo (Loads kind told (Rose before end) name after) result
+pub CameTo-sooner : {Value Fault : Type 0} (kind : Kind Value Fault) (told now : List ℕ → Option (List ℕ)) (before between end : ℕ) (name : List ℕ) (after : Value → Outcome → Type 0) → now ≡ told → before ≤ between → (result : Result Report Stop) → CameTo (Loads kind now (Rose between end) name after) result → CameTo (Loads kind told (Rose before end) name after) result
 CameTo-sooner kind told now before between end name after same sooner result came =
     let P : (List ℕ → Option (List ℕ)) → Type 0 = λ held. CameTo (Loads kind held (Rose between end) name after) result in
     CameTo-among (Loads kind told (Rose between end) name after) (Loads kind told (Rose before end) name after) (λ outcome so. Loads-sooner kind told (Rose between end) (Rose before end) (Rose-sooner before between end sooner) name after outcome so) result (subst P same came)
@@ -84,7 +84,7 @@ WhereItFits-among net links P Q among outcome (inl over) = inl over
 WhereItFits-among net links P Q among outcome (inr (fits, so)) = inr (fits, among outcome so)
 
 -- the demand fits, and what comes after came to one of its outcomes
-pub CameTo-fits : (net : Net) (links : List Link) (after : Outcome → Type 0) → Fits net links → (result : Result Answer Stop) → CameTo after result → CameTo (WhereItFits net links after) result
+pub CameTo-fits : (net : Net) (links : List Link) (after : Outcome → Type 0) → Fits net links → (result : Result Report Stop) → CameTo after result → CameTo (WhereItFits net links after) result
 CameTo-fits net links after fits result came = CameTo-among after (WhereItFits net links after) (λ outcome so. inr (fits, so)) result came
 
 -- the last load of a plan's check, from an earlier start

@@ -15,32 +15,32 @@ use Rattle.bt_script.specs.declared.fault.ScriptCode.{ScriptCode}
 use Rattle.bt_text.specs.declared.fault.LineFault.{LineFault}
 use Rattle.bt_text.specs.declared.fault.LineFault.TheVariants as line_fault
 use Rattle.bt_script.specs.ScriptText.{script_of}
-use Rattle.bt_cli.specs.declared.answer.Stop.{Stop}
-use Rattle.bt_cli.specs.declared.answer.Stop.TheVariants as stop
-use Rattle.bt_cli.specs.Answer.{StopIs}
+use Rattle.bt_cli.specs.declared.report.Stop.{Stop}
+use Rattle.bt_cli.specs.declared.report.Stop.TheVariants as stop
+use Rattle.bt_cli.specs.Report.{StopIs}
 use Rattle.bt_cli.specs.Outcome.{IsContent, StopsAtLoad}
 use Rattle.bt_cli.specs.Kinds.{text_file, demand_file, matrix_file, plan_file, schedule_file, network_file, script_file}
 use Rattle.bt_cli.specs.Stops.{NamesTextFault, NamesNetworkFault, NamesScriptFault}
 
 text_misspelt : {Value : Type 0} (reading : List ℕ → Reading Value) (told : List ℕ → Option (List ℕ)) (failed : Type 0) (name bytes : List ℕ) (fault : LineFault TextCode) (why : Stop) → IsContent told name bytes → IsFaultOf (reading bytes) fault → StopIs (NamesTextFault fault) why → StopIs (StopsAtLoad (text_file reading) told failed name) why
 text_misspelt reading told failed name bytes fault stop.OutOfMemory content is names = tt
-text_misspelt reading told failed name bytes (line_fault.At code line) (stop.Early answer) content is names = inr (bytes, (code, line), content, is, names)
-text_misspelt reading told failed name bytes line_fault.OutOfMemory (stop.Early answer) content is names = absurd names
+text_misspelt reading told failed name bytes (line_fault.At code line) (stop.Early report) content is names = inr (bytes, (code, line), content, is, names)
+text_misspelt reading told failed name bytes line_fault.OutOfMemory (stop.Early report) content is names = absurd names
 
 pub script_misspelt : (net : Net) (told : List ℕ → Option (List ℕ)) (failed : Type 0) (name bytes : List ℕ) (fault : LineFault ScriptCode) (why : Stop) → IsContent told name bytes → IsFaultOf (script_of net bytes) fault → StopIs (NamesScriptFault fault) why → StopIs (StopsAtLoad (script_file net) told failed name) why
 script_misspelt net told failed name bytes fault stop.OutOfMemory content is names = tt
-script_misspelt net told failed name bytes (line_fault.At code line) (stop.Early answer) content is names = inr (bytes, (code, line), content, is, names)
-script_misspelt net told failed name bytes line_fault.OutOfMemory (stop.Early answer) content is names = absurd names
+script_misspelt net told failed name bytes (line_fault.At code line) (stop.Early report) content is names = inr (bytes, (code, line), content, is, names)
+script_misspelt net told failed name bytes line_fault.OutOfMemory (stop.Early report) content is names = absurd names
 
 pub network_misspelt : (told : List ℕ → Option (List ℕ)) (failed : Type 0) (name bytes : List ℕ) (fault : NetFault) (why : Stop) → IsContent told name bytes → net_reading.Fails fault (net_reading.network_in bytes) → StopIs (NamesNetworkFault fault) why → StopIs (StopsAtLoad network_file told failed name) why
 network_misspelt told failed name bytes fault stop.OutOfMemory content is names = tt
-network_misspelt told failed name bytes OutOfMemory (stop.Early answer) content is names = absurd names
-network_misspelt told failed name bytes N1 (stop.Early answer) content is names = inr (bytes, N1, content, is, names)
-network_misspelt told failed name bytes (N2 path) (stop.Early answer) content is names = inr (bytes, N2 path, content, is, names)
-network_misspelt told failed name bytes (N3 path) (stop.Early answer) content is names = inr (bytes, N3 path, content, is, names)
-network_misspelt told failed name bytes (N4 path) (stop.Early answer) content is names = inr (bytes, N4 path, content, is, names)
-network_misspelt told failed name bytes (N5 path) (stop.Early answer) content is names = inr (bytes, N5 path, content, is, names)
-network_misspelt told failed name bytes (N6 path) (stop.Early answer) content is names = inr (bytes, N6 path, content, is, names)
+network_misspelt told failed name bytes OutOfMemory (stop.Early report) content is names = absurd names
+network_misspelt told failed name bytes N1 (stop.Early report) content is names = inr (bytes, N1, content, is, names)
+network_misspelt told failed name bytes (N2 path) (stop.Early report) content is names = inr (bytes, N2 path, content, is, names)
+network_misspelt told failed name bytes (N3 path) (stop.Early report) content is names = inr (bytes, N3 path, content, is, names)
+network_misspelt told failed name bytes (N4 path) (stop.Early report) content is names = inr (bytes, N4 path, content, is, names)
+network_misspelt told failed name bytes (N5 path) (stop.Early report) content is names = inr (bytes, N5 path, content, is, names)
+network_misspelt told failed name bytes (N6 path) (stop.Early report) content is names = inr (bytes, N6 path, content, is, names)
 
 pub matrix_misspelt : (told : List ℕ → Option (List ℕ)) (failed : Type 0) (name bytes : List ℕ) (fault : LineFault TextCode) (why : Stop) → IsContent told name bytes → IsFaultOf (matrix_of bytes) fault → StopIs (NamesTextFault fault) why → StopIs (StopsAtLoad matrix_file told failed name) why
 matrix_misspelt = text_misspelt matrix_of

@@ -10,20 +10,21 @@ use Rattle.bt_script.specs.declared.script.Item.{Item}
 use Rattle.bt_script.specs.declared.script.Script.{Script}
 use Rattle.bt_journal.specs.declared.call.Change.{Change}
 use Rattle.bt_book.specs.declared.fault.RecoverFault.{RecoverFault}
-use Rattle.bt_book.specs.declared.fault.RecoverFault.TheVariants.{J1, J2, StoreFault, TooLong, OutOfMemory}
+use Rattle.bt_book.specs.declared.fault.RecoverFault.TheVariants.{StoreFault}
 use Rattle.bt_book.specs.Recovery.{IsRecoverFault, Recovered}
 use Rattle.bt_book.specs.Store.{RoseBy}
 use Rattle.bt_centre.specs.declared.history.History.{History}
-use Rattle.bt_centre.specs.RecoverFaults.{recover_line, recover_status, recover_words}
-use Rattle.bt_centre.specs.Run.{EndsFrom, PrintsFault, RunsTo, RunsToRestart, RunsWhole, lost_in}
+use Rattle.bt_centre.specs.RecoverFaults.{PrintsFault, recover_line, recover_status, recover_words}
+use Rattle.bt_centre.specs.Run.{EndsFrom, RunsTo, RunsToRestart, RunsWhole, lost_in}
+use Rattle.bt_centre.specs.Stored.{IsSteady, Stored}
 use Rattle.bt_cli.specs.Kinds.{network_file, script_file}
 use Rattle.bt_cli.specs.Outcome.{Outcome, Loads, Says, text_alone}
-use Rattle.bt_cli.specs.Replay.{IsSteady, NamesRecoverFault, Stored}
 use Rattle.bt_cli.specs.Run.{PrintsRun, Runs, RunsScript, sink_with}
 use Rattle.bt_cli.specs.Top.{IsOneStore, IsTold}
 use Rattle.bt_cli.proofs.Kept.{kept_status}
 use Rattle.bt_cli.proofs.Loads.{Loads-among}
-use Rattle.bt_cli.proofs.OneAnswer.{AreAlike, Loads-same, done_alike, same_alike}
+use Rattle.bt_cli.proofs.OneReport.{AreAlike, Loads-same, done_alike, same_alike}
+use Rattle.bt_cli.proofs.NamedFaults.{named}
 use Rattle.bt_cli.proofs.OneJournal.{Comes, ComesOn, Laws, fault_comes, one_coming, told}
 
 -- a run that came to its end, whatever its changes were
@@ -38,14 +39,6 @@ no_fault (inr last) = absurd (omega (arith, last))
 outcome_is : (outcome : Outcome) (text : List ℕ) (status : ℕ) → outcome.text ≡ text → outcome.status ≡ status → outcome ≡ text_alone text status
 outcome_is outcome text status same_text same_status =
     ap (λ (t : List ℕ). text_alone t outcome.status) same_text ∙ ap (λ (n : ℕ). text_alone text n) same_status
-
--- a fault that is none of memory is named by its line
-named : (fault : RecoverFault) (outcome : Outcome) → fault ≢ OutOfMemory → Says (recover_words fault) (recover_status fault) outcome → NamesRecoverFault fault outcome
-named (J1 number) outcome is says = says
-named (J2 number) outcome is says = says
-named StoreFault outcome is says = says
-named TooLong outcome is says = says
-named OutOfMemory outcome is says = absurd (is refl)
 
 fault_said : (fault : RecoverFault) (outcome : Outcome) → PrintsFault (sink_with outcome.text) [] fault outcome.status → Says (recover_words fault) (recover_status fault) outcome
 fault_said fault outcome (inl (wrote, is)) = outcome_is outcome (recover_line fault) (recover_status fault) (same_Some outcome.text (recover_line fault) wrote) is

@@ -3,16 +3,17 @@ use Rattle.std.proofs.Common.{◌≡◌, ℕ, List, [], ◌∷◌, codes, Some, 
 use Rattle.std.specs.Str.{bytes_eq}
 use Rattle.std.proofs.lemmas.Option.{same_Some}
 use Rattle.std.proofs.lemmas.Slice.Eq.{bytes_eq-Decides}
-use Rattle.bt_cli.specs.declared.answer.Answer.{Answer}
-use Rattle.bt_cli.specs.declared.request.Command.{Command}
-use Rattle.bt_cli.specs.declared.request.Command.TheVariants as command
-use Rattle.bt_cli.specs.Answer.{AnswerIs}
-use Rattle.bt_cli.specs.Command.{asked, name_of}
+use Rattle.bt_centre.specs.Stored.{Stored}
+use Rattle.bt_cli.specs.declared.report.Report.{Report}
+use Rattle.bt_cli.specs.declared.command_line.CommandLine.{CommandLine}
+use Rattle.bt_cli.specs.declared.command_line.CommandLine.TheVariants as command
+use Rattle.bt_cli.specs.Report.{ReportIs}
+use Rattle.bt_cli.specs.CommandLine.{asked, name_of}
 use Rattle.bt_centre.specs.Output.{Output}
 use Rattle.bt_cli.specs.Outcome.{Input, Says}
-use Rattle.bt_cli.specs.Replay.{EndsReplayWords, Stored}
+use Rattle.bt_cli.specs.Replay.{EndsReplayWords}
 use Rattle.bt_cli.specs.Request.{Request, Faulty}
-use Rattle.bt_cli.specs.Top.{Answers}
+use Rattle.bt_cli.specs.Top.{Reports}
 
 -- no word is two names
 two_names : (name text : List ℕ) (first : Option (List ℕ)) → bytes_eq name text ≡ false → first ≡ Some name → first ≡ Some text → ⊥
@@ -22,7 +23,7 @@ two_names name text first other is also =
     cc
 
 -- what the words ask for, where the first of them is the name of a command that was not read off them
-pub faulty_check : (read : Command) (request : Request) (first : Option (List ℕ)) → asked read ≡ request → IfSome (name_of read) (λ name. first ≡ Some name) → first ≡ Some (codes "check") → ((matrix modes : Bor (List ℕ)) → read ≡ command.CheckModes matrix modes → ⊥) → ((net traffic plan : Bor (List ℕ)) → read ≡ command.CheckPlan net traffic plan → ⊥) → request ≡ Faulty
+pub faulty_check : (read : CommandLine) (request : Request) (first : Option (List ℕ)) → asked read ≡ request → IfSome (name_of read) (λ name. first ≡ Some name) → first ≡ Some (codes "check") → ((matrix modes : Bor (List ℕ)) → read ≡ command.CheckModes matrix modes → ⊥) → ((net traffic plan : Bor (List ℕ)) → read ≡ command.CheckPlan net traffic plan → ⊥) → request ≡ Faulty
 faulty_check command.Faulty request first is named check other another = sym is
 faulty_check (command.CheckModes matrix modes) request first is named check other another = absurd (other matrix modes refl)
 faulty_check (command.CheckPlan net traffic plan) request first is named check other another = absurd (another net traffic plan refl)
@@ -31,7 +32,7 @@ faulty_check (command.RunScript _ _ _) request first is named check other anothe
 faulty_check (command.PlanModes matrix) request first is named check other another = absurd (two_names (codes "modes") (codes "check") first refl named check)
 faulty_check (command.ReplayJournal _ _) request first is named check other another = absurd (two_names (codes "replay") (codes "check") first refl named check)
 
-pub faulty_modes : (read : Command) (request : Request) (first : Option (List ℕ)) → asked read ≡ request → IfSome (name_of read) (λ name. first ≡ Some name) → first ≡ Some (codes "modes") → ((matrix : Bor (List ℕ)) → read ≡ command.PlanModes matrix → ⊥) → request ≡ Faulty
+pub faulty_modes : (read : CommandLine) (request : Request) (first : Option (List ℕ)) → asked read ≡ request → IfSome (name_of read) (λ name. first ≡ Some name) → first ≡ Some (codes "modes") → ((matrix : Bor (List ℕ)) → read ≡ command.PlanModes matrix → ⊥) → request ≡ Faulty
 faulty_modes command.Faulty request first is named modes other = sym is
 faulty_modes (command.CheckModes _ _) request first is named modes other = absurd (two_names (codes "check") (codes "modes") first refl named modes)
 faulty_modes (command.CheckPlan _ _ _) request first is named modes other = absurd (two_names (codes "check") (codes "modes") first refl named modes)
@@ -40,7 +41,7 @@ faulty_modes (command.RunScript _ _ _) request first is named modes other = absu
 faulty_modes (command.ReplayJournal _ _) request first is named modes other = absurd (two_names (codes "replay") (codes "modes") first refl named modes)
 faulty_modes (command.PlanModes matrix) request first is named modes other = absurd (other matrix refl)
 
-pub faulty_plan : (read : Command) (request : Request) (first : Option (List ℕ)) → asked read ≡ request → IfSome (name_of read) (λ name. first ≡ Some name) → first ≡ Some (codes "plan") → ((net traffic : Bor (List ℕ)) → read ≡ command.PlanDemand net traffic → ⊥) → request ≡ Faulty
+pub faulty_plan : (read : CommandLine) (request : Request) (first : Option (List ℕ)) → asked read ≡ request → IfSome (name_of read) (λ name. first ≡ Some name) → first ≡ Some (codes "plan") → ((net traffic : Bor (List ℕ)) → read ≡ command.PlanDemand net traffic → ⊥) → request ≡ Faulty
 faulty_plan command.Faulty request first is named plan other = sym is
 faulty_plan (command.CheckModes _ _) request first is named plan other = absurd (two_names (codes "check") (codes "plan") first refl named plan)
 faulty_plan (command.CheckPlan _ _ _) request first is named plan other = absurd (two_names (codes "check") (codes "plan") first refl named plan)
@@ -49,7 +50,7 @@ faulty_plan (command.PlanDemand net traffic) request first is named plan other =
 faulty_plan (command.ReplayJournal _ _) request first is named plan other = absurd (two_names (codes "replay") (codes "plan") first refl named plan)
 faulty_plan (command.RunScript _ _ _) request first is named plan other = absurd (two_names (codes "run") (codes "plan") first refl named plan)
 
-pub faulty_replay : (read : Command) (request : Request) (first : Option (List ℕ)) → asked read ≡ request → IfSome (name_of read) (λ name. first ≡ Some name) → first ≡ Some (codes "replay") → ((net journal : Bor (List ℕ)) → read ≡ command.ReplayJournal net journal → ⊥) → request ≡ Faulty
+pub faulty_replay : (read : CommandLine) (request : Request) (first : Option (List ℕ)) → asked read ≡ request → IfSome (name_of read) (λ name. first ≡ Some name) → first ≡ Some (codes "replay") → ((net journal : Bor (List ℕ)) → read ≡ command.ReplayJournal net journal → ⊥) → request ≡ Faulty
 faulty_replay command.Faulty request first is named replay other = sym is
 faulty_replay (command.CheckModes _ _) request first is named replay other = absurd (two_names (codes "check") (codes "replay") first refl named replay)
 faulty_replay (command.CheckPlan _ _ _) request first is named replay other = absurd (two_names (codes "check") (codes "replay") first refl named replay)
@@ -58,9 +59,9 @@ faulty_replay (command.PlanModes matrix) request first is named replay other = a
 faulty_replay (command.RunScript _ _ _) request first is named replay other = absurd (two_names (codes "run") (codes "replay") first refl named replay)
 faulty_replay (command.ReplayJournal net journal) request first is named replay other = absurd (other net journal refl)
 
--- the answer to words of no command
-pub answers_faulty : (told : List ℕ → Option (List ℕ)) (failed : Type 0) (request : Request) (answer : Answer) → request ≡ Faulty → AnswerIs (Says (codes "fault" ∷ codes "words" ∷ []) 2) answer → AnswerIs (Answers told failed request) answer
-answers_faulty told failed request answer is says = subst (λ r. AnswerIs (Answers told failed r) answer) (sym is) says
+-- the report to words of no command
+pub reports_faulty : (told : List ℕ → Option (List ℕ)) (failed : Type 0) (request : Request) (report : Report) → request ≡ Faulty → ReportIs (Says (codes "fault" ∷ codes "words" ∷ []) 2) report → ReportIs (Reports told failed request) report
+reports_faulty told failed request report is says = subst (λ r. ReportIs (Reports told failed r) report) (sym is) says
 
 -- and how a replay's call ends on them
 pub replays_faulty : (input : Input) (output : Output) (stored : Stored) (request : Request) (status : ℕ) → request ≡ Faulty → EndsReplayWords input output stored Faulty status → EndsReplayWords input output stored request status

@@ -9,14 +9,15 @@ use Rattle.bt_book.specs.declared.fault.RecoverFault.TheVariants.{J1, J2, StoreF
 use Rattle.bt_timeline.specs.Timeline.{restart_line}
 use Rattle.bt_centre.specs.declared.history.History.{History}
 use Rattle.bt_centre.specs.Output.{Output}
-use Rattle.bt_centre.specs.RecoverFaults.{recover_line, recover_status}
-use Rattle.bt_centre.specs.Run.{EndsFrom, PrintsFault, RunsFrom, RunsNothing, RunsTo, RunsToRestart, RunsWhole, first_line, has_lost, status_after, whole_text}
+use Rattle.bt_centre.specs.RecoverFaults.{PrintsFault, recover_line, recover_status}
+use Rattle.bt_centre.specs.Run.{EndsFrom, RunsFrom, RunsNothing, RunsTo, RunsToRestart, RunsWhole, first_line, has_lost, status_after, whole_text}
+use Rattle.bt_centre.specs.Stored.{Stored}
 use Rattle.bt_cli.specs.Kinds.{network_file, script_file}
-use Rattle.bt_cli.specs.Outcome.{Outcome, Input, HasFailed, IsLoaded, StopsAtLoad, PrintsOneOf, text_alone}
+use Rattle.bt_cli.specs.Outcome.{Outcome, Input, FilesFailed, IsLoaded, StopsAtLoad, PrintsOneOf, text_alone}
 use Rattle.bt_cli.specs.Request.{Request, Faulty, CheckModes, CheckPlan, PlanModes, PlanDemand, RunScript, ReplayJournal}
-use Rattle.bt_cli.specs.Replay.{EndsReplay, NamesRecoverFault, PrintsState, Replays, Stored}
+use Rattle.bt_cli.specs.Replay.{EndsReplay, NamesRecoverFault, PrintsState, Replays}
 use Rattle.bt_cli.specs.Run.{End, EndsRun, EndsScript, PrintsRun, Runs, RunsScript, sink_with}
-use Rattle.bt_cli.specs.Top.{AnswersWith, Ends}
+use Rattle.bt_cli.specs.Top.{ReportsWith, Ends}
 use Rattle.bt_cli.proofs.Loads.{PrintsOneOf-among, StopsAtLoad-moved}
 
 -- what the files tell, with their faults from one moment to another
@@ -68,9 +69,9 @@ faulted net script output stored text fault status histories events sound named 
 faulted net script output stored text fault status histories events sound named ends (inr (failed, part, six)) = inl six
 
 -- the first recovery failed
-nothing_answered : (net : Net) (script : Script) (output : Output) (stored : Stored) (status : ℕ) (histories : List History) (events : List Event) → IsSound net
+nothing_reported : (net : Net) (script : Script) (output : Output) (stored : Stored) (status : ℕ) (histories : List History) (events : List Event) → IsSound net
     → RunsNothing net output stored status histories events → PrintsOrFails output (PrintsRun net script stored) status
-nothing_answered net script output stored status histories events sound ran =
+nothing_reported net script output stored status histories events sound ran =
     faulted net script output stored [] ran.fault status histories events sound ran.named
     (λ printed. inr (inl (record { fault = ran.fault; failed = ran.failed; named = ran.named; none = ran.none; printed = printed })))
     ran.printed
@@ -82,9 +83,9 @@ from_these net script output text stored status histories events ran ends =
     inr (inr (record { opening = ran.opening; opens = ran.opens; world = ran.world; safe = ran.safe; ends = ends }))
 
 -- it came to its end
-whole_answered : (net : Net) (script : Script) (output : Output) (stored : Stored) (status : ℕ) (histories : List History) (events : List Event) → IsSound net
+whole_reported : (net : Net) (script : Script) (output : Output) (stored : Stored) (status : ℕ) (histories : List History) (events : List Event) → IsSound net
     → (ran : RunsFrom net script output stored status histories events) → RunsWhole net script.items output stored ran.opening status histories events → PrintsOrFails output (PrintsRun net script stored) status
-whole_answered net script output stored status histories events sound ran whole =
+whole_reported net script output stored status histories events sound ran whole =
     let text = whole_text net ran.opening whole.lines histories in
     let ends = from_these net script output text stored status histories events ran (inr (inl (record { lines = whole.lines; run = whole.run; left = whole.left; written = refl; status_is = whole.status_is }))) in
     inr (inr (
@@ -94,9 +95,9 @@ whole_answered net script output stored status histories events sound ran whole 
     ))
 
 -- or to a restart whose recovery failed
-restart_answered : (net : Net) (script : Script) (output : Output) (stored : Stored) (status : ℕ) (histories : List History) (events : List Event) → IsSound net
+restart_reported : (net : Net) (script : Script) (output : Output) (stored : Stored) (status : ℕ) (histories : List History) (events : List Event) → IsSound net
     → (ran : RunsFrom net script output stored status histories events) → RunsToRestart net script.items output stored ran.opening status histories events → PrintsOrFails output (PrintsRun net script stored) status
-restart_answered net script output stored status histories events sound ran stops =
+restart_reported net script output stored status histories events sound ran stops =
     let text = first_line net ran.opening ++ stops.lines ++ restart_line in
     faulted net script output stored text stops.fault status histories events sound stops.named
     (λ printed. from_these net script output (text ++ recover_line stops.fault) stored status histories events ran (inr (inr (inr (record {
@@ -117,47 +118,47 @@ restart_answered net script output stored status histories events sound ran stop
     })))))
     stops.printed
 
-parts_answered : (net : Net) (script : Script) (output : Output) (stored : Stored) (status : ℕ) (histories : List History) (events : List Event) → IsSound net
+parts_reported : (net : Net) (script : Script) (output : Output) (stored : Stored) (status : ℕ) (histories : List History) (events : List Event) → IsSound net
     → (ran : RunsFrom net script output stored status histories events) → EndsFrom net script.items output stored ran.opening status histories events → PrintsOrFails output (PrintsRun net script stored) status
-parts_answered net script output stored status histories events sound ran (inl broke) = inr (inl broke.status_is)
-parts_answered net script output stored status histories events sound ran (inr (inl whole)) = whole_answered net script output stored status histories events sound ran whole
-parts_answered net script output stored status histories events sound ran (inr (inr (inl partly))) = inl partly.status_is
-parts_answered net script output stored status histories events sound ran (inr (inr (inr stops))) = restart_answered net script output stored status histories events sound ran stops
+parts_reported net script output stored status histories events sound ran (inl broke) = inr (inl broke.status_is)
+parts_reported net script output stored status histories events sound ran (inr (inl whole)) = whole_reported net script output stored status histories events sound ran whole
+parts_reported net script output stored status histories events sound ran (inr (inr (inl partly))) = inl partly.status_is
+parts_reported net script output stored status histories events sound ran (inr (inr (inr stops))) = restart_reported net script output stored status histories events sound ran stops
 
 -- what a run comes to is one of its outcomes, printed, where the sink did not fail
-run_answered : (net : Net) (script : Script) (output : Output) (stored : Stored) (status : ℕ) (histories : List History) (events : List Event) → IsSound net
+run_reported : (net : Net) (script : Script) (output : Output) (stored : Stored) (status : ℕ) (histories : List History) (events : List Event) → IsSound net
     → RunsTo net script output stored status histories events → PrintsOrFails output (PrintsRun net script stored) status
-run_answered net script output stored status histories events sound (inl early) = inr (inl early.status_is)
-run_answered net script output stored status histories events sound (inr (inl nothing)) = nothing_answered net script output stored status histories events sound nothing
-run_answered net script output stored status histories events sound (inr (inr ran)) = parts_answered net script output stored status histories events sound ran ran.ends
+run_reported net script output stored status histories events sound (inl early) = inr (inl early.status_is)
+run_reported net script output stored status histories events sound (inr (inl nothing)) = nothing_reported net script output stored status histories events sound nothing
+run_reported net script output stored status histories events sound (inr (inr ran)) = parts_reported net script output stored status histories events sound ran ran.ends
 
-script_answered : (input : Input) (output : Output) (stored : Stored) (script : List ℕ) (net : Net) (ended : End) → EndsScript input output stored script net ended → PrintsOrFails output (RunsScript input.told (HasFailed input) stored script net) ended.status
-script_answered input output stored script net ended (inl (nothing, stopped)) = inr (PrintsOneOf-among output (StopsAtLoad (script_file net) input.told (HasFailed input) script) (RunsScript input.told (HasFailed input) stored script net) (λ outcome so. inl so) ended.status stopped)
-script_answered input output stored script net ended (inr (read, loaded, sound, ran)) =
-    among output (PrintsRun net read stored) (RunsScript input.told (HasFailed input) stored script net) (λ outcome so. inr (read, loaded, so)) ended.status
-    (run_answered net read output stored ended.status ended.histories ended.events sound ran)
+script_reported : (input : Input) (output : Output) (stored : Stored) (script : List ℕ) (net : Net) (ended : End) → EndsScript input output stored script net ended → PrintsOrFails output (RunsScript input.told (FilesFailed input) stored script net) ended.status
+script_reported input output stored script net ended (inl (nothing, stopped)) = inr (PrintsOneOf-among output (StopsAtLoad (script_file net) input.told (FilesFailed input) script) (RunsScript input.told (FilesFailed input) stored script net) (λ outcome so. inl so) ended.status stopped)
+script_reported input output stored script net ended (inr (read, loaded, sound, ran)) =
+    among output (PrintsRun net read stored) (RunsScript input.told (FilesFailed input) stored script net) (λ outcome so. inr (read, loaded, so)) ended.status
+    (run_reported net read output stored ended.status ended.histories ended.events sound ran)
 
-runs_answered : (input : Input) (output : Output) (stored : Stored) (net script : List ℕ) (ended : End) → EndsRun input output stored net script ended → PrintsOrFails output (Runs input.told (HasFailed input) stored net script) ended.status
-runs_answered input output stored net script ended (inl (nothing, stopped)) = inr (PrintsOneOf-among output (StopsAtLoad network_file input.told (HasFailed input) net) (Runs input.told (HasFailed input) stored net script) (λ outcome so. inl so) ended.status stopped)
-runs_answered input output stored net script ended (inr (network, loaded, so)) = among output (RunsScript input.told (HasFailed input) stored script network) (Runs input.told (HasFailed input) stored net script) (λ outcome so. inr (network, loaded, so)) ended.status (script_answered input output stored script network ended so)
+runs_reported : (input : Input) (output : Output) (stored : Stored) (net script : List ℕ) (ended : End) → EndsRun input output stored net script ended → PrintsOrFails output (Runs input.told (FilesFailed input) stored net script) ended.status
+runs_reported input output stored net script ended (inl (nothing, stopped)) = inr (PrintsOneOf-among output (StopsAtLoad network_file input.told (FilesFailed input) net) (Runs input.told (FilesFailed input) stored net script) (λ outcome so. inl so) ended.status stopped)
+runs_reported input output stored net script ended (inr (network, loaded, so)) = among output (RunsScript input.told (FilesFailed input) stored script network) (Runs input.told (FilesFailed input) stored net script) (λ outcome so. inr (network, loaded, so)) ended.status (script_reported input output stored script network ended so)
 
 -- so is what a replay comes to
-replay_answered : (input : Input) (output : Output) (stored : Stored) (net : List ℕ) (status : ℕ) → EndsReplay input output stored net status
-    → PrintsOneOf output (Replays input.told (HasFailed input) stored net) status
-replay_answered input output stored net status (inl (kept, stopped)) =
-    PrintsOneOf-among output (StopsAtLoad network_file input.told (HasFailed input) net) (Replays input.told (HasFailed input) stored net) (λ outcome so. inl so) status stopped
-replay_answered input output stored net status (inr (network, loaded, (sound, inl (changes, recovered, printed)))) =
-    PrintsOneOf-among output (PrintsState network changes) (Replays input.told (HasFailed input) stored net) (λ outcome so. inr (network, loaded, (sound, inl (changes, recovered, so)))) status printed
-replay_answered input output stored net status (inr (network, loaded, (sound, inr (fault, failed, printed)))) =
-    PrintsOneOf-among output (NamesRecoverFault fault) (Replays input.told (HasFailed input) stored net) (λ outcome so. inr (network, loaded, (sound, inr (fault, failed, so)))) status printed
+replay_reported : (input : Input) (output : Output) (stored : Stored) (net : List ℕ) (status : ℕ) → EndsReplay input output stored net status
+    → PrintsOneOf output (Replays input.told (FilesFailed input) stored net) status
+replay_reported input output stored net status (inl (kept, stopped)) =
+    PrintsOneOf-among output (StopsAtLoad network_file input.told (FilesFailed input) net) (Replays input.told (FilesFailed input) stored net) (λ outcome so. inl so) status stopped
+replay_reported input output stored net status (inr (network, loaded, (sound, inl (changes, recovered, printed)))) =
+    PrintsOneOf-among output (PrintsState network changes) (Replays input.told (FilesFailed input) stored net) (λ outcome so. inr (network, loaded, (sound, inl (changes, recovered, so)))) status printed
+replay_reported input output stored net status (inr (network, loaded, (sound, inr (fault, failed, printed)))) =
+    PrintsOneOf-among output (NamesRecoverFault fault) (Replays input.told (FilesFailed input) stored net) (λ outcome so. inr (network, loaded, (sound, inr (fault, failed, so)))) status printed
 
 -- and what any command comes to
-pub ends_answered : (input : Input) (output : Output) (stored : Stored) (request : Request) (ended : End) → Ends input output stored request ended
-    → (ended.status ≡ 6) ⊎ PrintsOneOf output (AnswersWith input.told (HasFailed input) stored request) ended.status
-ends_answered input output stored Faulty ended so = inr so.1
-ends_answered input output stored (CheckModes matrix modes) ended so = inr so.1
-ends_answered input output stored (CheckPlan net traffic plan) ended so = inr so.1
-ends_answered input output stored (PlanModes matrix) ended so = inr so.1
-ends_answered input output stored (PlanDemand net traffic) ended so = inr so.1
-ends_answered input output stored (RunScript net script journal) ended so = runs_answered input output stored net script ended so
-ends_answered input output stored (ReplayJournal net journal) ended so = inr (replay_answered input output stored net ended.status so.ends)
+pub ends_reported : (input : Input) (output : Output) (stored : Stored) (request : Request) (ended : End) → Ends input output stored request ended
+    → (ended.status ≡ 6) ⊎ PrintsOneOf output (ReportsWith input.told (FilesFailed input) stored request) ended.status
+ends_reported input output stored Faulty ended so = inr so.1
+ends_reported input output stored (CheckModes matrix modes) ended so = inr so.1
+ends_reported input output stored (CheckPlan net traffic plan) ended so = inr so.1
+ends_reported input output stored (PlanModes matrix) ended so = inr so.1
+ends_reported input output stored (PlanDemand net traffic) ended so = inr so.1
+ends_reported input output stored (RunScript net script journal) ended so = runs_reported input output stored net script ended so
+ends_reported input output stored (ReplayJournal net journal) ended so = inr (replay_reported input output stored net ended.status so.ends)

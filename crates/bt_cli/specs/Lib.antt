@@ -1,11 +1,11 @@
 pub mod Lines
 pub mod Outcome
 pub mod Kinds
-pub mod Answer
+pub mod Report
 pub mod Stops
 pub mod Printing
 pub mod Request
-pub mod Command
+pub mod CommandLine
 pub mod Check
 pub mod Modes
 pub mod Fitting

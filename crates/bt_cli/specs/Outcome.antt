@@ -25,8 +25,8 @@ pub record Input : Type 0 where
   pub faults_after : ℕ
 
 -- a file could not be read in the call: the count of faults rose, or stands at its last value
-abbrev pub HasFailed : Input → Type 0
-HasFailed input = Rose input.faults_before input.faults_after
+abbrev pub FilesFailed : Input → Type 0
+FilesFailed input = Rose input.faults_before input.faults_after
 
 -- one line of these words, with this status
 abbrev pub Says : List (List ℕ) → ℕ → Outcome → Type 0

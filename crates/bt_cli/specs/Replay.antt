@@ -10,11 +10,11 @@ use Rattle.bt_book.specs.Recovery.{IsReadable, IsRecoverFault, Recovered, whole}
 use Rattle.bt_timeline.specs.Replayed.{replay_lines}
 use Rattle.bt_centre.specs.Output.{Output}
 use Rattle.bt_centre.specs.RecoverFaults.{recover_status, recover_words}
+use Rattle.bt_centre.specs.Stored.{IsAsGiven, Stored}
 use Rattle.bt_cli.specs.Kinds.{network_file}
-use Rattle.bt_cli.specs.Outcome.{Outcome, Input, HasFailed, IsLoaded, Loads, PrintsOneOf, Says, StopsAtLoad, text_alone}
+use Rattle.bt_cli.specs.Outcome.{Outcome, Input, FilesFailed, IsLoaded, Loads, PrintsOneOf, Says, StopsAtLoad, text_alone}
 use Rattle.bt_cli.specs.Request.{Request, ReplayJournal}
 use Rattle.bt_cli.specs.Run.{End}
-pub use Rattle.bt_centre.specs.Stored.{IsAsGiven, IsSteady, Stored}
 
 -- the fault of a recovery is named; want of memory is no such fault
 abbrev pub NamesRecoverFault : RecoverFault → Outcome → Type 0
@@ -53,7 +53,7 @@ EndsRecovery net output stored status = IsSound net × (EndsRecovered net output
 -- as it was given
 abbrev pub EndsReplay : Input → Output → Stored → List ℕ → ℕ → Type 0
 EndsReplay input output stored net status =
-    (IsAsGiven stored × PrintsOneOf output (StopsAtLoad network_file input.told (HasFailed input) net) status)
+    (IsAsGiven stored × PrintsOneOf output (StopsAtLoad network_file input.told (FilesFailed input) net) status)
     ⊎ ((network : Net) × IsLoaded network_file input.told net network × EndsRecovery network output stored status)
 
 -- the same for the words of a replay; for words of no command the store is as it was given

@@ -8,7 +8,7 @@ use Rattle.bt_centre.specs.Output.{Output}
 use Rattle.bt_centre.specs.Run.{RunsTo}
 use Rattle.bt_centre.specs.Stored.{IsAsGiven, Stored}
 use Rattle.bt_cli.specs.Kinds.{network_file, script_file}
-use Rattle.bt_cli.specs.Outcome.{Outcome, Input, HasFailed, IsLoaded, Loads, StopsAtLoad, PrintsOneOf}
+use Rattle.bt_cli.specs.Outcome.{Outcome, Input, FilesFailed, IsLoaded, Loads, StopsAtLoad, PrintsOneOf}
 
 -- what the top call gives back beside the store: the status, and the histories and the events of a run
 pub record End : Type 0 where
@@ -25,13 +25,13 @@ pub record BeginsNoRun (stored : Stored) (end : End) : Type 0 where
 -- the script was loaded, and run on its network, which is sound; or why it could not be loaded was printed, and no run was begun
 abbrev pub EndsScript : Input → Output → Stored → List ℕ → Net → End → Type 0
 EndsScript input output stored script net end =
-    (BeginsNoRun stored end × PrintsOneOf output (StopsAtLoad (script_file net) input.told (HasFailed input) script) end.status)
+    (BeginsNoRun stored end × PrintsOneOf output (StopsAtLoad (script_file net) input.told (FilesFailed input) script) end.status)
     ⊎ ((read : Script) × IsLoaded (script_file net) input.told script read × IsSound net × RunsTo net read output stored end.status end.histories end.events)
 
 -- the network was loaded, and then the script; or why it could not be was printed, and no run was begun
 abbrev pub EndsRun : Input → Output → Stored → List ℕ → List ℕ → End → Type 0
 EndsRun input output stored net script end =
-    (BeginsNoRun stored end × PrintsOneOf output (StopsAtLoad network_file input.told (HasFailed input) net) end.status)
+    (BeginsNoRun stored end × PrintsOneOf output (StopsAtLoad network_file input.told (FilesFailed input) net) end.status)
     ⊎ ((network : Net) × IsLoaded network_file input.told net network × EndsScript input output stored script network end)
 
 -- a sink that did not fail: it told nothing before, and tells this text

@@ -1,4 +1,4 @@
--- Which fault of a file's bytes an answer names.
+-- Which fault of a file's bytes a report names.
 use Rattle.bt_net.specs.declared.fault.NetFault.{NetFault}
 use Rattle.bt_net.specs.declared.fault.NetFault.TheVariants as net_fault
 use Rattle.bt_plan.specs.declared.text_fault.TextCode.{TextCode}

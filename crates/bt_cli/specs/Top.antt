@@ -1,7 +1,7 @@
 -- The promise of the whole program: what it prints and the status that it ends with, for each command.
 use Rattle.std.specs.Prelude.{◌≡◌, ℕ, ◌⊎◌, List, [], ◌∷◌, codes, Option, Some}
 use Rattle.bt_centre.specs.Output.{Output}
-use Rattle.bt_cli.specs.Outcome.{Outcome, Input, HasFailed, Says, PrintsOneOf}
+use Rattle.bt_cli.specs.Outcome.{Outcome, Input, FilesFailed, Says, PrintsOneOf}
 use Rattle.bt_cli.specs.Request.{Request, Faulty, CheckModes, CheckPlan, PlanModes, PlanDemand, RunScript, ReplayJournal}
 use Rattle.bt_cli.specs.Check.{ChecksModes}
 use Rattle.bt_cli.specs.CheckPlan.{ChecksPlan}
@@ -12,32 +12,32 @@ use Rattle.bt_cli.specs.Replay.{HasReplayed, Replays}
 use Rattle.bt_cli.specs.Run.{BeginsNoRun, End, EndsRun, Runs}
 
 -- the outcome of what is asked, by the command, but for a run and a replay: what comes of those the store tells too
-abbrev pub Answers : (List ℕ → Option (List ℕ)) → Type 0 → Request → Outcome → Type 0
-Answers told failed Faulty = Says (codes "fault" ∷ codes "words" ∷ []) 2
-Answers told failed (CheckModes matrix modes) = ChecksModes told failed matrix modes
-Answers told failed (CheckPlan net traffic plan) = ChecksPlan told failed net traffic plan
-Answers told failed (PlanModes matrix) = PrintsModes told failed matrix
-Answers told failed (PlanDemand net traffic) = Plans told failed net traffic
-Answers told failed (RunScript _ _ _) = λ _. ⊥
-Answers told failed (ReplayJournal _ _) = λ _. ⊥
+abbrev pub Reports : (List ℕ → Option (List ℕ)) → Type 0 → Request → Outcome → Type 0
+Reports told failed Faulty = Says (codes "fault" ∷ codes "words" ∷ []) 2
+Reports told failed (CheckModes matrix modes) = ChecksModes told failed matrix modes
+Reports told failed (CheckPlan net traffic plan) = ChecksPlan told failed net traffic plan
+Reports told failed (PlanModes matrix) = PrintsModes told failed matrix
+Reports told failed (PlanDemand net traffic) = Plans told failed net traffic
+Reports told failed (RunScript _ _ _) = λ _. ⊥
+Reports told failed (ReplayJournal _ _) = λ _. ⊥
 
 -- the same where the store tells this
-abbrev pub AnswersWith : (List ℕ → Option (List ℕ)) → Type 0 → Stored → Request → Outcome → Type 0
-AnswersWith told failed stored Faulty = Answers told failed Faulty
-AnswersWith told failed stored (CheckModes matrix modes) = Answers told failed (CheckModes matrix modes)
-AnswersWith told failed stored (CheckPlan net traffic plan) = Answers told failed (CheckPlan net traffic plan)
-AnswersWith told failed stored (PlanModes matrix) = Answers told failed (PlanModes matrix)
-AnswersWith told failed stored (PlanDemand net traffic) = Answers told failed (PlanDemand net traffic)
-AnswersWith told failed stored (RunScript net script _) = Runs told failed stored net script
-AnswersWith told failed stored (ReplayJournal net _) = Replays told failed stored net
+abbrev pub ReportsWith : (List ℕ → Option (List ℕ)) → Type 0 → Stored → Request → Outcome → Type 0
+ReportsWith told failed stored Faulty = Reports told failed Faulty
+ReportsWith told failed stored (CheckModes matrix modes) = Reports told failed (CheckModes matrix modes)
+ReportsWith told failed stored (CheckPlan net traffic plan) = Reports told failed (CheckPlan net traffic plan)
+ReportsWith told failed stored (PlanModes matrix) = Reports told failed (PlanModes matrix)
+ReportsWith told failed stored (PlanDemand net traffic) = Reports told failed (PlanDemand net traffic)
+ReportsWith told failed stored (RunScript net script _) = Runs told failed stored net script
+ReportsWith told failed stored (ReplayJournal net _) = Replays told failed stored net
 
 -- Memory ran out; or what is asked had one of its outcomes, and it was printed.
-abbrev pub Answered : Input → Output → Request → ℕ → Type 0
-Answered input output request status = PrintsOneOf output (Answers input.told (HasFailed input) request) status
+abbrev pub Reported : Input → Output → Request → ℕ → Type 0
+Reported input output request status = PrintsOneOf output (Reports input.told (FilesFailed input) request) status
 
 -- a command that asks for no store was answered, and no run was begun
 abbrev pub EndsAlone : Input → Output → Stored → Request → End → Type 0
-EndsAlone input output stored request end = BeginsNoRun stored end × Answered input output request end.status
+EndsAlone input output stored request end = BeginsNoRun stored end × Reported input output request end.status
 
 -- what is asked runs no script and replays no journal, so that it asks for no store
 abbrev pub AsksNoStore : Request → Type 0
@@ -85,11 +85,11 @@ AreOneStore _ one other = Unit {0}
 
 -- The same outcome; where a schedule or a plan is printed or a script is run, any good one and any run may stand in
 -- the other's place.
-abbrev pub IsOneAnswer : Request → Outcome → Outcome → Type 0
-IsOneAnswer Faulty a b = a ≡ b
-IsOneAnswer (CheckModes _ _) a b = a ≡ b
-IsOneAnswer (CheckPlan _ _ _) a b = a ≡ b
-IsOneAnswer (PlanDemand _ _) a b = (a.status ≡ b.status) × ((a.status ≡ 0) ⊎ (a ≡ b))
-IsOneAnswer (PlanModes _) a b = (a.status ≡ b.status) × ((a.status ≡ 0) ⊎ (a ≡ b))
-IsOneAnswer (RunScript _ _ _) a b = (a.status ≡ b.status) × ((a.status ≡ 0) ⊎ (a ≡ b))
-IsOneAnswer (ReplayJournal _ _) a b = a ≡ b
+abbrev pub IsOneReport : Request → Outcome → Outcome → Type 0
+IsOneReport Faulty a b = a ≡ b
+IsOneReport (CheckModes _ _) a b = a ≡ b
+IsOneReport (CheckPlan _ _ _) a b = a ≡ b
+IsOneReport (PlanDemand _ _) a b = (a.status ≡ b.status) × ((a.status ≡ 0) ⊎ (a ≡ b))
+IsOneReport (PlanModes _) a b = (a.status ≡ b.status) × ((a.status ≡ 0) ⊎ (a ≡ b))
+IsOneReport (RunScript _ _ _) a b = (a.status ≡ b.status) × ((a.status ≡ 0) ⊎ (a ≡ b))
+IsOneReport (ReplayJournal _ _) a b = a ≡ b

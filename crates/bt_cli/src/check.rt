@@ -8,15 +8,16 @@ ghost use Rattle.bt_cli.specs.Printing.{CameTo};
 ghost use Rattle.bt_timeline.specs.Verdicts.{CanName};
 ghost use Rattle.bt_verdict.specs.Verdict.{IsVerdict};
 ghost use Rattle.bt_cli.specs.Request.{first_word, request_of};
-ghost use Rattle.bt_cli.specs.Top.{Answered, Answers};
+ghost use Rattle.bt_cli.specs.Top.{Reported, Reports};
 
-use crate::answer::{Answer, Stop};
 use crate::check_plan::check_plan_files;
+use crate::command_line::{CommandLine, command_line_of};
 use crate::faulty::faulty_words;
 use crate::load::{load_matrix, load_schedule};
 use crate::print::print;
-use crate::request::{Command, command_of};
+use crate::report::{Report, Stop};
 use bt_base::{Files, Sink};
+use bt_centre::{DONE, NOT_GOOD};
 use bt_frame::Schedule;
 use bt_matrix::{Dense, Traffic};
 use bt_timeline::verdict_text;
@@ -35,7 +36,7 @@ pub fn check_command<F: Files, O: Sink>(
     out: &mut O,
 ) -> u8
     requires { first_word (map string_bytes words.now) ≡ Some (codes "check") }
-    ensures { Answered (record { told = F.told files.old; faults_before = F.fault_count files.old; faults_after = F.fault_count files.new })
+    ensures { Reported (record { told = F.told files.old; faults_before = F.fault_count files.old; faults_after = F.fault_count files.new })
         (record { before = O.told out.old; after = O.told out.new; faults_before = O.fault_count out.old; faults_after = O.fault_count out.new })
         (request_of (map string_bytes words.now)) result }
 {
@@ -43,13 +44,13 @@ pub fn check_command<F: Files, O: Sink>(
     print(alloc, out, outcome)
 }
 
-fn check_words<F: Files>(alloc: Global, words: &[String], files: &mut F) -> Result<Answer, Stop>
+fn check_words<F: Files>(alloc: Global, words: &[String], files: &mut F) -> Result<Report, Stop>
     requires { first_word (map string_bytes words.now) ≡ Some (codes "check") }
-    ensures { CameTo (Answers (F.told files.old) (Rose (F.fault_count files.old) (F.fault_count files.new)) (request_of (map string_bytes words.now))) result }
+    ensures { CameTo (Reports (F.told files.old) (Rose (F.fault_count files.old) (F.fault_count files.new)) (request_of (map string_bytes words.now))) result }
 {
-    match command_of(words) {
-        Command::CheckModes { matrix, modes } => check_files(alloc, files, matrix, modes),
-        Command::CheckPlan { net, traffic, plan } => {
+    match command_line_of(words) {
+        CommandLine::CheckModes { matrix, modes } => check_files(alloc, files, matrix, modes),
+        CommandLine::CheckPlan { net, traffic, plan } => {
             check_plan_files(alloc, files, net, traffic, plan)
         }
         _ => Ok(faulty_words(alloc)?),
@@ -61,7 +62,7 @@ fn check_files<F: Files>(
     files: &mut F,
     matrix: &str,
     modes: &str,
-) -> Result<Answer, Stop>
+) -> Result<Report, Stop>
     ensures { CameTo (ChecksModes (F.told files.old) (Rose (F.fault_count files.old) (F.fault_count files.new)) matrix.now modes.now) result }
 {
     let matrix = load_matrix(alloc, files, matrix)?;
@@ -73,7 +74,7 @@ fn check_modes_file<F: Files>(
     files: &mut F,
     matrix: &Dense,
     modes: &str,
-) -> Result<Answer, Stop>
+) -> Result<Report, Stop>
     ensures { CameTo (ChecksSchedule (F.told files.old) (Rose (F.fault_count files.old) (F.fault_count files.new)) modes.now matrix.now) result }
 {
     let schedule = load_schedule(alloc, files, modes, matrix.size())?;
@@ -81,7 +82,7 @@ fn check_modes_file<F: Files>(
 }
 
 /// The line of the verdict on the schedule.
-fn judge(alloc: Global, matrix: &Dense, schedule: &Schedule) -> Result<Answer, Stop>
+fn judge(alloc: Global, matrix: &Dense, schedule: &Schedule) -> Result<Report, Stop>
     requires { IsLine matrix.now schedule.now.critical }
     ensures { CameTo (Judges matrix.now schedule.now) result }
 {
@@ -89,7 +90,7 @@ fn judge(alloc: Global, matrix: &Dense, schedule: &Schedule) -> Result<Answer, S
     let mut text = Vec::new(alloc);
     verdict_text(alloc, None, &verdict, &mut text)?;
     let status = status_of(&verdict);
-    Ok(Answer { text, status })
+    Ok(Report { text, status })
 }
 
 /// The verdict, which names no terminals.
@@ -107,7 +108,7 @@ pub(crate) fn status_of(verdict: &Verdict) -> u8
     ensures { result ≡ verdict_status verdict.now }
 {
     match verdict {
-        Verdict::Good => 0,
-        _ => 9,
+        Verdict::Good => DONE,
+        _ => NOT_GOOD,
     }
 }

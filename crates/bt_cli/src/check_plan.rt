@@ -9,10 +9,10 @@ ghost use Rattle.bt_cli.specs.Fitting.{WhereItFits};
 ghost use Rattle.bt_timeline.specs.Verdicts.{CanName};
 ghost use Rattle.bt_cli.specs.Printing.{CameTo};
 
-use crate::answer::{Answer, Stop};
 use crate::check::status_of;
 use crate::fit::test_fit;
 use crate::load::{load_demand, load_network, load_plan};
+use crate::report::{Report, Stop};
 use bt_base::Files;
 use bt_demand::{Demand, Plan};
 use bt_matrix::MOST_SUM;
@@ -28,7 +28,7 @@ pub fn check_plan_files<F: Files>(
     net: &str,
     traffic: &str,
     plan: &str,
-) -> Result<Answer, Stop>
+) -> Result<Report, Stop>
     ensures { CameTo (ChecksPlan (F.told files.old) (Rose (F.fault_count files.old) (F.fault_count files.new)) net.now traffic.now plan.now) result }
 {
     let net = load_network(alloc, files, net)?;
@@ -41,7 +41,7 @@ fn check_demand_file<F: Files>(
     net: &Network,
     traffic: &str,
     plan: &str,
-) -> Result<Answer, Stop>
+) -> Result<Report, Stop>
     ensures { CameTo (ChecksDemand (F.told files.old) (Rose (F.fault_count files.old) (F.fault_count files.new)) traffic.now plan.now net.now) result }
 {
     let demand = load_demand(alloc, files, traffic, net)?;
@@ -55,7 +55,7 @@ fn check_demand<F: Files>(
     net: &Network,
     demand: &Demand,
     plan: &str,
-) -> Result<Answer, Stop>
+) -> Result<Report, Stop>
     requires terminals { AreOfNetwork net.now demand.now }
     requires sums { HasSumsTo MOST_SUM (matrix_of net.now demand.now) }
     ensures { CameTo (WhereItFits net.now demand.now (ChecksPlanText (F.told files.old) (Rose (F.fault_count files.old) (F.fault_count files.new)) plan.now net.now demand.now)) result }
@@ -70,7 +70,7 @@ fn check_plan_file<F: Files>(
     net: &Network,
     demand: &Demand,
     plan: &str,
-) -> Result<Answer, Stop>
+) -> Result<Report, Stop>
     requires terminals { AreOfNetwork net.now demand.now }
     requires sums { HasSumsTo MOST_SUM (matrix_of net.now demand.now) }
     ensures { CameTo (ChecksPlanText (F.told files.old) (Rose (F.fault_count files.old) (F.fault_count files.new)) plan.now net.now demand.now) result }
@@ -80,7 +80,7 @@ fn check_plan_file<F: Files>(
 }
 
 /// The line of the verdict on the plan.
-fn judge_plan(alloc: Global, net: &Network, demand: &Demand, plan: &Plan) -> Result<Answer, Stop>
+fn judge_plan(alloc: Global, net: &Network, demand: &Demand, plan: &Plan) -> Result<Report, Stop>
     requires demand { AreOfNetwork net.now demand.now }
     requires bursts { AreBetweenTerminals net.now plan.now.bursts }
     requires critical { IsOfBeams (length net.now.beams) plan.now.schedule.critical }
@@ -93,7 +93,7 @@ fn judge_plan(alloc: Global, net: &Network, demand: &Demand, plan: &Plan) -> Res
     let mut text = Vec::new(alloc);
     verdict_text(alloc, Some(net), &verdict, &mut text)?;
     let status = status_of(&verdict);
-    Ok(Answer { text, status })
+    Ok(Report { text, status })
 }
 
 /// The verdict, which names terminals of the network alone.

@@ -1,11 +1,12 @@
 // Does a demand fit the slots of a frame?
 ghost use Rattle.std.specs.Prelude.{IfErr, OnOk};
 ghost use Rattle.bt_demand.specs.Traffic.{matrix_of, AreOfNetwork, HasSumsTo};
-ghost use Rattle.bt_cli.specs.Answer.{StopIs};
+ghost use Rattle.bt_cli.specs.Report.{StopIs};
 ghost use Rattle.bt_cli.specs.Fitting.{overload_words, Fits, NamesOverload};
 ghost use Rattle.bt_cli.specs.Outcome.{Says};
 
-use crate::answer::Stop;
+use crate::report::Stop;
+use bt_centre::FAULTY_TEXT;
 use bt_demand::{Demand, traffic_of};
 use bt_frame::Critical;
 use bt_matrix::{MOST_SUM, Traffic};
@@ -13,7 +14,7 @@ use bt_net::Network;
 use bt_timeline::Word;
 use std::alloc::Global;
 
-/// The demand fits the frame, or the answer that names its heaviest line.
+/// The demand fits the frame, or the report that names its heaviest line.
 pub fn test_fit(alloc: Global, net: &Network, demand: &Demand) -> Result<(), Stop>
     requires terminals { AreOfNetwork net.now demand.now }
     requires sums { HasSumsTo MOST_SUM (matrix_of net.now demand.now) }
@@ -28,7 +29,7 @@ pub fn test_fit(alloc: Global, net: &Network, demand: &Demand) -> Result<(), Sto
     Err(overload_stop(alloc, line, sum))
 }
 
-/// The answer that names the heaviest line of a demand that does not fit.
+/// The report that names the heaviest line of a demand that does not fit.
 fn overload_stop(alloc: Global, line: Critical, sum: u32) -> Stop
     ensures { StopIs (Says (overload_words line sum) 4) result }
 {
@@ -44,5 +45,5 @@ fn overload_stop(alloc: Global, line: Critical, sum: u32) -> Stop
         beam,
         Word::number(sum),
     ];
-    Stop::says(alloc, &words, 4)
+    Stop::says(alloc, &words, FAULTY_TEXT)
 }

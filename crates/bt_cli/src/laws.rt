@@ -1,4 +1,4 @@
-// What holds of the program's answers, whatever it does.
+// What holds of the program's reports, whatever it does.
 ghost use Rattle.std.specs.Prelude.{◌≡◌, ◌⊎◌, ℕ, List, [], ◌∷◌, length, codes, Option, Ok};
 ghost use Rattle.bt_frame.specs.declared.schedule.Schedule.{Schedule};
 ghost use Rattle.bt_net.specs.Network.{Net, IsSound};
@@ -14,13 +14,13 @@ ghost use Rattle.bt_timeline.specs.Lines.{line_of};
 ghost use Rattle.bt_cli.specs.Check.{Judges};
 ghost use Rattle.bt_cli.specs.CheckPlan.{JudgesPlan};
 ghost use Rattle.bt_cli.specs.Fitting.{Fits};
-ghost use Rattle.bt_cli.specs.Outcome.{HasFailed, Input, Outcome, PrintsOneOf, Says, text_alone};
+ghost use Rattle.bt_cli.specs.Outcome.{FilesFailed, Input, Outcome, PrintsOneOf, Says, text_alone};
 ghost use Rattle.bt_cli.specs.Plans.{PrintsPlan};
 ghost use Rattle.bt_cli.specs.Request.{Request};
 ghost use Rattle.bt_centre.specs.Output.{Output};
 ghost use Rattle.bt_centre.specs.Stored.{Stored};
 ghost use Rattle.bt_cli.specs.Run.{End};
-ghost use Rattle.bt_cli.specs.Top.{AnswersWith, AreOneStore, AreTold, Ends, IsOneAnswer};
+ghost use Rattle.bt_cli.specs.Top.{AreOneStore, AreTold, Ends, IsOneReport, ReportsWith};
 
 use bt_book::journals_tell_one_thing;
 use bt_demand::{good_plans_are_flyable, links_tell_demands};
@@ -29,13 +29,13 @@ use bt_plan::{plans_have_one_spelling, schedules_have_one_spelling};
 use bt_verdict::{one_plan_verdict, one_verdict};
 
 /// Where the files that are asked for are told and none of them failed, and for a run and a replay the store, what is asked
-/// has one answer: no two cases of the promise hold together. Of the good schedules for a matrix any may be printed, of the
+/// has one report: no two cases of the promise hold together. Of the good schedules for a matrix any may be printed, of the
 /// good plans for a demand, and of the runs of a script, which then lose nothing.
-pub fn one_answer()
+pub fn one_report()
     ensures { (told : List ℕ → Option (List ℕ)) (one other : Stored) (request : Request)
         → AreTold told request → AreOneStore request one other
-        → (a b : Outcome) → AnswersWith told ⊥ one request a → AnswersWith told ⊥ other request b
-        → IsOneAnswer request a b }
+        → (a b : Outcome) → ReportsWith told ⊥ one request a → ReportsWith told ⊥ other request b
+        → IsOneReport request a b }
 {
     one_verdict();
     one_plan_verdict();
@@ -46,9 +46,9 @@ pub fn one_answer()
 
 /// However the program ends, what was asked was answered, but where the output failed: memory ran out, or one of the
 /// outcomes that the promise allows was printed with its status.
-pub fn ends_are_answers()
+pub fn ends_are_reports()
     ensures { (input : Input) (output : Output) (stored : Stored) (request : Request) (end : End) → Ends input output stored request end
-        → (end.status ≡ 6) ⊎ PrintsOneOf output (AnswersWith input.told (HasFailed input) stored request) end.status }
+        → (end.status ≡ 6) ⊎ PrintsOneOf output (ReportsWith input.told (FilesFailed input) stored request) end.status }
 {}
 
 /// What `modes` prints for a matrix is read back by `check`, for that matrix, as the schedule that was printed; and

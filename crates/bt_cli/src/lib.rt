@@ -4,12 +4,12 @@
 //! the run of scripts over a store (`bt_centre`) and on the printed lines (`bt_timeline`). Promises: `specs/Top.antt` says
 //! how the program ends and what it leaves in the store, case by case in the order of the work, and the files that it names
 //! say so of each command; `specs/Outcome.antt` has their words and `specs/Lines.antt` the lines of faults. For bodies
-//! alone: `Answer`, `Command`, `Printing` and `Stops`.
+//! alone: `Report`, `CommandLine`, `Printing` and `Stops`.
 #![tactic(auto)]
 
-mod answer;
 mod check;
 mod check_plan;
+mod command_line;
 mod faulty;
 mod fit;
 mod laws;
@@ -18,15 +18,18 @@ mod modes;
 mod plan;
 mod print;
 mod replay;
-mod request;
+mod report;
 mod run;
 mod stops;
 mod top;
 
-pub use bt_centre::{Histories, History};
+pub use bt_centre::{
+    DONE, FAULTY_JOURNAL, FAULTY_TEXT, FAULTY_WORDS, Histories, History, NO_NETWORK, NOT_GOOD,
+    OUT_OF_MEMORY, READ_FAILED, STORE_FAILED, TOO_LONG, WRITE_FAILED, print_text,
+};
 pub use check::check_command;
 pub use laws::{
-    ends_are_answers, one_answer, printed_plans_are_read_back, printed_schedules_are_read_back,
+    ends_are_reports, one_report, printed_plans_are_read_back, printed_schedules_are_read_back,
 };
 pub use modes::modes_command;
 pub use plan::plan_command;

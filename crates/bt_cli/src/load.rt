@@ -8,11 +8,12 @@ ghost use Rattle.bt_demand.specs.Traffic.{matrix_of, AreOfNetwork, HasSumsTo};
 ghost use Rattle.bt_script.specs.Named.{IsItemFor};
 ghost use Rattle.bt_cli.specs.Outcome.{IsContent, CannotRead, IsLoaded, StopsAtLoad};
 ghost use Rattle.bt_cli.specs.Kinds.{demand_file, matrix_file, network_file, plan_file, schedule_file, script_file};
-ghost use Rattle.bt_cli.specs.Answer.{StopIs};
+ghost use Rattle.bt_cli.specs.Report.{StopIs};
 
-use crate::answer::Stop;
+use crate::report::Stop;
 use crate::stops::{network_stop, script_stop, text_stop};
 use bt_base::{FileFault, Files};
+use bt_centre::{READ_FAILED, TOO_LONG};
 use bt_demand::{Demand, Plan};
 use bt_frame::{MOST_FILE_BYTES, Schedule};
 use bt_matrix::{Dense, MOST_SUM};
@@ -34,12 +35,12 @@ pub fn read_file<F: Files>(alloc: Global, files: &mut F, name: &str) -> Result<V
         Ok(bytes) => Ok(bytes),
         Err(FileFault::Failed) => {
             let words = [Word::Text("fault"), Word::Text("read"), Word::Text(name)];
-            Err(Stop::says(alloc, &words, 5))
+            Err(Stop::says(alloc, &words, READ_FAILED))
         }
         Err(FileFault::TooLong) => {
             let long = (Word::Text("too"), Word::Text("long"));
             let words = [Word::Text("fault"), long.0, long.1, Word::Text(name)];
-            Err(Stop::says(alloc, &words, 10))
+            Err(Stop::says(alloc, &words, TOO_LONG))
         }
         Err(FileFault::OutOfMemory) => Err(Stop::OutOfMemory),
     }

@@ -5,14 +5,15 @@ ghost use Rattle.bt_base.specs.Told.{Rose};
 ghost use Rattle.bt_cli.specs.Modes.{PrintsModes, PrintsSchedule};
 ghost use Rattle.bt_cli.specs.Printing.{CameTo};
 ghost use Rattle.bt_cli.specs.Request.{first_word, request_of};
-ghost use Rattle.bt_cli.specs.Top.{Answered, Answers};
+ghost use Rattle.bt_cli.specs.Top.{Reported, Reports};
 
-use crate::answer::{Answer, Stop};
+use crate::command_line::{CommandLine, command_line_of};
 use crate::faulty::faulty_words;
 use crate::load::load_matrix;
 use crate::print::print;
-use crate::request::{Command, command_of};
+use crate::report::{Report, Stop};
 use bt_base::{Files, Sink};
+use bt_centre::DONE;
 use bt_matrix::Dense;
 use bt_plan::schedule_text;
 use std::alloc::Global;
@@ -28,7 +29,7 @@ pub fn modes_command<F: Files, O: Sink>(
     out: &mut O,
 ) -> u8
     requires { first_word (map string_bytes words.now) ≡ Some (codes "modes") }
-    ensures { Answered (record { told = F.told files.old; faults_before = F.fault_count files.old; faults_after = F.fault_count files.new })
+    ensures { Reported (record { told = F.told files.old; faults_before = F.fault_count files.old; faults_after = F.fault_count files.new })
         (record { before = O.told out.old; after = O.told out.new; faults_before = O.fault_count out.old; faults_after = O.fault_count out.new })
         (request_of (map string_bytes words.now)) result }
 {
@@ -36,28 +37,28 @@ pub fn modes_command<F: Files, O: Sink>(
     print(alloc, out, outcome)
 }
 
-fn modes_words<F: Files>(alloc: Global, words: &[String], files: &mut F) -> Result<Answer, Stop>
+fn modes_words<F: Files>(alloc: Global, words: &[String], files: &mut F) -> Result<Report, Stop>
     requires { first_word (map string_bytes words.now) ≡ Some (codes "modes") }
-    ensures { CameTo (Answers (F.told files.old) (Rose (F.fault_count files.old) (F.fault_count files.new)) (request_of (map string_bytes words.now))) result }
+    ensures { CameTo (Reports (F.told files.old) (Rose (F.fault_count files.old) (F.fault_count files.new)) (request_of (map string_bytes words.now))) result }
 {
-    match command_of(words) {
-        Command::PlanModes { matrix } => plan_modes(alloc, files, matrix),
+    match command_line_of(words) {
+        CommandLine::PlanModes { matrix } => plan_modes(alloc, files, matrix),
         _ => Ok(faulty_words(alloc)?),
     }
 }
 
-fn plan_modes<F: Files>(alloc: Global, files: &mut F, matrix: &str) -> Result<Answer, Stop>
+fn plan_modes<F: Files>(alloc: Global, files: &mut F, matrix: &str) -> Result<Report, Stop>
     ensures { CameTo (PrintsModes (F.told files.old) (Rose (F.fault_count files.old) (F.fault_count files.new)) matrix.now) result }
 {
     let matrix = load_matrix(alloc, files, matrix)?;
-    schedule_answer(alloc, &matrix)
+    schedule_report(alloc, &matrix)
 }
 
 /// The text of a schedule for the matrix.
-fn schedule_answer(alloc: Global, matrix: &Dense) -> Result<Answer, Stop>
+fn schedule_report(alloc: Global, matrix: &Dense) -> Result<Report, Stop>
     ensures { CameTo (PrintsSchedule matrix.now) result }
 {
     let schedule = bt_modes::schedule(alloc, matrix)?;
     let text = schedule_text(alloc, &schedule)?;
-    Ok(Answer { text, status: 0 })
+    Ok(Report { text, status: DONE })
 }

@@ -7,15 +7,16 @@ ghost use Rattle.bt_cli.specs.Fitting.{Fits, WhereItFits};
 ghost use Rattle.bt_cli.specs.Plans.{Plans, PlansDemand, PrintsPlan};
 ghost use Rattle.bt_cli.specs.Printing.{CameTo};
 ghost use Rattle.bt_cli.specs.Request.{first_word, request_of};
-ghost use Rattle.bt_cli.specs.Top.{Answered, Answers};
+ghost use Rattle.bt_cli.specs.Top.{Reported, Reports};
 
-use crate::answer::{Answer, Stop};
+use crate::command_line::{CommandLine, command_line_of};
 use crate::faulty::faulty_words;
 use crate::fit::test_fit;
 use crate::load::{load_demand, load_network};
 use crate::print::print;
-use crate::request::{Command, command_of};
+use crate::report::{Report, Stop};
 use bt_base::{Files, Sink};
+use bt_centre::DONE;
 use bt_cut::make_plan;
 use bt_demand::Demand;
 use bt_frame::EditionNo;
@@ -38,7 +39,7 @@ pub fn plan_command<F: Files, O: Sink>(
     out: &mut O,
 ) -> u8
     requires { first_word (map string_bytes words.now) ≡ Some (codes "plan") }
-    ensures { Answered (record { told = F.told files.old; faults_before = F.fault_count files.old; faults_after = F.fault_count files.new })
+    ensures { Reported (record { told = F.told files.old; faults_before = F.fault_count files.old; faults_after = F.fault_count files.new })
         (record { before = O.told out.old; after = O.told out.new; faults_before = O.fault_count out.old; faults_after = O.fault_count out.new })
         (request_of (map string_bytes words.now)) result }
 {
@@ -46,12 +47,12 @@ pub fn plan_command<F: Files, O: Sink>(
     print(alloc, out, outcome)
 }
 
-fn plan_words<F: Files>(alloc: Global, words: &[String], files: &mut F) -> Result<Answer, Stop>
+fn plan_words<F: Files>(alloc: Global, words: &[String], files: &mut F) -> Result<Report, Stop>
     requires { first_word (map string_bytes words.now) ≡ Some (codes "plan") }
-    ensures { CameTo (Answers (F.told files.old) (Rose (F.fault_count files.old) (F.fault_count files.new)) (request_of (map string_bytes words.now))) result }
+    ensures { CameTo (Reports (F.told files.old) (Rose (F.fault_count files.old) (F.fault_count files.new)) (request_of (map string_bytes words.now))) result }
 {
-    match command_of(words) {
-        Command::PlanDemand { net, traffic } => plan_files(alloc, files, net, traffic),
+    match command_line_of(words) {
+        CommandLine::PlanDemand { net, traffic } => plan_files(alloc, files, net, traffic),
         _ => Ok(faulty_words(alloc)?),
     }
 }
@@ -61,7 +62,7 @@ fn plan_files<F: Files>(
     files: &mut F,
     net: &str,
     traffic: &str,
-) -> Result<Answer, Stop>
+) -> Result<Report, Stop>
     ensures { CameTo (Plans (F.told files.old) (Rose (F.fault_count files.old) (F.fault_count files.new)) net.now traffic.now) result }
 {
     let net = load_network(alloc, files, net)?;
@@ -73,7 +74,7 @@ fn plan_demand_file<F: Files>(
     files: &mut F,
     net: &Network,
     traffic: &str,
-) -> Result<Answer, Stop>
+) -> Result<Report, Stop>
     ensures { CameTo (PlansDemand (F.told files.old) (Rose (F.fault_count files.old) (F.fault_count files.new)) traffic.now net.now) result }
 {
     let demand = load_demand(alloc, files, traffic, net)?;
@@ -81,17 +82,17 @@ fn plan_demand_file<F: Files>(
 }
 
 /// The text of a plan, where the demand fits.
-fn plan_demand(alloc: Global, net: &Network, demand: &Demand) -> Result<Answer, Stop>
+fn plan_demand(alloc: Global, net: &Network, demand: &Demand) -> Result<Report, Stop>
     requires terminals { AreOfNetwork net.now demand.now }
     requires sums { HasSumsTo MOST_SUM (matrix_of net.now demand.now) }
     ensures { CameTo (WhereItFits net.now demand.now (PrintsPlan net.now demand.now)) result }
 {
     test_fit(alloc, net, demand)?;
-    plan_answer(alloc, net, demand)
+    plan_report(alloc, net, demand)
 }
 
 /// The text of a plan for a demand that fits.
-fn plan_answer(alloc: Global, net: &Network, demand: &Demand) -> Result<Answer, Stop>
+fn plan_report(alloc: Global, net: &Network, demand: &Demand) -> Result<Report, Stop>
     requires terminals { AreOfNetwork net.now demand.now }
     requires fits { Fits net.now demand.now }
     ensures { CameTo (PrintsPlan net.now demand.now) result }
@@ -102,5 +103,5 @@ fn plan_answer(alloc: Global, net: &Network, demand: &Demand) -> Result<Answer, 
     // And this, of the bursts of each plan: they are in order.
     let _bursts = plan.bursts.as_slice();
     let text = plan_text(alloc, net, &plan)?;
-    Ok(Answer { text, status: 0 })
+    Ok(Report { text, status: DONE })
 }

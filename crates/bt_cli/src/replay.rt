@@ -6,14 +6,14 @@ ghost use Rattle.bt_cli.specs.Printing.{CameTo};
 ghost use Rattle.bt_cli.specs.Replay.{EndsRecovery, EndsReplay, EndsReplayWords, PrintsState};
 ghost use Rattle.bt_cli.specs.Request.{first_word, request_of};
 
-use crate::answer::{Answer, Stop};
+use crate::command_line::{CommandLine, command_line_of};
 use crate::faulty::print_faulty_words;
 use crate::load::load_network;
 use crate::print::print;
-use crate::request::{Command, command_of};
-use crate::stops::recover_stop;
+use crate::report::{Report, Stop};
 use bt_base::{Files, Keeper, Sink};
 use bt_book::{Book, demands_fit_the_frame};
+use bt_centre::{DONE, print_fault};
 use bt_net::Network;
 use bt_timeline::replay_text;
 use std::alloc::Global;
@@ -36,8 +36,8 @@ pub fn replay_command<F: Files, O: Sink, K: Keeper>(
         (record { before = K.told store; after = K.told result.1; faults_before = K.fault_count store; faults_after = K.fault_count result.1 })
         (request_of (map string_bytes words.now)) result.0 }
 {
-    match command_of(words) {
-        Command::ReplayJournal { net, .. } => replay_files(alloc, net, files, out, store),
+    match command_line_of(words) {
+        CommandLine::ReplayJournal { net, .. } => replay_files(alloc, net, files, out, store),
         _ => (print_faulty_words(alloc, out), store),
     }
 }
@@ -70,15 +70,15 @@ fn replay_store<O: Sink, K: Keeper>(alloc: Global, net: &Network, out: &mut O, s
     let _beams = net.beam_count();
     match Book::recover(alloc, net, store) {
         Ok(book) => {
-            let status = print(alloc, out, state_answer(alloc, net, &book));
+            let status = print(alloc, out, state_report(alloc, net, &book));
             (status, book.into_parts().0)
         }
-        Err((store, fault)) => (print(alloc, out, Err(recover_stop(alloc, fault))), store),
+        Err((store, fault)) => (print_fault(alloc, fault, out), store),
     }
 }
 
 /// The text of what the changes of a book come to.
-fn state_answer<K: Keeper>(alloc: Global, net: &Network, book: &Book<K>) -> Result<Answer, Stop>
+fn state_report<K: Keeper>(alloc: Global, net: &Network, book: &Book<K>) -> Result<Report, Stop>
     requires follow { Follows net.now book.now.state.changes }
     ensures { CameTo (PrintsState net.now book.now.state.changes) result }
 {
@@ -96,5 +96,5 @@ fn state_answer<K: Keeper>(alloc: Global, net: &Network, book: &Book<K>) -> Resu
         book.demand(),
         &mut text,
     )?;
-    Ok(Answer { text, status: 0 })
+    Ok(Report { text, status: DONE })
 }

@@ -1,36 +1,20 @@
-// The answers that name the first fault of a file's bytes.
-ghost use Rattle.std.specs.Prelude.{◌≡◌, ◌∷◌, [], codes, decimal};
+// The reports that name the first fault of a file's bytes.
+ghost use Rattle.std.specs.Prelude.{◌≡◌, ◌∷◌, [], codes};
 ghost use Rattle.bt_net.specs.Fault.{path_text};
 ghost use Rattle.bt_cli.specs.Stops.{NamesNetworkFault, NamesScriptFault, NamesTextFault};
-ghost use Rattle.bt_cli.specs.Answer.{StopIs};
+ghost use Rattle.bt_cli.specs.Report.{StopIs};
 ghost use Rattle.bt_cli.specs.Lines.{code_name, script_code_name};
 ghost use Rattle.bt_cli.specs.Outcome.{Says};
-ghost use Rattle.bt_cli.specs.Replay.{NamesRecoverFault};
 
-use crate::answer::Stop;
-use bt_book::RecoverFault;
+use crate::report::Stop;
+use bt_centre::{FAULTY_TEXT, NO_NETWORK};
 use bt_net::{NetFault, Path};
 use bt_plan::{TextCode, TextFault};
 use bt_script::{ScriptCode, ScriptFault};
 use bt_timeline::Word;
 use std::alloc::Global;
 
-/// The status where the bytes of a file leave its grammar or its limits.
-const FAULTY_TEXT: u8 = 4;
-
-/// The status where the bytes of a file are no network.
-const NO_NETWORK: u8 = 3;
-
-/// The status where the store failed.
-const STORE_FAILED: u8 = 7;
-
-/// The status where a line of the journal is of no change, or of one that does not follow.
-const FAULTY_JOURNAL: u8 = 8;
-
-/// The status where the store, or a file, is longer than is read.
-const TOO_LONG: u8 = 10;
-
-/// The answer that names a text's first fault.
+/// The report that names a text's first fault.
 pub fn text_stop(alloc: Global, fault: TextFault) -> Stop
     ensures { StopIs (NamesTextFault fault) result }
 {
@@ -65,7 +49,7 @@ fn code_text(code: TextCode) -> &'static str
     }
 }
 
-/// The answer that names a network's first fault.
+/// The report that names a network's first fault.
 pub fn network_stop(alloc: Global, fault: NetFault) -> Stop
     ensures { StopIs (NamesNetworkFault fault) result }
 {
@@ -80,7 +64,7 @@ pub fn network_stop(alloc: Global, fault: NetFault) -> Stop
     }
 }
 
-/// The answer that names a fault and its place in a network file.
+/// The report that names a fault and its place in a network file.
 fn path_stop(alloc: Global, code: &str, path: Path) -> Stop
     ensures { StopIs (Says (codes "fault" ∷ code.now ∷ path_text path ∷ []) NO_NETWORK) result }
 {
@@ -93,7 +77,7 @@ fn path_stop(alloc: Global, code: &str, path: Path) -> Stop
     }
 }
 
-/// The answer that names a script's first fault.
+/// The report that names a script's first fault.
 pub fn script_stop(alloc: Global, fault: ScriptFault) -> Stop
     ensures { StopIs (NamesScriptFault fault) result }
 {
@@ -120,32 +104,4 @@ fn script_code_text(code: ScriptCode) -> &'static str
         ScriptCode::S4 => "S4",
         ScriptCode::S5 => "S5",
     }
-}
-
-/// The answer that names why a journal was not recovered.
-pub fn recover_stop(alloc: Global, fault: RecoverFault) -> Stop
-    ensures { StopIs (NamesRecoverFault fault) result }
-{
-    match fault {
-        RecoverFault::OutOfMemory => Stop::OutOfMemory,
-        RecoverFault::J1 { line } => journal_stop(alloc, "J1", line),
-        RecoverFault::J2 { line } => journal_stop(alloc, "J2", line),
-        RecoverFault::StoreFault => {
-            let words = [Word::Text("fault"), Word::Text("store")];
-            Stop::says(alloc, &words, STORE_FAILED)
-        }
-        RecoverFault::TooLong => {
-            let long = (Word::Text("too"), Word::Text("long"));
-            let words = [Word::Text("fault"), long.0, long.1, Word::Text("store")];
-            Stop::says(alloc, &words, TOO_LONG)
-        }
-    }
-}
-
-/// The answer that names the first faulty line of a journal.
-fn journal_stop(alloc: Global, code: &str, line: u32) -> Stop
-    ensures { StopIs (Says (codes "fault" ∷ code.now ∷ decimal line ∷ []) FAULTY_JOURNAL) result }
-{
-    let words = [Word::Text("fault"), Word::Text(code), Word::number(line)];
-    Stop::says(alloc, &words, FAULTY_JOURNAL)
 }

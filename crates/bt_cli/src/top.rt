@@ -2,14 +2,14 @@
 ghost use Rattle.std.specs.Prelude.{◌≡◌, map, []};
 ghost use Rattle.std.specs.String.{string_bytes};
 ghost use Rattle.bt_cli.specs.Request.{request_of};
-ghost use Rattle.bt_cli.specs.Top.{Answered, AsksNoStore, Ends};
+ghost use Rattle.bt_cli.specs.Top.{AsksNoStore, Ends, Reported};
 
 use crate::check::check_command;
+use crate::command_line::{CommandLine, command_line_of};
 use crate::faulty::print_faulty_words;
 use crate::modes::modes_command;
 use crate::plan::plan_command;
 use crate::replay::replay_command;
-use crate::request::{Command, command_of};
 use crate::run::run_files;
 use bt_air::Event;
 use bt_base::{Files, Keeper, Sink};
@@ -93,32 +93,32 @@ pub fn centre_main<R: Threads + Wait + Sync, F: Files, O: Sink, K: Keeper + Send
         (request_of (map string_bytes words.now))
         (record { status = result.status; histories = result.histories; events = result.events.items }) }
 {
-    match command_of(words) {
-        Command::RunScript { net, script, .. } => {
+    match command_line_of(words) {
+        CommandLine::RunScript { net, script, .. } => {
             run_files(rt, alloc, net, script, files, out, store)
         }
-        Command::ReplayJournal { .. } => {
+        CommandLine::ReplayJournal { .. } => {
             let (status, store) = replay_command(alloc, words, files, out, store);
             Ended::without_run(alloc, status, store)
         }
-        _ => Ended::without_run(alloc, answer(alloc, words, files, out), store),
+        _ => Ended::without_run(alloc, report(alloc, words, files, out), store),
     }
 }
 
-/// Does what a command asks for that reads no store, and gives the status to end with.
-fn answer<F: Files, O: Sink>(alloc: Global, words: &[String], files: &mut F, out: &mut O) -> u8
+/// Does what a command asks for that reads no store, reports on it, and gives the status to end with.
+fn report<F: Files, O: Sink>(alloc: Global, words: &[String], files: &mut F, out: &mut O) -> u8
     requires { AsksNoStore (request_of (map string_bytes words.now)) }
-    ensures { Answered (record { told = F.told files.old; faults_before = F.fault_count files.old; faults_after = F.fault_count files.new })
+    ensures { Reported (record { told = F.told files.old; faults_before = F.fault_count files.old; faults_after = F.fault_count files.new })
         (record { before = O.told out.old; after = O.told out.new; faults_before = O.fault_count out.old; faults_after = O.fault_count out.new })
         (request_of (map string_bytes words.now)) result }
 {
-    match command_of(words) {
-        Command::Faulty => print_faulty_words(alloc, out),
-        Command::CheckModes { .. } | Command::CheckPlan { .. } => {
+    match command_line_of(words) {
+        CommandLine::Faulty => print_faulty_words(alloc, out),
+        CommandLine::CheckModes { .. } | CommandLine::CheckPlan { .. } => {
             check_command(alloc, words, files, out)
         }
-        Command::PlanModes { .. } => modes_command(alloc, words, files, out),
-        Command::PlanDemand { .. } => plan_command(alloc, words, files, out),
-        Command::RunScript { .. } | Command::ReplayJournal { .. } => unreachable!(),
+        CommandLine::PlanModes { .. } => modes_command(alloc, words, files, out),
+        CommandLine::PlanDemand { .. } => plan_command(alloc, words, files, out),
+        CommandLine::RunScript { .. } | CommandLine::ReplayJournal { .. } => unreachable!(),
     }
 }

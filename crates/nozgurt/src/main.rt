@@ -3,25 +3,19 @@
 
 mod pages;
 
-use bt_base::{DirFiles, FileKeeper, Sink, SinkFault, StdSink, SureKeeper};
-use bt_cli::centre_main;
+use bt_base::{DirFiles, FileKeeper, StdSink, SureKeeper};
+use bt_cli::{DONE, OUT_OF_MEMORY, centre_main, print_text};
 use std::alloc::{AllocError, Global};
 use std::env::Env;
 use std::process::ExitCode;
 use std::{env, io};
-
-/// The status where memory ran out.
-const OUT_OF_MEMORY: u8 = 1;
-
-/// The status where the output could not be written.
-const WRITE_FAILED: u8 = 6;
 
 fn main(rt: HostRuntime) -> ExitCode {
     let alloc = rt.alloc();
     let mut out = StdSink::new(rt.stdout());
     let status = match words(&rt, alloc) {
         Ok(words) => match pages::page_of(&words) {
-            Some(page) => show(alloc, &mut out, page),
+            Some(page) => print_text(alloc, page.as_bytes(), DONE, &mut out),
             None => {
                 let mut files = DirFiles::new(&rt);
                 match journal_of(&words) {
@@ -62,13 +56,4 @@ fn journal_of(words: &[String]) -> Option<&str> {
         _ => return None,
     };
     (!journal.is_empty()).then_some(journal.as_str())
-}
-
-/// Prints a page, and gives the status to end with.
-fn show<O: Sink>(alloc: Global, out: &mut O, page: &str) -> u8 {
-    match out.write(alloc, page.as_bytes()) {
-        Ok(()) => 0,
-        Err(SinkFault::Failed) => WRITE_FAILED,
-        Err(SinkFault::OutOfMemory) => OUT_OF_MEMORY,
-    }
 }

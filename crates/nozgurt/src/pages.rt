@@ -1,4 +1,8 @@
 // The pages that the program prints about itself.
+use bt_cli::{
+    FAULTY_JOURNAL, FAULTY_TEXT, FAULTY_WORDS, NO_NETWORK, OUT_OF_MEMORY, READ_FAILED,
+    STORE_FAILED, TOO_LONG, WRITE_FAILED,
+};
 
 /// What `--help` prints.
 const HELP: &str = "\
@@ -101,23 +105,25 @@ pub fn page_of(words: &[String]) -> Option<&'static str> {
 /// the verdict says all.
 pub fn reason_of(status: u8) -> Option<&'static str> {
     match status {
-        1 => Some("memory ran out; what stands on the output may be only a first part"),
-        2 => Some("these words are none of a command; try nozgurt --help"),
-        3 => Some(
+        OUT_OF_MEMORY => Some("memory ran out; what stands on the output may be only a first part"),
+        FAULTY_WORDS => Some("these words are none of a command; try nozgurt --help"),
+        NO_NETWORK => Some(
             "the network file is no network; the last line has the fault and its place in the file",
         ),
-        4 => Some(
+        FAULTY_TEXT => Some(
             "a file leaves its grammar or its limits, or the traffic does not fit the frame; the last line has the fault",
         ),
-        5 => Some("a file could not be read; the last line names it"),
-        6 => Some("the output could not be written; at most a first part of it stands there"),
-        7 => Some(
+        READ_FAILED => Some("a file could not be read; the last line names it"),
+        WRITE_FAILED => Some(
+            "the output could not be written; at most a first part of it stands there",
+        ),
+        STORE_FAILED => Some(
             "the journal could not be read or cut, or failed over a line; look at its file and its folder",
         ),
-        8 => Some(
+        FAULTY_JOURNAL => Some(
             "a line of the journal is none, or its change does not follow those before it; the last line has the fault and the number of the line",
         ),
-        10 => Some(
+        TOO_LONG => Some(
             "a file is longer than 4194304 bytes, or the journal than 67108864; the last line names it",
         ),
         _ => None,

@@ -1,7 +1,6 @@
 -- the world may open so
-use Rattle.std.proofs.Common.{rules, ◌∙◌, sym, ap, length, arith, ◌≡◌}
+use Rattle.std.proofs.Common.{rules, arith}
 use Rattle.bt_net.specs.Network.{IsSound}
-use Rattle.bt_book.specs.Changes.{orders}
 use Rattle.bt_centre.proofs.Opens.{opens_with_copies}
 use Rattle.bt_centre.proofs.open.open_world.Goals as goal
 

@@ -1,5 +1,5 @@
 -- as the wanted order says
-use Rattle.std.proofs.Common.{rules, sym, ◌∙◌}
+use Rattle.std.proofs.Common.{sym, ◌∙◌}
 use Rattle.bt_centre.proofs.Joins.{joins_none, joins_wanted}
 use Rattle.bt_centre.proofs.restart.joins_order.Goals as goal
 

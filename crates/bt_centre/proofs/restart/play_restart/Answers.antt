@@ -1,12 +1,11 @@
 -- the centre restarted, or memory ran out, or the recovery failed
 use Rattle.std.proofs.Common.{◌≡◌, List, refl, sym, ap, ◌∙◌, subst, inl, arith}
-use Rattle.bt_air.specs.declared.event.Event.{Event}
 use Rattle.bt_book.specs.Book.{Books}
 use Rattle.bt_book.specs.Causes.{Follows}
 use Rattle.bt_round.specs.AirLines.{AirState}
 use Rattle.bt_script.specs.declared.script.Item.TheVariants as item
 use Rattle.bt_centre.specs.declared.history.History.{History}
-use Rattle.bt_centre.specs.Progress.{Hand, IsLeftEarly, IsLeftOf, ItemFailed, Left, RestartPlayed, histories_in}
+use Rattle.bt_centre.specs.Progress.{Hand, IsLeftEarly, IsLeftOf, ItemFailed, Left, RestartPlayed}
 use Rattle.bt_centre.proofs.Going.{left_early}
 use Rattle.bt_centre.proofs.Restarts.{Laws, breaks_behind, fails, pushed_is, restart_failed, restarts, world_at}
 use Rattle.bt_centre.proofs.restart.play_restart.Goals as goal

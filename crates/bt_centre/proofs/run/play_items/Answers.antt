@@ -1,7 +1,7 @@
 -- the parts were played and written, or the run stopped
-use Rattle.std.proofs.Common.{◌≡◌, List, ℕ, rules, sym, ◌∙◌, ap, arith, subst, take}
+use Rattle.std.proofs.Common.{List, ℕ, rules, arith, subst}
 use Rattle.std.proofs.lemmas.List.{take_all}
-use Rattle.bt_base.specs.Told.{GainsPrefix, gained}
+use Rattle.bt_base.specs.Told.{GainsPrefix}
 use Rattle.bt_script.specs.declared.script.Item.{Item}
 use Rattle.bt_centre.specs.Progress.{ItemsWritten}
 use Rattle.bt_centre.proofs.Ended.{err_is, not_begun, not_played, not_shown, same_end}
@@ -17,35 +17,35 @@ loop-item-init g c = record {
 
 pub returns-in-Err-clause-ended : goal.returns-in-Err-clause-ended
 returns-in-Err-clause-ended g c =
-    same_end c.args.net.now c.args.items.now _ c.args.playing.book c.stop.result _ _ _ _ _ c.status.result c.end.ensures.told c.end.ensures.faults c.end.ensures.histories c.end.ensures.events c.end.ensures.status
-    (not_begun c.args.net.now c.args.items.now c.args.playing c.stop.result c.in-Err.stop _ _ _ _ c.status.result (c.installed_plans_are_good.ensures c.args.net.now) c.requires.begun c.stop.ensures
-    (λ is. c.in-Err.ensures.cause (err_is c.in-Err.stop is)) (λ is. c.in-Err.ensures.failed (err_is c.in-Err.stop is)) c.status.ensures.memory c.status.ensures.failed)
+    same_end c.args.net.now c.args.items.now _ c.args.playing.book c.stop.result _ _ _ _ _ c.unwritten.result c.end.ensures.told c.end.ensures.faults c.end.ensures.histories c.end.ensures.events c.end.ensures.status
+    (not_begun c.args.net.now c.args.items.now c.args.playing c.stop.result c.in-Err.fault _ _ _ _ c.unwritten.result (c.installed_plans_are_good.ensures c.args.net.now) c.requires.begun c.stop.ensures
+    (λ is. c.in-Err.ensures.cause (err_is c.in-Err.fault is)) (λ is. c.in-Err.ensures.failed (err_is c.in-Err.fault is)) c.unwritten.ensures.memory c.unwritten.ensures.failed)
 
 pub returns-in-Err-write-clause-ended : goal.returns-in-Err-write-clause-ended
 returns-in-Err-write-clause-ended g c =
     let end = c.end-in-Err-write.ensures in
     let at = c.loop-item.invariant in
-    let stop = c.in-Err-write.stop in
-    same_end c.args.net.now c.args.items.now _ c.args.playing.book c.stop-in-Err-write.result _ _ _ _ _ c.status-in-Err-write.result end.told end.faults end.histories end.events end.status
-    (not_shown c.args.net.now c.args.items.now c.loop-item.item-index c.item-item.result c.args.playing.book c.loop-item.playing c.in-Ok.next c.in-Ok.text.items c.stop-in-Err-write.result stop
-    _ _ _ _ _ _ c.status-in-Err-write.result (c.installed_plans_are_good.ensures c.args.net.now) c.loop-item-test.true c.item-item.is at.written at.later c.in-Ok.ensures.played c.stop-in-Err-write.ensures
-    (λ is. c.in-Err-write.ensures.cause (err_is stop is))
-    (λ is. subst (λ (t : List ℕ). GainsPrefix (g.O.Sink.told c.loop-item.out) t (g.O.Sink.told c.write.new.out)) c.as_slice.ensures.value (c.in-Err-write.ensures.failed (err_is stop is)))
-    c.status-in-Err-write.ensures.memory c.status-in-Err-write.ensures.failed)
+    let why = c.in-Err-write.fault in
+    same_end c.args.net.now c.args.items.now _ c.args.playing.book c.stop-in-Err-write.result _ _ _ _ _ c.unwritten-in-Err-write.result end.told end.faults end.histories end.events end.status
+    (not_shown c.args.net.now c.args.items.now c.loop-item.item-index c.item-item.result c.args.playing.book c.loop-item.playing c.in-Ok.next c.in-Ok.text.items c.stop-in-Err-write.result why
+    _ _ _ _ _ _ c.unwritten-in-Err-write.result (c.installed_plans_are_good.ensures c.args.net.now) c.loop-item-test.true c.item-item.is at.written at.later c.in-Ok.ensures.played c.stop-in-Err-write.ensures
+    (λ is. c.in-Err-write.ensures.cause.failed (err_is why is))
+    (λ is. subst (λ (t : List ℕ). GainsPrefix (g.O.Sink.told c.loop-item.out) t (g.O.Sink.told c.write.new.self)) c.as_slice.ensures.value (c.in-Err-write.ensures.failed (err_is why is)))
+    c.unwritten-in-Err-write.ensures.memory c.unwritten-in-Err-write.ensures.failed)
 
 pub returns-in-Err-play_item-clause-ended : goal.returns-in-Err-play_item-clause-ended
 returns-in-Err-play_item-clause-ended g c =
     let end = c.end-in-Err-play_item.ensures in
     let at = c.loop-item.invariant in
-    same_end c.args.net.now c.args.items.now _ c.args.playing.book c.in-Err-play_item.remains _ _ _ _ _ c.write_restart_fault.result end.told end.faults end.histories end.events end.status
+    same_end c.args.net.now c.args.items.now _ c.args.playing.book c.in-Err-play_item.remains _ _ _ _ _ c.print_restart_fault.result end.told end.faults end.histories end.events end.status
     (not_played c.args.net.now c.args.items.now c.loop-item.item-index c.item-item.result c.args.playing.book c.loop-item.playing c.in-Err-play_item.remains _ _ _ _ _ _ c.in-Err-play_item.fault
-    c.write_restart_fault.result (c.installed_plans_are_good.ensures c.args.net.now) c.loop-item-test.true c.item-item.is at.written at.later c.in-Err-play_item.ensures.failed c.write_restart_fault.ensures.printed)
+    c.print_restart_fault.result (c.installed_plans_are_good.ensures c.args.net.now) c.loop-item-test.true c.item-item.is at.written at.later c.in-Err-play_item.ensures.failed c.print_restart_fault.ensures.printed)
 
 pub loop-item-preserved : goal.loop-item-preserved
 loop-item-preserved g c =
     let at = c.loop-item.invariant in
     record {
-      later = omega (arith, at.later, c.write.ensures.later);
+      later = omega (arith, at.later, c.write.ensures.cause.later);
       few = rounds_more c.args.net.now c.item-item.result c.loop-item.playing c.in-Ok.next c.in-Ok.text.items c.loop-item.item-index c.in-Ok.ensures.played at.few;
       written = written_more c.args.net.now c.args.playing.book c.args.items.now c.loop-item.item-index c.item-item.result c.loop-item.playing c.in-Ok.next c.in-Ok.text.items _ _ _
           c.loop-item-test.true c.item-item.is at.written c.in-Ok.ensures.played (search rules);

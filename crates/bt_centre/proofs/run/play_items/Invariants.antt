@@ -1,4 +1,4 @@
-use Rattle.std.proofs.Common.{◌≡◌, ◌≤◌, take}
+use Rattle.std.proofs.Common.{◌≤◌, take}
 use Rattle.bt_centre.specs.Progress.{ItemsWritten}
 use Rattle.bt_centre.proofs.run.play_items.Given as goal
 

@@ -13,4 +13,4 @@ returns-clause-ok g c =
 pub returns-clause-failed : goal.returns-clause-failed
 returns-clause-failed g c =
     let text_is : c.as_slice.result.now ≡ start_of c.args.playing.now = search rules in
-    λ failed. subst (λ (t : List ℕ). GainsPrefix (g.O.Sink.told c.args.out.now) t (g.O.Sink.told c.write.new.out)) text_is (c.write.ensures.failed failed)
+    λ failed. subst (λ (t : List ℕ). GainsPrefix (g.O.Sink.told c.args.out.now) t (g.O.Sink.told c.write.new.self)) text_is (c.write.ensures.failed failed)

@@ -1,5 +1,5 @@
 -- the last line was written, or not
-use Rattle.std.proofs.Common.{◌≡◌, List, ℕ, rules, sym, ◌∙◌, ap, subst}
+use Rattle.std.proofs.Common.{◌≡◌, List, ◌∙◌, ap, subst}
 use Rattle.bt_base.specs.Told.{GainsPrefix, gained}
 use Rattle.bt_script.specs.declared.script.Item.{Item}
 use Rattle.bt_centre.specs.declared.history.History.{History}
@@ -31,15 +31,15 @@ returns-in-Err-write_total g c =
     let items = c.args.script.now.items in
     let hand = c.in-Ok.playing in
     let left = c.stop-remains.result in
-    let stop = c.in-Err-write_total.stop in
+    let why = c.in-Err-write_total.fault in
     let same : c.remains.inside.histories.items ≡ left.histories = ap (λ (l : Left). l.histories) c.remains.view_is in
     let end = c.end-in-Err-write_total.ensures in
     let written = subst (λ (l : List Item). ItemsWritten net c.args.playing.book l hand (g.O.Sink.told c.args.out.now) (g.O.Sink.told c.play_items.new.out)) c.as_slice.ensures c.in-Ok.ensures.written in
     record {
-      ended = same_end net items _ c.args.playing.book left _ _ _ _ _ c.status.result end.told end.faults
+      ended = same_end net items _ c.args.playing.book left _ _ _ _ _ c.unwritten.result end.told end.faults
           end.histories end.events end.status
-          (not_totalled net items c.args.playing.book hand left stop _ _ _ _ _ _ c.status.result (c.installed_plans_are_good.ensures net) written c.play_items.ensures.later c.stop-remains.ensures
-          (λ is. c.in-Err-write_total.ensures.cause (err_is stop is))
-          (λ is. subst (λ (h : List History). GainsPrefix (g.O.Sink.told c.play_items.new.out) (total_of (entries_of h)) (g.O.Sink.told c.write_total.new.out)) (c.as_slice-in-Ok.ensures.value ∙ same) (c.in-Err-write_total.ensures.failed (err_is stop is)))
-          c.status.ensures.memory c.status.ensures.failed);
+          (not_totalled net items c.args.playing.book hand left why _ _ _ _ _ _ c.unwritten.result (c.installed_plans_are_good.ensures net) written c.play_items.ensures.later c.stop-remains.ensures
+          (λ is. c.in-Err-write_total.ensures.cause (err_is why is))
+          (λ is. subst (λ (h : List History). GainsPrefix (g.O.Sink.told c.play_items.new.out) (total_of (entries_of h)) (g.O.Sink.told c.write_total.new.out)) (c.as_slice-in-Ok.ensures.value ∙ same) (c.in-Err-write_total.ensures.failed (err_is why is)))
+          c.unwritten.ensures.memory c.unwritten.ensures.failed);
     }

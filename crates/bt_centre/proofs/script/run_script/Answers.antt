@@ -21,6 +21,6 @@ returns-in-Err g c =
       faults_after = g.K.Keeper.fault_count c.in-Err.store;
     } in
     record {
-      ends = nothing_run c.args.net.now c.args.script.now _ stored c.in-Err.fault c.write_fault.result c.none.result c.new.result.items c.in-Err.ensures.fault c.in-Err.ensures.fault_later
-          c.none.ensures c.new.ensures.items c.write_fault.ensures.printed;
+      ends = nothing_run c.args.net.now c.args.script.now _ stored c.in-Err.fault c.print_fault.result c.none.result c.new.result.items c.in-Err.ensures.fault c.in-Err.ensures.fault_later
+          c.none.ensures c.new.ensures.items c.print_fault.ensures.printed;
     }

@@ -1,8 +1,7 @@
 -- the board shows the newest plan of the book
-use Rattle.std.proofs.Common.{◌≡◌, [], ◌∷◌, sym, ap, ◌∙◌}
+use Rattle.std.proofs.Common.{[], ◌∷◌, sym, ap, ◌∙◌}
 use Rattle.std.proofs.lemmas.List.{append-nil}
 use Rattle.bt_demand.specs.declared.plan.Plan.{Plan}
-use Rattle.bt_round.specs.Boards.{IsPublished}
 use Rattle.bt_centre.proofs.station.station_of.Goals as goal
 
 pub returns-in-Ok-board-clause-published : goal.returns-in-Ok-board-clause-published

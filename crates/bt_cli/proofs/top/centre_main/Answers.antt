@@ -5,9 +5,9 @@ use Rattle.bt_cli.specs.Request.{request_of}
 use Rattle.bt_cli.proofs.Alone.{ends_replay, asks_none}
 use Rattle.bt_cli.proofs.top.centre_main.Goals as goal
 
-pub answer-requires : goal.answer-requires
-answer-requires g c =
-    asks_none c.command_of.result (request_of (map string_bytes c.args.words.now)) c.command_of.ensures.asked c.in_default.not-RunScript c.in_default.not-ReplayJournal
+pub report-requires : goal.report-requires
+report-requires g c =
+    asks_none c.command_line_of.result (request_of (map string_bytes c.args.words.now)) c.command_line_of.ensures.asked c.in_default.not-RunScript c.in_default.not-ReplayJournal
 
 pub returns-in-ReplayJournal : goal.returns-in-ReplayJournal
 returns-in-ReplayJournal g c = record {

@@ -2,11 +2,11 @@
 ghost use Rattle.std.specs.Prelude.{◌≡◌, map, codes, IfSome};
 ghost use Rattle.std.specs.String.{string_bytes};
 ghost use Rattle.bt_cli.specs.Request.{asked_with_one, asked_with_three, asked_with_two, check_plan_request, check_request, first_word, modes_request, plan_request, replay_request, request_of, run_request};
-ghost use Rattle.bt_cli.specs.Command.{asked, name_of};
+ghost use Rattle.bt_cli.specs.CommandLine.{asked, name_of};
 
-/// A command with its words.
+/// A command line: a command with its words.
 #[derive(Clone, Copy, Debug)]
-pub enum Command<'a> {
+pub enum CommandLine<'a> {
     /// The words are none of the table.
     Faulty,
     /// `check MATRIX MODES`.
@@ -42,8 +42,8 @@ pub enum Command<'a> {
     },
 }
 
-/// The command that the words ask for.
-pub fn command_of(words: &[String]) -> Command<'_>
+/// The command line that the words are.
+pub fn command_line_of(words: &[String]) -> CommandLine<'_>
     ensures asked { asked result ≡ request_of (map string_bytes words.now) }
     ensures named { IfSome (name_of result) (λ name. first_word (map string_bytes words.now) ≡ Some name) }
 {
@@ -51,24 +51,24 @@ pub fn command_of(words: &[String]) -> Command<'_>
         [command, first] => with_one(command, first),
         [command, first, second] => with_two(command, first, second),
         [command, first, second, third] => with_three(command, first, second, third),
-        _ => Command::Faulty,
+        _ => CommandLine::Faulty,
     }
 }
 
-/// The command of that name with one word.
-fn with_one<'a>(command: &str, first: &'a str) -> Command<'a>
+/// The command line of that command with one word.
+fn with_one<'a>(command: &str, first: &'a str) -> CommandLine<'a>
     ensures asked { asked result ≡ asked_with_one command.now first.now }
     ensures named { IfSome (name_of result) (λ name. command.now ≡ name) }
 {
     if command == "modes" {
         modes_of(first)
     } else {
-        Command::Faulty
+        CommandLine::Faulty
     }
 }
 
-/// The command of that name with two words.
-fn with_two<'a>(command: &str, first: &'a str, second: &'a str) -> Command<'a>
+/// The command line of that command with two words.
+fn with_two<'a>(command: &str, first: &'a str, second: &'a str) -> CommandLine<'a>
     ensures asked { asked result ≡ asked_with_two command.now first.now second.now }
     ensures named { IfSome (name_of result) (λ name. command.now ≡ name) }
 {
@@ -79,12 +79,12 @@ fn with_two<'a>(command: &str, first: &'a str, second: &'a str) -> Command<'a>
     } else if command == "replay" {
         replay_of(first, second)
     } else {
-        Command::Faulty
+        CommandLine::Faulty
     }
 }
 
-/// The command of that name with three words.
-fn with_three<'a>(command: &str, first: &'a str, second: &'a str, third: &'a str) -> Command<'a>
+/// The command line of that command with three words.
+fn with_three<'a>(command: &str, first: &'a str, second: &'a str, third: &'a str) -> CommandLine<'a>
     ensures asked { asked result ≡ asked_with_three command.now first.now second.now third.now }
     ensures named { IfSome (name_of result) (λ name. command.now ≡ name) }
 {
@@ -93,40 +93,40 @@ fn with_three<'a>(command: &str, first: &'a str, second: &'a str, third: &'a str
     } else if command == "run" {
         run_of(first, second, third)
     } else {
-        Command::Faulty
+        CommandLine::Faulty
     }
 }
 
-fn check_of<'a>(matrix: &'a str, modes: &'a str) -> Command<'a>
+fn check_of<'a>(matrix: &'a str, modes: &'a str) -> CommandLine<'a>
     ensures asked { asked result ≡ check_request matrix.now modes.now }
     ensures named { IfSome (name_of result) (λ name. name ≡ codes "check") }
 {
     if matrix.is_empty() || modes.is_empty() {
-        Command::Faulty
+        CommandLine::Faulty
     } else {
-        Command::CheckModes { matrix, modes }
+        CommandLine::CheckModes { matrix, modes }
     }
 }
 
-fn modes_of(matrix: &str) -> Command<'_>
+fn modes_of(matrix: &str) -> CommandLine<'_>
     ensures asked { asked result ≡ modes_request matrix.now }
     ensures named { IfSome (name_of result) (λ name. name ≡ codes "modes") }
 {
     if matrix.is_empty() {
-        Command::Faulty
+        CommandLine::Faulty
     } else {
-        Command::PlanModes { matrix }
+        CommandLine::PlanModes { matrix }
     }
 }
 
-fn run_of<'a>(net: &'a str, script: &'a str, journal: &'a str) -> Command<'a>
+fn run_of<'a>(net: &'a str, script: &'a str, journal: &'a str) -> CommandLine<'a>
     ensures asked { asked result ≡ run_request net.now script.now journal.now }
     ensures named { IfSome (name_of result) (λ name. name ≡ codes "run") }
 {
     if net.is_empty() || script.is_empty() || journal.is_empty() {
-        Command::Faulty
+        CommandLine::Faulty
     } else {
-        Command::RunScript {
+        CommandLine::RunScript {
             net,
             script,
             journal,
@@ -134,35 +134,35 @@ fn run_of<'a>(net: &'a str, script: &'a str, journal: &'a str) -> Command<'a>
     }
 }
 
-fn check_plan_of<'a>(net: &'a str, traffic: &'a str, plan: &'a str) -> Command<'a>
+fn check_plan_of<'a>(net: &'a str, traffic: &'a str, plan: &'a str) -> CommandLine<'a>
     ensures asked { asked result ≡ check_plan_request net.now traffic.now plan.now }
     ensures named { IfSome (name_of result) (λ name. name ≡ codes "check") }
 {
     if net.is_empty() || traffic.is_empty() || plan.is_empty() {
-        Command::Faulty
+        CommandLine::Faulty
     } else {
-        Command::CheckPlan { net, traffic, plan }
+        CommandLine::CheckPlan { net, traffic, plan }
     }
 }
 
-fn plan_of<'a>(net: &'a str, traffic: &'a str) -> Command<'a>
+fn plan_of<'a>(net: &'a str, traffic: &'a str) -> CommandLine<'a>
     ensures asked { asked result ≡ plan_request net.now traffic.now }
     ensures named { IfSome (name_of result) (λ name. name ≡ codes "plan") }
 {
     if net.is_empty() || traffic.is_empty() {
-        Command::Faulty
+        CommandLine::Faulty
     } else {
-        Command::PlanDemand { net, traffic }
+        CommandLine::PlanDemand { net, traffic }
     }
 }
 
-fn replay_of<'a>(net: &'a str, journal: &'a str) -> Command<'a>
+fn replay_of<'a>(net: &'a str, journal: &'a str) -> CommandLine<'a>
     ensures asked { asked result ≡ replay_request net.now journal.now }
     ensures named { IfSome (name_of result) (λ name. name ≡ codes "replay") }
 {
     if net.is_empty() || journal.is_empty() {
-        Command::Faulty
+        CommandLine::Faulty
     } else {
-        Command::ReplayJournal { net, journal }
+        CommandLine::ReplayJournal { net, journal }
     }
 }

@@ -1,4 +1,4 @@
--- Where the files are told and no read failed, what is asked has one answer.
+-- Where the files are told and no read failed, what is asked has one report.
 use Rattle.std.proofs.Common.{◌≡◌, ℕ, ◌<◌, ◌≤◌, ◌⊎◌, inl, inr, List, length, Option, Some, None, Result, Ok, Err, sym, ap, ◌∙◌, subst, arith}
 use Rattle.bt_base.specs.Told.{Gives, IsLonger}
 use Rattle.bt_frame.specs.declared.schedule.Schedule.{Schedule}
@@ -22,7 +22,7 @@ use Rattle.bt_cli.specs.Kinds.{matrix_file, schedule_file, network_file, demand_
 use Rattle.bt_cli.specs.Check.{ChecksSchedule, Judges, verdict_status}
 use Rattle.bt_cli.specs.Modes.{PrintsSchedule}
 use Rattle.bt_cli.specs.Request.{Request, Faulty, CheckModes, CheckPlan, PlanModes, PlanDemand, RunScript, ReplayJournal}
-use Rattle.bt_cli.specs.Top.{Answers, IsTold, AreTold, IsOneAnswer}
+use Rattle.bt_cli.specs.Top.{Reports, IsTold, AreTold, IsOneReport}
 
 -- a told file has one content
 pub one_content : (told : List ℕ → Option (List ℕ)) (name held bytes : List ℕ) → told name ≡ Some held → IsContent told name bytes → bytes ≡ held
@@ -179,16 +179,16 @@ PlansDemand-same laws told traffic of_traffic net =
     Loads-same AreAlike same_alike (demand_file net) told traffic of_traffic.0 of_traffic.1 (λ links. WhereItFits net links (PrintsPlan net links))
     (λ links. WhereItFits-same laws.line laws.sum AreAlike same_alike net links (PrintsPlan net links) (λ a b one other. done_alike a b (ap (λ (o : Outcome). o.status) one.printed) (ap (λ (o : Outcome). o.status) other.printed)))
 
--- what is asked has one answer, where it asks for no store; of several good schedules or plans any may be printed
-pub Answers-same : Laws → (told : List ℕ → Option (List ℕ)) (request : Request) → AreTold told request → (a b : Outcome) → Answers told ⊥ request a → Answers told ⊥ request b → IsOneAnswer request a b
-Answers-same laws told Faulty _ a b first second = first ∙ sym second
-Answers-same laws told (CheckModes matrix modes) (of_matrix, of_modes) a b first second =
+-- what is asked has one report, where it asks for no store; of several good schedules or plans any may be printed
+pub Reports-same : Laws → (told : List ℕ → Option (List ℕ)) (request : Request) → AreTold told request → (a b : Outcome) → Reports told ⊥ request a → Reports told ⊥ request b → IsOneReport request a b
+Reports-same laws told Faulty _ a b first second = first ∙ sym second
+Reports-same laws told (CheckModes matrix modes) (of_matrix, of_modes) a b first second =
     Loads-same IsOne is_one matrix_file told matrix of_matrix.0 of_matrix.1 (λ rows. ChecksSchedule told ⊥ modes rows) (λ rows. Loads-same IsOne is_one (schedule_file (length rows)) told modes of_modes.0 of_modes.1 (λ schedule. Judges rows schedule) (λ schedule. Judges-same laws.verdict rows schedule)) a b first second
-Answers-same laws told (CheckPlan net traffic plan) (of_net, of_traffic, of_plan) a b first second =
+Reports-same laws told (CheckPlan net traffic plan) (of_net, of_traffic, of_plan) a b first second =
     Loads-same IsOne is_one network_file told net of_net.0 of_net.1 (λ network. ChecksDemand told ⊥ traffic plan network) (ChecksDemand-same laws told traffic plan of_traffic of_plan) a b first second
-Answers-same laws told (PlanModes matrix) of_matrix a b first second =
+Reports-same laws told (PlanModes matrix) of_matrix a b first second =
     Loads-same AreAlike same_alike matrix_file told matrix of_matrix.0 of_matrix.1 (λ rows. PrintsSchedule rows) (λ rows a b one other. done_alike a b (ap (λ (o : Outcome). o.status) one.3) (ap (λ (o : Outcome). o.status) other.3)) a b first second
-Answers-same laws told (PlanDemand net traffic) (of_net, of_traffic) a b first second =
+Reports-same laws told (PlanDemand net traffic) (of_net, of_traffic) a b first second =
     Loads-same AreAlike same_alike network_file told net of_net.0 of_net.1 (λ network. PlansDemand told ⊥ traffic network) (PlansDemand-same laws told traffic of_traffic) a b first second
-Answers-same laws told (RunScript _ _ _) of_files a b first second = absurd first
-Answers-same laws told (ReplayJournal net _) of_net a b first second = absurd first
+Reports-same laws told (RunScript _ _ _) of_files a b first second = absurd first
+Reports-same laws told (ReplayJournal net _) of_net a b first second = absurd first

@@ -1,8 +1,8 @@
-use Rattle.bt_cli.proofs.OneAnswerWith.{AnswersWith-same}
-use Rattle.bt_cli.proofs.laws.one_answer.Goals as goal
+use Rattle.bt_cli.proofs.OneReportWith.{ReportsWith-same}
+use Rattle.bt_cli.proofs.laws.one_report.Goals as goal
 
 pub returns : goal.returns
-returns c = AnswersWith-same
+returns c = ReportsWith-same
     (record {
       verdict = c.one_verdict.ensures;
       plan_verdict = c.one_plan_verdict.ensures;

@@ -1,11 +1,11 @@
--- The command that the code has read off the words, as what is asked.
+-- The command line that the code has read off the words, as what is asked.
 use Rattle.std.specs.Prelude.{ℕ, List, codes, Option, Some, None}
-use Rattle.bt_cli.specs.declared.request.Command.{Command}
-use Rattle.bt_cli.specs.declared.request.Command.TheVariants as command
+use Rattle.bt_cli.specs.declared.command_line.CommandLine.{CommandLine}
+use Rattle.bt_cli.specs.declared.command_line.CommandLine.TheVariants as command
 use Rattle.bt_cli.specs.Request.{Request, Faulty, CheckModes, CheckPlan, PlanModes, PlanDemand, RunScript, ReplayJournal}
 
--- what the command asks for
-abbrev pub asked : Command → Request
+-- what the command line asks for
+abbrev pub asked : CommandLine → Request
 asked command.Faulty = Faulty
 asked (command.CheckModes matrix modes) = CheckModes matrix.now modes.now
 asked (command.CheckPlan net traffic plan) = CheckPlan net.now traffic.now plan.now
@@ -14,8 +14,8 @@ asked (command.PlanDemand net traffic) = PlanDemand net.now traffic.now
 asked (command.RunScript net script journal) = RunScript net.now script.now journal.now
 asked (command.ReplayJournal net journal) = ReplayJournal net.now journal.now
 
--- the name of the command
-abbrev pub name_of : Command → Option (List ℕ)
+-- the name of its command
+abbrev pub name_of : CommandLine → Option (List ℕ)
 name_of command.Faulty = None
 name_of (command.CheckModes _ _) = Some (codes "check")
 name_of (command.CheckPlan _ _ _) = Some (codes "check")

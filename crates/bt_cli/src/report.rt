@@ -1,8 +1,8 @@
 // What is to be printed, and the status that goes with it.
-ghost use Rattle.bt_cli.specs.declared.answer.Stop.TheVariants.{OutOfMemory};
+ghost use Rattle.bt_cli.specs.declared.report.Stop.TheVariants.{OutOfMemory};
 ghost use Rattle.std.specs.Prelude.{◌≡◌, map, IfOk};
 ghost use Rattle.bt_timeline.specs.Lines.{word_bytes};
-ghost use Rattle.bt_cli.specs.Answer.{AnswerIs, StopIs};
+ghost use Rattle.bt_cli.specs.Report.{ReportIs, StopIs};
 ghost use Rattle.bt_cli.specs.Outcome.{Says};
 
 use bt_timeline::{Word, add_line};
@@ -10,42 +10,42 @@ use std::alloc::{AllocError, Global};
 
 /// A text to print, its last newline included, and the status to end with.
 #[derive(Debug, Drop)]
-pub struct Answer {
+pub struct Report {
     pub text: Vec<u8>,
     pub status: u8,
 }
 
-impl Answer {
+impl Report {
     /// One line of these words, and the status to end with.
     pub fn says(
         alloc: Global,
         words: &[Word<'_>],
         status: u8,
-    ) -> Result<Answer, bt_frame::OutOfMemory>
-        ensures { IfOk result (AnswerIs (Says (map word_bytes words.now) status)) }
+    ) -> Result<Report, bt_frame::OutOfMemory>
+        ensures { IfOk result (ReportIs (Says (map word_bytes words.now) status)) }
     {
         let mut text = Vec::new(alloc);
         add_line(alloc, words, &mut text)?;
-        Ok(Answer { text, status })
+        Ok(Report { text, status })
     }
 }
 
 /// Why the work stops before its end.
 #[derive(Debug, Drop)]
 pub enum Stop {
-    /// This answer stands in the place of the command's own.
-    Early(Answer),
+    /// This report stands in the place of the command's own.
+    Early(Report),
     /// Memory ran out.
     OutOfMemory,
 }
 
 impl Stop {
-    /// One line of these words in the place of the command's own answer, and the status to end with.
+    /// One line of these words in the place of the command's own report, and the status to end with.
     pub fn says(alloc: Global, words: &[Word<'_>], status: u8) -> Stop
         ensures { StopIs (Says (map word_bytes words.now) status) result }
     {
-        match Answer::says(alloc, words, status) {
-            Ok(answer) => Stop::Early(answer),
+        match Report::says(alloc, words, status) {
+            Ok(report) => Stop::Early(report),
             Err(_) => Stop::OutOfMemory,
         }
     }
