@@ -1,8 +1,8 @@
 -- The traffic matrix after one more edit, by the demand before it.
-use Rattle.std.proofs.Common.{◌≡◌, ◌≢◌, ℕ, ◌+◌, ◌-◌, ◌<◌, ◌≤◌, ◌==◌, ◌&&◌, if◌then◌else◌, Bool, true, false, List, [], ◌∷◌, ◌++◌, length, sum_by, refl, sym, ap, ◌∙◌, subst, arith, ⊎_elim}
+use Rattle.std.proofs.Common.{◌≡◌, ◌≢◌, ℕ, ◌+◌, ◌-◌, ◌<◌, ◌≤◌, ◌==◌, ◌&&◌, if◌then◌else◌, Bool, List, [], ◌∷◌, ◌++◌, length, sum_by, refl, sym, subst, arith, ⊎_elim}
 use Rattle.std.proofs.lemmas.Bool.{cases_eq}
 use Rattle.std.proofs.lemmas.Bool.Decides.{nat_tests}
-use Rattle.std.proofs.lemmas.List.Sums.{sum_by-append, sum_by-cons, sum_by-le-sum_by}
+use Rattle.std.proofs.lemmas.List.Sums.{sum_by-append, sum_by-cons}
 use Rattle.bt_frame.specs.declared.numbers.BeamNo.{BeamNo}
 use Rattle.bt_frame.specs.declared.numbers.TermNo.{TermNo}
 use Rattle.bt_net.specs.Network.{Net}
@@ -19,6 +19,7 @@ use Rattle.bt_book.specs.Changes.{edits_in, given, taken_from, slots_after, slot
 use Rattle.bt_book.specs.EditCauses.{with_edit}
 use Rattle.bt_book.specs.Records.{AddsUp}
 use Rattle.bt_demand.proofs.Tables.{same_tables, LinesExceed, table-LinesExceed}
+use Rattle.bt_occupancy.proofs.Shares.{units_of-in-beams}
 
 -- what one more change gives and takes
 given-more : (test : TermNo → TermNo → Bool) (changes : List Change) (edit : Edit)
@@ -103,34 +104,6 @@ lines-Add net changes links from to units up down adds up_is down_is in_rows in_
     let e = Add from to units in
     table-LinesExceed net (length net.beams) (units_between net links) (slots_between net (with_edit changes e)) from to units up down
     (λ i j. omega (arith, slots_after-more changes links e adds (λ a b. is_in_beam net i a && is_in_beam net j b))) up_is down_is in_rows in_columns
-
--- one link's slots are among those whose ends pass a test, if its own do
-share-le : (test : TermNo → TermNo → Bool) (from to : TermNo) (link : Link) (same : Bool) → same ≡ (link.from.0 == from.0 && link.to.0 == to.0)
-    → test from to ≡ true → (if same then link.units else 0) ≤ (if test link.from link.to then link.units else 0)
-share-le test from to link false is passes = omega arith
-share-le test from to link true is passes =
-    let from_is : link.from.0 ≡ from.0 = grind (arith, nat_tests, is) in
-    let to_is : link.to.0 ≡ to.0 = grind (arith, nat_tests, is) in
-    let from_same : link.from ≡ from = ap (λ (n : ℕ). let t : TermNo = record { 0 = n } in t) from_is in
-    let to_same : link.to ≡ to = ap (λ (n : ℕ). let t : TermNo = record { 0 = n } in t) to_is in
-    let also : test link.from link.to ≡ true = ap (λ (t : TermNo). test t link.to) from_same ∙ (ap (test from) to_same ∙ passes) in
-    rw also (omega arith)
-
-units_of-le : (test : TermNo → TermNo → Bool) (from to : TermNo) (links : List Link) → test from to ≡ true → units_of links from to ≤ units_where test links
-units_of-le test from to links passes = sum_by-le-sum_by
-    (λ (link : Link). if link.from.0 == from.0 && link.to.0 == to.0 then link.units else 0) (λ (link : Link). if test link.from link.to then link.units else 0) links
-    (λ link. share-le test from to link _ refl passes)
-
-held-le : (test : TermNo → TermNo → Bool) (from to : TermNo) (links : List Link) (units : ℕ) (passes : Bool) → passes ≡ test from to
-    → units ≤ units_of links from to → (if passes then units else 0) ≤ units_where test links
-held-le test from to links units false is held = omega arith
-held-le test from to links units true is held = omega (arith, held, units_of-le test from to links (sym is))
-
--- a link has no more slots than the entry of its beams
-pub units_of-in-beams : (net : Net) (links : List Link) (from to : TermNo) (units : ℕ) (i j : ℕ) → units ≤ units_of links from to
-    → (if is_in_beam net i from && is_in_beam net j to then units else 0) ≤ units_between net links i j
-units_of-in-beams net links from to units i j held =
-    held-le (λ a b. is_in_beam net i a && is_in_beam net j b) from to links units _ refl held
 
 -- What a Move makes of the lines of the link that gains: what it takes from them first is gone.
 pub record LinesMove (new old : List (List ℕ)) (up down new_up new_down units : ℕ) : Type 0 where

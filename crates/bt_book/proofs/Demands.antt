@@ -14,9 +14,10 @@ use Rattle.bt_journal.specs.declared.call.Edit.{Edit}
 use Rattle.bt_journal.specs.declared.call.Edit.TheVariants.{Add, Drop, Move}
 use Rattle.bt_journal.specs.declared.call.Change.{Change}
 use Rattle.bt_journal.specs.declared.call.Change.TheVariants as change
+use Rattle.bt_occupancy.specs.Occupancy.{EditsLinks, HoldsTaken}
 use Rattle.bt_book.specs.Causes.{Follows, FollowFrom, IsChangeOn, IsGood}
 use Rattle.bt_book.specs.Changes.{edits_in, IsDemandAfter}
-use Rattle.bt_book.specs.Records.{EditsLinks, HoldsTaken, KeepsUp}
+use Rattle.bt_book.specs.Records.{KeepsUp}
 use Rattle.bt_book.proofs.After.{AddsUp-other, slots_after-AddsUp}
 use Rattle.bt_book.proofs.Done.{AddsUp-edit, fits_after, holds_after_half, holds_taken}
 use Rattle.bt_book.proofs.Histories.{FollowFrom-grows}

@@ -1,7 +1,6 @@
 -- What an edit that was done leaves.
-use Rattle.std.proofs.Common.{◌≡◌, ◌≢◌, ℕ, ◌<◌, ◌≤◌, ◌==◌, ◌&&◌, List, [], length, get_or, option_map, sym, ap, ◌∙◌, subst, arith, ⊎_elim}
+use Rattle.std.proofs.Common.{◌≡◌, ◌≢◌, ℕ, ◌<◌, ◌≤◌, ◌==◌, ◌&&◌, List, [], length, get_or, option_map, sym, ap, subst, arith, ⊎_elim}
 use Rattle.std.proofs.lemmas.Bool.{cases_eq}
-use Rattle.std.proofs.lemmas.Bool.Decides.{nat_tests}
 use Rattle.std.proofs.lemmas.Option.{slice_get-get_or}
 use Rattle.bt_frame.specs.declared.numbers.BeamNo.{BeamNo}
 use Rattle.bt_frame.specs.declared.numbers.TermNo.{TermNo}
@@ -9,7 +8,7 @@ use Rattle.bt_frame.specs.declared.schedule.Critical.TheVariants.{Row, Column}
 use Rattle.bt_net.specs.Network.{Net, IsSound}
 use Rattle.bt_matrix.specs.Traffic.{row_sum, column_sum}
 use Rattle.bt_demand.specs.declared.demand.Link.{Link}
-use Rattle.bt_demand.specs.Demand.{units_where, units_of, Gains}
+use Rattle.bt_demand.specs.Demand.{units_of, Gains}
 use Rattle.bt_demand.specs.Traffic.{units_between, matrix_of, HasSumsTo}
 use Rattle.bt_net.specs.Terminals.{is_in_beam, IsInBeam}
 use Rattle.bt_demand.proofs.Matrices.{length-matrix_of}
@@ -17,8 +16,9 @@ use Rattle.bt_journal.specs.declared.call.Edit.{Edit}
 use Rattle.bt_journal.specs.declared.call.Edit.TheVariants.{Add, Drop, Move}
 use Rattle.bt_journal.specs.declared.call.Change.{Change}
 use Rattle.bt_journal.specs.Journal.{NamesTerminals}
+use Rattle.bt_occupancy.specs.Occupancy.{GainsFirst, EditsLinks, HoldsTaken}
 use Rattle.bt_book.specs.EditCauses.{with_edit, IsThere, IsGoodEdit}
-use Rattle.bt_book.specs.Records.{AddsUp, KeepsUp, EditsLinks, GainsFirst, HoldsTaken, HoldsGiven, SameUnits}
+use Rattle.bt_book.specs.Records.{AddsUp, KeepsUp, SameUnits}
 use Rattle.bt_demand.proofs.Tables.{LinesExceed, table-LinesExceed, same_tables}
 use Rattle.bt_book.proofs.After.{AddsUp-Add, AddsUp-Drop, AddsUp-Move, matrix_after-AddsUp}
 use Rattle.bt_book.proofs.Causes.{held_after-units_of}
@@ -48,22 +48,6 @@ pub holds_after_half : (old half : List Link) (edit : Edit) → HoldsTaken old e
 holds_after_half old half (Add from to units) held gains = tt
 holds_after_half old half (Drop from to units) held gains = subst (λ (links : List Link). units ≤ units_of links from to) (sym gains) held
 holds_after_half old half (Move from to new_from new_to units) held gains = omega (arith, held, gains (λ a b. a.0 == from.0 && b.0 == to.0))
-
--- what one link gained it has
-has_gained : (old new : List Link) (from to : TermNo) (units : ℕ) → Gains old new from to units → units ≤ units_of new from to
-has_gained old new from to units gains = grind (arith, nat_tests, gains (λ a b. a.0 == from.0 && b.0 == to.0))
-
--- so what an edit gave can be taken back
-pub holds_given : (old half : List Link) (edit : Edit) → GainsFirst old edit half → HoldsGiven half edit
-holds_given old half (Add from to units) gains = has_gained old half from to units gains
-holds_given old half (Drop from to units) gains = tt
-holds_given old half (Move from to new_from new_to units) gains = has_gained old half new_from new_to units gains
-
--- after the first half was taken back, each link has the slots that it had
-pub same_back : (old half back : List Link) (edit : Edit) → GainsFirst old edit half → GainsFirst back edit half → SameUnits old back
-same_back old half back (Add from to units) gains again test = omega (arith, gains test, again test)
-same_back old half back (Drop from to units) gains again test = ap (units_where test) (sym again ∙ gains)
-same_back old half back (Move from to new_from new_to units) gains again test = omega (arith, gains test, again test)
 
 -- and all that is kept beside the changes stands
 pub keeps_same : (net : Net) (changes : List Change) (old new : List Link) → SameUnits old new → KeepsUp net changes old → KeepsUp net changes new

@@ -19,13 +19,14 @@ use Rattle.bt_journal.specs.declared.call.Change.{Change}
 use Rattle.bt_journal.specs.declared.call.Change.TheVariants as change
 use Rattle.bt_journal.specs.declared.entry.Entry.{Entry}
 use Rattle.bt_journal.specs.declared.reply.Reply.{Reply}
-use Rattle.bt_journal.specs.declared.reply.Reply.TheVariants.{Done, StoreFault, Stopped}
+use Rattle.bt_journal.specs.declared.reply.Reply.TheVariants.{Done, StoreFault}
 use Rattle.bt_journal.specs.Journal.{NamesTerminals, changes_of, change_made, is_made, is_fault}
+use Rattle.bt_occupancy.specs.Occupancy.{EditsLinks}
 use Rattle.bt_book.specs.Changes.{edits_in, edition, empty_plan, plan_in, order_in}
 use Rattle.bt_book.specs.EditCauses.{with_edit, IsGoodEdit}
 use Rattle.bt_book.specs.Causes.{IsGood, IsChangeOn}
 use Rattle.bt_book.specs.Machine.{State, running, halted, state_after, bytes_with, line_behind, CanMake, Tells, ChangeStep}
-use Rattle.bt_book.specs.Records.{KeepsUp, Counts, Lists, AddsUp, CanJoin, EditsLinks, IsBookFull, IsFirstCause, SameUnits, has_fault}
+use Rattle.bt_book.specs.Records.{KeepsUp, Counts, Lists, AddsUp, CanJoin, SameUnits, has_fault}
 use Rattle.bt_book.proofs.After.{matrix_after-AddsUp, AddsUp-other}
 use Rattle.bt_book.proofs.Done.{AddsUp-edit, fits_after, keeps_same}
 use Rattle.bt_book.proofs.OneMore.{bytes_of-push, some_byte}
@@ -80,23 +81,6 @@ pub state_answered : (opening : List Change) (history after : List Entry) (entry
 state_answered opening history after entry reply is same none before =
     same_state (state_after opening after) (state_after opening history) (same_changes opening entry history after is (ap is_made same ∙ none))
     (same_fault history after entry is (λ f. before (sym (ap is_fault same) ∙ f)))
-
--- a refusal is the machine's step
-pub refused_step : (net : Net) (old new : State) (asked : Change) (reply answer : Reply) → answer ≡ reply → new ≡ old → old.stopped ≡ false
-    → IsFirstCause net old.changes asked (Some reply) → ChangeStep net old asked answer new
-refused_step net old new asked reply answer told same runs cause =
-    rw told (inr (inl (record { runs = runs; refuses = cause.0; cause = cause.1; same = same })))
-
--- and so it is where the journal has no room
-pub full_step : (net : Net) (old new : State) (asked : Change) (reply answer : Reply) → answer ≡ reply → new ≡ old → old.stopped ≡ false → IsGood net old.changes asked
-    → IsBookFull net old.changes (length (line_behind net old.changes asked)) (Some reply) → ChangeStep net old asked answer new
-full_step net old new asked reply answer told same runs good full =
-    rw told (inr (inr (inl (record { runs = runs; good = good; no_room = full.0; told = full.1; same = same }))))
-
--- a machine that is stopped answers so
-pub halted_step : (net : Net) (old new : State) (asked : Change) (reply answer : Reply) → answer ≡ reply → reply ≡ Stopped → new ≡ old → old.stopped ≡ true
-    → ChangeStep net old asked answer new
-halted_step net old new asked reply answer told is same stopped = inl (record { stopped = stopped; told = told ∙ is; same = same })
 
 -- behind a change that was made they have it
 pub made_changes : (opening : List Change) (entry : Entry) (one : Change) (history reserved after : List Entry) → reserved ≡ history

@@ -1,7 +1,6 @@
 pub mod Replies
 pub mod Start
 pub mod After
-pub mod Occupied
 pub mod Causes
 pub mod Done
 pub mod OneMore

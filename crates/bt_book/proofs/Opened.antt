@@ -12,10 +12,11 @@ use Rattle.bt_journal.specs.declared.call.Change.TheVariants as change
 use Rattle.bt_journal.specs.declared.entry.Entry.{Entry}
 use Rattle.bt_journal.specs.Journal.{NamesTerminals, changes_of}
 use Rattle.bt_journal.specs.JournalLines.{edits_in}
+use Rattle.bt_occupancy.specs.Occupancy.{EditsLinks}
 use Rattle.bt_book.specs.Causes.{IsChangeOn}
 use Rattle.bt_book.specs.Changes.{plan_in, order_in}
 use Rattle.bt_book.specs.Machine.{line_behind, running, state_after}
-use Rattle.bt_book.specs.Records.{CanJoin, EditsLinks, Lists, Records, has_fault}
+use Rattle.bt_book.specs.Records.{CanJoin, Lists, Records, has_fault}
 use Rattle.bt_book.proofs.Entries.{IsKept, keeps_made, keeps_other, lists_more, state_made}
 
 -- one change more at the opening is one more of all

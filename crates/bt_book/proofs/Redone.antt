@@ -2,22 +2,21 @@
 use Rattle.std.proofs.Common.{◌≡◌, ◌≢◌, ℕ, ◌+◌, ◌-◌, ◌<◌, ◌≤◌, ◌++◌, List, [], ◌∷◌, length, drop, get_or, Option, Some, None, refl, sym, ap, ◌∙◌, subst, arith, append_assoc, ⊎_elim}
 use Rattle.std.proofs.lemmas.List.{append-nil, drop_more}
 use Rattle.std.proofs.lemmas.Bool.{cases_eq}
-use Rattle.std.proofs.Math.ListN.{drop_of_length-le}
 use Rattle.bt_frame.specs.declared.limits.TheConstants.{MOST_SLOTS}
 use Rattle.bt_net.specs.Network.{Net, IsSound}
 use Rattle.bt_demand.specs.declared.demand.Link.{Link}
-use Rattle.bt_demand.specs.Demand.{IsDemand}
 use Rattle.bt_demand.specs.Traffic.{matrix_of, HasSumsTo}
 use Rattle.bt_journal.specs.declared.call.Edit.{Edit}
 use Rattle.bt_journal.specs.declared.call.Change.{Change}
 use Rattle.bt_journal.specs.declared.call.Change.TheVariants as change
 use Rattle.bt_journal.specs.declared.entry.Entry.{Entry}
 use Rattle.bt_journal.specs.Journal.{changes_of, change_made}
-use Rattle.bt_book.specs.Changes.{edits_in, edition, IsDemandAt}
+use Rattle.bt_occupancy.specs.Occupancy.{EditsLinks}
+use Rattle.bt_book.specs.Changes.{edits_in}
 use Rattle.bt_book.specs.EditCauses.{with_edit}
 use Rattle.bt_book.specs.Causes.{FollowFrom, Follows, IsChangeOn, IsGood}
-use Rattle.bt_book.specs.Records.{EditsLinks, CanRedo, RedoesOne, IsRedone, Redoes}
-use Rattle.bt_book.proofs.After.{slots_after-AddsUp, AddsUp-other}
+use Rattle.bt_book.specs.Records.{CanRedo, RedoesOne, Redoes}
+use Rattle.bt_book.proofs.After.{AddsUp-other}
 use Rattle.bt_book.proofs.Done.{AddsUp-edit, fits_after, holds_taken}
 use Rattle.bt_book.proofs.Entries.{edition-more, edition-other}
 use Rattle.bt_book.proofs.Histories.{as_list, changes_of-cons, FollowFrom-grows}
@@ -187,32 +186,3 @@ pub history_past : (net : Net) (changes : List Change) (history : List Entry) (l
 history_past net changes history links number left place entry within is none follow redoes =
     history_other net changes (changes_of (drop (place + 1) history)) links number left (change_made entry.call entry.reply) none follow
     (history_one net changes history links number left place entry _ within is refl redoes)
-
-pub opening_done : (opening more : List Change) (place : ℕ) → length opening ≤ place → drop place opening ++ more ≡ more
-opening_done opening more place whole = ap (λ (c : List Change). c ++ more) (drop_of_length-le opening whole)
-
--- all of the edits were made again
-pub Redoes-end : (net : Net) (changes : List Change) (history : List Entry) (links : List Link) (number left place : ℕ) → number ≤ edition changes
-    → Redoes net changes (changes_of (drop place history)) links number left → length history ≤ place → IsRedone net changes number links
-Redoes-end net changes history links number left place reached redoes whole =
-    let none : left ≡ 0 = ⊎_elim (λ (is : left ≡ 0). is) (λ (some : left ≡ 0 → ⊥).
-    let nothing : redoes.after ≡ [] = redoes.next (omega (arith, some)) ∙ ap changes_of (drop_of_length-le history whole) in
-    let all : changes ≡ redoes.before = redoes.parts ∙ (ap (λ (c : List Change). redoes.before ++ c) nothing ∙ append-nil redoes.before) in
-    omega (arith, reached, redoes.counted, ap edition all)) (cases_eq left 0) in
-    record {
-      before = redoes.before;
-      after = redoes.after;
-      parts = redoes.parts;
-      counted = omega (arith, redoes.counted, none);
-      keeps = redoes.keeps;
-    }
-
--- a demand that was made again is that of its edition
-pub demand_redone : (net : Net) (changes : List Change) (number : ℕ) (links : List Link) → IsDemand links → IsRedone net changes number links → IsDemandAt changes number links
-demand_redone net changes number links is redone = record {
-  before = redone.before;
-  after = redone.after;
-  parts = redone.parts;
-  counted = redone.counted;
-  demand = record { demand = is; slots = slots_after-AddsUp redone.before links redone.keeps.adds_up };
-}

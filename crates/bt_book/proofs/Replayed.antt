@@ -1,5 +1,5 @@
 -- Lines whose changes were made again, one after the other.
-use Rattle.std.proofs.Common.{◌≡◌, ℕ, ◌+◌, ◌-◌, ◌≤◌, List, [], ◌∷◌, ◌++◌, length, take, slice_index_or, refl, sym, ap, ◌∙◌, subst, arith, append_assoc, length-append}
+use Rattle.std.proofs.Common.{◌≡◌, ℕ, ◌+◌, ◌-◌, ◌≤◌, List, [], ◌∷◌, ◌++◌, length, take, slice_index_or, sym, ap, ◌∙◌, subst, arith, append_assoc, length-append}
 use Rattle.std.proofs.lemmas.List.Sums.{sum_by-cons}
 use Rattle.std.proofs.Math.Seq.{take-append_seam}
 use native.Mathlib.Numerals.{unary_clauses}
@@ -8,41 +8,17 @@ use Rattle.bt_text.specs.Text.{lines}
 use Rattle.bt_text.proofs.FirstLine.{HasFirst, lines-HasFirst}
 use Rattle.bt_text.proofs.TextLines.{first_line_lacks, text_from_first_line}
 use Rattle.bt_net.specs.Network.{Net}
-use Rattle.bt_air.specs.declared.order.Order.TheVariants.{Load, Arm}
 use Rattle.bt_journal.specs.declared.call.Change.{Change}
-use Rattle.bt_journal.specs.declared.call.Change.TheVariants as change
 use Rattle.bt_journal.specs.JournalLines.{IsChangeInRange, change_line, edits_in, journal_lines}
 use Rattle.bt_book.specs.declared.fault.RecoverFault.{RecoverFault}
 use Rattle.bt_book.specs.declared.fault.RecoverFault.TheVariants.{J1, J2, StoreFault, TooLong, OutOfMemory}
-use Rattle.bt_book.specs.Causes.{Follows, IsChangeOn}
+use Rattle.bt_book.specs.Causes.{Follows}
 use Rattle.bt_book.specs.Changes.{edition}
 use Rattle.bt_book.specs.Machine.{State, bytes_of, running}
 use Rattle.bt_book.specs.Records.{IsLineFault, IsTextFault, Records, TakesLine}
-use Rattle.bt_book.specs.Recovery.{AreInRange, IsFirst, IsNoLine, IsNumbered, IsStray, Recovered, tail_of, whole}
+use Rattle.bt_book.specs.Recovery.{AreInRange, IsFirst, IsNoLine, IsStray, tail_of}
 use Rattle.bt_book.proofs.Histories.{FollowFrom-grows}
 use Rattle.bt_book.proofs.OneMore.{ended_length, journal_lines-push}
-
--- a change in range is one on the network
-pub range_on : (net : Net) (number : ℕ) (one : Change) → IsChangeInRange net number one → IsChangeOn net one
-range_on net number (change.Edit edit) range = range.terminals
-range_on net number (change.Install plan) range = record {
-  bursts = λ k d within. let burst = range.bursts k d within in (burst.sends, burst.receives);
-  critical = range.schedule.critical;
-}
-range_on net number (change.Order (Load command edition)) range = tt
-range_on net number (change.Order (Arm command edition due)) range = range.3
-
--- a change that follows is spelled with the edition that it makes
-pub range_next : (net : Net) (before : List Change) (number : ℕ) (one : Change) → IsNumbered before number one → IsChangeInRange net number one
-    → IsChangeInRange net (edition before + edits_in one) one
-range_next net before number (change.Edit edit) is range = subst (λ (n : ℕ). IsChangeInRange net n (change.Edit edit)) is range
-range_next net before number (change.Install plan) is range = range
-range_next net before number (change.Order order) is range = range
-
-pub line_next : (net : Net) (before : List Change) (number : ℕ) (one : Change) → IsNumbered before number one → change_line net number one ≡ change_line net (edition before + edits_in one) one
-line_next net before number (change.Edit edit) is = ap (λ (n : ℕ). change_line net n (change.Edit edit)) is
-line_next net before number (change.Install plan) is = refl
-line_next net before number (change.Order order) is = refl
 
 in_range-push : (net : Net) (edits : ℕ) (changes : List Change) (one : Change) (number : ℕ) → number ≡ edits + edition changes + edits_in one → AreInRange net edits changes
     → IsChangeInRange net number one → AreInRange net edits (changes ++ one ∷ [])
@@ -65,19 +41,6 @@ pub record Stands (net : Net) (text rest : List ℕ) (machine : Records) : Type 
   pub tail_is : tail_of text ≡ tail_of rest
   pub ranges : AreInRange net 0 machine.state.changes
   pub follow : Follows net machine.state.changes
-
-pub Stands-start : (net : Net) (text : List ℕ) (machine : Records) → machine.net ≡ net → machine.state ≡ running [] → machine.history ≡ [] → Stands net text text machine
-Stands-start net text machine net_is state_is no_call =
-    let none : machine.state.changes ≡ [] = ap (λ (s : State). s.changes) state_is in
-    record {
-      net_is = net_is;
-      no_call = no_call;
-      runs = state_is ∙ ap running (sym none);
-      text_is = ap (λ (c : List Change). journal_lines net c ++ text) (sym none);
-      tail_is = refl;
-      ranges = subst (AreInRange net 0) (sym none) tt;
-      follow = subst (Follows net) (sym none) tt;
-    }
 
 pub tail-cons : (line : List ℕ) (ls : List (List ℕ)) → HasFirst ls → slice_index_or (line ∷ ls) (length (line ∷ ls) - 1) [] ≡ slice_index_or ls (length ls - 1) []
 tail-cons line ls (first, rest, is) = rw is (simp unary_clauses)
@@ -130,26 +93,6 @@ Stands-line net text rest line after read old new stands cut read_is takes net_i
       tail_is = stands.tail_is ∙ (ap (λ (ls : List (List ℕ)). slice_index_or ls (length ls - 1) []) cut ∙ tail-cons line (lines after) (lines-HasFirst after));
       ranges = subst (AreInRange net 0) (sym now) (AreInRange-push net before taken.one stands.ranges taken.range);
       follow = subst (Follows net) (sym now) (FollowFrom-grows net [] before taken.one stands.follow taken.on taken.good);
-    }
-
--- where the rest has no newline, all lines were replayed
-pub record Told (net : Net) (text : List ℕ) (kept : ℕ) (changes : List Change) : Type 0 where
-  pub recovered : Recovered net text changes
-  pub kept_is : take kept text ≡ whole text
-
-pub Stands-end : (net : Net) (text rest : List ℕ) (machine : Records) → Stands net text rest machine → lines rest ≡ rest ∷ [] → Told net text (length text - length rest) machine.state.changes
-Stands-end net text rest machine stands last =
-    let tail : tail_of text ≡ rest = stands.tail_is ∙ ap (λ (ls : List (List ℕ)). slice_index_or ls (length ls - 1) []) last in
-    let kept : take (length text - length rest) text ≡ whole text = ap (λ (t : List ℕ). take (length text - length t) text) (sym tail) in
-    let told = journal_lines net machine.state.changes in
-    let size : length text - length rest ≡ length told = omega (arith, ap length stands.text_is, length-append told rest) in
-    record {
-      recovered = record {
-        lines = sym kept ∙ (ap (λ (k : ℕ). take k text) size ∙ (ap (λ (t : List ℕ). take (length told) t) stands.text_is ∙ take-append_seam told rest));
-        ranges = stands.ranges;
-        follow = stands.follow;
-      };
-      kept_is = kept;
     }
 
 first_at : (net : Net) (text rest line after : List ℕ) (machine : Records) (number : ℕ) (IsWrong : List Change → List ℕ → Type 0) → Stands net text rest machine

@@ -4,7 +4,7 @@ use Rattle.std.proofs.lemmas.List.{get_or-replicate, length-replicate}
 use Rattle.std.proofs.lemmas.List.Folds.{sum_by-replicate}
 use Rattle.bt_frame.specs.declared.schedule.Critical.TheVariants.{Row, Column}
 use Rattle.bt_net.specs.Network.{Net}
-use Rattle.bt_demand.specs.Traffic.{matrix_of, HasSumsTo}
+use Rattle.bt_demand.specs.Traffic.{HasSumsTo}
 use Rattle.bt_demand.proofs.Matrices.{matrix_of-none}
 use Rattle.bt_journal.specs.declared.call.Change.{Change}
 use Rattle.bt_journal.specs.declared.entry.Entry.{Entry}
@@ -12,7 +12,6 @@ use Rattle.bt_demand.specs.declared.demand.Link.{Link}
 use Rattle.bt_demand.specs.declared.plan.Plan.{Plan}
 use Rattle.bt_air.specs.declared.order.Order.{Order}
 use Rattle.bt_book.specs.Changes.{empty_plan}
-use Rattle.bt_book.specs.Machine.{running, state_after}
 use Rattle.bt_book.specs.Records.{KeepsUp, Counts, Lists}
 use Rattle.bt_book.proofs.Entries.{IsKept}
 
@@ -27,12 +26,6 @@ HasSumsTo-zeros size most (Column down) within =
     let there : down.0 < size = omega (arith, length-replicate size zeros) in
     let nothing : slice_index zeros down.0 ≡ 0 = get_or-replicate size down.0 0 0 there in
     rw (sum_by-replicate (λ (row : List ℕ). slice_index row down.0) size zeros, nothing) (omega arith)
-
--- a matrix of zeros is that of no link
-pub matrix_of-start : (net original : Net) (links : List Link) (matrix : List (List ℕ)) (size : ℕ) → net ≡ original → links ≡ []
-    → size ≡ length original.beams → matrix ≡ replicate size (replicate size 0) → matrix ≡ matrix_of net links
-matrix_of-start net original links matrix size copied no_link size_is matrix_is =
-    rw (no_link, matrix_of-none net, copied, ← size_is) matrix_is
 
 -- no change and no link
 pub KeepsUp-start : (net : Net) → KeepsUp net [] []
@@ -62,7 +55,3 @@ IsKept-open net opening history links installed none placed one no_change no_ent
       places = no_order;
     } in
     rw (no_change, no_entry, no_link) (KeepsUp-start net, Counts-start net, lists, refl)
-
--- and the state
-pub state-open : (opening : List Change) (history : List Entry) → opening ≡ [] → history ≡ [] → state_after opening history ≡ running []
-state-open opening history no_change no_entry = rw (no_change, no_entry) refl

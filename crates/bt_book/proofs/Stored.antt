@@ -22,27 +22,6 @@ use Rattle.bt_book.proofs.OneMore.{journal_lines-push}
 use Rattle.bt_book.proofs.Replayed.{AreInRange-push}
 use Rattle.bt_book.proofs.Replies.{made_no_fault, no_fault_not_lost, refusal_not_made, refusal_no_fault}
 
--- where no change was made or lost, the store is as it was
-pub StoreStep-same : (line : List ℕ) (reply : Reply) (told : Option (List ℕ)) (faults : ℕ) → is_made reply ≡ false → is_lost reply ≡ false
-    → StoreStep line reply told told faults faults
-StoreStep-same line (Done _ _) told faults none kept = absurd cc
-StoreStep-same line SameTerminal told faults none kept = (refl, refl)
-StoreStep-same line (NotThere _) told faults none kept = (refl, refl)
-StoreStep-same line (RowFull _ _) told faults none kept = (refl, refl)
-StoreStep-same line (ColumnFull _ _) told faults none kept = (refl, refl)
-StoreStep-same line (BookFull _) told faults none kept = (refl, refl)
-StoreStep-same line (NotNewer _) told faults none kept = (refl, refl)
-StoreStep-same line (NoSuchEdition _) told faults none kept = (refl, refl)
-StoreStep-same line (NotGood _) told faults none kept = (refl, refl)
-StoreStep-same line (OutOfTurn _) told faults none kept = (refl, refl)
-StoreStep-same line (NotInstalled _) told faults none kept = (refl, refl)
-StoreStep-same line (Demand _ _ _) told faults none kept = (refl, refl)
-StoreStep-same line (Installed _) told faults none kept = absurd cc
-StoreStep-same line (Newest _) told faults none kept = (refl, refl)
-StoreStep-same line Placed told faults none kept = absurd cc
-StoreStep-same line StoreFault told faults none kept = absurd cc
-StoreStep-same line Stopped told faults none kept = (refl, refl)
-
 -- so both stay
 pub told_stays : (line : List ℕ) (reply : Reply) (old new : Option (List ℕ)) (before now : ℕ) → is_made reply ≡ false → is_lost reply ≡ false
     → StoreStep line reply old new before now → (new ≡ old) × (now ≡ before)
@@ -85,26 +64,6 @@ told_gains line Placed old new before now made step = step
 told_gains line StoreFault old new before now made step = absurd cc
 told_gains line Stopped old new before now made step = absurd cc
 
--- nothing is asked of its line then
-spelled_not : (net : Net) (changes : List Change) (one : Change) (reply : Reply) → is_made reply ≡ false → is_lost reply ≡ false → IsSpelledIf net changes one reply
-spelled_not net changes one (Done _ _) none kept = absurd cc
-spelled_not net changes one SameTerminal none kept = tt
-spelled_not net changes one (NotThere _) none kept = tt
-spelled_not net changes one (RowFull _ _) none kept = tt
-spelled_not net changes one (ColumnFull _ _) none kept = tt
-spelled_not net changes one (BookFull _) none kept = tt
-spelled_not net changes one (NotNewer _) none kept = tt
-spelled_not net changes one (NoSuchEdition _) none kept = tt
-spelled_not net changes one (NotGood _) none kept = tt
-spelled_not net changes one (OutOfTurn _) none kept = tt
-spelled_not net changes one (NotInstalled _) none kept = tt
-spelled_not net changes one (Demand _ _ _) none kept = tt
-spelled_not net changes one (Installed _) none kept = absurd cc
-spelled_not net changes one (Newest _) none kept = tt
-spelled_not net changes one Placed none kept = absurd cc
-spelled_not net changes one StoreFault none kept = absurd cc
-spelled_not net changes one Stopped none kept = tt
-
 -- and the line was spelled where the change was made
 pub spelled_made : (net : Net) (changes : List Change) (one : Change) (reply : Reply) → is_made reply ≡ true → IsSpelledIf net changes one reply → IsSpelled net changes one
 spelled_made net changes one (Done _ _) made spelled = spelled
@@ -124,12 +83,6 @@ spelled_made net changes one (Newest _) made spelled = absurd cc
 spelled_made net changes one Placed made spelled = spelled
 spelled_made net changes one StoreFault made spelled = absurd cc
 spelled_made net changes one Stopped made spelled = absurd cc
-
--- an answer without a change asks nothing of the store
-pub Stores-same : (net : Net) (changes : List Change) (one : Change) (reply answer : Reply) (told : Option (List ℕ)) (faults : ℕ) → answer ≡ reply → is_made reply ≡ false → is_lost reply ≡ false
-    → Stores net changes one answer told told faults faults
-Stores-same net changes one reply answer told faults is none kept =
-    rw is (record { step = StoreStep-same (line_behind net changes one) reply told faults none kept; spelled = spelled_not net changes one reply none kept })
 
 -- what one entry lost
 lost_of-one : (entry : Entry) (o : Option Change) → change_lost entry.call entry.reply ≡ o → lost_of (entry ∷ []) ≡ as_list o

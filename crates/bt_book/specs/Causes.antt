@@ -18,8 +18,9 @@ use Rattle.bt_journal.specs.declared.call.Change.TheVariants as change
 use Rattle.bt_journal.specs.declared.reply.Reply.{Reply}
 use Rattle.bt_journal.specs.declared.reply.Reply.TheVariants.{SameTerminal, NotThere, RowFull, ColumnFull, NotNewer, NoSuchEdition, NotGood, OutOfTurn, NotInstalled}
 use Rattle.bt_journal.specs.Journal.{NamesTerminals}
+use Rattle.bt_occupancy.specs.Occupancy.{HasEqualEnds, HasEnds}
 use Rattle.bt_book.specs.Changes.{edition, IsDemandAt, newest, is_installed, last_command, edition_ordered}
-use Rattle.bt_book.specs.EditCauses.{HasEqualEnds, TakesTooMuch, OverfillsRow, OverfillsColumn, HasEnds, IsThere, FitsRow, IsGoodEdit}
+use Rattle.bt_book.specs.EditCauses.{TakesTooMuch, OverfillsRow, OverfillsColumn, IsThere, FitsRow, IsGoodEdit}
 
 -- the plan is of a greater edition than the newest plan
 abbrev pub IsNewer : List Change → Plan → Type 0

@@ -1,6 +1,6 @@
 -- What refuses an edit: equal ends, a link that holds too little, a row or a column that would have more slots than the
 -- frame.
-use Rattle.std.specs.Prelude.{◌≡◌, ◌⊎◌, ℕ, ◌<◌, ◌≤◌, List, [], ◌∷◌, ◌++◌}
+use Rattle.std.specs.Prelude.{◌≡◌, ℕ, ◌<◌, ◌≤◌, List, [], ◌∷◌, ◌++◌}
 use Rattle.bt_frame.specs.declared.numbers.BeamNo.{BeamNo}
 use Rattle.bt_net.specs.Network.{Net}
 use Rattle.bt_net.specs.Terminals.{IsInBeam}
@@ -9,17 +9,12 @@ use Rattle.bt_journal.specs.declared.call.Edit.{Edit}
 use Rattle.bt_journal.specs.declared.call.Edit.TheVariants.{Add, Drop, Move}
 use Rattle.bt_journal.specs.declared.call.Change.{Change}
 use Rattle.bt_journal.specs.declared.call.Change.TheVariants as change
+use Rattle.bt_occupancy.specs.Occupancy.{HasEnds}
 use Rattle.bt_book.specs.Changes.{held_after, matrix_after}
 
 -- the list with this edit behind it
 abbrev pub with_edit : List Change → Edit → List Change
 with_edit changes edit = changes ++ change.Edit edit ∷ []
-
--- the edit names a link from a terminal to itself
-abbrev pub HasEqualEnds : Edit → Type 0
-HasEqualEnds (Add from to _) = from.0 ≡ to.0
-HasEqualEnds (Drop from to _) = from.0 ≡ to.0
-HasEqualEnds (Move from to new_from new_to _) = (from.0 ≡ to.0) ⊎ (new_from.0 ≡ new_to.0)
 
 -- the link that loses holds so many slots, fewer than the edit takes from it
 abbrev pub TakesTooMuch : List Change → Edit → ℕ → Type 0
@@ -50,10 +45,6 @@ pub record OverfillsColumn (net : Net) (changes : List Change) (edit : Edit) (be
   pub gains : GainsTo net edit beam
   pub number : sum ≡ column_sum (matrix_after net (with_edit changes edit)) beam.0
   pub over : net.slots < sum
-
--- the edit names no link from a terminal to itself
-abbrev pub HasEnds : Edit → Type 0
-HasEnds edit = ¬ (HasEqualEnds edit)
 
 -- the link that loses holds what the edit takes from it
 abbrev pub IsThere : List Change → Edit → Type 0

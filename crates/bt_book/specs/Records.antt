@@ -1,5 +1,4 @@
--- For bodies alone: what contracts see of the machine and of the occupancy of its frame, and what is kept beside the
--- changes.
+-- For bodies alone: what contracts see of the machine, and what is kept beside the changes.
 use Rattle.std.specs.Prelude.{◌≡◌, ◌≢◌, ℕ, ◌+◌, ◌≤◌, ◌<◌, Bool, true, false, List, [], ◌∷◌, ◌++◌, length, sum_by, Option, Some, None}
 use Rattle.std.specs.List.{list_any}
 use Rattle.bt_frame.specs.declared.limits.TheConstants.{MOST_JOURNAL_BYTES}
@@ -9,7 +8,7 @@ use Rattle.bt_net.specs.Network.{Net}
 use Rattle.bt_matrix.specs.Traffic.{row_sum, column_sum}
 use Rattle.bt_demand.specs.declared.demand.Link.{Link}
 use Rattle.bt_demand.specs.declared.plan.Plan.{Plan}
-use Rattle.bt_demand.specs.Demand.{units_where, units_of, Gains}
+use Rattle.bt_demand.specs.Demand.{units_where}
 use Rattle.bt_demand.specs.Traffic.{matrix_of, HasSumsTo}
 use Rattle.bt_air.specs.declared.order.Order.{Order}
 use Rattle.bt_journal.specs.declared.call.Call.{Call}
@@ -18,7 +17,6 @@ use Rattle.bt_journal.specs.declared.call.Change.{Change}
 use Rattle.bt_journal.specs.declared.call.Change.TheVariants as change
 use Rattle.bt_journal.specs.declared.entry.Entry.{Entry}
 use Rattle.bt_journal.specs.declared.call.Edit.{Edit}
-use Rattle.bt_journal.specs.declared.call.Edit.TheVariants.{Add, Drop, Move}
 use Rattle.bt_journal.specs.Journal.{NamesTerminals, is_refusal, is_fault, change_made}
 use Rattle.bt_journal.specs.JournalLines.{IsChangeInRange, edits_in}
 use Rattle.bt_journal.specs.declared.reply.Reply.{Reply}
@@ -28,16 +26,12 @@ use Rattle.bt_book.specs.declared.fault.RecoverFault.{RecoverFault}
 use Rattle.bt_book.specs.declared.fault.RecoverFault.TheVariants.{J1, J2, StoreFault, TooLong, OutOfMemory}
 use Rattle.bt_book.specs.declared.lines.Lines.{Lines}
 use Rattle.bt_book.specs.Changes.{given, taken_from, edition, matrix_after, held_after, plans, orders}
-use Rattle.bt_book.specs.EditCauses.{GainsFrom, GainsTo, with_edit, HasEnds, IsGoodEdit}
+use Rattle.bt_occupancy.specs.Occupancy.{HasEnds, HoldsTaken, EditsLinks}
+use Rattle.bt_book.specs.EditCauses.{GainsFrom, GainsTo, with_edit, IsGoodEdit}
 use Rattle.bt_book.specs.Causes.{Follows, IsChangeOn, IsGood, IsCause}
 use Rattle.bt_book.specs.Machine.{State, bytes_of, bytes_with, line_behind, running}
 use Rattle.bt_book.specs.Recovery.{IsFirstNoLine, IsFirstStray, IsNoLine, IsStray}
 use Rattle.bt_book.specs.Store.{IsStored, StoreStep, lost_of}
-
--- a network, and the links of the demand on it
-pub record Occupied : Type 0 where
-  pub net : Net
-  pub links : List Link
 
 -- the network, the state of the machine, and the entries of all calls
 pub record Records : Type 0 where
@@ -146,36 +140,6 @@ pub record Holds (machine : Records) (told : Option (List ℕ)) : Type 0 where
 -- each link has as many slots as before
 abbrev pub SameUnits : List Link → List Link → Type 0
 SameUnits old new = (test : TermNo → TermNo → Bool) → units_where test new ≡ units_where test old
-
--- the first half of an edit: the link that gains has its slots, and the one that loses has them still
-abbrev pub GainsFirst : List Link → Edit → List Link → Type 0
-GainsFirst old (Add from to units) new = Gains old new from to units
-GainsFirst old (Drop _ _ _) new = new ≡ old
-GainsFirst old (Move _ _ new_from new_to units) new = Gains old new new_from new_to units
-
--- the second half of an edit: the link that loses has lost its slots
-abbrev pub LosesThen : List Link → Edit → List Link → Type 0
-LosesThen old (Add _ _ _) new = new ≡ old
-LosesThen old (Drop from to units) new = Gains new old from to units
-LosesThen old (Move from to _ _ units) new = Gains new old from to units
-
--- the links before and after an edit: by its two halves
-pub record EditsLinks (old : List Link) (edit : Edit) (new : List Link) : Type 0 where
-  pub half : List Link
-  pub gains : GainsFirst old edit half
-  pub loses : LosesThen half edit new
-
--- the link that loses has what the edit takes from it
-abbrev pub HoldsTaken : List Link → Edit → Type 0
-HoldsTaken links (Add _ _ _) = Unit {0}
-HoldsTaken links (Drop from to units) = units ≤ units_of links from to
-HoldsTaken links (Move from to _ _ units) = units ≤ units_of links from to
-
--- the link that gained has what the edit gave it
-abbrev pub HoldsGiven : List Link → Edit → Type 0
-HoldsGiven links (Add from to units) = units ≤ units_of links from to
-HoldsGiven links (Drop _ _ _) = Unit {0}
-HoldsGiven links (Move _ _ new_from new_to units) = units ≤ units_of links new_from new_to
 
 -- the edit that a change is, if it is one
 abbrev pub IsEditOf : Change → Option Edit → Type 0

@@ -8,10 +8,10 @@ ghost use Rattle.bt_book.specs.Causes.{Follows};
 ghost use Rattle.bt_book.specs.Records.{CanRedo, IsEditMade, IsEditOf, IsRedone, RedoesOne};
 
 use crate::machine::Machine;
-use crate::occupancy::Occupancy;
 use bt_demand::Demand;
 use bt_frame::{EditionNo, OutOfMemory};
 use bt_journal::{Call, Change, Edit, Entry};
+use bt_occupancy::Occupancy;
 use std::alloc::Global;
 
 impl Machine {

@@ -1,8 +1,8 @@
 //! The book of changes: the desk machine that makes edits of the demand, installs plans and places orders, or refuses
 //! each for its first cause.
 //!
-//! It stands on the network, the demand, the checker of plans and the journal's calls, replies and lines, and is handed a
-//! store, in which it keeps the line of each change before it answers.
+//! It stands on the network, the demand and the occupancy of the frame, the checker of plans and the journal's calls,
+//! replies and lines, and is handed a store, in which it keeps the line of each change before it answers.
 //! These are promises: `specs/Changes.antt`, what a list of changes made, with each sum taken afresh;
 //! `specs/EditCauses.antt` and `specs/Causes.antt`, why a change is refused; `specs/Machine.antt`, the machine as a
 //! relation over the list of changes; `specs/Recovery.antt`, what a journal tells, and its first line that tells nothing;
@@ -25,7 +25,6 @@ mod lines;
 mod machine;
 mod make;
 mod object;
-mod occupancy;
 mod place;
 mod recover;
 mod replay;

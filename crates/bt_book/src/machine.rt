@@ -8,12 +8,12 @@ ghost use Rattle.bt_demand.specs.Traffic.{matrix_of, AreOfNetwork, HasSumsTo};
 ghost use Rattle.bt_book.specs.Changes.{edition, empty_plan, newest, orders, plans, IsDemandAfter};
 ghost use Rattle.bt_book.specs.Machine.{running};
 
-use crate::occupancy::Occupancy;
 use bt_air::Order;
 use bt_demand::{Bursts, Demand, Plan};
 use bt_frame::{BeamNo, Critical, EditionNo, Modes, OutOfMemory, Schedule};
 use bt_journal::{Change, Entry};
 use bt_net::Network;
+use bt_occupancy::Occupancy;
 use std::alloc::Global;
 use std::marker::Model;
 

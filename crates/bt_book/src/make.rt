@@ -5,18 +5,18 @@ ghost use Rattle.bt_frame.specs.declared.limits.TheConstants.{MOST_SLOTS};
 ghost use Rattle.bt_demand.specs.Traffic.{matrix_of, HasSumsTo};
 ghost use Rattle.bt_journal.specs.Journal.{NamesTerminals};
 ghost use Rattle.bt_journal.specs.declared.call.Change.TheVariants as change;
+ghost use Rattle.bt_occupancy.specs.Occupancy.{HasEnds, HoldsTaken, EditsLinks};
 ghost use Rattle.bt_book.specs.Causes.{CanCome, IsChangeOn, IsPlanOn};
-ghost use Rattle.bt_book.specs.EditCauses.{HasEnds};
 ghost use Rattle.bt_book.specs.Machine.{ChangeStep, CanMake, line_behind};
-ghost use Rattle.bt_book.specs.Records.{EditsLinks, HoldsTaken, IsSpelled, SameUnits, Stores, call_of};
+ghost use Rattle.bt_book.specs.Records.{IsSpelled, SameUnits, Stores, call_of};
 
 use crate::machine::Machine;
-use crate::occupancy::Occupancy;
 use bt_air::Order;
 use bt_base::{KeepFault, Keeper};
 use bt_demand::Plan;
 use bt_frame::{EditionNo, OutOfMemory};
 use bt_journal::{Call, Change, Edit, Entry, Reply};
+use bt_occupancy::Occupancy;
 use std::alloc::Global;
 
 impl Machine {

@@ -41,7 +41,7 @@ returns-then-branch-clause-step g c =
     let can = subst (λ (r : Records). CanMake r.net r.state (change.Edit c.args.edit)) (sym c.self.view_is) c.requires.can in
     let after = made_changes a.opening.items _ (change.Edit c.args.edit) a.history.items c.reserve.new.self.items c.keep_entry.new.history.items c.reserve.ensures.items c.keep_entry.ensures refl in
     let tells = tells_made a.occupancy.net c.keep_edit.new.occupancy.net _ _ a.occupancy.links c.keep_edit.new.occupancy.links a.count a.edits a.bytes c.args.edit
-    c.length-length.result c.keep_edit.ensures.net after c.self.invariant.0 c.self.invariant.1 (c.in_ok-keep_edit.ensures.made c.if-branch.true) c.length-length.ensures in
+    c.length-length.result c.keep_edit.ensures.net after c.self.invariant.0 c.self.invariant.1 (c.in_ok-keep_edit.ensures.made c.if-branch.true) c.length-length.ensures.heaviest in
     subst (λ (r : Records). ChangeStep r.net r.state (change.Edit c.args.edit) (Done (record { 0 = a.edits + 1 }) c.length-length.result) (state_after a.opening.items c.keep_entry.new.history.items)) c.self.view_is
     (made_step a.occupancy.net a.opening.items a.history.items c.reserve.new.self.items c.keep_entry.new.history.items (change.Edit c.args.edit) _
     c.reserve.ensures.items c.keep_entry.ensures refl refl refl can tells)

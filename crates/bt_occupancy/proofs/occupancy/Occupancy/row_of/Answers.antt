@@ -1,5 +1,5 @@
-use Rattle.bt_book.proofs.Occupied.{in_matrix}
-use Rattle.bt_book.proofs.occupancy.Occupancy.row_of.Goals as goal
+use Rattle.bt_occupancy.proofs.Occupied.{in_matrix}
+use Rattle.bt_occupancy.proofs.occupancy.Occupancy.row_of.Goals as goal
 
 -- the beam is one of the matrix
 pub row_sum-requires : goal.row_sum-requires

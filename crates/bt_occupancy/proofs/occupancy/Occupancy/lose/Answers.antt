@@ -1,6 +1,6 @@
 use Rattle.bt_demand.specs.Traffic.{matrix_of}
-use Rattle.bt_book.proofs.Occupied.{in_matrix, matrix-Loses, matrix-less}
-use Rattle.bt_book.proofs.occupancy.Occupancy.lose.Goals as goal
+use Rattle.bt_occupancy.proofs.Occupied.{in_matrix, matrix-Loses, matrix-less}
+use Rattle.bt_occupancy.proofs.occupancy.Occupancy.lose.Goals as goal
 
 -- both beams are on the matrix
 pub take-requires-2-clause-up : goal.take-requires-2-clause-up

@@ -1,6 +1,6 @@
 use Rattle.std.proofs.Common.{arith}
-use Rattle.bt_book.proofs.Occupied.{in_matrix}
-use Rattle.bt_book.proofs.occupancy.Occupancy.column_of.Goals as goal
+use Rattle.bt_occupancy.proofs.Occupied.{in_matrix}
+use Rattle.bt_occupancy.proofs.occupancy.Occupancy.column_of.Goals as goal
 
 -- the beam is one of the matrix
 pub column_sum-requires : goal.column_sum-requires

@@ -1,5 +1,5 @@
-use Rattle.bt_book.proofs.Start.{matrix_of-start}
-use Rattle.bt_book.proofs.occupancy.Occupancy.new.Goals as goal
+use Rattle.bt_occupancy.proofs.Occupied.{matrix_of-start}
+use Rattle.bt_occupancy.proofs.occupancy.Occupancy.new.Goals as goal
 
 -- no link, and a matrix of zeros
 pub invariant_of-result : goal.invariant_of-result

@@ -7,8 +7,7 @@ ghost use Rattle.bt_demand.specs.Traffic.{matrix_of, HasSumsTo};
 ghost use Rattle.bt_net.specs.Terminals.{IsInBeam};
 ghost use Rattle.bt_net.specs.Network.{IsSound};
 ghost use Rattle.bt_journal.specs.Journal.{NamesTerminals};
-ghost use Rattle.bt_book.specs.EditCauses.{HasEnds};
-ghost use Rattle.bt_book.specs.Records.{EditsLinks, GainsFirst, LosesThen, HoldsTaken, HoldsGiven};
+ghost use Rattle.bt_occupancy.specs.Occupancy.{HasEnds, EditsLinks, GainsFirst, LosesThen, HoldsTaken, HoldsGiven};
 
 use bt_demand::Demand;
 use bt_frame::{BeamNo, MOST_SLOTS, OutOfMemory, TermNo, Units};
@@ -20,14 +19,14 @@ use std::marker::Model;
 
 /// The demand on a network, and its traffic matrix, which follows each change.
 #[derive(Drop)]
-pub(crate) struct Occupancy {
+pub struct Occupancy {
     net: Network,
     demand: Demand,
     matrix: Dense,
 }
 
 impl Model for Occupancy {
-    ghost use Rattle.bt_book.specs.Records.{Occupied};
+    ghost use Rattle.bt_occupancy.specs.Occupancy.{Occupied};
 
     ghost Value = { Occupied };
 
@@ -41,7 +40,7 @@ impl Model for Occupancy {
 
 impl Occupancy {
     /// A network on which there is no demand.
-    pub(crate) fn new(alloc: Global, net: &Network) -> Result<Occupancy, OutOfMemory>
+    pub fn new(alloc: Global, net: &Network) -> Result<Occupancy, OutOfMemory>
         ensures net { IfOk result (λ made. made.net ≡ net.now) }
         ensures links { IfOk result (λ made. made.links ≡ []) }
     {
@@ -53,7 +52,7 @@ impl Occupancy {
     }
 
     /// The demand.
-    pub(crate) fn demand(&self) -> &Demand
+    pub fn demand(&self) -> &Demand
         ensures same { result.now ≡ self.now.links }
         ensures demand { IsDemand self.now.links }
     {
@@ -63,7 +62,7 @@ impl Occupancy {
     }
 
     /// The network.
-    pub(crate) fn network(&self) -> &Network
+    pub fn network(&self) -> &Network
         ensures same { result.now ≡ self.now.net }
         ensures sound { IsSound self.now.net }
     {
@@ -73,7 +72,7 @@ impl Occupancy {
     }
 
     /// The demand alone.
-    pub(crate) fn into_demand(self) -> Demand
+    pub fn into_demand(self) -> Demand
         ensures same { result ≡ self.links }
         ensures demand { IsDemand self.links }
     {
@@ -83,7 +82,7 @@ impl Occupancy {
     }
 
     /// Traffic slots of a frame.
-    pub(crate) fn slots(&self) -> u32
+    pub fn slots(&self) -> u32
         ensures same { result ≡ self.now.net.slots }
         ensures in_range { result ≤ MOST_SLOTS }
         ensures sound { IsSound self.now.net }
@@ -94,15 +93,15 @@ impl Occupancy {
     }
 
     /// The slots of a link.
-    pub(crate) fn units(&self, from: TermNo, to: TermNo) -> u32
-        ensures { result ≡ units_of self.now.links from to }
+    pub fn units(&self, from: TermNo, to: TermNo) -> u32
+        ensures slots { result ≡ units_of self.now.links from to }
     {
         self.demand.units(from, to)
     }
 
     /// The beam of a terminal that sends, and the slots of its row.
-    pub(crate) fn row_of(&self, from: TermNo) -> (BeamNo, u32)
-        requires { from.0 < length self.now.net.terminals }
+    pub fn row_of(&self, from: TermNo) -> (BeamNo, u32)
+        requires sends { from.0 < length self.now.net.terminals }
         ensures beam { IsInBeam self.now.net from result.0 }
         ensures in_range { result.0.0 < length self.now.net.beams }
         ensures sum { result.1 ≡ row_sum (matrix_of self.now.net self.now.links) result.0.0 }
@@ -115,8 +114,8 @@ impl Occupancy {
     }
 
     /// The beam of a terminal that receives, and the slots of its column.
-    pub(crate) fn column_of(&self, to: TermNo) -> (BeamNo, u32)
-        requires { to.0 < length self.now.net.terminals }
+    pub fn column_of(&self, to: TermNo) -> (BeamNo, u32)
+        requires receives { to.0 < length self.now.net.terminals }
         ensures beam { IsInBeam self.now.net to result.0 }
         ensures in_range { result.0.0 < length self.now.net.beams }
         ensures sum { result.1 ≡ column_sum (matrix_of self.now.net self.now.links) result.0.0 }
@@ -129,14 +128,14 @@ impl Occupancy {
     }
 
     /// The greatest line sum.
-    pub(crate) fn length(&self) -> u32
-        ensures { (line : Critical) × IsHeaviest (matrix_of self.now.net self.now.links) line result }
+    pub fn length(&self) -> u32
+        ensures heaviest { (line : Critical) × IsHeaviest (matrix_of self.now.net self.now.links) line result }
     {
         self.matrix.heaviest().1
     }
 
     /// Makes an edit. Where memory runs out all is as it was.
-    pub(crate) fn edit(&mut self, alloc: Global, edit: &Edit) -> Result<(), OutOfMemory>
+    pub fn edit(&mut self, alloc: Global, edit: &Edit) -> Result<(), OutOfMemory>
         requires terminals { NamesTerminals self.old.net edit.now }
         requires ends { HasEnds edit.now }
         requires held { HoldsTaken self.old.links edit.now }
@@ -151,7 +150,7 @@ impl Occupancy {
     }
 
     /// The first half of an edit: what it gives. Where memory runs out all is as it was.
-    pub(crate) fn gain_first(&mut self, alloc: Global, edit: &Edit) -> Result<(), OutOfMemory>
+    pub fn gain_first(&mut self, alloc: Global, edit: &Edit) -> Result<(), OutOfMemory>
         requires terminals { NamesTerminals self.old.net edit.now }
         requires ends { HasEnds edit.now }
         requires small { HasSumsTo MOST_SLOTS (matrix_of self.old.net self.old.links) }
@@ -172,7 +171,7 @@ impl Occupancy {
     }
 
     /// The second half of an edit: what it takes.
-    pub(crate) fn lose_then(&mut self, edit: &Edit)
+    pub fn lose_then(&mut self, edit: &Edit)
         requires terminals { NamesTerminals self.old.net edit.now }
         requires held { HoldsTaken self.old.links edit.now }
         ensures loses { LosesThen self.old.links edit.now self.new.links }
@@ -191,7 +190,7 @@ impl Occupancy {
     }
 
     /// Takes back the first half of an edit.
-    pub(crate) fn take_back(&mut self, edit: &Edit)
+    pub fn take_back(&mut self, edit: &Edit)
         requires terminals { NamesTerminals self.old.net edit.now }
         requires held { HoldsGiven self.old.links edit.now }
         ensures back { GainsFirst self.new.links edit.now self.old.links }
@@ -210,7 +209,7 @@ impl Occupancy {
     }
 
     /// A link asks for so many slots more.
-    pub(crate) fn gain(
+    fn gain(
         &mut self,
         alloc: Global,
         from: TermNo,
@@ -233,7 +232,7 @@ impl Occupancy {
     }
 
     /// A link asks for so many slots less.
-    pub(crate) fn lose(&mut self, from: TermNo, to: TermNo, units: Units)
+    fn lose(&mut self, from: TermNo, to: TermNo, units: Units)
         requires sends { from.0 < length self.old.net.terminals }
         requires receives { to.0 < length self.old.net.terminals }
         requires held { units ≤ units_of self.old.links from to }

@@ -1,5 +1,5 @@
 -- The traffic matrix kept beside a demand, where a link gains or loses.
-use Rattle.std.proofs.Common.{◌≡◌, ℕ, zero, suc, ◌+◌, ◌-◌, ◌<◌, ◌≤◌, ◌&&◌, if◌then◌else◌, List, [], ◌∷◌, length, slice_index, slice_set, refl, sym, ap, ◌∙◌, subst, arith, get_or-set_same}
+use Rattle.std.proofs.Common.{◌≡◌, ℕ, zero, suc, ◌+◌, ◌-◌, ◌<◌, ◌≤◌, ◌&&◌, if◌then◌else◌, List, [], ◌∷◌, length, replicate, slice_index, slice_set, refl, sym, ap, ◌∙◌, subst, arith, get_or-set_same}
 use Rattle.std.proofs.lemmas.List.{set-get_or}
 use Rattle.bt_frame.specs.declared.numbers.BeamNo.{BeamNo}
 use Rattle.bt_frame.specs.declared.numbers.TermNo.{TermNo}
@@ -12,10 +12,16 @@ use Rattle.bt_demand.specs.declared.demand.Link.{Link}
 use Rattle.bt_demand.specs.Demand.{units_of, Gains}
 use Rattle.bt_demand.specs.Traffic.{units_between, matrix_of, HasSumsTo}
 use Rattle.bt_net.specs.Terminals.{is_in_beam, IsInBeam}
-use Rattle.bt_demand.proofs.Matrices.{length-matrix_of, matrix_of-Gains}
-use Rattle.bt_book.specs.Records.{Occupied}
+use Rattle.bt_demand.proofs.Matrices.{length-matrix_of, matrix_of-none, matrix_of-Gains}
+use Rattle.bt_occupancy.specs.Occupancy.{Occupied}
 use Rattle.bt_demand.proofs.Tables.{length-row-table, table-LinesExceed}
-use Rattle.bt_book.proofs.After.{units_of-in-beams}
+use Rattle.bt_occupancy.proofs.Shares.{units_of-in-beams}
+
+-- a matrix of zeros is that of no link
+pub matrix_of-start : (net original : Net) (links : List Link) (matrix : List (List ℕ)) (size : ℕ) → net ≡ original → links ≡ []
+    → size ≡ length original.beams → matrix ≡ replicate size (replicate size 0) → matrix ≡ matrix_of net links
+matrix_of-start net original links matrix size copied no_link size_is matrix_is =
+    rw (no_link, matrix_of-none net, copied, ← size_is) matrix_is
 
 -- a beam of the network is one of the matrix
 pub in_matrix : (net : Net) (links : List Link) (matrix : List (List ℕ)) (beam : ℕ) → matrix ≡ matrix_of net links

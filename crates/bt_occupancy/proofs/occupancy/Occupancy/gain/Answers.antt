@@ -1,5 +1,5 @@
-use Rattle.bt_book.proofs.Occupied.{small_inside, in_matrix, has_room, matrix-more}
-use Rattle.bt_book.proofs.occupancy.Occupancy.gain.Goals as goal
+use Rattle.bt_occupancy.proofs.Occupied.{small_inside, in_matrix, has_room, matrix-more}
+use Rattle.bt_occupancy.proofs.occupancy.Occupancy.gain.Goals as goal
 
 -- the link has room
 pub add-requires-clause-fits : goal.add-requires-clause-fits

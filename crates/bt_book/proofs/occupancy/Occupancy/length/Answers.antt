@@ -1,6 +1,0 @@
-use Rattle.bt_book.proofs.Occupied.{heaviest-kept}
-use Rattle.bt_book.proofs.occupancy.Occupancy.length.Goals as goal
-
--- by the first line that has it
-pub returns : goal.returns
-returns c = heaviest-kept c.self.inside.matrix _ _ _ _ c.self.view_is c.self.invariant c.heaviest.ensures
