@@ -16,6 +16,9 @@ use bt_plan::plan_text;
 use bt_text::number_text;
 use std::alloc::Global;
 
+/// The bytes for which there is room when the line of an edit is begun. Most lines are no longer.
+const EDIT_BYTES: usize = 64;
+
 /// The line of a change, its newline included, as `read_change` reads it. `edition` is the edition that an edit makes;
 /// it is not looked at for another change.
 pub fn change_text(
@@ -46,7 +49,8 @@ fn edit_text(
     requires { NamesTerminals net.now edit }
     ensures { IfOk result (λ text. text.items ≡ spaced (change_parts net.now made.0 (Change.Edit edit))) }
 {
-    let mut text = Vec::from_slice(alloc, b"edit")?;
+    let mut text = Vec::with_capacity(alloc, EDIT_BYTES)?;
+    text.extend_from_slice(b"edit")?;
     write_number(alloc, made.0, &mut text)?;
     write_edit(alloc, net, edit, &mut text)?;
     Ok(text)

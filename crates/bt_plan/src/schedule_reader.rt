@@ -10,8 +10,10 @@ ghost use Rattle.bt_plan.specs.LineNumbers.{numbers_to};
 ghost use Rattle.bt_plan.specs.ScheduleText.{length_in, line_in, critical_in, mode_in, modes_in, critical_and_modes, schedule_of};
 
 use crate::{TextCode, TextFault};
+use arrayvec::ArrayVec;
 use bt_frame::{
-    BeamNo, Columns, Critical, LAST_BEAM, MOST_TEXT_SLOTS, Mode, Modes, OutOfMemory, Schedule,
+    BeamNo, Columns, Critical, LAST_BEAM, MOST_BEAMS, MOST_TEXT_SLOTS, Mode, Modes, OutOfMemory,
+    Schedule,
 };
 use bt_text::{WordReader, fault_at, first_line, is_word};
 use std::alloc::Global;
@@ -202,15 +204,15 @@ fn read_columns(
     requires { size ≤ MOST_BEAMS }
     ensures { IfOk result (λ found. found ≡ numbers_to 255 size words.entry) }
 {
-    let mut columns = Vec::with_capacity(alloc, size as usize)?;
+    let mut columns = ArrayVec::<u8, MOST_BEAMS>::new();
     for _ in 0..size {
         let Some(down) = words.number_to(255) else {
             return Ok(None);
         };
-        columns.push(down as u8)?;
+        columns.push(down as u8);
     }
     if words.is_done() {
-        Ok(Some(Columns::of(columns)))
+        Ok(Some(Columns::from_slice(alloc, columns.as_slice())?))
     } else {
         Ok(None)
     }
