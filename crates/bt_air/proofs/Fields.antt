@@ -13,7 +13,8 @@ use Rattle.bt_frame.specs.Range.{IsWithin}
 use Rattle.bt_air.specs.Reading.{Reading}
 use Rattle.bt_air.specs.Spelling.{word, short, optional, armed_bytes}
 use Rattle.bt_air.proofs.Codec.{IsBytes, behind, IsTaken, IsCodec, wide8, wide16, wide32, ranged_codec}
-use Rattle.bt_air.proofs.Steps.{step, same}
+use Rattle.bt_text.proofs.Steps.{bind_ok}
+use Rattle.bt_air.proofs.Steps.{same}
 
 -- a field in front, and the reading that goes on behind it
 pub record IsInFront {A B : Type 0} (spell : A → List ℕ) (InRange : A → Type 0) (bytes : List ℕ) (after : A × Left → Reading B) (y : B) : Type 0 where
@@ -24,7 +25,7 @@ pub record IsInFront {A B : Type 0} (spell : A → List ℕ) (InRange : A → Ty
 
 pub field : {A B : Type 0} {reader : Left → Read A} {spell : A → List ℕ} {InRange : A → Type 0} (codec : IsCodec reader spell InRange) (left : Left) (after : A × Left → Reading B) (y : B) → IsBytes left.bytes → (reader left >>= after) ≡ Ok y → IsInFront spell InRange left.bytes after y
 field {reader = reader} codec left after y fits is =
-    let first = step (reader left) after y is in
+    let first = bind_ok (reader left) after y is in
     record { value = first.0.0; rest = first.0.1; taken = codec.taken left first.0.0 first.0.1 fits first.1; goes_on = first.2 }
 
 -- a number that has a type of its own
@@ -155,7 +156,7 @@ module _ {A : Type 0} (item : Left → Read A) (spell : A → List ℕ) (InRange
       subst (λ (p : List A × Left). IsTaken left.bytes (flat_map spell p.0) p.1.bytes (AreSeveral zero p.0)) found (record { parts = record { are = refl }; fits = fits; in_range = record { count_is = refl; each = All-nil InRange } })
   several_taken (suc more) left xs rest fits is =
       let first = field codec left _ (xs, rest) fits is in
-      let others = step (several_in item more first.rest) (λ others. Ok (first.value ∷ others.0, others.1)) (xs, rest) first.goes_on in
+      let others = bind_ok (several_in item more first.rest) (λ others. Ok (first.value ∷ others.0, others.1)) (xs, rest) first.goes_on in
       let taken = several_taken more first.rest others.0.0 others.0.1 first.taken.fits others.1 in
       let found = same (first.value ∷ others.0.0, others.0.1) (xs, rest) others.2 in
       subst (λ (p : List A × Left). IsTaken left.bytes (flat_map spell p.0) p.1.bytes (AreSeveral (suc more) p.0)) found (record {

@@ -18,7 +18,8 @@ use Rattle.bt_air.proofs.Codec.{IsBytes, IsBytes-from_All, AreParts, behind, IsT
 use Rattle.bt_air.proofs.Fields.{field, command_codec, last_command_codec, edition_codec, mark_codec, due_codec, terminal_codec, burst_count_codec, armed_codec, optional_codec}
 use Rattle.bt_air.proofs.InOrder.{bursts_in_order}
 use Rattle.bt_air.proofs.ModesRead.{modes_codec}
-use Rattle.bt_air.proofs.Steps.{step, same, passed}
+use Rattle.bt_text.proofs.Steps.{bind_ok, passed}
+use Rattle.bt_air.proofs.Steps.{same}
 
 -- the kind stands in front of its fields
 kinded : {bytes front rest : List ℕ} (kind : ℕ) → AreParts bytes front rest → AreParts (kind ∷ bytes) (kind ∷ front) rest
@@ -77,7 +78,7 @@ plan_for_taken left m rest fits is =
     let to = field terminal_codec left _ (m, rest) fits is in
     let edition = field edition_codec to.rest _ (m, rest) to.taken.fits to.goes_on in
     let count = field burst_count_codec edition.rest _ (m, rest) edition.taken.fits edition.goes_on in
-    let bursts = step (bursts_in to.value None count.value count.rest) (λ bursts. Ok (PlanFor to.value edition.value bursts.0, bursts.1)) (m, rest) count.goes_on in
+    let bursts = bind_ok (bursts_in to.value None count.value count.rest) (λ bursts. Ok (PlanFor to.value edition.value bursts.0, bursts.1)) (m, rest) count.goes_on in
     let taken = bursts_taken to.value None count.value count.rest bursts.0.0 bursts.0.1 count.taken.fits bursts.1 in
     let ordered = bursts_in_order to.value None count.value count.rest bursts.0 bursts.1 in
     let found = same (PlanFor to.value edition.value bursts.0.0, bursts.0.1) (m, rest) bursts.2 in
@@ -140,11 +141,11 @@ fields_taken kind left m rest fits is =
 pub message_spelled : (bytes : List ℕ) (m : Message) → AreBytes bytes → message_of bytes ≡ Ok m → (bytes ≡ message_bytes m) × IsInRange m
 message_spelled bytes m fits is =
     let start : Left = record { bytes = bytes; place = 0 } in
-    let message = step (message_in start) (λ message. end_in message.1 >>= λ end. Ok message.0) m is in
-    let ended = step (end_in message.0.1) (λ end. Ok message.0.0) m message.2 in
-    let test = passed (eqb (length message.0.1.bytes) 0) (Ok tt) (A4 message.0.1.place) ended.0 ended.1 in
+    let message = bind_ok (message_in start) (λ message. end_in message.1 >>= λ end. Ok message.0) m is in
+    let ended = bind_ok (end_in message.0.1) (λ end. Ok message.0.0) m message.2 in
+    let test = passed (eqb (length message.0.1.bytes) 0) (A4 message.0.1.place) (Ok tt) ended.0 ended.1 in
     let nothing : message.0.1.bytes ≡ [] = nil_from_length message.0.1.bytes (eqb-true (length message.0.1.bytes) 0 test.0) in
-    let kind = step (number_in w8 start) (λ kind. fields_in kind.0 kind.1) message.0 message.1 in
+    let kind = bind_ok (number_in w8 start) (λ kind. fields_in kind.0 kind.1) message.0 message.1 in
     let front = number_taken w8 (λ n. n ∷ []) (2 ^ 8) wide8 start kind.0.0 kind.0.1 (IsBytes-from_All bytes fits) kind.1 in
     let taken = fields_taken kind.0.0 kind.0.1 message.0.0 message.0.1 front.fits kind.2 in
     let whole : bytes ≡ message_bytes message.0.0 = front.parts.are ∙ taken.parts.are ∙ ap (λ (rest : List ℕ). message_bytes message.0.0 ++ rest) nothing ∙ append-nil (message_bytes message.0.0) in

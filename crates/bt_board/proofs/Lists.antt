@@ -4,13 +4,6 @@ use mathlib.Core.List.{IsPrefix}
 use Rattle.bt_demand.specs.declared.plan.Plan.{Plan}
 use Rattle.bt_board.specs.Plans.{last_after, next_of, next_edition, AscendsAfter, Ascends}
 
-pub prefix_self : {A : Type 0} (xs : List A) → IsPrefix xs xs
-prefix_self [] = ([], refl)
-prefix_self (x ∷ xs) = (let r = prefix_self xs in r.0, ap (λ ys. x ∷ ys) (prefix_self xs).1)
-
-pub prefix_trans : {A : Type 0} (xs ys zs : List A) → IsPrefix xs ys → IsPrefix ys zs → IsPrefix xs zs
-prefix_trans xs ys zs p q = (p.0 ++ q.0, sym (append_assoc xs p.0 q.0) ∙ (ap (λ w. w ++ q.0) p.1 ∙ q.1))
-
 -- the marks of an ascending list rise
 pub rises : (o : Option Plan) (xs : List Plan) → AscendsAfter o xs → next_of o ≤ next_of (last_after o xs)
 rises o [] up = le_refl (next_of o)

@@ -2,7 +2,7 @@
 -- so the lines are, and with them the length and the durations.
 use Rattle.std.proofs.Common.{◌≡◌, ℕ, zero, suc, ◌+◌, ◌*◌, ◌≤◌, Bool, true, false, cond, leb, eqb, List, [], ◌∷◌, length, get_or, sum, Ok, Err, Option, Some, None, codes, refl, subst, arith}
 use Rattle.std.specs.List.{list_all, AllByRecursion}
-use Rattle.std.proofs.lemmas.Bool.{leb-true}
+use Rattle.std.proofs.lemmas.Bool.{and_parts, leb-true}
 use Rattle.std.proofs.lemmas.List.Elements.{All-from_recursion}
 use Rattle.std.proofs.lemmas.List.Sums.{sum_by-cons, get_or-le-sum_by}
 use Rattle.bt_text.specs.Text.{words, lines, numbers_of}
@@ -20,8 +20,8 @@ use Rattle.bt_text.specs.Reading.{◌>>=◌}
 use Rattle.bt_plan.specs.Reading.{Reading}
 use Rattle.bt_plan.specs.MatrixText.{size_in, row_in, rows_in, matrix_in, matrix_of}
 use Rattle.bt_plan.specs.ScheduleSpelling.{IsInRange}
-use Rattle.bt_plan.proofs.Capped.{and_parts}
-use Rattle.bt_plan.proofs.Spelled.{bind_ok, ok_is, matrix_of-IsTraffic}
+use Rattle.bt_text.proofs.Steps.{bind_ok}
+use Rattle.bt_plan.proofs.Spelled.{ok_is, matrix_of-IsTraffic}
 use Rattle.bt_timeline.specs.Lines.{line_of}
 use Rattle.bt_cli.specs.Check.{Judges}
 use Rattle.bt_cli.specs.Outcome.{text_alone}

@@ -3,6 +3,7 @@ use Rattle.std.proofs.Common.{◌≡◌, ◌⊎◌, ℕ, ◌+◌, ◌<◌, ◌�
 use Rattle.std.specs.List.{HoldsAt}
 use Rattle.std.proofs.lemmas.Bool.{cases_eq, cases_lt}
 use Rattle.std.proofs.lemmas.List.{get_or_default}
+use Rattle.bt_frame.proofs.OneNumber.{same_beam}
 use Rattle.bt_frame.specs.declared.numbers.BeamNo.{BeamNo}
 use Rattle.bt_frame.specs.declared.numbers.TermNo.{TermNo}
 use Rattle.bt_frame.specs.declared.mode.Mode.{Mode}
@@ -17,7 +18,8 @@ use Rattle.bt_demand.specs.Apart.{Collide}
 use Rattle.bt_demand.specs.Traffic.{AreOfNetwork, units_between}
 use Rattle.bt_cut.specs.Parts.{IsPart}
 use Rattle.bt_cut.specs.Serving.{IsPiece}
-use Rattle.bt_cut.proofs.Numbers.{begin_next, one_mode}
+use Rattle.bt_verdict.proofs.Begins.{begin_of-next}
+use Rattle.bt_cut.proofs.Numbers.{one_mode}
 use Rattle.bt_cut.proofs.Parts.{units_between-more}
 use Rattle.bt_cut.proofs.Links.{share-same}
 use Rattle.bt_cut.proofs.Pieces.{same_burst}
@@ -66,10 +68,6 @@ same_piece net links modes up down p q mode slot a b first second in_a in_b =
           ]
     ]
 
--- beams of one number are the same
-same_beam : (a b : BeamNo) → a.0 ≡ b.0 → a ≡ b
-same_beam a b same = ap (λ (n : ℕ). let beam : BeamNo = record { 0 = n } in beam) same
-
 -- connections of one mode that share a beam are the same
 one_connection : (size : ℕ) (perm : List ℕ) (up down other_up other_down : BeamNo) → IsPermutation size perm → up.0 < size → other_up.0 < size
     → slice_index perm up.0 ≡ down.0 → slice_index perm other_up.0 ≡ other_down.0 → (up ≡ other_up) ⊎ (down ≡ other_down) → (up ≡ other_up) × (down ≡ other_down)
@@ -114,7 +112,7 @@ part_in_mode net links modes link mode slot burst part covers =
     let l = get_or links link none in
     let piece = part.piece none in
     let passes = through modes part.up.0 part.down.0 l.from l.to (units_between net (take link links) part.up.0 part.down.0) l.units mode burst other piece in
-    (piece.in_range, omega (arith, passes.from_begin, covers.from_start), omega (arith, passes.to_end, covers.before_end, begin_next modes mode other piece.in_range))
+    (piece.in_range, omega (arith, passes.from_begin, covers.from_start), omega (arith, passes.to_end, covers.before_end, begin_of-next modes mode other piece.in_range))
 
 -- parts that meet are the same burst
 pub parts_that_meet : (net : Net) (links : List Link) (modes : List Mode) (p q m n : ℕ) (a b : Burst) → IsSound net → AreOfNetwork net links

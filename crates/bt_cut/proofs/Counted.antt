@@ -8,6 +8,8 @@ use Rattle.std.proofs.lemmas.List.{get_or_default, take_all}
 use Rattle.std.proofs.lemmas.Option.{slice_get-get_or}
 use Rattle.std.proofs.lemmas.List.Elements.{All-cons}
 use Rattle.std.proofs.lemmas.List.Sums.{sum_by-cons, sum_by-le, sum_by-take-le}
+use Rattle.bt_lists.proofs.Counts.{sum_by-none}
+use Rattle.bt_frame.proofs.OneNumber.{same_terminal}
 use Rattle.bt_frame.specs.declared.numbers.BeamNo.{BeamNo}
 use Rattle.bt_frame.specs.declared.numbers.TermNo.{TermNo}
 use Rattle.bt_frame.specs.declared.mode.Mode.{Mode}
@@ -24,8 +26,9 @@ use Rattle.bt_demand.proofs.Links.{units_of_at}
 use Rattle.bt_cut.specs.Parts.{IsPart}
 use Rattle.bt_cut.specs.Serving.{number_at, IsPiece}
 use Rattle.bt_cut.proofs.Good.{through, beam_inside}
-use Rattle.bt_cut.proofs.Numbers.{begins_grow, begin_next, numbers_grow}
-use Rattle.bt_cut.proofs.Parts.{one_beam, other_ends, units_between-more}
+use Rattle.bt_verdict.proofs.Begins.{begin_of-le, begin_of-next, one_beam}
+use Rattle.bt_cut.proofs.Numbers.{numbers_grow}
+use Rattle.bt_cut.proofs.Parts.{other_ends, units_between-more}
 use Rattle.bt_cut.proofs.Links.{share-same}
 use Rattle.bt_cut.proofs.Pieces.{same_burst}
 
@@ -57,15 +60,12 @@ either_same false x y same = refl
 abbrev pub sent_before : List Mode → TermNo → TermNo → ℕ → Burst → ℕ
 sent_before modes from to place burst = if burst.from.0 == from.0 && burst.to.0 == to.0 then (if ltb burst.start (begin_of modes place) then burst.length else 0) else 0
 
-same_number : (a b : TermNo) → a.0 ≡ b.0 → a ≡ b
-same_number a b same = ap (λ (n : ℕ). let terminal : TermNo = record { 0 = n } in terminal) same
-
 -- two tests passed
 both : (a b : TermNo) (burst : Burst) → (burst.from.0 == a.0 && burst.to.0 == b.0) ≡ true → (burst.from ≡ a) × (burst.to ≡ b)
 both a b burst passed =
     let from : burst.from.0 ≡ a.0 = grind (arith, nat_tests, passed) in
     let to : burst.to.0 ≡ b.0 = grind (arith, nat_tests, passed) in
-    (same_number burst.from a from, same_number burst.to b to)
+    (same_terminal burst.from a from, same_terminal burst.to b to)
 
 -- What is known of the bursts of a cutting, by parts.
 pub record ArePartsOf (net : Net) (links : List Link) (modes : List Mode) (bursts : List Burst) : Type 0 where
@@ -104,7 +104,7 @@ part_spans net links modes link mode burst part =
     let l = get_or links link none in
     let piece = part.piece none in
     let passes = through modes part.up.0 part.down.0 l.from l.to (units_between net (take link links) part.up.0 part.down.0) l.units mode burst other piece in
-    (passes.from_begin, omega (arith, passes.to_end, piece.some, begin_next modes mode other piece.in_range))
+    (passes.from_begin, omega (arith, passes.to_end, piece.some, begin_of-next modes mode other piece.in_range))
 
 -- a burst that does not start in a mode counts as much behind it as before it
 not_here : (net : Net) (links : List Link) (modes : List Mode) (p m n : ℕ) (burst : Burst) → IsPart net links modes p n burst → (n ≡ m → ⊥)
@@ -113,12 +113,12 @@ not_here net links modes p m n burst part other =
     let (begins, ends) = part_spans net links modes p n burst part in
     elim (cases_lt n m) [
       | inl less ↦
-          let before : burst.start < begin_of modes m = omega (arith, ends, begins_grow modes (n + 1) m (omega arith)) in
-          let behind : burst.start < begin_of modes (m + 1) = omega (arith, before, begins_grow modes m (m + 1) (omega arith)) in
+          let before : burst.start < begin_of modes m = omega (arith, ends, begin_of-le modes (n + 1) m (omega arith)) in
+          let behind : burst.start < begin_of modes (m + 1) = omega (arith, before, begin_of-le modes m (m + 1) (omega arith)) in
           rw (lt-ltb burst.start (begin_of modes m) before, lt-ltb burst.start (begin_of modes (m + 1)) behind) refl
       | inr more ↦
-          let behind : begin_of modes (m + 1) ≤ burst.start = omega (arith, begins, begins_grow modes (m + 1) n (omega arith)) in
-          let before : begin_of modes m ≤ burst.start = omega (arith, behind, begins_grow modes m (m + 1) (omega arith)) in
+          let behind : begin_of modes (m + 1) ≤ burst.start = omega (arith, begins, begin_of-le modes (m + 1) n (omega arith)) in
+          let before : begin_of modes m ≤ burst.start = omega (arith, behind, begin_of-le modes m (m + 1) (omega arith)) in
           rw (le-ltb burst.start (begin_of modes m) before, le-ltb burst.start (begin_of modes (m + 1)) behind) refl
     ]
 
@@ -226,10 +226,6 @@ counted net links modes bursts p l up down is parts in_p at sends receives (suc 
     ] in
     rw add-one at over
 
--- a sum of nothing
-sum_none : {X : Type 0} (f : X → ℕ) (xs : List X) → All (λ x. f x ≡ 0) xs → sum_by f xs ≡ 0
-sum_none f xs none = let most = sum_by-le f 0 xs (λ k d within. omega (arith, none k d within)) in omega (arith, most)
-
 none_if : (test : Bool) (x : ℕ) → (test ≡ true → ⊥) → (if test then x else 0) ≡ 0
 none_if true x fails = absurd (fails refl)
 none_if false x fails = refl
@@ -252,7 +248,7 @@ find_link (l ∷ links) from to =
     elim (cases_eq l.from.0 from.0) [
       | inl same_from ↦
           elim (cases_eq l.to.0 to.0) [
-            | inl same_to ↦ inl (0, omega arith, λ d. same_ends l from to (same_number l.from from same_from) (same_number l.to to same_to))
+            | inl same_to ↦ inl (0, omega arith, λ d. same_ends l from to (same_terminal l.from from same_from) (same_terminal l.to to same_to))
             | inr other ↦ find_later l links from to (λ ends. other (ap (λ (t : TermNo). t.0) ends.1)) (find_link links from to)
           ]
       | inr other ↦ find_later l links from to (λ ends. other (ap (λ (t : TermNo). t.0) ends.0)) (find_link links from to)
@@ -263,19 +259,19 @@ link_both : (a b : TermNo) (l : Link) → (l.from.0 == a.0 && l.to.0 == b.0) ≡
 link_both a b l passed =
     let from : l.from.0 ≡ a.0 = grind (arith, nat_tests, passed) in
     let to : l.to.0 ≡ b.0 = grind (arith, nat_tests, passed) in
-    (same_number l.from a from, same_number l.to b to)
+    (same_terminal l.from a from, same_terminal l.to b to)
 
 -- a link that is not there has no slots
 none_served : (net : Net) (links : List Link) (modes : List Mode) (bursts : List Burst) (from to : TermNo) → ArePartsOf net links modes bursts
     → All (λ l. (l.from ≡ from) × (l.to ≡ to) → ⊥) links → slots_sent bursts from to ≡ units_of links from to
 none_served net links modes bursts from to parts none =
-    let sent : slots_sent bursts from to ≡ 0 = sum_none _ bursts (λ k d within. none_if _ _ (λ passed.
+    let sent : slots_sent bursts from to ≡ 0 = sum_by-none _ bursts (λ k d within. none_if _ _ (λ passed.
     let ends = both from to (get_or bursts k d) passed in
     let (q, mode, in_q, part) = parts.each k d within in
     let other : Link = record { from = from; to = to; units = 0 } in
     let piece = part.piece other in
     none q other in_q (sym piece.sends ∙ ends.0, sym piece.receives ∙ ends.1))) in
-    let asked : units_of links from to ≡ 0 = sum_none _ links (λ k d within. none_if _ _ (λ passed. none k d within (link_both from to (get_or links k d) passed))) in
+    let asked : units_of links from to ≡ 0 = sum_by-none _ links (λ k d within. none_if _ _ (λ passed. none k d within (link_both from to (get_or links k d) passed))) in
     omega (arith, sent, asked)
 
 -- the beam of a terminal
@@ -298,7 +294,7 @@ one_served net links modes bursts p l up down is parts in_p at sends receives ca
     let (q, mode, in_q, part) = parts.each j d in_j in
     let none : Link = record { from = record { 0 = 0 }; to = record { 0 = 0 }; units = 0 } in
     let before : b.start < begin_of modes (length modes) =
-    omega (arith, (part_spans net links modes q mode b part).1, begins_grow modes (mode + 1) (length modes) (omega (arith, (part.piece none).in_range))) in
+    omega (arith, (part_spans net links modes q mode b part).1, begin_of-le modes (mode + 1) (length modes) (omega (arith, (part.piece none).in_range))) in
     let passed : ltb b.start (begin_of modes (length modes)) ≡ true = lt-ltb b.start (begin_of modes (length modes)) before in
     ap (λ (t : Bool). if b.from.0 == l.from.0 && b.to.0 == l.to.0 then (if t then b.length else 0) else 0) (sym passed)) in
     let more = units_between-more net links p l up down up.0 down.0 in_p at sends receives in

@@ -5,6 +5,7 @@ use Rattle.std.proofs.lemmas.List.Sums.{sum_by_more}
 use Rattle.bt_frame.specs.declared.mode.Mode.{Mode}
 use Rattle.bt_matrix.specs.Good.{slots_in}
 use Rattle.bt_demand.specs.Plan.{begin_of}
+use Rattle.bt_verdict.proofs.Begins.{begin_of-next, begin_of-le}
 use Rattle.bt_cut.specs.Serving.{number_at}
 use Rattle.bt_cut.proofs.Prefixes.{prefix_grows}
 
@@ -12,10 +13,6 @@ use Rattle.bt_cut.proofs.Prefixes.{prefix_grows}
 pub number_next : (modes : List Mode) (up down place : ℕ) (d : Mode) → place < length modes
     → number_at modes up down (place + 1) ≡ number_at modes up down place + slots_in up down (get_or modes place d)
 number_next modes up down place d within = sum_by_more (slots_in up down) modes place d within
-
--- a mode begins where the one before ends
-pub begin_next : (modes : List Mode) (place : ℕ) (d : Mode) → place < length modes → begin_of modes (place + 1) ≡ begin_of modes place + (get_or modes place d).duration
-begin_next modes place d within = sum_by_more (λ (mode : Mode). mode.duration) modes place d within
 
 either_le : (test : Bool) (n : ℕ) → (if test then n else 0) ≤ n
 either_le true n = omega arith
@@ -29,16 +26,12 @@ slots_in-le up down mode = either_le (slice_index mode.perm up == down) mode.dur
 pub numbers_grow : (modes : List Mode) (up down i j : ℕ) → i ≤ j → number_at modes up down i ≤ number_at modes up down j
 numbers_grow modes up down i j le = prefix_grows (slots_in up down) modes i j le
 
--- nor do the modes' beginnings
-pub begins_grow : (modes : List Mode) (i j : ℕ) → i ≤ j → begin_of modes i ≤ begin_of modes j
-begins_grow modes i j le = prefix_grows (λ (mode : Mode). mode.duration) modes i j le
-
 -- over a mode the numbers grow no more than the slots
 pub numbers_step : (modes : List Mode) (up down place : ℕ) → place < length modes
     → number_at modes up down (place + 1) + begin_of modes place ≤ number_at modes up down place + begin_of modes (place + 1)
 numbers_step modes up down place within =
     let d : Mode = record { duration = 0; perm = [] } in
-    omega (arith, number_next modes up down place d within, begin_next modes place d within, slots_in-le up down (get_or modes place d))
+    omega (arith, number_next modes up down place d within, begin_of-next modes place d within, slots_in-le up down (get_or modes place d))
 
 -- a slot lies in one mode only
 pub one_mode : (modes : List Mode) (slot i j : ℕ) → begin_of modes i ≤ slot → slot < begin_of modes (i + 1) → begin_of modes j ≤ slot → slot < begin_of modes (j + 1) → i ≡ j
@@ -47,7 +40,7 @@ one_mode modes slot i j i_begins i_ends j_begins j_ends =
       | inl same ↦ same
       | inr other ↦
           elim (cases_lt i j) [
-            | inl less ↦ absurd (omega (arith, begins_grow modes (i + 1) j (omega arith)))
-            | inr more ↦ absurd (omega (arith, begins_grow modes (j + 1) i (omega arith)))
+            | inl less ↦ absurd (omega (arith, begin_of-le modes (i + 1) j (omega arith)))
+            | inr more ↦ absurd (omega (arith, begin_of-le modes (j + 1) i (omega arith)))
           ]
     ]

@@ -14,21 +14,14 @@ use Rattle.bt_demand.specs.Demand.{IsDemand}
 use Rattle.bt_demand.specs.Traffic.{units_between}
 use Rattle.bt_net.specs.Terminals.{IsInBeam, is_in_beam}
 use Rattle.bt_lists.proofs.Pairs.{AllPairs-append}
+use Rattle.bt_demand.proofs.Tables.{in_its_beam}
+use Rattle.bt_verdict.proofs.Begins.{one_beam}
 use Rattle.bt_cut.specs.Serving.{IsPiece, ArePieces}
 use Rattle.bt_cut.specs.Parts.{IsPart, AreParts}
 
--- a terminal is in one beam
-pub one_beam : (net : Net) (terminal : TermNo) (a b : BeamNo) → IsInBeam net terminal a → IsInBeam net terminal b → a ≡ b
-one_beam net terminal a b first second = let same : Some a ≡ Some b = sym first ∙ second in cc
-
-in_beam_by : (found : Option (List ℕ × BeamNo)) (beam : BeamNo) (i : ℕ) → option_map (λ t. t.1) found ≡ Some beam
-    → unwrap_or (option_map (λ t. t.1.0 == i) found) false ≡ (beam.0 == i)
-in_beam_by None beam i is = cc
-in_beam_by (Some t) beam i is = let same : t.1 ≡ beam = cc in ap (λ (b : BeamNo). b.0 == i) same
-
--- and in that beam alone
-pub in_its_beam : (net : Net) (terminal : TermNo) (beam : BeamNo) (i : ℕ) → IsInBeam net terminal beam → is_in_beam net i terminal ≡ (beam.0 == i)
-in_its_beam net terminal beam i is = in_beam_by (slice_get net.terminals terminal.0) beam i is
+-- a terminal is in its beam alone
+pub is_in_its_beam : (net : Net) (terminal : TermNo) (beam : BeamNo) (i : ℕ) → IsInBeam net terminal beam → is_in_beam net i terminal ≡ (beam.0 == i)
+is_in_its_beam net terminal beam i is = in_its_beam (slice_get net.terminals terminal.0) beam i is
 
 share : (b c : Bool) (x y i j units : ℕ) → b ≡ (x == i) → c ≡ (y == j) → (if b && c then units else 0) ≡ (if x == i && y == j then units else 0)
 share b c x y i j units in_up in_down = rw (in_up, in_down) refl
@@ -42,7 +35,7 @@ units_between-more net links k link up down i j within is sends receives =
     sum_by_more f links k link within
     ∙ (ap (λ (l : Link). units_between net (take k links) i j + f l) (is link)
     ∙ ap (λ (n : ℕ). units_between net (take k links) i j + n)
-    (share (is_in_beam net i link.from) (is_in_beam net j link.to) up.0 down.0 i j link.units (in_its_beam net link.from up i sends) (in_its_beam net link.to down j receives)))
+    (share (is_in_beam net i link.from) (is_in_beam net j link.to) up.0 down.0 i j link.units (is_in_its_beam net link.from up i sends) (is_in_its_beam net link.to down j receives)))
 
 -- links at two places have other ends
 pub other_ends : (links : List Link) (i j : ℕ) (d : Link) → IsDemand links → i < j → j < length links
@@ -96,11 +89,3 @@ AreParts-more net links modes count bursts more link up down demand within is se
           (sym old.sends ∙ (ap (λ (b : Burst). b.from) same ∙ (piece.sends ∙ ap (λ (l : Link). l.from) (sym (is link)))))
           (sym old.receives ∙ (ap (λ (b : Burst). b.to) same ∙ (piece.receives ∙ ap (λ (l : Link). l.to) (sym (is link))))));
     }
-
--- no link is served
-pub AreParts-none : (net : Net) (links : List Link) (modes : List Mode) → AreParts net links modes 0 []
-AreParts-none net links modes = record {
-  each = All-nil (λ (burst : Burst). (at : ℕ) × (mode : ℕ) × (at < 0) × IsPart net links modes at mode burst);
-  all = λ at mode burst below part. absurd (omega arith);
-  distinct = λ i j d less within. absurd (omega arith);
-}

@@ -8,7 +8,8 @@ use Rattle.bt_frame.specs.declared.mode.Mode.{Mode}
 use Rattle.bt_demand.specs.declared.burst.Burst.{Burst}
 use Rattle.bt_demand.specs.Plan.{begin_of}
 use Rattle.bt_cut.specs.Serving.{number_at, IsPiece, ArePieces}
-use Rattle.bt_cut.proofs.Numbers.{numbers_grow, begins_grow, numbers_step}
+use Rattle.bt_verdict.proofs.Begins.{begin_of-le}
+use Rattle.bt_cut.proofs.Numbers.{numbers_grow, numbers_step}
 
 -- bursts with equal fields are the same
 pub same_burst : (a b : Burst) → a.from ≡ b.from → a.to ≡ b.to → a.start ≡ b.start → a.length ≡ b.length → a ≡ b
@@ -130,13 +131,5 @@ ArePieces-more modes up down from to first done place bursts burst goes pieces =
           let (at, piece) = pieces.each k d within in
           let less = piece_before modes up down from to first done place at burst (get_or bursts k d) goes piece in
           let starts = ap (λ (b : Burst). b.start) same in
-          omega (arith, starts, piece.begins, piece.ends, piece.some, goes.begins, goes.starts, numbers_step modes up down at piece.in_range, begins_grow modes (at + 1) place (omega arith)));
+          omega (arith, starts, piece.begins, piece.ends, piece.some, goes.begins, goes.starts, numbers_step modes up down at piece.in_range, begin_of-le modes (at + 1) place (omega arith)));
     }
-
--- no units have no pieces
-pub ArePieces-none : (modes : List Mode) (up down : ℕ) (from to : TermNo) (first : ℕ) → ArePieces modes up down from to first 0 []
-ArePieces-none modes up down from to first = record {
-  each = All-nil (λ (b : Burst). (at : ℕ) × IsPiece modes up down from to first 0 at b);
-  all = λ at b piece. absurd (omega (arith, piece.ends, piece.some));
-  distinct = λ i j d less within. absurd (omega arith);
-}

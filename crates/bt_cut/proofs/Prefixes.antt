@@ -11,7 +11,3 @@ prefix_grows f (x ∷ xs) (suc i) zero le = absurd (omega arith)
 prefix_grows f (x ∷ xs) (suc i) (suc j) le =
     let rest = prefix_grows f xs i j (omega arith) in
     omega (arith, rest, sum_by-cons f x (take i xs), sum_by-cons f x (take j xs))
-
--- an element before the place is among those summed up to there
-pub prefix_has : {X : Type 0} (f : X → ℕ) (xs : List X) (i j : ℕ) (d : X) → i < j → i < length xs → sum_by f (take i xs) + f (get_or xs i d) ≤ sum_by f (take j xs)
-prefix_has f xs i j d less within = omega (arith, sum_by_more f xs i d within, prefix_grows f xs (i + 1) j (omega arith))

@@ -7,7 +7,7 @@ use Rattle.bt_demand.specs.declared.burst.Burst.{Burst}
 use Rattle.bt_cut.specs.declared.connection.Connection.{Connection}
 use Rattle.bt_cut.specs.declared.connection.Span.{Span}
 use Rattle.bt_cut.specs.Serving.{slots_in_all, taken_of, IsReady, IsNext, IsServedBy}
-use Rattle.bt_cut.proofs.Pieces.{ArePieces-more, ArePieces-none}
+use Rattle.bt_cut.proofs.Pieces.{ArePieces-more}
 
 -- where slots are left there is a next span
 pub next_span : (connection : Connection) (left : ℕ) → IsReady connection → 0 < left → taken_of connection + left ≤ slots_in_all connection.spans.items
@@ -19,15 +19,6 @@ next_span connection left ready some enough =
           let all = ap slots_in_all (take_all connection.next connection.spans.items beyond) in
           absurd (omega (arith, all, enough, ready.none beyond))
     ]
-
--- nothing was served yet
-pub served_none : (spans : List Span) (from to : TermNo) (first : ℕ) (old : List Burst) → IsServedBy spans from to first 0 old old
-served_none spans from to first old = record {
-  more = [];
-  behind = sym (append-nil old);
-  few = omega arith;
-  pieces = λ modes up down turns. ArePieces-none modes up down from to first;
-}
 
 -- one burst more
 pub served_more : (from to : TermNo) (first done left : ℕ) (old now : List Burst) (connection new : Connection) (burst : Burst)

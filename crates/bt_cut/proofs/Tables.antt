@@ -5,16 +5,10 @@ use Rattle.std.proofs.lemmas.Bool.{cases_eq, ne_eqb}
 use Rattle.bt_frame.specs.declared.mode.Mode.{Mode}
 use Rattle.bt_matrix.specs.Good.{IsPermutation, slots_in}
 use Rattle.bt_demand.specs.Plan.{begin_of}
+use Rattle.bt_modes.proofs.Takes.{slots_in-served, slots_in-other}
 use Rattle.bt_cut.specs.declared.connection.Connection.{Connection}
 use Rattle.bt_cut.specs.Serving.{number_at, IsGivenBy, HasSlots}
 use Rattle.bt_cut.proofs.Numbers.{number_next}
-
--- a connection that the mode makes, and one that it does not
-served : (mode : Mode) (up down : ℕ) → slice_index mode.perm up ≡ down → slots_in up down mode ≡ mode.duration
-served mode up down same = rw (eq-eqb (slice_index mode.perm up) down same) refl
-
-unserved : (mode : Mode) (up down : ℕ) → slice_index mode.perm up ≢ down → slots_in up down mode ≡ 0
-unserved mode up down other = rw (ne_eqb (slice_index mode.perm up) down other) refl
 
 -- The rows before one have the slots of one mode more than the others.
 pub record IsPartTable (modes : List Mode) (beams place rows : ℕ) (table : List Connection) : Type 0 where
@@ -56,13 +50,13 @@ IsPartTable-more modes beams place row mode table old new start few inside count
                         some = lasts;
                         small = small;
                         begins = begins;
-                        behind = next row to ∙ ap (λ (n : ℕ). number_at modes row to place + n) (served mode row to refl);
+                        behind = next row to ∙ ap (λ (n : ℕ). number_at modes row to place + n) (slots_in-served mode row to refl);
                       })
                       (part.after row to old (omega arith) inside to_inside))
                   | inr beside ↦
                       rw (same, get_or-set_other table at (row * 16 + down) new other (λ equal. beside (omega arith)))
                       (HasSlots-beside modes row down place (get_or table (row * 16 + down) other)
-                      (omega (arith, next row down, unserved mode row down (λ equal. beside (sym equal))))
+                      (omega (arith, next row down, slots_in-other mode row down (λ equal. beside (sym equal))))
                       (part.after row down other (omega arith) inside in_columns))
                 ]
             | inr apart ↦

@@ -16,7 +16,8 @@ use Rattle.bt_journal.specs.declared.line_fault.LineFault.{LineFault}
 use Rattle.bt_journal.specs.declared.line_fault.LineFault.TheVariants.{Bad, OutOfMemory}
 use Rattle.bt_journal.specs.JournalLines.{order_words, change_parts, change_line, edition_said, IsChangeInRange}
 use Rattle.bt_journal.specs.LineReading.{said_plan, said_small, said_in, Said, Answers}
-use Rattle.bt_journal.proofs.PlanWords.{plan_lines-lack, plan-words, install_change_read, install_spelled}
+use Rattle.bt_plan.proofs.PlanReadBack.{plan_lines-lack}
+use Rattle.bt_journal.proofs.PlanWords.{plan-words, install_change_read, install_spelled}
 use Rattle.bt_journal.proofs.Words.{edit-lacks, order-lacks, edit_change_read, order_change_read}
 use Rattle.bt_journal.proofs.Spelled.{small_spelled}
 

@@ -27,7 +27,7 @@ use Rattle.bt_plan.specs.Reading.{Reading}
 use Rattle.bt_plan.specs.ScheduleSpelling.{critical_line, mode_line, IsModeInRange}
 use Rattle.bt_plan.proofs.NamedTerminals.{is_name-name_at, name_lacks}
 use Rattle.bt_plan.proofs.OnePlan.{plan_spelled}
-use Rattle.bt_plan.proofs.PlanReadBack.{plan_read}
+use Rattle.bt_plan.proofs.PlanReadBack.{plan_read, plan_lines-lack}
 use Rattle.bt_plan.proofs.ReadBack.{mode_numbers-small}
 use Rattle.bt_journal.specs.declared.call.Change.TheVariants as change
 use Rattle.bt_journal.specs.LineReading.{words_behind, in_lines, install_of, said_plan, Said, space_for_newline}
@@ -143,16 +143,8 @@ module _ (net : Net) (sound : IsSound net) (byte : ℕ) (digit : is_ascii_digit 
   words-lack (line ∷ ls) each =
       list_all-append (lacks byte) (line.0 ∷ line.1) (words_of ls) ∙ rw (All-head Lacks line ls each, words-lack ls (All-tail Lacks line ls each)) refl
 
-  lines-lack : (32 ≡ byte → ⊥) → (ls : List Line) → All Lacks ls → list_all (lacks byte) (bytes_of ls) ≡ true
-  lines-lack space [] each = refl
-  lines-lack space (line ∷ ls) each = rw (lacks-spaced byte (line.0 ∷ line.1) (search rules), All-head Lacks line ls each, lines-lack space ls (All-tail Lacks line ls each)) refl
-
 -- the line of a plan is the lines of its text with a space between each two, and the words of these
 module _ (net : Net) (sound : IsSound net) where
-  pub plan_lines-lack : (plan : Plan) → IsPlanInRange net plan → list_all (lacks 10) (plan_lines net plan) ≡ true
-  plan_lines-lack plan range =
-      ap (list_all (lacks 10)) (sym (plan-bytes net plan)) ∙ lines-lack net sound 10 refl refl (omega arith) (plan_words net plan) (plan-lacks net sound 10 refl refl plan range)
-
   pub plan-words : (plan : Plan) → IsPlanInRange net plan → words (spaced (plan_lines net plan)) ≡ words_of (plan_words net plan)
   plan-words plan range =
       ap (λ ls. words (spaced ls)) (sym (plan-bytes net plan))
@@ -166,7 +158,7 @@ module _ (net : Net) (sound : IsSound net) where
       ∙ ap install_of (plan_read net sound plan range)
 
   pub space-plan : (plan : Plan) → IsPlanInRange net plan → map space_for_newline (plan_spelling net plan) ≡ spaced (plan_lines net plan) ++ 32 ∷ []
-  space-plan plan range = space-text (plan_lines net plan) (omega arith) (plan_lines-lack plan range)
+  space-plan plan range = space-text (plan_lines net plan) (omega arith) (plan_lines-lack net sound plan range)
 
   -- no other line is
   pub record IsInstall (text : List ℕ) (said : Said) : Type 0 where

@@ -21,12 +21,8 @@ use Rattle.bt_net.specs.Name.{is_name, is_terminal_name}
 use Rattle.bt_net.specs.Network.{names_of, AreNames, AreBeams, AreTerminals}
 use Rattle.bt_frame.specs.Range.{IsWithin}
 use Rattle.bt_text.specs.Reading.{◌>>=◌}
+use Rattle.bt_text.proofs.Steps.{bind_ok}
 use Rattle.bt_net.specs.Reading.{text_at, checked, numbered, beam_at, with_beam, with_terminal, through, Fails}
-
--- the value of a step that went well
-bind_ok : {A B : Type 0} (r : Result A NetFault) (f : A → Result B NetFault) (y : B) → (r >>= f) ≡ Ok y → (x : A) × (r ≡ Ok x) × (f x ≡ Ok y)
-bind_ok (Ok x) f y is = (x, refl, is)
-bind_ok (Err fault) f y is = absurd cc
 
 abbrev done : {A : Type 0} → A → Result A NetFault
 done x = Ok x

@@ -20,11 +20,6 @@ leb-one-capped n =
       | inr le ↦ le-leb 1 (capped n) (omega arith) ∙ sym (le-leb 1 n le)
     ]
 
--- a test that holds of both
-pub and_parts : (a b : Bool) → (a && b) ≡ true → (a ≡ true) × (b ≡ true)
-and_parts true b e = (refl, e)
-and_parts false b e = absurd cc
-
 -- what a test decides may be changed where the test holds
 pub cond-at_true : {X : Type 0} (b : Bool) (x y z : X) → (b ≡ true → x ≡ y) → cond b x z ≡ cond b y z
 cond-at_true true x y z same = same refl

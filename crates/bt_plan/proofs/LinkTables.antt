@@ -5,6 +5,7 @@ use Rattle.std.proofs.lemmas.List.{length-replicate, length-set, length-take, ta
 use Rattle.std.proofs.lemmas.List.Elements.{All-nil, All-cons}
 use Rattle.std.proofs.lemmas.List.Kept.{AllPairs-cons}
 use Rattle.std.proofs.lemmas.List.Sums.{sum_by-cons}
+use Rattle.bt_frame.proofs.OneNumber.{same_terminal}
 use Rattle.bt_frame.specs.declared.numbers.TermNo.{TermNo}
 use Rattle.bt_demand.specs.declared.demand.Link.{Link}
 use Rattle.bt_demand.specs.Demand.{ends_of, IsBefore, IsLink, IsDemand, units_where, units_of, Gains}
@@ -121,9 +122,6 @@ set-IsTable places place units from to is small differ few table = record {
 }
 
 -- the link of its ends gains
-same_terminal : (a b : TermNo) → a.0 ≡ b.0 → a ≡ b
-same_terminal a b is = ap (λ (n : ℕ). record { 0 = n }) is
-
 own_share : (test : TermNo → TermNo → Bool) (from to : TermNo) (place units : ℕ) → place ≡ from.0 * 64 + to.0 → to.0 < 64 → share test place units ≡ (if test from to then units else 0)
 own_share test from to place units is small =
     let sends : sender place ≡ from = same_terminal (sender place) from (omega arith) in

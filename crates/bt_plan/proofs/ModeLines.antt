@@ -29,23 +29,6 @@ goes_on size at front ls line after mode total cut no_end read so_far =
     let one : modes_in size at ls ≡ (modes_in size (at + 1) (lines after) >>= λ modes. Ok (mode ∷ modes)) = ap (modes_in size at) cut ∙ modes_in-line size at line after ∙ rw (no_end, read) refl in
     sym (regroup front mode (modes_in size (at + 1) (lines after))) ∙ sym (ap (with_front front) one) ∙ so_far
 
--- a line that is no mode is the text's fault
-pub ends : (e : LineFault TextCode) (size at : ℕ) (front : List Mode) (ls : List (List ℕ)) (line after : List ℕ) (total : Reading (List Mode))
-    → ls ≡ line ∷ lines after → is_word (codes "end") line ≡ false → IsFaultOf (or_fault (M1, at) (mode_in size (words line))) e
-    → with_front front (modes_in size at ls) ≡ total → IsFaultOf total e
-ends OutOfMemory size at front ls line after total cut no_end read so_far = tt
-ends (At code line') size at front ls line after total cut no_end read so_far =
-    let one : modes_in size at ls ≡ Err (code, line') = ap (modes_in size at) cut ∙ modes_in-line size at line after ∙ rw (no_end, read) refl in
-    sym so_far ∙ ap (with_front front) one
-
--- a line that is missing
-pub ends_early : (size at : ℕ) (front : List Mode) (ls : List (List ℕ)) (last : List ℕ) (total : Reading (List Mode))
-    → ls ≡ last ∷ []
-    → with_front front (modes_in size at ls) ≡ total → total ≡ Err (M1, at)
-ends_early size at front ls last total cut so_far =
-    let one : modes_in size at ls ≡ Err (M1, at) = ap (modes_in size at) cut in
-    sym so_far ∙ ap (with_front front) one
-
 -- behind the end
 end_in-is : (at : ℕ) (text : List ℕ) (empty : Bool) → eqb (length text) 0 ≡ empty → end_in at (lines text) ≡ cond empty (Ok []) (Err (M1, at))
 end_in-is at [] true e = refl

@@ -10,6 +10,7 @@ use Rattle.std.proofs.lemmas.List.{length-map}
 use Rattle.std.proofs.lemmas.List.Quantifiers.{position-Some}
 use Rattle.std.proofs.lemmas.Option.{slice_get-map, slice_get-get_or}
 use Rattle.std.proofs.lemmas.Slice.Eq.{bytes_eq-Decides}
+use Rattle.bt_frame.proofs.OneNumber.{numbered}
 use Rattle.bt_text.specs.Text.{lacks}
 use Rattle.bt_frame.specs.declared.limits.TheConstants.{MOST_NAME_BYTES}
 use Rattle.bt_frame.specs.declared.numbers.BeamNo.{BeamNo}
@@ -22,9 +23,6 @@ use Rattle.bt_net.specs.Terminals.{name_at, terminal_of}
 -- the terminal has the name, and is one of the network's
 abbrev pub IsNamed : Net → List ℕ → TermNo → Type 0
 IsNamed net name t = (name ≡ name_at net t) × (t.0 < length net.terminals)
-
-abbrev numbered : ℕ → TermNo
-numbered n = record { 0 = n }
 
 some_is : (x y : TermNo) → Some x ≡ Some y → x ≡ y
 some_is x y e = cc

@@ -24,7 +24,8 @@ use Rattle.bt_net.specs.Terminals.{name_at, are_names, terminal_of}
 use Rattle.bt_plan.proofs.NamedTerminals.{IsNamed, terminal_named}
 use Rattle.bt_plan.proofs.OneText.{let_through, or_fault_ok, is_word-same, number_to-spelled}
 use Rattle.bt_plan.proofs.PlanLines.{Follows, burst_below-ok}
-use Rattle.bt_plan.proofs.Spelled.{bind_ok, ok_is, guard_ok-then}
+use Rattle.bt_text.proofs.Steps.{bind_ok, passed}
+use Rattle.bt_plan.proofs.Spelled.{ok_is}
 
 -- the edition
 numbered : (o : Option ℕ) (edition : EditionNo) → option_map (λ (n : ℕ). let e : EditionNo = record { 0 = n } in e) o ≡ Some edition → o ≡ Some edition.0
@@ -88,7 +89,7 @@ between_spelled net at start slots span [] burst numbers is = absurd cc
 between_spelled net at start slots span (from ∷ []) burst numbers is = absurd cc
 between_spelled net at start slots span (from ∷ to ∷ []) burst numbers is =
     let made : Ends → Burst = λ e. record { from = e.0; to = e.1; start = span.0; length = span.1 } in
-    let shaped = guard_ok-then (are_names from to) (P1, at) (burst_with net at span from to) burst is in
+    let shaped = passed (are_names from to) (P1, at) (burst_with net at span from to) burst is in
     let ends = bind_ok (ends_in net (P2, at) from to) (λ e. Ok (made e)) burst shaped.1 in
     let named = ends_named net (P2, at) from to ends.0 ends.1 in
     subst (IsBurstLine net (codes "burst" ∷ start ∷ slots ∷ from ∷ to ∷ [])) (ok_is (made ends.0) burst ends.2) (burst_of net start slots from to span ends.0 numbers named.0 named.1)
@@ -104,7 +105,7 @@ behind_spelled net at (start ∷ slots ∷ ends) burst is =
 burst_spelled : (net : Net) (at : ℕ) (ws : List (List ℕ)) (burst : Burst) → burst_in net at ws ≡ Ok burst → IsBurstLine net ws burst
 burst_spelled net at [] burst is = absurd cc
 burst_spelled net at (name ∷ rest) burst is =
-    let named = guard_ok-then (is_word (codes "burst") name) (P1, at) (burst_behind net at rest) burst is in
+    let named = passed (is_word (codes "burst") name) (P1, at) (burst_behind net at rest) burst is in
     let behind = behind_spelled net at rest burst named.1 in
     (ap (λ w. spaced (w ∷ rest)) (is_word-same (codes "burst") name named.0) ∙ behind.0, behind.1)
 

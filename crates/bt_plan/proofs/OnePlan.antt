@@ -17,7 +17,8 @@ use Rattle.bt_plan.specs.ScheduleText.{length_in, critical_in, mode_in}
 use Rattle.bt_plan.proofs.OneBurst.{edition_spelled, bursts_spelled, lines_from_bursts}
 use Rattle.bt_plan.proofs.OneText.{or_fault_ok, length_spelled, critical_spelled, mode_spelled}
 use Rattle.bt_plan.proofs.PlanLines.{Parts}
-use Rattle.bt_plan.proofs.Spelled.{bind_ok, ok_is}
+use Rattle.bt_text.proofs.Steps.{bind_ok}
+use Rattle.bt_plan.proofs.Spelled.{ok_is}
 
 -- modes, and the bursts behind them
 pub record AreParts (net : Net) (ls : List (List ℕ)) (parts : Parts) : Type 0 where

@@ -22,7 +22,8 @@ use Rattle.bt_plan.specs.ScheduleText.{length_in, line_in, critical_in, mode_wit
 use Rattle.bt_text.specs.WordReader.{number_to}
 use Rattle.bt_plan.specs.ScheduleSpelling.{IsInRange, IsModeInRange, length_line, critical_line, mode_line, schedule_lines, schedule_spelling}
 use Rattle.bt_plan.proofs.ReadBack.{lines_from_modes, mode_numbers-small}
-use Rattle.bt_plan.proofs.Spelled.{bind_ok, ok_is}
+use Rattle.bt_text.proofs.Steps.{bind_ok}
+use Rattle.bt_plan.proofs.Spelled.{ok_is}
 
 -- a value that a test let through
 pub let_through : {A : Type 0} (b : Bool) (o : Option A) (x : A) → cond b o None ≡ Some x → (b ≡ true) × (o ≡ Some x)

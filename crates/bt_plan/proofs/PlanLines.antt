@@ -21,7 +21,8 @@ use Rattle.bt_plan.specs.PlanText.{in_order, span_of, span_in, burst_between, bu
 use Rattle.bt_plan.specs.Reading.{Fault, Reading}
 use Rattle.bt_plan.specs.ScheduleText.{mode_in}
 use Rattle.bt_text.specs.WordReader.{number_to, first_word}
-use Rattle.bt_plan.proofs.Spelled.{bind_ok, ok_is, guard_ok}
+use Rattle.bt_text.proofs.Steps.{bind_ok}
+use Rattle.bt_plan.proofs.Spelled.{ok_is, guard_ok}
 
 -- a burst's numbers, and the words behind them
 span_read : (from slots : List ℕ) (start count : ℕ) → Some start ≡ number_to 65535 from → Some count ≡ number_to 65536 slots → 1 ≤ count → span_in from slots ≡ Some (start, count)
@@ -139,10 +140,6 @@ regroup_modes : (front : List Mode) (mode : Mode) (reading : Reading Parts) → 
 regroup_modes front mode (Ok parts) = ap (λ (modes : List Mode). let all : Parts = (modes, parts.1) in Ok all) (sym (append_assoc front (mode ∷ []) parts.0))
 regroup_modes front mode (Err fault) = refl
 
-no_more_modes : (front : List Mode) (reading : Reading (List Burst)) → with_modes front (reading >>= λ bursts. Ok ([], bursts)) ≡ (reading >>= λ bursts. Ok (front, bursts))
-no_more_modes front (Ok bursts) = ap (λ (modes : List Mode). let all : Parts = (modes, bursts) in Ok all) (append-nil front)
-no_more_modes front (Err fault) = refl
-
 -- the first line of the modes and bursts, and those that follow it
 parts-line : (net : Net) (at : ℕ) (line after : List ℕ) → modes_and_bursts net at (line ∷ lines after) ≡ cond (is_mode (words line)) (or_fault (P1, at) (mode_in (length net.beams) (words line)) >>= λ mode. modes_and_bursts net (at + 1) (lines after) >>= λ parts. Ok (mode ∷ parts.0, parts.1)) (bursts_in net at None (line ∷ lines after) >>= λ bursts. Ok ([], bursts))
 parts-line net at line after =
@@ -156,24 +153,6 @@ pub mode_goes_on : (net : Net) (at : ℕ) (front : List Mode) (ls : List (List �
 mode_goes_on net at front ls line after mode total cut named read so_far =
     let one : modes_and_bursts net at ls ≡ (modes_and_bursts net (at + 1) (lines after) >>= λ parts. Ok (mode ∷ parts.0, parts.1)) = ap (modes_and_bursts net at) cut ∙ parts-line net at line after ∙ rw (named, read) refl in
     sym (regroup_modes front mode (modes_and_bursts net (at + 1) (lines after))) ∙ sym (ap (with_modes front) one) ∙ so_far
-
--- a line that is no mode after all is the text's fault
-pub mode_ends : (e : LineFault TextCode) (net : Net) (at : ℕ) (front : List Mode) (ls : List (List ℕ)) (line after : List ℕ) (total : Reading Parts)
-    → ls ≡ line ∷ lines after → is_mode (words line) ≡ true → IsFaultOf (or_fault {Fault = Fault} (P1, at) (mode_in (length net.beams) (words line))) e
-    → with_modes front (modes_and_bursts net at ls) ≡ total → IsFaultOf total e
-mode_ends OutOfMemory net at front ls line after total cut named read so_far = tt
-mode_ends (At code line') net at front ls line after total cut named read so_far =
-    let one : modes_and_bursts net at ls ≡ Err (code, line') = ap (modes_and_bursts net at) cut ∙ parts-line net at line after ∙ rw (named, read) refl in
-    sym so_far ∙ ap (with_modes front) one
-
--- behind the modes stand the bursts
-pub modes_end : (net : Net) (at : ℕ) (front : List Mode) (ls : List (List ℕ)) (line after : List ℕ) (total : Reading Parts)
-    → ls ≡ line ∷ lines after → is_mode (words line) ≡ false
-    → with_modes front (modes_and_bursts net at ls) ≡ total → total ≡ (bursts_in net at None ls >>= λ bursts. Ok (front, bursts))
-modes_end net at front ls line after total cut named so_far =
-    let one : modes_and_bursts net at ls ≡ (bursts_in net at None ls >>= λ bursts. Ok ([], bursts)) =
-    ap (modes_and_bursts net at) cut ∙ (parts-line net at line after ∙ (rw named refl ∙ ap (λ (l : List (List ℕ)). bursts_in net at None l >>= λ bursts. Ok ([], bursts)) (sym cut))) in
-    sym so_far ∙ ap (with_modes front) one ∙ no_more_modes front (bursts_in net at None ls)
 
 -- what the first line says, and what follows it
 pub first_line_says : {A B : Type 0} (at : ℕ) (say : List (List ℕ) → Option A) (after : A → List (List ℕ) → Reading B) (ls : List (List ℕ)) (line rest : List ℕ)

@@ -88,10 +88,6 @@ module _ (net : Net) (sound : IsSound net) where
   below_read at None burst range follows = rw (burst_read at burst range) refl
   below_read at (Some above) burst range follows = rw (burst_read at burst range, tested-IsNotAfter above burst follows) refl
 
-  -- a burst's line is no end, and no mode
-  no_end : (burst : Burst) → is_word (codes "end") (burst_line net burst) ≡ false
-  no_end burst = refl
-
   some_lines : (bursts : List Burst) → 0 < length (lines_from_bursts net bursts)
   some_lines bursts = omega (arith, length-append (map (burst_line net) bursts) (codes "end" ∷ [] ∷ []))
 
@@ -149,7 +145,7 @@ module _ (net : Net) (sound : IsSound net) where
       ap (λ b. b && list_all (lacks 10) (map mode_line modes ++ rest)) (mode_line-lacks (length net.beams) mode (All-head (IsModeInRange (length net.beams)) mode modes range))
       ∙ parts_lack modes rest (All-tail (IsModeInRange (length net.beams)) mode modes range) behind
 
-  plan_lines-lack : (plan : Plan) → IsPlanInRange net plan → list_all (lacks 10) (plan_lines net plan) ≡ true
+  pub plan_lines-lack : (plan : Plan) → IsPlanInRange net plan → list_all (lacks 10) (plan_lines net plan) ≡ true
   plan_lines-lack plan range =
       let rest = map mode_line plan.schedule.modes ++ (map (burst_line net) plan.bursts ++ codes "end" ∷ []) in
       ap (λ b. b && (lacks 10 (length_line plan.schedule.length) && (lacks 10 (critical_line plan.schedule.critical) && list_all (lacks 10) rest))) (edition_line-lacks plan.edition range.edition)

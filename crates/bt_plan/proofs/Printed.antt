@@ -5,7 +5,7 @@ use Rattle.bt_text.specs.Text.{spaced, ended}
 use Rattle.bt_frame.specs.declared.mode.Mode.{Mode}
 use Rattle.bt_frame.specs.declared.schedule.Critical.{Critical}
 use Rattle.bt_frame.specs.declared.schedule.Schedule.{Schedule}
-use Rattle.bt_text.proofs.TextLines.{spaced_more, ended_more}
+use Rattle.bt_text.proofs.TextLines.{spaced_more}
 use Rattle.bt_plan.specs.ScheduleSpelling.{length_line, critical_line, mode_line, schedule_spelling}
 
 -- a mode's line with the downlinks so far
@@ -22,14 +22,3 @@ mode_begun-take duration perm i within =
 -- a schedule's text with the modes so far
 abbrev pub schedule_begun : ℕ → Critical → List Mode → List ℕ
 schedule_begun slots critical modes = ended (length_line slots ∷ critical_line critical ∷ map mode_line modes)
-
--- one mode more
-pub schedule_begun-take : (slots : ℕ) (critical : Critical) (modes : List Mode) (i : ℕ) (mode : Mode) → i < length modes → mode ≡ get_or modes i mode → schedule_begun slots critical (take (i + 1) modes) ≡ schedule_begun slots critical (take i modes) ++ (mode_line mode ++ 10 ∷ [])
-schedule_begun-take slots critical modes i mode within is =
-    ap (schedule_begun slots critical) (take_more modes i mode within ∙ ap (λ m. take i modes ++ m ∷ []) (sym is))
-    ∙ ap (λ ls. ended (length_line slots ∷ critical_line critical ∷ ls)) (map_push mode_line (take i modes) mode)
-    ∙ ended_more (length_line slots ∷ critical_line critical ∷ map mode_line (take i modes)) (mode_line mode)
-
--- the end behind the last mode
-pub schedule_begun-end : (schedule : Schedule) → schedule_begun schedule.length schedule.critical schedule.modes ++ codes "end\n" ≡ schedule_spelling schedule
-schedule_begun-end schedule = sym (ended_more (length_line schedule.length ∷ critical_line schedule.critical ∷ map mode_line schedule.modes) (codes "end"))

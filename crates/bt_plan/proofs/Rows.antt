@@ -49,15 +49,6 @@ ends (At code line') size at front ls line after total lt cut read so_far =
     let one : left size at ls ≡ Err (code, line') = ap (left size at) cut ∙ left-line size at line after lt ∙ rw read refl in
     sym so_far ∙ ap (with_front front) one
 
--- a line that is missing
-pub ends_early : (size at : ℕ) (front : List (List ℕ)) (ls : List (List ℕ)) (last : List ℕ) (total : Reading (List (List ℕ))) → at < size + 2
-    → ls ≡ last ∷ []
-    → with_front front (left size at ls) ≡ total → total ≡ Err (X1, at)
-ends_early size at front ls last total lt cut so_far =
-    let k : size + 2 - at ≡ suc (size + 2 - (at + 1)) = omega arith in
-    let one : left size at ls ≡ Err (X1, at) = ap (left size at) cut ∙ rw k refl in
-    sym so_far ∙ ap (with_front front) one
-
 -- behind the last row
 rows_in-more : (size at : ℕ) (text : List ℕ) → eqb (length text) 0 ≡ false → rows_in size zero at (lines text) ≡ Err (X1, at)
 rows_in-more size at [] some = absurd cc

@@ -1,7 +1,7 @@
 -- A text spells only traffic matrices.
 use Rattle.std.proofs.Common.{◌≡◌, ℕ, zero, suc, ◌+◌, ◌*◌, ◌≤◌, Bool, true, false, cond, leb, eqb, ◌&&◌, List, [], ◌∷◌, length, get_or, sum, All, Option, Some, None, Ok, Err, refl, sym, ap, subst, ◌∙◌, arith}
 use Rattle.std.specs.List.{list_all, AllByRecursion}
-use Rattle.std.proofs.lemmas.Bool.{leb-true, eqb-true}
+use Rattle.std.proofs.lemmas.Bool.{and_parts, leb-true, eqb-true}
 use Rattle.std.proofs.lemmas.List.Elements.{All-from_recursion}
 use Rattle.std.proofs.lemmas.List.Sums.{sum_by-cons}
 use Rattle.bt_text.specs.Text.{words, lines, numbers_of}
@@ -9,24 +9,14 @@ use Rattle.bt_matrix.specs.Traffic.{IsTraffic, column_sum}
 use Rattle.bt_plan.specs.declared.text_fault.TextCode.{TextCode}
 use Rattle.bt_plan.specs.declared.text_fault.TextCode.TheVariants.{X1, X2}
 use Rattle.bt_text.specs.Reading.{◌>>=◌}
+use Rattle.bt_text.proofs.Steps.{bind_ok, passed}
 use Rattle.bt_plan.specs.Reading.{Reading}
 use Rattle.bt_plan.specs.MatrixText.{size_in, row_in, rows_in, matrix_in, matrix_of}
-use Rattle.bt_plan.proofs.Capped.{and_parts}
-
--- the value of a step that did not fail
-pub bind_ok : {A B : Type 0} (reading : Reading A) (after : A → Reading B) (y : B) → (reading >>= after) ≡ Ok y → (x : A) × (reading ≡ Ok x) × (after x ≡ Ok y)
-bind_ok (Ok x) after y e = (x, refl, e)
-bind_ok (Err fault) after y e = absurd cc
 
 -- a test that did not fail
 pub guard_ok : {A : Type 0} (b : Bool) (fault : TextCode × ℕ) (x y : A) → cond b (Ok x) (Err fault) ≡ Ok y → (b ≡ true) × (x ≡ y)
 guard_ok true fault x y e = (refl, cc)
 guard_ok false fault x y e = absurd cc
-
--- the same, where another step follows
-pub guard_ok-then : {A : Type 0} (b : Bool) (fault : TextCode × ℕ) (reading : Reading A) (y : A) → cond b reading (Err fault) ≡ Ok y → (b ≡ true) × (reading ≡ Ok y)
-guard_ok-then true fault reading y e = (refl, e)
-guard_ok-then false fault reading y e = absurd cc
 
 abbrev pub read : {A : Type 0} → A → Reading A
 read x = Ok x
@@ -51,7 +41,7 @@ record IsRow (size : ℕ) (row : List ℕ) : Type 0 where
 row_in-ok : (size at : ℕ) (o : Option (List ℕ)) (row : List ℕ) → row_in size at o ≡ Ok row → IsRow size row
 row_in-ok size at None row e = absurd cc
 row_in-ok size at (Some units) row e =
-    let long = guard_ok-then (eqb (length units) size) (X1, at) (cond (list_all (λ u. leb u 4096) units) (Ok units) (Err (X2, at))) row e in
+    let long = passed (eqb (length units) size) (X1, at) (cond (list_all (λ u. leb u 4096) units) (Ok units) (Err (X2, at))) row e in
     let small = guard_ok (list_all (λ u. leb u 4096) units) (X2, at) units row long.1 in
     subst (IsRow size) small.1 (record { len = eqb-true (length units) size long.0; small = small.0 })
 

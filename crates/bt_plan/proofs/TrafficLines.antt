@@ -1,6 +1,6 @@
 -- Links taken in one after the other: each stands in its place, and the sums of its lines gain.
 use Rattle.std.proofs.Common.{◌≡◌, ℕ, ◌+◌, ◌<◌, ◌≤◌, ◌==◌, ◌&&◌, if◌then◌else◌, Bool, true, false, cond, leb, List, [], ◌∷◌, length, replicate, All, AllPairs, Option, Some, None, Ok, Err, sum_by, unwrap_or, option_map, refl, sym, ap, ◌∙◌, arith, lit<}
-use Rattle.std.proofs.lemmas.Bool.{le-leb, lt-leb, leb-true}
+use Rattle.std.proofs.lemmas.Bool.{and_parts, le-leb, lt-leb, leb-true}
 use Rattle.std.proofs.lemmas.Bool.Decides.{nat_tests}
 use Rattle.std.proofs.lemmas.List.Elements.{All-nil, All-cons, All-head, All-tail}
 use Rattle.std.proofs.lemmas.List.Kept.{AllPairs-cons}
@@ -26,7 +26,7 @@ use Rattle.bt_plan.specs.Reading.{Fault, Reading}
 use Rattle.bt_demand.specs.Traffic.{matrix_of, HasSumsTo}
 use Rattle.bt_plan.specs.TrafficText.{belongs_before, with_link, row_fits, column_fits, fitting, links_with, line_with, links_in, units_in, link_between, link_with, named_link, AreRead}
 use Rattle.bt_plan.specs.TerminalNames.{ends_in}
-use Rattle.bt_plan.proofs.Capped.{leb-capped, leb-one-capped, capped-small, cond-at_true, and_parts}
+use Rattle.bt_plan.proofs.Capped.{leb-capped, leb-one-capped, capped-small, cond-at_true}
 use Rattle.bt_demand.proofs.Links.{before_trans, units_at}
 use Rattle.bt_demand.proofs.Matrices.{length-matrix_of, matrix_of-none, matrix_of-Gains, row_sum-gained, column_sum-gained}
 use Rattle.bt_demand.proofs.SameDemand.{units_for, units_for-cons, tail_is, first_is_before, same_demands}
@@ -162,11 +162,6 @@ module _ (net : Net) (links : List Link) (link : Link) (up down : BeamNo) (none 
       let row_is = ap (λ (m : List (List ℕ)). row_sum m up.0) next in
       let column_is = ap (λ (m : List (List ℕ)). column_sum m down.0) next in
       rw next (IsTraffic-with_entry (matrix_of net links) up.0 down.0 (entry (matrix_of net links) up.0 down.0 + link.units) traffic up_in down_in (omega (arith, row, row_is)) (omega (arith, column, column_is)))
-
--- a traffic matrix has small sums
-pub HasSumsTo-traffic : (rows : List (List ℕ)) → IsTraffic rows → HasSumsTo 1048576 rows
-HasSumsTo-traffic rows is (Row up) on_matrix = is.row_sums up.0 on_matrix
-HasSumsTo-traffic rows is (Column down) on_matrix = is.column_sums down.0 on_matrix
 
 -- units as they are capped
 units_in-capped : (at n : ℕ) → units_in at n ≡ units_in at (capped n)

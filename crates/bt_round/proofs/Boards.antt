@@ -9,7 +9,7 @@ use Rattle.bt_net.specs.Network.{Net}
 use Rattle.bt_demand.specs.declared.plan.Plan.{Plan}
 use Rattle.bt_journal.specs.declared.call.Change.{Change}
 use Rattle.bt_board.specs.Plans.{last_after, last_of, next_edition, next_of}
-use Rattle.bt_board.proofs.Lists.{prefix_self, prefix_trans}
+use Rattle.bt_lists.proofs.Prefixes.{prefix_self, prefix_trans}
 use Rattle.bt_book.specs.Causes.{Follows}
 use Rattle.bt_book.specs.Changes.{empty_plan, installs, newest, plan_in, plans}
 use Rattle.bt_round.specs.Boards.{IsLent, IsNoNewer, IsShownBetween, Rises}

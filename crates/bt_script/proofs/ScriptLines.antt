@@ -65,13 +65,3 @@ ends (At code line') net at is_open front ls line after total cut read so_far =
     let failed = added-err is_open front (limited_line net at is_open line) (code, line') read in
     let first : lines_in net at is_open ls ≡ Err (code, line') = ap (lines_in net at is_open) cut ∙ lines_in-line net at is_open line after ∙ rw failed refl in
     sym so_far ∙ ap (with_front front) first
-
--- the last line
-pub ends_there : (net : Net) (at : ℕ) (is_open : Bool) (front : List ScriptLine) (ls : List (List ℕ)) (last : List ℕ) (total : Reading (List ScriptLine))
-    → ls ≡ last ∷ []
-    → with_front front (lines_in net at is_open ls) ≡ total → total ≡ with_front front (last_in at last)
-ends_there net at is_open front ls last total cut so_far = sym so_far ∙ ap (with_front front) (ap (lines_in net at is_open) cut)
-
-pub last_fault : (e : LineFault ScriptCode) (front : List ScriptLine) (reading total : Reading (List ScriptLine)) → IsFaultOf reading e → total ≡ with_front front reading → IsFaultOf total e
-last_fault OutOfMemory front reading total is same = tt
-last_fault (At code line) front reading total is same = same ∙ ap (with_front front) is

@@ -1,5 +1,6 @@
 mod Rows
 mod Ascending
+pub mod Past
 mod Standing
 mod Said
 mod Ahead

@@ -1,6 +1,7 @@
 -- What the rows of the table do, and what the next superframe does.
 use Rattle.std.proofs.Common.{◌≡◌, ◌+◌, ◌<◌, ◌==◌, Bool, true, false, List, [], ◌∷◌, Option, Some, None, refl, arith}
 use Rattle.std.proofs.lemmas.Bool.Decides.{nat_tests}
+use Rattle.bt_frame.proofs.OneNumber.{same_edition}
 use Rattle.bt_frame.specs.declared.mode.Mode.{Mode}
 use Rattle.bt_frame.specs.declared.numbers.Command.{Command}
 use Rattle.bt_frame.specs.declared.numbers.EditionNo.{EditionNo}
@@ -26,10 +27,6 @@ pub data Does (s : State) (message : Message) : Type 0 where
 unarmed : (armed : Option Armed) → is_armed armed ≡ false → armed ≡ None
 unarmed None e = refl
 unarmed (Some armed) e = cc
-
--- the same number is the same edition
-same_edition : (a b : EditionNo) → a.0 ≡ b.0 → a ≡ b
-same_edition a b e = rw e refl
 
 load_does : (s : State) (command : Command) (edition : EditionNo) (modes : List Mode) (stale armed : Bool)
     → is_stale s command ≡ stale → is_armed s.armed ≡ armed → Does s (message.Load command edition modes)

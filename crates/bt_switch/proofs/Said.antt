@@ -8,19 +8,8 @@ use Rattle.bt_switch.specs.Satellite.{State, new_at}
 use Rattle.bt_switch.specs.Run.{SatelliteEvent, accepted, state_after}
 use Rattle.bt_air.specs.Orders.{last_arm, to_come, fore_at}
 use Rattle.bt_switch.specs.Orders.{edition_of, StandsFor}
-use Rattle.bt_switch.proofs.Standing.{ArePast, IsIdle, Waits, Stands, after_stands}
-
--- where all Arms are past, none is to come
-past-to_come : (orders : List Order) (mark : ℕ) → ArePast orders mark → to_come (last_arm orders) mark ≡ None
-past-to_come [] mark past = refl
-past-to_come (Load command edition ∷ earlier) mark past = past-to_come earlier mark past
-past-to_come (Arm command edition due ∷ earlier) mark past = let h : due.0 ≤ mark = past.0 in let e : nat_le due.0 mark ≡ true = grind (arith, nat_tests) in rw e refl
-
--- where all Arms are past, the last of them is in front
-past-fore_at : (orders : List Order) (mark : ℕ) → ArePast orders mark → fore_at orders mark ≡ edition_of (last_arm orders)
-past-fore_at [] mark past = refl
-past-fore_at (Load command edition ∷ earlier) mark past = past-fore_at earlier mark past
-past-fore_at (Arm command edition due ∷ earlier) mark past = let h : due.0 ≤ mark = past.0 in let e : nat_le due.0 mark ≡ true = grind (arith, nat_tests) in rw e refl
+use Rattle.bt_switch.proofs.Past.{past-to_come, past-fore_at}
+use Rattle.bt_switch.proofs.Standing.{IsIdle, Waits, Stands, after_stands}
 
 -- with nothing armed
 idle_says : (orders : List Order) (s : State) → IsIdle orders s → StandsFor orders s

@@ -12,19 +12,8 @@ use Rattle.bt_switch.specs.Satellite.{State, new_at, ticked, changed, begun, loa
 use Rattle.bt_switch.specs.Run.{SatelliteEvent, Begins, Hears, accepted, accepted_with, after_event, state_after}
 use Rattle.bt_air.specs.Orders.{last_command, last_arm}
 use Rattle.bt_switch.specs.Orders.{edition_of, ready_after}
+use Rattle.bt_switch.proofs.Past.{ArePast, past-later}
 use Rattle.bt_switch.proofs.Rows.{Nothing, Loads, Arms, does, ticked-idle, ticked-early, ticked-due}
-
--- each Arm of the orders is due by this superframe
-abbrev pub ArePast : List Order → ℕ → Type 0
-ArePast [] mark = Unit {0}
-ArePast (Load command edition ∷ earlier) mark = ArePast earlier mark
-ArePast (Arm command edition due ∷ earlier) mark = (due.0 ≤ mark) × ArePast earlier mark
-
--- what is past stays past
-past-next : (orders : List Order) (mark : ℕ) → ArePast orders mark → ArePast orders (mark + 1)
-past-next [] mark past = tt
-past-next (Load command edition ∷ earlier) mark past = past-next earlier mark past
-past-next (Arm command edition due ∷ earlier) mark past = let h : due.0 ≤ mark = past.0 in (omega arith, past-next earlier mark past.1)
 
 -- a satellite with nothing armed
 pub record IsIdle (orders : List Order) (s : State) : Type 0 where
@@ -55,7 +44,7 @@ Stands orders s = IsIdle orders s ⊎ Waits orders s
 tick-idle : (orders : List Order) (s : State) → IsIdle orders s → Stands orders (ticked s)
 tick-idle orders s idle = rw (ticked-idle s idle.armed) (inl (record {
   armed = idle.armed;
-  past = past-next orders s.mark.0 idle.past;
+  past = past-later orders s.mark.0 (s.mark.0 + 1) (omega arith) idle.past;
   fore = idle.fore;
   back = idle.back;
   last = idle.last;
@@ -68,7 +57,7 @@ tick-due orders s waits due = rw (ticked-due s waits.change waits.armed due) (in
     let here : waits.change.due.0 ≤ s.mark.0 + 1 = omega arith in
     subst P (sym waits.by_last) (record {
       armed = refl;
-      past = (here, past-next waits.earlier s.mark.0 waits.past);
+      past = (here, past-later waits.earlier s.mark.0 (s.mark.0 + 1) (omega arith) waits.past);
       fore = waits.back;
       back = waits.fore;
       last = waits.last;
@@ -83,7 +72,7 @@ tick-early orders s waits early = rw (ticked-early s waits.change waits.armed ea
   by_last = waits.by_last;
   armed = waits.armed;
   ahead = early;
-  past = past-next waits.earlier s.mark.0 waits.past;
+  past = past-later waits.earlier s.mark.0 (s.mark.0 + 1) (omega arith) waits.past;
   fore = waits.fore;
   back = waits.back;
   last = waits.last;

@@ -1,6 +1,7 @@
 -- What a terminal has heard and holds after a run is said by its events.
 use Rattle.std.proofs.Common.{◌≡◌, inl, inr, ℕ, ◌<◌, ◌≤◌, ◌==◌, ◌&&◌, Bool, true, false, List, [], ◌∷◌, ◌++◌, Option, Some, None, refl, sym, ◌∙◌, arith, subst}
 use Rattle.std.proofs.lemmas.Bool.{cases_lt}
+use Rattle.std.proofs.lemmas.Bool.{and_right}
 use Rattle.std.proofs.lemmas.Bool.Decides.{nat_tests}
 use Rattle.bt_frame.specs.declared.numbers.EditionNo.{EditionNo}
 use Rattle.bt_frame.specs.declared.numbers.Mark.{Mark}
@@ -35,16 +36,11 @@ message-agrees number now named editions s (message.Status status) agrees = agre
 message-agrees number now named editions s (message.Confirm from edition) agrees = agrees
 message-agrees number now named editions s (message.Lost from) agrees = agrees
 
--- one test that fails is enough
-never_both : (a b : Bool) → b ≡ false → (a && b) ≡ false
-never_both true b e = e
-never_both false b e = refl
-
 -- nothing was heard of a superframe in an earlier one
 not_this : (before : Option EditionNo) (now : ℕ) (at : Mark) (one : Message) → at.0 < now → heard_with before now at one ≡ before
 not_this before now at (message.Reference superframe found) later =
     let e : (at.0 == now) ≡ false = grind (arith, nat_tests) in
-    let both = never_both (superframe.0 == at.0) (at.0 == now) e in rw both refl
+    let both = and_right (superframe.0 == at.0) (at.0 == now) e in rw both refl
 not_this before now at (message.PlanFor to edition bursts) later = refl
 not_this before now at (message.Load command edition modes) later = refl
 not_this before now at (message.Arm command edition due) later = refl

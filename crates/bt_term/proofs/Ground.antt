@@ -1,6 +1,8 @@
 -- What a terminal has heard and holds, message by message.
 use Rattle.std.proofs.Common.{◌≡◌, ℕ, ◌+◌, ◌≤◌, ◌==◌, nat_lt, if◌then◌else◌, Bool, true, false, List, [], ◌∷◌, Option, Some, None, refl, sym, ◌∙◌, ap, arith, subst}
 use Rattle.std.proofs.lemmas.Bool.Decides.{nat_tests}
+use Rattle.std.proofs.lemmas.Bool.{eqb-true}
+use Rattle.bt_frame.proofs.OneNumber.{same_terminal}
 use Rattle.bt_frame.specs.declared.numbers.EditionNo.{EditionNo}
 use Rattle.bt_frame.specs.declared.numbers.Mark.{Mark}
 use Rattle.bt_frame.specs.declared.numbers.TermNo.{TermNo}
@@ -16,10 +18,6 @@ use Rattle.bt_term.specs.Said.{taking, editions_in, IsFilledInOrder, HasBegun, A
 pub named-same : (bank : Bank) (named : Option EditionNo) → is_named (Some bank) named ≡ names named bank.edition
 named-same bank None = refl
 named-same bank (Some edition) = refl
-
--- a bank of these bursts
-abbrev bank_with : EditionNo → List Burst → Bank
-bank_with edition bursts = record { edition = edition; bursts = bursts }
 
 -- what is stored, by the tests, in two filled banks
 record Kept (number : TermNo) (told : Option Reference) (editions : List EditionNo) (s : State) : Type 0 where
@@ -68,9 +66,6 @@ plan-held number told (Some a) None now edition bursts filled = one-held number 
 plan-held number told (Some a) (Some b) now edition bursts filled = two-held number told a b now edition bursts _ _ _ refl refl refl _ _ refl refl
 
 -- a message comes to the terminal
-same-terminal : (a b : TermNo) → (a.0 == b.0) ≡ true → a ≡ b
-same-terminal a b e = let h : a.0 ≡ b.0 = grind (arith, nat_tests) in ap (λ (n : ℕ). record { 0 = n }) h
-
 for-another : (s : State) (to number : TermNo) → s.number ≡ number → (to.0 == number.0) ≡ false → is_for_another s to ≡ true
 for-another s to number same e = rw (same, e) refl
 
@@ -79,7 +74,7 @@ pub plan-agrees : (number : TermNo) (now : ℕ) (named : Option EditionNo) (edit
     → (to.0 == number.0) ≡ test → Agrees number now named editions s
     → Agrees number now named (if test then taking editions named edition else editions) (step_of s (record { 0 = now }) (message.PlanFor to edition bursts)).1
 plan-agrees number now named editions s to edition bursts true e agrees =
-    let here : to ≡ s.number = same-terminal to number e ∙ sym agrees.same in
+    let here : to ≡ s.number = same_terminal to number (eqb-true _ _ e) ∙ sym agrees.same in
     let kept = plan-held s.number s.heard s.banks.first s.banks.second (record { 0 = now }) edition bursts agrees.filled in
     subst (λ (t : TermNo). Agrees number now named (taking editions named edition) (step_of s (record { 0 = now }) (message.PlanFor t edition bursts)).1) (sym here) (record {
       same = kept.same ∙ agrees.same;

@@ -3,15 +3,15 @@ use Rattle.std.proofs.Common.{◌≡◌, ℕ, Bool, true, false, cond, List, [],
 use Rattle.std.specs.List.{onto_first}
 use Rattle.bt_text.specs.Text.{lines}
 
--- a text has a first line
+-- a list of lines, or of words, has a first
 abbrev pub HasFirst : List (List ℕ) → Type 0
 HasFirst ls = (first : List ℕ) × (rest : List (List ℕ)) × (ls ≡ first ∷ rest)
 
-onto_first-HasFirst : (b : ℕ) (ls : List (List ℕ)) → HasFirst (onto_first b ls)
+pub onto_first-HasFirst : (b : ℕ) (ls : List (List ℕ)) → HasFirst (onto_first b ls)
 onto_first-HasFirst b [] = (b ∷ [], [], refl)
 onto_first-HasFirst b (first ∷ rest) = (b ∷ first, rest, refl)
 
-cond-HasFirst : (test : Bool) (a b : List (List ℕ)) → HasFirst a → HasFirst b → HasFirst (cond test a b)
+pub cond-HasFirst : (test : Bool) (a b : List (List ℕ)) → HasFirst a → HasFirst b → HasFirst (cond test a b)
 cond-HasFirst true a b h k = h
 cond-HasFirst false a b h k = k
 

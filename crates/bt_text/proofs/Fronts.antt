@@ -11,6 +11,7 @@ use Rattle.std.proofs.lemmas.Bool.Decides.{nat_tests}
 use Rattle.std.proofs.lemmas.Slice.{between_to_end}
 use Rattle.std.proofs.lemmas.Str.{digit_value_digit}
 use Rattle.bt_text.specs.Text.{words}
+use Rattle.bt_text.proofs.FirstLine.{HasFirst, onto_first-HasFirst, cond-HasFirst}
 use Rattle.bt_text.proofs.TextLines.{slice_split-place, slice_split-nowhere}
 use Rattle.bt_text.specs.WordReader.{words_left, first_word, digits_after}
 
@@ -25,17 +26,6 @@ pub words-no_space : (line : List ℕ) → ((k : ℕ) → k < length line → (g
 words-no_space line none = slice_split-nowhere (λ b. b == 32) line 0 none
 
 -- a line has a first word
-abbrev pub HasFirst : List (List ℕ) → Type 0
-HasFirst ws = (first : List ℕ) × (rest : List (List ℕ)) × (ws ≡ first ∷ rest)
-
-onto_first-HasFirst : (b : ℕ) (ws : List (List ℕ)) → HasFirst (onto_first b ws)
-onto_first-HasFirst b [] = (b ∷ [], [], refl)
-onto_first-HasFirst b (first ∷ rest) = (b ∷ first, rest, refl)
-
-cond-HasFirst : (test : Bool) (a b : List (List ℕ)) → HasFirst a → HasFirst b → HasFirst (cond test a b)
-cond-HasFirst true a b h k = h
-cond-HasFirst false a b h k = k
-
 pub words-HasFirst : (line : List ℕ) → HasFirst (words line)
 words-HasFirst [] = ([], [], refl)
 words-HasFirst (b ∷ rest) = cond-HasFirst _ ([] ∷ words rest) (onto_first b (words rest)) ([], words rest, refl) (onto_first-HasFirst b (words rest))
@@ -61,11 +51,6 @@ digit_more-rest b rest is =
     let first = words-HasFirst rest in
     rw (other_from_digit b is, first.2) refl
 
-no_digit : (most n b : ℕ) (rest : List ℕ) → (b == 32) ≡ false → is_ascii_digit b ≡ false → digits_front most n (words (b ∷ rest)) ≡ None
-no_digit most n b rest other is =
-    let first = words-HasFirst rest in
-    rw (other, first.2, is) refl
-
 -- a list from a place on
 front_at : (line : List ℕ) (at : ℕ) → at < length line → drop at line ≡ get_or line at 0 ∷ drop (at + 1) line
 front_at line at within = rw add-one (drop-cons line at 0 within)
@@ -78,16 +63,6 @@ digit_at most n more at line within is value =
 
 pub digit_at-rest : (at : ℕ) (line : List ℕ) → at < length line → is_ascii_digit (get_or line at 0) ≡ true → drop 1 (words (drop at line)) ≡ drop 1 (words (drop (at + 1) line))
 digit_at-rest at line within is = ap (λ l. drop 1 (words l)) (front_at line at within) ∙ digit_more-rest (get_or line at 0) (drop (at + 1) line) is
-
-pub no_digit_at : (most n at : ℕ) (line : List ℕ) → at < length line → (get_or line at 0 == 32) ≡ false → is_ascii_digit (get_or line at 0) ≡ false → digits_front most n (words (drop at line)) ≡ None
-no_digit_at most n at line within other is = ap (λ l. digits_front most n (words l)) (front_at line at within) ∙ no_digit most n (get_or line at 0) (drop (at + 1) line) other is
-
--- the space behind the digits
-pub space_at : (at : ℕ) (line : List ℕ) → at < length line → get_or line at 0 ≡ 32 → words (drop at line) ≡ [] ∷ words (drop (at + 1) line)
-space_at at line within is = ap words (front_at line at within ∙ ap (λ b. b ∷ drop (at + 1) line) is)
-
-pub no_more : (most n : ℕ) (ws : List (List ℕ)) → n ≤ most → digits_front most n ([] ∷ ws) ≡ Some n
-no_more most n ws small = rw (le-leb n most small) refl
 
 -- digits only make a number greater
 grows : (n : ℕ) (word : List ℕ) → n ≤ digits_value_after 10 n word

@@ -4,3 +4,4 @@ pub mod FirstLine
 pub mod Front
 pub mod Fronts
 pub mod Faults
+pub mod Steps

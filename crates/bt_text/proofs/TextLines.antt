@@ -1,11 +1,10 @@
 -- Words and lines: what a text is cut into, and that what is joined is cut apart again.
-use Rattle.std.proofs.Common.{◌≡◌, ℕ, ◌+◌, ◌-◌, ◌<◌, ◌==◌, ◌&&◌, Bool, true, false, cond, not, Option, Some, None, MatchOption, List, [], ◌∷◌, ◌++◌, length, map, get_or, take, drop, slice_range, refl, ap, sym, subst, ◌∙◌, arith, length-take, add-one, append_assoc, eq-eqb}
+use Rattle.std.proofs.Common.{◌≡◌, ℕ, ◌+◌, ◌-◌, ◌<◌, ◌==◌, ◌&&◌, Bool, true, false, cond, not, Option, Some, None, MatchOption, List, [], ◌∷◌, ◌++◌, length, get_or, take, drop, slice_range, refl, ap, sym, subst, ◌∙◌, arith, length-take, add-one, append_assoc, eq-eqb}
 use Rattle.std.specs.List.{All, slice_split, onto_first, list_all, flat_map, join_with_byte}
 use Rattle.std.proofs.Math.Bool.{and-true}
 use Rattle.std.proofs.Math.Seq.{drop-cons}
 use Rattle.std.proofs.lemmas.Bool.{and_parts, false_from_ne_true, not-true}
 use Rattle.std.proofs.lemmas.List.{take-append-drop, get_or-take, drop-drop, append-nil, flat_map_more}
-use Rattle.std.proofs.lemmas.List.Concat.{flat_map-append}
 use Rattle.std.proofs.lemmas.List.Elements.{All-from_get_or, All-weaker}
 use Rattle.std.proofs.lemmas.List.Folds.{list_all-append}
 use Rattle.std.proofs.lemmas.List.Splits.{slice_split_at, length-slice_split, slice_split_none, join_with_byte-slice_split}
@@ -112,24 +111,13 @@ join_ended (line ∷ second ∷ rest) = ap (λ text. line ++ 10 ∷ text) (join_
 pub ended_from_lines : (text : List ℕ) (ls : List (List ℕ)) → lines text ≡ ls ++ [] ∷ [] → text ≡ ended ls
 ended_from_lines text ls is = sym (join_with_byte-slice_split 10 text) ∙ ap (join_with_byte 10) is ∙ join_ended ls
 
--- as a writer makes them: the first word, and then each with a space in front; one more line behind those so far
+-- as a writer makes them: the first word, and then each with a space in front
 pub spaced-cons : (first : List ℕ) (rest : List (List ℕ)) → spaced (first ∷ rest) ≡ first ++ flat_map (λ word. 32 ∷ word) rest
 spaced-cons first [] = sym (append-nil first)
 spaced-cons first (second ∷ rest) = ap (λ line. first ++ 32 ∷ line) (spaced-cons second rest)
 
 pub spaced_more : (first : List ℕ) (rest : List (List ℕ)) (word : List ℕ) → spaced (first ∷ rest ++ word ∷ []) ≡ spaced (first ∷ rest) ++ 32 ∷ word
 spaced_more first rest word = rw (spaced-cons first (rest ++ word ∷ []), spaced-cons first rest) (sym (flat_map_more (λ w. 32 ∷ w) first rest word))
-
-pub ended-append : (xs ys : List (List ℕ)) → ended (xs ++ ys) ≡ ended xs ++ ended ys
-ended-append xs ys = flat_map-append (λ line. line ++ 10 ∷ []) xs ys
-
-pub ended_more : (ls : List (List ℕ)) (line : List ℕ) → ended (ls ++ line ∷ []) ≡ ended ls ++ (line ++ 10 ∷ [])
-ended_more ls line = ended-append ls (line ∷ []) ∙ ap (λ text. ended ls ++ text) (append-nil (line ++ 10 ∷ []))
-
--- many lines of words
-pub lacks-spaced_lines : (byte : ℕ) (wss : List (List (List ℕ))) → (32 == byte) ≡ false → list_all (lacks byte) (map spaced wss) ≡ list_all (list_all (lacks byte)) wss
-lacks-spaced_lines byte [] other = refl
-lacks-spaced_lines byte (ws ∷ wss) other = rw (lacks-spaced byte ws other, lacks-spaced_lines byte wss other)
 
 -- a text is its first line, the newline, and the rest; the line has no newline inside
 joined : (byte : ℕ) (first : List ℕ) (parts : List (List ℕ)) → 0 < length parts → join_with_byte byte (first ∷ parts) ≡ first ++ byte ∷ join_with_byte byte parts

@@ -10,7 +10,7 @@ use Rattle.std.proofs.lemmas.List.{length-map}
 use Rattle.std.proofs.lemmas.List.Elements.{All-head, All-same, All-tail}
 use Rattle.std.proofs.lemmas.Str.Parse.{digits_value_short, IsNumeralModel, numerals_by_value}
 use Rattle.bt_text.specs.Text.{words, is_number, number_of, numbers_of, capped, spaced, lacks}
-use Rattle.bt_text.proofs.TextLines.{lacks-spaced, words-spaced, spaced-words}
+use Rattle.bt_text.proofs.TextLines.{words-spaced, spaced-words}
 
 -- a list of digits by the test that computes it
 pub digits_model : IsNumeralModel (λ ds. list_all is_ascii_digit ds ≡ true) (digits_value 10)
@@ -109,9 +109,6 @@ lacks-decimals byte [] other small = refl
 lacks-decimals byte (n ∷ ns) other small =
     rw (lacks-decimal byte n other (All-head (λ n. n < 2 ^ 64) n ns small), lacks-decimals byte ns other (All-tail (λ n. n < 2 ^ 64) n ns small))
 
-pub lacks-number : (byte : ℕ) (word : List ℕ) → is_ascii_digit byte ≡ false → is_number word ≡ true → lacks byte word ≡ true
-lacks-number byte word other is = lacks_from_digits byte word other (digits_from_is_number word is).0
-
 -- a line of numbers is read as these numbers, and has one spelling
 pub numbers_of-line : (ns : List ℕ) → 0 < length ns → All (λ n. n < 2 ^ 64) ns → numbers_of (words (spaced (map decimal ns))) ≡ Some ns
 numbers_of-line ns filled small =
@@ -119,6 +116,3 @@ numbers_of-line ns filled small =
 
 pub line_from_numbers_of : (line : List ℕ) (ns : List ℕ) → All (λ n. n < 2 ^ 64) ns → numbers_of (words line) ≡ Some ns → line ≡ spaced (map decimal ns)
 line_from_numbers_of line ns small is = sym (spaced-words line) ∙ ap spaced (decimals_from_numbers_of (words line) ns small is)
-
-pub lacks-number_line : (byte : ℕ) (ns : List ℕ) → (32 == byte) ≡ false → is_ascii_digit byte ≡ false → All (λ n. n < 2 ^ 64) ns → lacks byte (spaced (map decimal ns)) ≡ true
-lacks-number_line byte ns space digit small = lacks-spaced byte (map decimal ns) space ∙ lacks-decimals byte ns digit small

@@ -20,6 +20,7 @@ use Rattle.bt_air.specs.declared.sent.Sent.TheVariants as sends
 use Rattle.bt_air.specs.declared.sent.Taken.{Taken}
 use Rattle.bt_air.specs.declared.sent.Taken.TheVariants as taken
 use Rattle.bt_air.specs.declared.shown.AirFrame.{AirFrame}
+use Rattle.bt_journal.specs.JournalLines.{order_words}
 use Rattle.bt_journal.specs.declared.reply.Reply.{Reply}
 use Rattle.bt_journal.specs.declared.reply.Reply.TheVariants.{BookFull, OutOfTurn, NotInstalled, StoreFault, Stopped}
 use Rattle.bt_timeline.specs.Lines.{line_of, frame_name, armed_name}
@@ -36,11 +37,6 @@ last_tick_line = line_of (codes "tick" ∷ codes "last" ∷ [])
 -- the line of the centre's turn: the present superframe, and the newest edition that has a plan
 abbrev pub turn_line : Mark → EditionNo → List ℕ
 turn_line mark newest = line_of (codes "turn" ∷ decimal mark.0 ∷ codes "newest" ∷ decimal newest.0 ∷ [])
-
--- the words of an order
-abbrev pub order_words : Order → List (List ℕ)
-order_words (order.Load command edition) = codes "load" ∷ decimal command.0 ∷ decimal edition.0 ∷ []
-order_words (order.Arm command edition due) = codes "arm" ∷ decimal command.0 ∷ decimal edition.0 ∷ decimal due.0 ∷ []
 
 -- the line of an order that the centre wants
 abbrev pub order_line : Order → List ℕ

@@ -24,7 +24,7 @@ use Rattle.bt_switch.specs.Run.{Hears as Takes, is_accepted, oldest_first}
 use Rattle.bt_switch.specs.Satellite.{State as Onboard, new_at, status_of, is_stale, is_armed, is_not_loaded, is_too_late, loaded, with_armed}
 use Rattle.bt_switch.specs.Satellite.{step_of as take}
 use Rattle.bt_switch.proofs.ByEvents.{state_more}
-use Rattle.bt_term.proofs.Ground.{own, named-same}
+use Rattle.bt_term.proofs.Ground.{state_of, own, named-same}
 use Rattle.bt_term.specs.declared.bank.Bank.{Bank}
 use Rattle.bt_term.specs.declared.reference.Reference.{Reference}
 use Rattle.bt_term.specs.Said.{Agrees, IsFilledInOrder, editions_in, holds, taking}
@@ -96,10 +96,6 @@ module _
         tells (joining (accepted o past) (mark o past) m) (accepted o past) (mark o past) (status_of (take s m).1) (is_accepted (take s m).0)
         (accepts-some (accepted o past) s m (stands o past) ∙ ap (λ (n : ℕ). some (joining (accepted o past) n m)) (on_mark o past))
         (ap status_of (sym next) ∙ on_status o (Hears (Some one) Satellite ∷ past))
-
--- a terminal with these banks
-abbrev state_of : TermNo → Option Reference → Option Bank → Option Bank → State
-state_of number told first second = record { number = number; banks = record { first = first; second = second }; heard = told }
 
 none-confirms : (number : TermNo) (told : Option Reference) (now : Mark) (edition : EditionNo) (bursts : List Burst)
     → holds (taking [] (in_force told now) edition) edition ≡ is_confirming (step_of (state_of number told None None) now (message.PlanFor number edition bursts)).0

@@ -5,22 +5,17 @@ use Rattle.std.proofs.lemmas.Bool.Decides.{nat_tests}
 use Rattle.std.proofs.lemmas.List.Elements.{All-head, All-tail, All-filter, All-map}
 use Rattle.std.proofs.lemmas.List.Folds.{Any-from_list_any, list_any_at, list_any_none}
 use Rattle.std.proofs.lemmas.List.FromFn.{length-range_with_len, get_or-range_with_len, length-map-range_with_len, get_or-map-range_with_len}
+use Rattle.bt_lists.proofs.Tests.{one_passes, none_passes}
+use Rattle.bt_frame.proofs.OneNumber.{numbered}
 use Rattle.bt_frame.specs.declared.numbers.TermNo.{TermNo}
 use Rattle.bt_frame.specs.declared.numbers.TermSet.{TermSet}
 use Rattle.bt_change.specs.Terminals.{has, no_terminal, with_terminal, without_terminal}
 use Rattle.bt_term.proofs.Ground.{own}
 use Rattle.bt_world.specs.Centre.{set_of}
 
--- the terminal of a number
-abbrev pub numbered : ℕ → TermNo
-numbered n = record { 0 = n }
-
 -- the terminals of the numbers below this one
 abbrev pub first_ones : ℕ → List TermNo
 first_ones n = map (λ (k : ℕ). record { 0 = k }) (range_with_len 0 n)
-
-zero-more : (k : ℕ) → 0 + k ≡ k
-zero-more k = omega arith
 
 -- one of the first terminals passes, and then so does the test of all
 any-passes : (Q : TermNo → Bool) (n k : ℕ) → k < n → Q (numbered k) ≡ true → list_any Q (first_ones n) ≡ true
@@ -33,18 +28,6 @@ any-fails : (Q : TermNo → Bool) (n : ℕ) → ((k : ℕ) → k < n → Q (numb
 any-fails Q n fails = list_any_none Q (first_ones n) (λ k d within.
     let below : k < n = omega (arith, within, length-map-range_with_len numbered 0 n) in
     ap Q (get_or-map-range_with_len numbered 0 n k k d below (omega arith)) ∙ fails k below)
-
--- one of the first numbers passes
-number-passes : (P : ℕ → Bool) (n k : ℕ) → k < n → P k ≡ true → list_any P (range_with_len 0 n) ≡ true
-number-passes P n k within passes =
-    let here : get_or (range_with_len 0 n) k 0 ≡ k = get_or-range_with_len 0 n k 0 within ∙ zero-more k in
-    list_any_at P (range_with_len 0 n) k 0 (omega (arith, within, length-range_with_len 0 n)) (ap P here ∙ passes)
-
-number-fails : (P : ℕ → Bool) (n : ℕ) → ((k : ℕ) → k < n → P k ≡ false) → list_any P (range_with_len 0 n) ≡ false
-number-fails P n fails = list_any_none P (range_with_len 0 n) (λ k d within.
-    let below : k < n = omega (arith, within, length-range_with_len 0 n) in
-    let here : get_or (range_with_len 0 n) k d ≡ k = get_or-range_with_len 0 n k d below ∙ zero-more k in
-    ap P here ∙ fails k below)
 
 -- a test of 64 numbers that only the first terminals can pass
 pub below-true : (k n : ℕ) → k < n → nat_lt k n ≡ true
@@ -63,8 +46,8 @@ any-below-by P Q n true few same e =
     let below : k < n = omega (arith, within, length-map-range_with_len numbered 0 n) in
     let here : x ≡ numbered k = sym at ∙ get_or-map-range_with_len numbered 0 n k k x below (omega arith) in
     let passes : Q (numbered k) ≡ true = ap Q (sym here) ∙ holds in
-    number-passes P 64 k (omega arith) (same k (omega arith) ∙ rw (below-true k n below, passes) refl)
-any-below-by P Q n false few same e = number-fails P 64 (λ k within. same k within ∙ below-fails Q n k _ _ refl refl e)
+    one_passes P 64 k (omega arith) (same k (omega arith) ∙ rw (below-true k n below, passes) refl)
+any-below-by P Q n false few same e = none_passes P 64 (λ k within. same k within ∙ below-fails Q n k _ _ refl refl e)
 
 pub any-below : (P : ℕ → Bool) (Q : TermNo → Bool) (n : ℕ) → n ≤ 64 → ((k : ℕ) → k < 64 → P k ≡ (nat_lt k n && Q (numbered k)))
     → list_any P (range_with_len 0 64) ≡ list_any Q (first_ones n)

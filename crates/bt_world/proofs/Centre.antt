@@ -29,7 +29,8 @@ use Rattle.bt_world.specs.Centre.{IsCentreSaid, once_heard, once_placed, beginni
 use Rattle.bt_world.specs.Event.{Opening, Event, Tick, Turn, Ordered, Deliver, Frame, ResetTerminal, RestartCentre, Install, Happening, Turns, Hears}
 use Rattle.bt_world.specs.Fits.{HasPlan, AreStored, IsWorld}
 use Rattle.bt_world.specs.World.{mark, plans, plan_of, has_burst, with_wanted, wanted, orders, kept, noting, known_now, confirming_by, is_confirmed, asks_by, is_asking, waited, waited_more, terminals, is_missing, is_missing_of, act, sent, log}
-use Rattle.bt_world.proofs.Anys.{numbered, first_ones, any-below, below-true, joined-if, left-if, joined-set, left-set, has-needed}
+use Rattle.bt_frame.proofs.OneNumber.{numbered}
+use Rattle.bt_world.proofs.Anys.{first_ones, any-below, below-true, joined-if, left-if, joined-set, left-set, has-needed}
 use Rattle.bt_world.proofs.Banks.{plan-stays, world-planned}
 use Rattle.bt_world.proofs.Ranges.{Fits, found-fits, world-fits, stored-before}
 

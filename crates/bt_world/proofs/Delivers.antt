@@ -3,6 +3,7 @@ use Rattle.std.proofs.Common.{◌≡◌, ℕ, zero, suc, ◌<◌, ◌≤◌, if�
 use Rattle.std.proofs.lemmas.List.{append-nil}
 use Rattle.std.proofs.lemmas.Simd.{map-map}
 use Rattle.std.specs.List.{range_with_len}
+use Rattle.bt_frame.proofs.OneNumber.{numbered}
 use Rattle.bt_lists.proofs.Images.{image_at, images-set}
 use Rattle.bt_frame.specs.declared.numbers.Mark.{Mark}
 use Rattle.bt_frame.specs.declared.numbers.TermNo.{TermNo}
@@ -25,6 +26,7 @@ use Rattle.bt_world.specs.Life.{Life, past_of, having_had, MayCome, Kept, IsKept
 use Rattle.bt_world.specs.Satellite.{satellite, to_satellite}
 use Rattle.bt_world.specs.World.{mark, frames_shown, plans, carried, terminals, sent, sent_with, sent_by_hearing, greatest_due}
 use Rattle.bt_world.proofs.Kept.{kept-after}
+use Rattle.bt_world.proofs.Resets.{if-other}
 use Rattle.std.proofs.lemmas.Bool.Decides.{nat_tests}
 use Rattle.bt_switch.specs.Run.{Hears as Takes, oldest_first}
 use Rattle.bt_switch.proofs.ByEvents.{state_more}
@@ -33,13 +35,6 @@ use Rattle.bt_switch.proofs.ByEvents.{state_more}
 satellite-hears : (o : Opening) (past : List Happening) (one : Sent)
     → satellite o (Hears (Some one) Satellite ∷ past) ≡ (take (satellite o past) (carried (plans o past) one)).1
 satellite-hears o past one = state_more (new_at (record { 0 = greatest_due o.orders })) (oldest_first (to_satellite o past)) (Takes (carried (plans o past) one))
-
--- the terminal of that number
-abbrev numbered : ℕ → TermNo
-numbered n = record { 0 = n }
-
-if-other : (s t : State) (a b : ℕ) → a ≢ b → (if a == b then s else t) ≡ t
-if-other s t a b other = let e : (a == b) ≡ false = grind (arith, nat_tests) in rw e refl
 
 -- the terminal that hears takes it, and the others stay as they were
 terminals-hear : (o : Opening) (past : List Happening) (one : Sent) (to : TermNo) → to.0 < length o.net.terminals

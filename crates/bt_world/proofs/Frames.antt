@@ -5,6 +5,7 @@ use Rattle.std.proofs.lemmas.Bool.Decides.{nat_tests}
 use Rattle.std.proofs.lemmas.List.Elements.{All-nil, All-cons, All-append, All-head, All-tail, All-filter, All-contains_itself, filter_passes}
 use Rattle.std.proofs.lemmas.List.Kept.{AllPairs-filter}
 use Rattle.std.proofs.lemmas.List.Sorted.{All-permutation}
+use Rattle.bt_frame.proofs.OneNumber.{numbered}
 use Rattle.bt_frame.specs.declared.numbers.EditionNo.{EditionNo}
 use Rattle.bt_frame.specs.declared.numbers.TermNo.{TermNo}
 use Rattle.bt_net.specs.Network.{Net}
@@ -19,7 +20,8 @@ use Rattle.bt_world.specs.Air.{fore, where_held, bursts_under, transmits, IsAir,
 use Rattle.bt_demand.specs.Flyable.{IsFlyable}
 use Rattle.bt_world.specs.Laws.{IsNoneOr}
 use Rattle.bt_world.proofs.Heard.{heard-right}
-use Rattle.bt_world.proofs.Pairs.{AllPairs-append, of_members, AllPairs-permutation}
+use Rattle.bt_lists.proofs.Pairs.{AllPairs-append}
+use Rattle.bt_world.proofs.Pairs.{of_members, AllPairs-permutation}
 use Rattle.bt_world.proofs.Triples.{all_switched}
 use Rattle.bt_world.proofs.Plans.{plan-holds, plans-flyable}
 
@@ -78,14 +80,11 @@ abbrev AreDistinct : List TermNo → Type 0
 AreDistinct [] = Unit {0}
 AreDistinct (terminal ∷ rest) = All (λ (other : TermNo). other.0 ≢ terminal.0) rest × AreDistinct rest
 
-abbrev number_of : ℕ → TermNo
-number_of n = record { 0 = n }
-
-later-differ : (a b n : ℕ) → a < b → All (λ (other : TermNo). other.0 ≢ a) (map number_of (range_with_len b n))
+later-differ : (a b n : ℕ) → a < b → All (λ (other : TermNo). other.0 ≢ a) (map numbered (range_with_len b n))
 later-differ a b zero lt = All-nil (λ (other : TermNo). other.0 ≢ a)
-later-differ a b (suc n) lt = All-cons (λ (other : TermNo). other.0 ≢ a) (number_of b) (map number_of (range_with_len (b + 1) n)) (omega arith) (later-differ a (b + 1) n (omega arith))
+later-differ a b (suc n) lt = All-cons (λ (other : TermNo). other.0 ≢ a) (numbered b) (map numbered (range_with_len (b + 1) n)) (omega arith) (later-differ a (b + 1) n (omega arith))
 
-numbers-distinct : (a n : ℕ) → AreDistinct (map number_of (range_with_len a n))
+numbers-distinct : (a n : ℕ) → AreDistinct (map numbered (range_with_len a n))
 numbers-distinct a zero = tt
 numbers-distinct a (suc n) = (later-differ a (a + 1) n (omega arith), numbers-distinct (a + 1) n)
 

@@ -9,6 +9,7 @@ use Rattle.std.proofs.lemmas.Bool.{cases_eq}
 use Rattle.std.proofs.lemmas.Bool.Decides.{nat_tests}
 use Rattle.std.proofs.lemmas.Cmp.{ranked}
 use Rattle.std.proofs.lemmas.List.{get_or-reverse, length-reverse, length-map}
+use Rattle.bt_frame.proofs.OneNumber.{same_edition}
 use Rattle.bt_frame.specs.declared.numbers.EditionNo.{EditionNo}
 use Rattle.bt_demand.specs.declared.plan.Plan.{Plan}
 use Rattle.std.specs.List.{list_any}
@@ -113,9 +114,6 @@ ranks-rise all n starts i j d le within =
     let two = ap (λ (e : EditionNo). e.0) (edition-at all j d no_plan short) in
     rank-rises _ _ n _ _ refl refl (omega (arith, one, two, editions-rise all i j no_plan starts le short))
 
-same-edition : (a b : EditionNo) → a.0 ≡ b.0 → a ≡ b
-same-edition a b e = ap (λ (n : ℕ). let edition : EditionNo = record { 0 = n } in edition) e
-
 -- before the place all editions are lower, and from it on they are higher
 abbrev HasGapAt : List Plan → EditionNo → ℕ → Type 0
 HasGapAt all edition place = (k : ℕ) → k < length all → (k < place → (get_or (reverse all) k no_plan).edition.0 < edition.0) × (place ≤ k → edition.0 < (get_or (reverse all) k no_plan).edition.0)
@@ -155,7 +153,7 @@ searched all edition editions (Ok place) starts are in_range equal =
       is = λ d.
           let rank : Equal ≡ nat_cmp (get_or editions place edition).0 edition.0 = sym (equal edition) in
           let at = ap (λ (list : List EditionNo). get_or list place edition) are ∙ edition-at all place edition d within in
-          let same : (get_or (reverse all) place d).edition ≡ edition = sym at ∙ same-edition _ _ (ranked _ _ Equal rank) in
+          let same : (get_or (reverse all) place d).edition ≡ edition = sym at ∙ same_edition _ _ (ranked _ _ Equal rank) in
           ap (plan_of all) (sym same) ∙ found-first all place d starts within;
     }
 searched all edition editions (Err place) starts are in_range parted =

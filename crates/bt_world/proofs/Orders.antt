@@ -1,5 +1,6 @@
 -- Lists of orders: which order is among them, and which Arms are past.
 use Rattle.std.proofs.Common.{◌≡◌, ◌⊎◌, inl, inr, ℕ, ◌<◌, ◌≤◌, ◌||◌, nat_lt, nat_le, if◌then◌else◌, Bool, true, false, List, [], ◌∷◌, Option, Some, None, refl, sym, ◌∙◌, ap, arith}
+use Rattle.std.proofs.lemmas.Bool.{or_right}
 use Rattle.std.proofs.lemmas.Bool.Decides.{nat_tests}
 use Rattle.bt_frame.specs.declared.numbers.Command.{Command}
 use Rattle.bt_frame.specs.declared.numbers.EditionNo.{EditionNo}
@@ -10,16 +11,10 @@ use Rattle.bt_air.specs.declared.order.Order.TheVariants.{Load, Arm}
 use Rattle.bt_air.specs.declared.order.Status.{Status}
 use Rattle.bt_switch.specs.Satellite.{is_armed}
 use Rattle.bt_air.specs.Orders.{last_arm, to_come, fore_at}
-use Rattle.bt_switch.specs.Orders.{edition_of}
+use Rattle.bt_switch.proofs.Past.{ArePast, past-later, past-fore_at, past-to_come}
 use Rattle.std.specs.List.{list_any}
 use Rattle.bt_world.specs.Laws.{IsAmong}
 use Rattle.bt_change.specs.Known.{is_unseen, known, told_fore}
-
--- each Arm is due by this superframe
-abbrev pub ArePast : List Order → ℕ → Type 0
-ArePast [] mark = Unit {0}
-ArePast (Load command edition ∷ earlier) mark = ArePast earlier mark
-ArePast (Arm command edition due ∷ earlier) mark = (due.0 ≤ mark) × ArePast earlier mark
 
 -- each Arm but the last order is due by this superframe
 abbrev pub Settled : List Order → ℕ → Type 0
@@ -27,29 +22,12 @@ Settled [] mark = Unit {0}
 Settled (last ∷ earlier) mark = ArePast earlier mark
 
 -- what is past stays past
-pub past-later : (orders : List Order) (mark later : ℕ) → mark ≤ later → ArePast orders mark → ArePast orders later
-past-later [] mark later h past = tt
-past-later (Load command edition ∷ earlier) mark later h past = past-later earlier mark later h past
-past-later (Arm command edition due ∷ earlier) mark later h past = let d : due.0 ≤ mark = past.0 in (omega arith, past-later earlier mark later h past.1)
-
 pub settled-later : (orders : List Order) (mark later : ℕ) → mark ≤ later → Settled orders mark → Settled orders later
 settled-later [] mark later h settled = tt
 settled-later (last ∷ earlier) mark later h settled = past-later earlier mark later h settled
 
--- the edition in front, once all Arms are past
-pub past-fore_at : (orders : List Order) (mark : ℕ) → ArePast orders mark → fore_at orders mark ≡ edition_of (last_arm orders)
-past-fore_at [] mark past = refl
-past-fore_at (Load command edition ∷ earlier) mark past = past-fore_at earlier mark past
-past-fore_at (Arm command edition due ∷ earlier) mark past = let h : due.0 ≤ mark = past.0 in let e : nat_le due.0 mark ≡ true = grind (arith, nat_tests) in rw e refl
-
 pub past-same : (orders : List Order) (mark later : ℕ) → mark ≤ later → ArePast orders mark → fore_at orders mark ≡ fore_at orders later
 past-same orders mark later h past = past-fore_at orders mark past ∙ sym (past-fore_at orders later (past-later orders mark later h past))
-
--- nothing is armed, once all Arms are past
-pub past-to_come : (orders : List Order) (mark : ℕ) → ArePast orders mark → to_come (last_arm orders) mark ≡ None
-past-to_come [] mark past = refl
-past-to_come (Load command edition ∷ earlier) mark past = past-to_come earlier mark past
-past-to_come (Arm command edition due ∷ earlier) mark past = let h : due.0 ≤ mark = past.0 in let e : nat_le due.0 mark ≡ true = grind (arith, nat_tests) in rw e refl
 
 -- all Arms are past where nothing is armed
 arm-past : (armed : Armed) (mark : ℕ) (test : Bool) → nat_le armed.due.0 mark ≡ test → is_armed (to_come (Some armed) mark) ≡ false → armed.due.0 ≤ mark
@@ -78,11 +56,6 @@ told-fore_at (Load command edition ∷ earlier) mark later settled h =
     ap (λ (armed : Option Armed). told_fore armed (fore_at earlier mark) later) (past-to_come earlier mark settled) ∙ past-same earlier mark later h settled
 told-fore_at (Arm command edition due ∷ earlier) mark later settled h = arm-told edition due earlier mark later _ _ refl refl h settled
 
--- an Arm that the status does not know of, and that may have made its change, is found
-or_true : (a b : Bool) → b ≡ true → (a || b) ≡ true
-or_true true b e = refl
-or_true false b e = e
-
 -- the test that such an Arm passes
 unseen-true : (status : Status) (mark : ℕ) (command : Command) (edition : EditionNo) (due : Mark) → status.last.0 < command.0 → status.mark.0 < due.0 → due.0 ≤ mark
     → is_unseen status mark (Arm command edition due) ≡ true
@@ -101,7 +74,7 @@ has_unseen-among status mark (order ∷ earlier) command edition due (inl same) 
     let p : is_unseen status mark order ≡ true = ap (is_unseen status mark) (sym same) ∙ unseen-true status mark command edition due a b c in
     rw p refl
 has_unseen-among status mark (order ∷ earlier) command edition due (inr among) a b c =
-    or_true (is_unseen status mark order) (list_any (is_unseen status mark) earlier) (has_unseen-among status mark earlier command edition due among a b c)
+    or_right (is_unseen status mark order) (list_any (is_unseen status mark) earlier) (has_unseen-among status mark earlier command edition due among a b c)
 
 -- one order more makes the edition unknown, or changes nothing
 either_unseen : (a b : Bool) (x : Option EditionNo) → ((if a || b then None else x) ≡ None) ⊎ ((if a || b then None else x) ≡ (if b then None else x))

@@ -5,6 +5,7 @@ use Rattle.std.proofs.lemmas.Bool.Decides.{nat_tests}
 use Rattle.std.proofs.lemmas.Simd.{map-map}
 use Rattle.std.proofs.lemmas.List.{length-map}
 use Rattle.std.proofs.lemmas.List.FromFn.{length-map-range_with_len}
+use Rattle.bt_frame.proofs.OneNumber.{numbered}
 use Rattle.bt_lists.proofs.Images.{image_at, images-set}
 use Rattle.bt_frame.specs.declared.numbers.TermNo.{TermNo}
 use Rattle.bt_air.specs.declared.sent.Sent.TheVariants as sends
@@ -16,11 +17,8 @@ use Rattle.bt_world.specs.Life.{Life, having_had, past_of, MayCome, Kept, IsKept
 use Rattle.bt_world.specs.World.{mark, heard, held, terminals, terminals as terminals_in}
 use Rattle.bt_world.proofs.Kept.{kept-after}
 
--- the terminal of that number
-abbrev numbered : ℕ → TermNo
-numbered n = record { 0 = n }
-
-if-other : (s t : State) (a b : ℕ) → a ≢ b → (if a == b then s else t) ≡ t
+-- another number passes no test for one
+pub if-other : (s t : State) (a b : ℕ) → a ≢ b → (if a == b then s else t) ≡ t
 if-other s t a b other = let e : (a == b) ≡ false = grind (arith, nat_tests) in rw e refl
 
 -- the terminal that restarts is as new, and the others stay as they were

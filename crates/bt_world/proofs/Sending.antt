@@ -3,15 +3,13 @@ use Rattle.std.proofs.Common.{◌≡◌, ℕ, zero, suc, ◌+◌, ◌<◌, ◌�
 use Rattle.std.specs.List.{range_with_len}
 use Rattle.std.proofs.lemmas.List.{append-nil, length-map, map-append}
 use Rattle.std.proofs.lemmas.List.FromFn.{filter_of_map_range_with_len_more, length-map-range_with_len}
+use Rattle.bt_frame.proofs.OneNumber.{numbered}
 use Rattle.bt_frame.specs.declared.numbers.EditionNo.{EditionNo}
 use Rattle.bt_frame.specs.declared.numbers.TermNo.{TermNo}
 use Rattle.bt_air.specs.declared.sent.Sent.{Sent}
 use Rattle.bt_air.specs.declared.sent.Sent.TheVariants as sends
 use Rattle.bt_world.specs.Life.{terminals_of}
 use Rattle.bt_world.specs.World.{plans_for}
-
-abbrev numbered : ℕ → TermNo
-numbered n = record { 0 = n }
 
 -- one terminal more
 next-one : (p : TermNo → Bool) (edition : EditionNo) (k : ℕ) (test : Bool) → p (numbered k) ≡ test

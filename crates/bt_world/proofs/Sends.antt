@@ -1,8 +1,10 @@
 -- What a terminal transmits is what its events say.
 use Rattle.std.proofs.Common.{◌≡◌, ℕ, ◌==◌, ◌&&◌, if◌then◌else◌, Bool, true, false, List, [], ◌∷◌, filter, All, Option, Some, None, slice_get, refl, sym, ◌∙◌, ap, arith, subst, zero, suc}
 use Rattle.std.specs.Prelude.{IsSome}
+use Rattle.std.proofs.lemmas.Bool.{and_parts, eqb-true}
 use Rattle.std.proofs.lemmas.Bool.Decides.{nat_tests}
 use Rattle.std.proofs.lemmas.List.Elements.{All-nil, All-cons, All-append, All-head, All-tail, All-weaker, All-map, filter_passes}
+use Rattle.bt_frame.proofs.OneNumber.{same_edition}
 use Rattle.bt_frame.specs.declared.numbers.EditionNo.{EditionNo}
 use Rattle.bt_frame.specs.declared.numbers.Mark.{Mark}
 use Rattle.bt_frame.specs.declared.numbers.TermNo.{TermNo}
@@ -47,17 +49,13 @@ for-some all edition to bursts = All-map (HasPlanFor all) (λ (t : TermNo). send
 filtered-some : (all : List Plan) (edition : EditionNo) (to : List TermNo) → All (HasPlanFor all) (plans_for (filter (has_burst (plan_of all edition)) to) edition)
 filtered-some all edition to = for-some all edition (filter (has_burst (plan_of all edition)) to) (filter_passes (has_burst (plan_of all edition)) to)
 
-both-true : (a b : Bool) → (a && b) ≡ true → a ≡ true
-both-true true b e = refl
-both-true false b e = e
-
 missing-some : (all : List Plan) (placed : List Order) (confirmed : TermNo → Bool) (to : List TermNo)
     → All (HasPlanFor all) (last_plans placed (filter (λ (t : TermNo). is_missing_of placed all (confirmed t) t) to))
 missing-some all [] confirmed to = All-nil (HasPlanFor all)
 missing-some all (Arm command edition due ∷ earlier) confirmed to = All-nil (HasPlanFor all)
 missing-some all (Load command edition ∷ earlier) confirmed to =
     let test = λ (t : TermNo). is_missing_of (Load command edition ∷ earlier) all (confirmed t) t in
-    for-some all edition (filter test to) (λ k d h. both-true _ _ (filter_passes test to k d h))
+    for-some all edition (filter test to) (λ k d h. (and_parts _ _ (filter_passes test to k d h)).0)
 
 order-some : (all : List Plan) (placed : List Order) → All (HasPlanFor all) (order_again placed)
 order-some all [] = All-nil (HasPlanFor all)
@@ -257,12 +255,9 @@ world-banks o (Install plan ∷ earlier) number =
     (bank-still plan (plans o past) number (terminal o past number).banks.first banks.0, bank-still plan (plans o past) number (terminal o past number).banks.second banks.1)
 
 -- what is transmitted, by the banks
-same-edition : (a b : EditionNo) → (a.0 == b.0) ≡ true → a ≡ b
-same-edition a b e = let h : a.0 ≡ b.0 = grind (arith, nat_tests) in ap (λ (n : ℕ). record { 0 = n }) h
-
 bank-bursts : (all : List Plan) (number : TermNo) (bank : Bank) (edition : EditionNo) → (bank.edition.0 == edition.0) ≡ true → IsBankOf all number bank
     → bank.bursts ≡ bursts_for number (plan_of all edition)
-bank-bursts all number bank edition e is = is.bursts ∙ ap (λ (x : EditionNo). bursts_for number (plan_of all x)) (same-edition bank.edition edition e)
+bank-bursts all number bank edition e is = is.bursts ∙ ap (λ (x : EditionNo). bursts_for number (plan_of all x)) (same_edition bank.edition edition (eqb-true _ _ e))
 
 one-bank : (all : List Plan) (number : TermNo) (a : Bank) (edition : EditionNo) (first : Bool) → (a.edition.0 == edition.0) ≡ first → IsBankOf all number a
     → bank_bursts (bank_of (record { first = Some a; second = None }) edition) ≡ bursts_under all number (where_held (a.edition ∷ []) (Some edition))

@@ -1,9 +1,11 @@
 -- Worlds that are worlds: the example's.
 use Rattle.std.proofs.Common.{◌≡◌, ◌≢◌, inl, inr, ℕ, ◌<◌, ◌≤◌, ◌==◌, ◌&&◌, nat_lt, is_some, Bool, true, false, List, [], ◌∷◌, length, All, AllPairs, Option, Some, None, refl, sym, ap, arith}
+use Rattle.std.proofs.lemmas.Bool.{eqb-true}
 use Rattle.std.proofs.lemmas.Bool.Decides.{nat_tests}
 use Rattle.std.proofs.lemmas.List.Elements.{All-nil, All-cons}
 use Rattle.std.proofs.lemmas.List.Kept.{AllPairs-cons}
 use Rattle.std.proofs.lemmas.List.Sorted.{IsPermutation-refl}
+use Rattle.bt_frame.proofs.OneNumber.{same_edition}
 use Rattle.bt_frame.specs.declared.mode.Mode.{Mode}
 use Rattle.bt_frame.specs.declared.numbers.BeamNo.{BeamNo}
 use Rattle.bt_frame.specs.declared.numbers.EditionNo.{EditionNo}
@@ -58,9 +60,6 @@ second-of false y e = cc
 below : (x y : ℕ) → nat_lt x y ≡ true → x < y
 below x y e = grind (arith, nat_tests)
 
-same-edition : (x y : EditionNo) → (x.0 == y.0) ≡ true → x ≡ y
-same-edition x y e = let s : x.0 ≡ y.0 = grind (arith, nat_tests) in ap (λ (n : ℕ). let edition : EditionNo = record { 0 = n } in edition) s
-
 at-place : (o : Opening) (place : Place) → is_place o place ≡ true → IsPlace o place
 at-place o Satellite e = tt
 at-place o Centre e = tt
@@ -71,7 +70,7 @@ pub world-by : (o : Opening) (events : List Event) → IsOpening o → AreFlyabl
 world-by o [] opening fit passes = opening
 world-by o (Tick ∷ earlier) opening fit passes =
     (below (mark o (log o earlier)) 4000000000 (first-of _ (all_meet o earlier) passes), world-by o earlier opening fit (second-of _ (all_meet o earlier) passes))
-world-by o (Turn newest ∷ earlier) opening fit passes = (same-edition newest _ (first-of _ (all_meet o earlier) passes), world-by o earlier opening fit (second-of _ (all_meet o earlier) passes))
+world-by o (Turn newest ∷ earlier) opening fit passes = (same_edition newest _ (eqb-true _ _ (first-of _ (all_meet o earlier) passes)), world-by o earlier opening fit (second-of _ (all_meet o earlier) passes))
 world-by o (Ordered ∷ earlier) opening fit passes = (first-of _ _ passes, world-by o earlier opening fit (second-of _ (all_meet o earlier) passes))
 world-by o (Deliver message place ∷ earlier) opening fit passes =
     let one = first-of (nat_lt message (length (sent o (log o earlier))) && is_place o place) (all_meet o earlier) passes in (
