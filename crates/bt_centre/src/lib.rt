@@ -24,6 +24,7 @@ mod total;
 pub use bt_round::{Gate, NoGate};
 pub use fault::print_fault;
 pub use history::{Histories, History};
+pub use joining_laws::orders_join_as_told;
 pub use print::print_text;
 pub use script::{RunEnd, run_script};
 pub use status::{

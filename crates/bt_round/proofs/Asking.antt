@@ -67,22 +67,6 @@ calls_on_unseen table start old new so same seen =
 abbrev pub made : ℕ → Call → Reply → Entry
 made caller asked reply = record { caller = caller; call = asked; reply = reply }
 
--- an answered call is the caller's next entry
-pub own_grows : (start : Books) (old new : Place Books Call Reply) (number : ℕ) (asked : Call) (reply : Reply) → IsSamePass old new → old.me.0.number ≡ number
-    → Gains book_steps start (seen_at old) (entry_of number asked reply) (seen_at new)
-    → own_in new.me.0.number (seen_at new) ≡ own_in old.me.0.number (seen_at old) ++ made number asked reply ∷ []
-own_grows start old new number asked reply same is gains =
-    ap (λ (n : ℕ). own_in n (seen_at new)) (same.number_is ∙ is)
-    ∙ ap (map journal_entry) gains.own
-    ∙ map-append journal_entry (calls_by number (seen_at old)) (entry_of number asked reply ∷ [])
-    ∙ ap (λ (n : ℕ). own_in n (seen_at old) ++ made number asked reply ∷ []) (sym is)
-
--- and one that was not answered leaves none
-pub own_stays : (old new : Place Books Call Reply) → IsSamePass old new → seen_at new ≡ seen_at old
-    → own_in new.me.0.number (seen_at new) ≡ own_in old.me.0.number (seen_at old)
-own_stays old new same seen =
-    ap (λ (n : ℕ). own_in n (seen_at new)) same.number_is ∙ ap (λ (log : List (line.Entry Call Reply)). own_in old.me.0.number log) seen
-
 -- calls of a line are steps, after changes that follow
 abbrev pub AreAnswered : Type 0
 AreAnswered = (start end : Books) (before : List (line.Entry Call Reply)) (entry : line.Entry Call Reply)

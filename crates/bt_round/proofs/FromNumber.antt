@@ -66,28 +66,12 @@ module _
         so ∙ ap (λ (i : ℕ). before ++ all first (take (i - first) (drop first xs))) end
         ∙ ap (λ (l : List Sent). before ++ all first l) (take_rest xs first)
 
--- who is to hear the messages so far, before the first
-pub deliveries-begun : (everyone : List TermNo) (first : ℕ) (xs : List Sent) (before : List (ℕ × Place))
-    → before ≡ before ++ deliveries everyone first (take (first - first) (drop first xs))
-deliveries-begun everyone first xs before =
-    begun (λ n x. deliveries_of n (receivers everyone x)) (deliveries everyone) (λ n. refl) (λ n x l. refl) first xs before
-
 -- and with one message more
 pub deliveries-more : (everyone : List TermNo) (first k : ℕ) (xs : List Sent) (x : Sent) (before now after : List (ℕ × Place)) → first ≤ k → slice_get xs k ≡ Some x
     → now ≡ before ++ deliveries everyone first (take (k - first) (drop first xs)) → after ≡ now ++ deliveries_of k (receivers everyone x)
     → after ≡ before ++ deliveries everyone first (take (k + 1 - first) (drop first xs))
 deliveries-more everyone first k xs x before now after from is so added =
     stepped (λ n y. deliveries_of n (receivers everyone y)) (deliveries everyone) (λ n. refl) (λ n y l. refl) first k xs x before now after from is so added
-
--- and behind the last
-pub deliveries-ended : (everyone : List TermNo) (first k : ℕ) (xs : List Sent) (before now : List (ℕ × Place)) → k ≡ length xs
-    → now ≡ before ++ deliveries everyone first (take (k - first) (drop first xs)) → now ≡ before ++ deliveries everyone first (drop first xs)
-deliveries-ended everyone first k xs before now end so =
-    ended (λ n x. deliveries_of n (receivers everyone x)) (deliveries everyone) (λ n. refl) (λ n x l. refl) first k xs before now end so
-
--- the lines of the messages so far, before the first
-pub lines-begun : (net : Net) (first : ℕ) (xs : List Sent) (before : List ℕ) → before ≡ before ++ sent_lines net first (take (first - first) (drop first xs))
-lines-begun net first xs before = begun (sent_line net) (sent_lines net) (λ n. refl) (λ n x l. refl) first xs before
 
 -- and with one message more
 pub lines-more : (net : Net) (first k : ℕ) (xs : List Sent) (x : Sent) (before now after : List ℕ) → first ≤ k → slice_get xs k ≡ Some x

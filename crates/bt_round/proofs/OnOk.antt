@@ -20,10 +20,6 @@ on_three (Err fault) one two three so = tt
 pub when_ok : {T E P : Type 0} (result : Result T E) (value : T) → result ≡ Ok value → OnOk result P → P
 when_ok {T} {E} {P} result value is holds = subst (λ (r : Result T E). OnOk r P) is holds
 
--- the same of what it gave
-pub when_given : {T E : Type 0} (P : T → Type 0) (result : Result T E) (value : T) → result ≡ Ok value → IfOk result P → P value
-when_given {T} {E} P result value is holds = subst (λ (r : Result T E). IfOk r P) is holds
-
 -- and where it is known to have succeeded
 pub where_ok : {T E P : Type 0} (result : Result T E) → IsOk result → OnOk result P → P
 where_ok (Ok value) ok holds = holds

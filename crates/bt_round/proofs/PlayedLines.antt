@@ -14,12 +14,6 @@ use Rattle.bt_world.specs.Fits.{IsPlace}
 use Rattle.bt_round.specs.AirLines.{AirState, PlaysAirLine, PlaysAirLines}
 use Rattle.bt_round.specs.Worker.{Asks, Plays}
 
--- an end of the air of the network
-pub place-own : (o : Opening) (net : Net) (at : Place) → o.net ≡ net → IsPlaceFor net at → IsPlace o at
-place-own o net place.Satellite same own = tt
-place-own o net place.Centre same own = tt
-place-own o net (place.Terminal terminal) same own = subst (λ (n : Net). terminal.0 < length n.terminals) (sym same) own
-
 -- a line that asks nothing of the book
 pub asks-nothing : (line : List ℕ → AirState → Type 0) (air : AirState) (history : List Entry) (before text : List ℕ) → Plays line air before text
     → Asks (λ entries own after. (entries ≡ []) × line own after) air history history before text

@@ -81,14 +81,6 @@ can-still life event waiting all =
     record { sent = omega (arith, size, can.sent); place = can.place })
     waiting all
 
--- an event happened, and nobody waits yet for what it sent
-pub running-before : (air : AirState) (event : Event) → IsRunning air → Meets air.life.opening (happened air) event
-    → IsRunning (record { life = having_had air.life event; waiting = air.waiting })
-running-before air event running meets = record {
-  world = world-having air.life event running.world meets;
-  waiting = can-still air.life event air.waiting running.waiting;
-}
-
 -- an event happened, and what it sent waits
 pub running-having : (air : AirState) (event : Event) → IsRunning air → Meets air.life.opening (happened air) event → IsRunning (having air event)
 running-having air event running meets = record {
@@ -122,14 +114,6 @@ steps-to air life now waiting after event step =
     ap (λ (l : Life). record { life = l; waiting = after }) step.stepped in
     lives ∙ ap (λ (w : List (ℕ × Place)). record { life = having_had life event; waiting = w }) joined
     ∙ ap (λ (a : AirState). having a event) step.began
-
--- the same without what was sent
-pub running-step : (air : AirState) (life now : Life) (waiting : List (ℕ × Place)) (event : Event) → record { life = life; waiting = waiting } ≡ air → now ≡ having_had life event
-    → IsRunning (record { life = life; waiting = waiting }) → Meets air.life.opening (happened air) event → IsRunning (record { life = now; waiting = waiting })
-running-step air life now waiting event before after running meets =
-    let here : Meets life.opening (past_of life) event = subst (λ (a : AirState). Meets a.life.opening (happened a) event) (sym before) meets in
-    subst (λ (l : Life). IsRunning (record { life = l; waiting = waiting })) (sym after)
-    (running-before (record { life = life; waiting = waiting }) event running here)
 
 -- by the numbers that are counted
 pub counted-steps : (air : AirState) (life now : Life) (waiting after : List (ℕ × Place)) (event : Event) (net : Net) (count first : ℕ)

@@ -248,24 +248,6 @@ own_in_all log place caller at seen =
 pub none_in_all : (log : List (line.Entry Call Reply)) (number : ℕ) → calls_by number log ≡ [] → calls_of (map journal_entry log) number ≡ []
 none_in_all log number none = calls_in_log log number ∙ ap (map journal_entry) none
 
--- the worker at place 0 has the air
-pub no_other_air : (job : Job) → IsOfPlace 0 job → ((lines : _) (centre : AirState) → job ≡ Air lines centre → ⊥) → ⊥
-no_other_air (Air lines centre) place none = none lines centre refl
-no_other_air (Plans count publisher) place none = omega (arith, place)
-no_other_air (Desk desk lines reader) place none = omega (arith, place)
-
--- the one at place 1 has the publisher
-pub no_other_plans : (job : Job) → IsOfPlace 1 job → ((count : ℕ) (publisher : Posted) → job ≡ Plans count publisher → ⊥) → ⊥
-no_other_plans (Air lines centre) place none = omega (arith, place)
-no_other_plans (Plans count publisher) place none = none count publisher refl
-no_other_plans (Desk desk lines reader) place none = omega (arith, place)
-
--- and one at a place behind has a reader
-pub no_other_desk : (job : Job) → IsOfPlace 2 job → ((desk : ℕ) (lines : _) (reader : Posted) → job ≡ Desk desk lines reader → ⊥) → ⊥
-no_other_desk (Air lines centre) place none = omega (arith, place)
-no_other_desk (Plans count publisher) place none = omega (arith, place)
-no_other_desk (Desk desk lines reader) place none = none desk lines reader refl
-
 -- a worker behind the second is a desk
 pub behind_is_desk : (job : Job) (place : ℕ) → 1 < place → IsOfPlace place job → IsOfPlace 2 job
 behind_is_desk (Air lines centre) place behind at = absurd (omega (arith, behind, at))

@@ -31,26 +31,10 @@ none-asked net air want history text none = record {
   added = sym (append-nil text);
 }
 
--- the order that is wanted is asked to be placed
-pub order-asked : (net : Net) (air after : AirState) (want : Option Order) (order : Order) (entry : Entry) (history now : List Entry) (text later : List ℕ) → want ≡ Some order
-    → entry.caller ≡ 0 → entry.call ≡ call.Place order → now ≡ history ++ entry ∷ [] → after ≡ once_answered air entry.reply
-    → later ≡ text ++ (order_line order ++ answer_text net air entry.reply) → Asks (PlaysOrder net air want) after history now text later
-order-asked net air after want order entry history now text later is caller asked kept answered added = record {
-  entries = entry ∷ [];
-  own = order_line order ++ answer_text net air entry.reply;
-  played = subst (λ (w : Option Order). PlaysOrder net air w (entry ∷ []) (order_line order ++ answer_text net air entry.reply) after) (sym is) (asked, refl, answered);
-  callers = All-cons (λ (e : Entry). e.caller ≡ 0) entry [] caller (All-nil (λ (e : Entry). e.caller ≡ 0));
-  kept = kept;
-  added = added;
-}
-
 -- the plan that the book lends is newer
 newer-known : (b : Bool) (after : EditionNo) (plan : Plan) → nat_lt after.0 plan.edition.0 ≡ b → IfSome (if b then Some plan else None) (λ (p : Plan). after.0 < p.edition.0)
 newer-known true after plan e = ltb-true after.0 plan.edition.0 e
 newer-known false after plan e = tt
-
-pub newer-is : (after : EditionNo) (plan : Plan) (newer : Option Plan) → newer ≡ newer_than after plan → IfSome newer (λ (p : Plan). after.0 < p.edition.0)
-newer-is after plan newer is = subst (λ (n : Option Plan). IfSome n (λ (p : Plan). after.0 < p.edition.0)) (sym is) (newer-known (nat_lt after.0 plan.edition.0) after plan refl)
 
 holds-known : (P : Plan → Type 0) (b : Bool) (plan : Plan) → P plan → IfSome (if b then Some plan else None) P
 holds-known P true plan holds = holds

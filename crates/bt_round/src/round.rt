@@ -39,27 +39,36 @@ pub struct Station<K: Keeper> {
     pub centre: CentreWorker,
 }
 
-/// All workers do their lines at once, each on a thread of its own where one can be made. Where one of them at most has
-/// lines, that is done on this thread, since a thread takes longer to make.
+/// All workers do their lines: the first `apart` of them at once, each on a thread of its own where one can be made, and
+/// then the others one after the other.
 fn work_all<R: Threads + Wait + Sync, G: Gate + Sync, K: Keeper + Send>(
     rt: &R,
     alloc: Global,
     net: &Network,
-    busy: usize,
+    apart: usize,
     workers: &mut [Worker<'_, G, K>],
 )
-    requires some { 0 < length workers.old }
+    requires apart { apart ≤ length workers.old }
     requires can { All (λ worker. (worker.caller.start.net ≡ net.now) × CanDo net.now worker.caller worker.job) workers.old }
     ensures length { length workers.new ≡ length workers.old }
     ensures done { (i : ℕ) (d : _) → i < length workers.old → WorkDone net.now (slice_index_or workers.old i d) (slice_index_or workers.new i d) }
 {
-    let size = if busy < 2 { workers.len() } else { 1 };
-    for_each_chunk_mut(
-        rt,
-        workers,
-        size,
-        &|_, part| work_part(rt, alloc, net, part),
-    );
+    work_apart(rt, alloc, net, &mut workers[..apart]);
+    work_part(rt, alloc, net, &mut workers[apart..]);
+}
+
+/// Workers do their lines at once, each on a thread of its own where one can be made.
+fn work_apart<R: Threads + Wait + Sync, G: Gate + Sync, K: Keeper + Send>(
+    rt: &R,
+    alloc: Global,
+    net: &Network,
+    workers: &mut [Worker<'_, G, K>],
+)
+    requires can { All (λ worker. (worker.caller.start.net ≡ net.now) × CanDo net.now worker.caller worker.job) workers.old }
+    ensures length { length workers.new ≡ length workers.old }
+    ensures done { (i : ℕ) (d : _) → i < length workers.old → WorkDone net.now (slice_index_or workers.old i d) (slice_index_or workers.new i d) }
+{
+    for_each_chunk_mut(rt, workers, 1, &|_, part| work_part(rt, alloc, net, part));
 }
 
 /// Workers do their lines one after the other.
@@ -78,12 +87,21 @@ fn work_part<R: Wait, G: Gate, K: Keeper>(
     }
 }
 
-/// How many workers of a round have lines.
-fn busy_count(round: &Round) -> usize {
-    let desks = round.desks.as_slice().len();
+/// How many places of a round, from the first on, get threads: those up to the last whose worker has lines. Where one
+/// worker at most has lines that is done on this thread, since a thread takes longer to make.
+fn seats_apart(round: &Round) -> usize
+    ensures { result ≤ SEATS }
+{
+    let desks = round.desks.as_slice();
     let planner = usize::from(0 < round.plans);
     let centre = usize::from(!round.air.as_slice().is_empty());
-    desks.saturating_add(planner + centre)
+    if desks.len().saturating_add(planner + centre) < 2 {
+        return 0;
+    }
+    match desks.last() {
+        Some(desk) => usize::from(desk.0) + 2,
+        None => 2,
+    }
 }
 
 /// Appends the texts of a round's workers: of its desks by number, of the planner and of the centre's worker. None of
@@ -191,7 +209,7 @@ fn run_on<'a, R: Threads + Wait + Sync, G: Gate + Sync, K: Keeper + Send>(
         Err(fault) => return (crew, Err(fault)),
     };
     let mut workers = seat_all(alloc, gate, line, round, crew, workers);
-    work_all(rt, alloc, net, busy_count(round), &mut workers[..]);
+    work_all(rt, alloc, net, seats_apart(round), &mut workers[..]);
     let ended = add_texts(round, &workers[..], text);
     let mut crew = take_apart(workers, passes, readers);
     let met = meet_all(rt, ended, &mut crew.publisher, &mut crew.readers[..]);
