@@ -13,8 +13,8 @@ use std::alloc::Global;
 
 /// The message that the bytes are, or their first fault from the left.
 pub fn decode(alloc: Global, bytes: &[u8]) -> Result<Message, AirFault>
-    requires { length bytes.now ≤ MOST_TEXT_BYTES }
-    ensures { Gives (λ message. message) result (message_of bytes.now) }
+    requires short { length bytes.now ≤ MOST_TEXT_BYTES }
+    ensures reading { Gives (λ message. message) result (message_of bytes.now) }
 {
     let mut unread = Unread::of(bytes);
     let message = message(alloc, &mut unread)?;

@@ -32,22 +32,22 @@ impl<'a> Model for Unread<'a> {
 impl<'a> Unread<'a> {
     /// All the bytes of a message.
     pub fn of(bytes: &'a [u8]) -> Self
-        requires { length bytes.now ≤ MOST_TEXT_BYTES }
-        ensures { result ≡ record { bytes = bytes.now; place = 0 } }
+        requires short { length bytes.now ≤ MOST_TEXT_BYTES }
+        ensures made { result ≡ record { bytes = bytes.now; place = 0 } }
     {
         Unread { bytes, place: 0 }
     }
 
     /// The place at which they begin.
     pub fn place(&self) -> u32
-        ensures { result ≡ self.now.place }
+        ensures place { result ≡ self.now.place }
     {
         self.place
     }
 
     /// Nothing, if none are left.
     pub fn end(&self) -> Result<(), AirFault>
-        ensures { Gives (λ nothing. nothing) result (end_in self.now) }
+        ensures reading { Gives (λ nothing. nothing) result (end_in self.now) }
     {
         if self.bytes.is_empty() {
             Ok(())
@@ -58,7 +58,7 @@ impl<'a> Unread<'a> {
 
     /// The number that the next byte is.
     pub fn byte(&mut self) -> Result<u8, AirFault>
-        ensures { Takes (λ number. number) result self.new (number_in w8 self.old) }
+        ensures reading { Takes (λ number. number) result self.new (number_in w8 self.old) }
     {
         let place = self.place;
         if self.bytes.len() < 1 {
@@ -72,7 +72,7 @@ impl<'a> Unread<'a> {
 
     /// The number that the next two bytes are.
     pub fn short(&mut self) -> Result<u16, AirFault>
-        ensures { Takes (λ number. number) result self.new (number_in w16 self.old) }
+        ensures reading { Takes (λ number. number) result self.new (number_in w16 self.old) }
     {
         let place = self.place;
         if self.bytes.len() < 2 {
@@ -86,7 +86,7 @@ impl<'a> Unread<'a> {
 
     /// The number that the next four bytes are.
     pub fn word(&mut self) -> Result<u32, AirFault>
-        ensures { Takes (λ number. number) result self.new (number_in w32 self.old) }
+        ensures reading { Takes (λ number. number) result self.new (number_in w32 self.old) }
     {
         let place = self.place;
         if self.bytes.len() < 4 {
@@ -100,7 +100,7 @@ impl<'a> Unread<'a> {
 
     /// The next byte, which is from `least` to `most`.
     pub fn byte_within(&mut self, least: u8, most: u8) -> Result<u8, AirFault>
-        ensures { Takes (λ number. number) result self.new (ranged_in w8 least most self.old) }
+        ensures reading { Takes (λ number. number) result self.new (ranged_in w8 least most self.old) }
     {
         let place = self.place;
         let number = self.byte()?;
@@ -113,7 +113,7 @@ impl<'a> Unread<'a> {
 
     /// The number of the next two bytes, which is from `least` to `most`.
     pub fn short_within(&mut self, least: u16, most: u16) -> Result<u16, AirFault>
-        ensures { Takes (λ number. number) result self.new (ranged_in w16 least most self.old) }
+        ensures reading { Takes (λ number. number) result self.new (ranged_in w16 least most self.old) }
     {
         let place = self.place;
         let number = self.short()?;
@@ -126,7 +126,7 @@ impl<'a> Unread<'a> {
 
     /// The number of the next four bytes, which is from `least` to `most`.
     pub fn word_within(&mut self, least: u32, most: u32) -> Result<u32, AirFault>
-        ensures { Takes (λ number. number) result self.new (ranged_in w32 least most self.old) }
+        ensures reading { Takes (λ number. number) result self.new (ranged_in w32 least most self.old) }
     {
         let place = self.place;
         let number = self.word()?;

@@ -18,7 +18,7 @@ pub struct DirFiles<'a, R> {
 impl<'a, R: rt::Files> DirFiles<'a, R> {
     /// The files that this runtime reaches.
     pub fn new(rt: &'a R) -> DirFiles<'a, R>
-        ensures { ⟦<DirFiles<'a, R> as Files>⟧.fault_count result ≡ 0 }
+        ensures faults { ⟦<DirFiles<'a, R> as Files>⟧.fault_count result ≡ 0 }
     {
         DirFiles { rt, faults: 0 }
     }

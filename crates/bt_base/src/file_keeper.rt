@@ -18,7 +18,7 @@ use std::{io, rt};
 pub struct FileKeeper<'a, R: rt::Files> {
     rt: &'a R,
     path: &'a str,
-    /// The file, from the first piece that was written to it on; none after a piece that could not be written.
+    /// The file, from a piece that was written on until the store is read or a piece could not be written.
     file: Option<R::File>,
     faults: u64,
 }
@@ -26,7 +26,7 @@ pub struct FileKeeper<'a, R: rt::Files> {
 impl<'a, R: rt::Files> FileKeeper<'a, R> {
     /// The store over the file of that path, as this runtime reaches it. Nothing is opened yet.
     pub fn new(rt: &'a R, path: &'a str) -> FileKeeper<'a, R>
-        ensures { ⟦<FileKeeper<'a, R> as Keeper>⟧.fault_count result ≡ 0 }
+        ensures faults { ⟦<FileKeeper<'a, R> as Keeper>⟧.fault_count result ≡ 0 }
     {
         FileKeeper {
             rt,
@@ -71,6 +71,8 @@ impl<R: rt::Files> Keeper for FileKeeper<'_, R> {
     }
 
     fn read_all(&mut self, alloc: Global) -> Result<Vec<u8>, KeepFault> {
+        // What is written from here on is written to the file that is read now.
+        self.file = None;
         match read_store(self.rt, alloc, self.path) {
             Ok(bytes) => Ok(bytes),
             Err(fault) => Err(self.counted(fault)),

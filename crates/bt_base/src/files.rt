@@ -46,7 +46,7 @@ pub trait Files {
 
     /// How often a read failed, up to the last value of its type.
     fn faults(&self) -> u64
-        ensures { result ≡ fault_count self.now };
+        ensures count { result ≡ fault_count self.now };
 
     /// The whole file of that name, of at most `limit` bytes.
     fn read(&mut self, alloc: Global, name: &str, limit: u64) -> Result<Vec<u8>, FileFault>

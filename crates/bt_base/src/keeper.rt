@@ -47,7 +47,7 @@ pub trait Keeper {
 
     /// How often a call failed, up to the last value of its type.
     fn faults(&self) -> u64
-        ensures { result ≡ fault_count self.now };
+        ensures count { result ≡ fault_count self.now };
 
     /// Keeps the piece behind what was kept before. A failed call may have kept a first part of it.
     fn append(&mut self, alloc: Global, piece: &[u8]) -> Result<(), KeepFault>
@@ -69,7 +69,7 @@ pub trait Keeper {
 
     /// Keeps the first `length` bytes. A failed call has cut, or has left all as it was.
     fn cut(&mut self, alloc: Global, length: u64) -> Result<(), KeepFault>
-        requires { HasBytes length (told self.old) }
+        requires bytes { HasBytes length (told self.old) }
         ensures ok { OnOk result (told self.new ≡ shortened (told self.old) length) }
         ensures failed { IsErrOf result KeepFault.Failed
             → (told self.new ≡ told self.old) ⊎ (told self.new ≡ shortened (told self.old) length) }

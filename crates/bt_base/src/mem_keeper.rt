@@ -40,7 +40,7 @@ impl MemKeeper {
 
     /// The bytes kept, however many.
     pub fn kept(&self) -> &[u8]
-        ensures { result.now ≡ self.now.bytes }
+        ensures bytes { result.now ≡ self.now.bytes }
     {
         self.bytes.as_slice()
     }

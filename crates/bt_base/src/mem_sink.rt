@@ -38,7 +38,7 @@ impl MemSink {
 
     /// The bytes written so far.
     pub fn written(&self) -> &[u8]
-        ensures { result.now ≡ self.now.bytes }
+        ensures bytes { result.now ≡ self.now.bytes }
     {
         self.bytes.as_slice()
     }

@@ -43,7 +43,7 @@ pub trait Sink {
 
     /// How often a write failed, up to the last value of its type.
     fn faults(&self) -> u64
-        ensures { result ≡ fault_count self.now };
+        ensures count { result ≡ fault_count self.now };
 
     /// Writes the whole piece behind what was written before.
     fn write(&mut self, alloc: Global, piece: &[u8]) -> Result<(), SinkFault>

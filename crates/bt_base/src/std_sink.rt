@@ -19,7 +19,7 @@ pub struct StdSink<W> {
 impl<W: Write> StdSink<W> {
     /// A sink that writes to `out`.
     pub fn new(out: W) -> StdSink<W>
-        ensures { ⟦<StdSink<W> as Sink>⟧.fault_count result ≡ 0 }
+        ensures faults { ⟦<StdSink<W> as Sink>⟧.fault_count result ≡ 0 }
     {
         StdSink { out, faults: 0 }
     }

@@ -26,7 +26,7 @@ impl Model for SureFiles {
 impl SureFiles {
     /// These files, a name and contents each. A later file of the same name is never read.
     pub fn new(files: Vec<(String, Vec<u8>)>) -> SureFiles
-        ensures { result ≡ named files.items }
+        ensures files { result ≡ named files.items }
     {
         SureFiles { files }
     }

@@ -24,14 +24,14 @@ impl Model for SureKeeper {
 impl SureKeeper {
     /// These bytes, kept so far.
     pub fn new(bytes: Vec<u8>) -> SureKeeper
-        ensures { result ≡ bytes.items }
+        ensures bytes { result ≡ bytes.items }
     {
         SureKeeper { bytes }
     }
 
     /// The bytes kept, however many.
     pub fn kept(&self) -> &[u8]
-        ensures { result.now ≡ self.now }
+        ensures bytes { result.now ≡ self.now }
     {
         self.bytes.as_slice()
     }

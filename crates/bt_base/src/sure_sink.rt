@@ -23,7 +23,7 @@ impl Model for SureSink {
 impl SureSink {
     /// Empty. It keeps what is written in memory of `alloc`.
     pub fn new(alloc: Global) -> SureSink
-        ensures { result ≡ [] }
+        ensures bytes { result ≡ [] }
     {
         SureSink {
             bytes: Vec::new(alloc),
@@ -32,7 +32,7 @@ impl SureSink {
 
     /// The bytes written so far.
     pub fn written(&self) -> &[u8]
-        ensures { result.now ≡ self.now }
+        ensures bytes { result.now ≡ self.now }
     {
         self.bytes.as_slice()
     }

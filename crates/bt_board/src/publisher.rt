@@ -173,7 +173,7 @@ impl Publisher {
     /// Of the publisher's list and a reader's of one board, one begins the other. It does nothing when it runs.
     pub fn compare(&self, reader: &Reader)
         requires same { reader.now.board ≡ self.now.board }
-        ensures { IsPrefix reader.now.plans self.now.plans ⊎ IsPrefix self.now.plans reader.now.plans }
+        ensures begins { IsPrefix reader.now.plans self.now.plans ⊎ IsPrefix self.now.plans reader.now.plans }
     {
         let mut both = self.seen.again();
         both.learn(&reader.kept.seen);

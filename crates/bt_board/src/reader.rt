@@ -115,7 +115,7 @@ impl Reader {
     /// Of the lists of two readers of one board, one begins the other. It does nothing when it runs.
     pub fn compare(&self, other: &Reader)
         requires same { other.now.board ≡ self.now.board }
-        ensures { IsPrefix self.now.plans other.now.plans ⊎ IsPrefix other.now.plans self.now.plans }
+        ensures begins { IsPrefix self.now.plans other.now.plans ⊎ IsPrefix other.now.plans self.now.plans }
     {
         let mut both = self.kept.seen.again();
         both.learn(&other.kept.seen);

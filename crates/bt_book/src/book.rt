@@ -158,51 +158,51 @@ impl<K: Keeper> Book<K> {
 
     /// The last edition of the demand: how many edits were made.
     pub fn edition(&self) -> EditionNo
-        ensures { result.0 ≡ edition self.now.state.changes }
+        ensures edition { result.0 ≡ edition self.now.state.changes }
     {
         self.machine.edition()
     }
 
     /// How many changes were made.
     pub fn change_count(&self) -> u32
-        ensures { result ≡ length self.now.state.changes }
+        ensures count { result ≡ length self.now.state.changes }
     {
         self.machine.change_count()
     }
 
     /// The demand after the changes.
     pub fn demand(&self) -> &Demand
-        ensures { IsDemandAfter self.now.state.changes result.now }
+        ensures demand { IsDemandAfter self.now.state.changes result.now }
     {
         self.machine.demand()
     }
 
     /// The demand of an edition: that after as many edits. The edition is not past the last.
     pub fn demand_at(&self, alloc: Global, number: EditionNo) -> Result<Demand, OutOfMemory>
-        requires { number.0 ≤ edition self.now.state.changes }
-        ensures { IfOk result (λ demand. IsDemandAt self.now.state.changes number.0 demand) }
+        requires number { number.0 ≤ edition self.now.state.changes }
+        ensures demand { IfOk result (λ demand. IsDemandAt self.now.state.changes number.0 demand) }
     {
         self.machine.demand_at(alloc, number)
     }
 
     /// The newest plan: the last that was installed, or the empty one.
     pub fn newest(&self) -> &Plan
-        ensures { result.now ≡ newest self.now.state.changes }
+        ensures newest { result.now ≡ newest self.now.state.changes }
     {
         self.machine.newest()
     }
 
     /// How many plans are installed: the empty one of edition 0, and those that the changes installed.
     pub fn plan_count(&self) -> u32
-        ensures { result ≡ length (plans self.now.state.changes) }
+        ensures count { result ≡ length (plans self.now.state.changes) }
     {
         self.machine.plan_count()
     }
 
     /// The plan at a place, in the order in which they were installed.
     pub fn plan(&self, place: u32) -> &Plan
-        requires { place < length (plans self.now.state.changes) }
-        ensures { result.now ≡ slice_index_or (plans self.now.state.changes) place empty_plan }
+        requires place { place < length (plans self.now.state.changes) }
+        ensures plan { result.now ≡ slice_index_or (plans self.now.state.changes) place empty_plan }
     {
         self.machine.plan(place)
     }
@@ -217,8 +217,8 @@ impl<K: Keeper> Book<K> {
 
     /// The order at a place, in the order in which they were placed.
     pub fn order(&self, place: u32) -> Order
-        requires { place < length (orders self.now.state.changes) }
-        ensures { HoldsAt (λ order. result ≡ order) (orders self.now.state.changes) place }
+        requires place { place < length (orders self.now.state.changes) }
+        ensures order { HoldsAt (λ order. result ≡ order) (orders self.now.state.changes) place }
     {
         self.machine.order(place)
     }

@@ -29,7 +29,7 @@ pub fn histories_grow_by_steps()
 
 /// A legal history that begins with changes that follow leaves changes that follow.
 pub fn legal_changes_follow()
-    ensures { (net : Net) (opening : List Change) (history : List Entry) → Follows net opening
+    ensures follows { (net : Net) (opening : List Change) (history : List Entry) → Follows net opening
         → Legal net opening history → Follows net (opening ++ changes_of history) }
 {}
 
@@ -71,7 +71,7 @@ pub fn locked_books_go_on()
 /// Each call that a turn lock makes on a book is answered by a step of the machine, from the state that the calls before it
 /// led to, and after changes that follow where those at the start do.
 pub fn locked_calls_are_steps()
-    ensures { (start end : Books) (before : List (line.Entry Call Reply)) (entry : line.Entry Call Reply)
+    ensures step { (start end : Books) (before : List (line.Entry Call Reply)) (entry : line.Entry Call Reply)
         → Follows start.net start.state.changes → line_legal.Legal book_steps start (before ++ entry ∷ []) end
         → (old : State) × (new : State) × (old ≡ state_from start.state (map journal_entry before))
         × Follows start.net old.changes × Step start.net old entry.call entry.reply new }
@@ -79,12 +79,12 @@ pub fn locked_calls_are_steps()
 
 /// Each plan that changes that follow install carries exactly the demand of its edition, in the least length.
 pub fn installed_plans_are_good()
-    ensures { (net : Net) (changes : List Change) → Follows net changes
+    ensures good { (net : Net) (changes : List Change) → Follows net changes
         → All (IsGoodForItsEdition net changes) (installs changes) }
 {}
 
 /// The beams that a reply names are the network's.
 pub fn replies_name_beams_of_the_network()
-    ensures { (net : Net) (old : State) (call : Call) (reply : Reply) (new : State)
+    ensures beams { (net : Net) (old : State) (call : Call) (reply : Reply) (new : State)
         → IsSound net → Step net old call reply new → NamesBeams net reply }
 {}

@@ -23,13 +23,27 @@ pub fn put_cutting(
     out: &mut String,
 ) -> Result<()> {
     let [net, traffic, modes] = texts;
+    let edition = EditionNo(number_of(edition)?);
     let net = network_from(alloc, net)?;
     let demand = demand_from(alloc, &net, traffic)?;
-    see_fit(alloc, &net, &demand)?;
-    let schedule = schedule_from(alloc, net.beam_count(), modes)?;
-    let edition = EditionNo(number_of(edition)?);
-    let text = cut_text(alloc, &net, &demand, edition, schedule)?;
+    let text = text_cut_from(alloc, &net, &demand, edition, modes)?;
     put_lines(alloc, &text, Part::All, out)
+}
+
+/// The text of the plan that is cut from the schedule that a text is read as.
+fn text_cut_from(
+    alloc: Global,
+    net: &Network,
+    demand: &Demand,
+    edition: EditionNo,
+    modes: &[u8],
+) -> Result<Vec<u8>>
+    requires terminals { AreOfNetwork net.now demand.now }
+    requires sums { HasSumsTo MOST_SUM (matrix_of net.now demand.now) }
+{
+    see_fit(alloc, net, demand)?;
+    let schedule = schedule_from(alloc, net.beam_count(), modes)?;
+    cut_text(alloc, net, demand, edition, schedule)
 }
 
 /// The text of the plan that is cut from a schedule, which must be good for the demand.

@@ -1,4 +1,8 @@
 // Commands, and the outside that they meet.
+ghost use Rattle.std.specs.Prelude.{◌≡◌, IfOk, Some, map};
+ghost use Rattle.std.specs.String.{string_bytes};
+ghost use Rattle.bt_cli.specs.Request.{first_word};
+
 use crate::ending::Ending;
 use anyhow::{Result, bail};
 use bt_base::{Fail, Files, MemKeeper, MemSink, Sink, SureKeeper, SureSink};
@@ -53,19 +57,28 @@ pub fn set_meeting(alloc: Global, next: &mut Meeting, words: &[&str]) -> Result<
 
 fn set_fail(next: &mut Meeting, words: &[&str]) -> Result<bool> {
     match words {
-        ["fail", "read", call] => next.reads.push(fail_of(call, "0")?)?,
-        ["fail", "write", call, kept] => next.writes.push(fail_of(call, kept)?)?,
-        ["fail", "store", call, kept] => next.keeps.push(fail_of(call, kept)?)?,
-        _ => return Ok(false),
+        ["fail", "read", call] => add_fail(&mut next.reads, call, "0"),
+        ["fail", what, call, kept] => set_kept_fail(next, what, call, kept),
+        _ => Ok(false),
     }
-    Ok(true)
 }
 
-fn fail_of(call: &str, kept: &str) -> Result<Fail> {
-    Ok(Fail {
+/// A call that fails keeps a first part of its piece.
+fn set_kept_fail(next: &mut Meeting, what: &str, call: &str, kept: &str) -> Result<bool> {
+    match what {
+        "write" => add_fail(&mut next.writes, call, kept),
+        "store" => add_fail(&mut next.keeps, call, kept),
+        _ => Ok(false),
+    }
+}
+
+fn add_fail(fails: &mut Vec<Fail>, call: &str, kept: &str) -> Result<bool> {
+    let fail = Fail {
         call: number_of(call)?,
         kept: number_of(kept)?,
-    })
+    };
+    fails.push(fail)?;
+    Ok(true)
 }
 
 fn set_flag(next: &mut Meeting, words: &[&str]) -> bool {
@@ -82,8 +95,16 @@ fn set_part(alloc: Global, next: &mut Meeting, words: &[&str]) -> Result<bool> {
     match words {
         ["first", count] => next.part = Part::First(number_of(count)? as usize),
         ["last", count] => next.part = Part::Last(number_of(count)? as usize),
-        ["into", name] => next.into = Some(String::from_str(alloc, name)?),
-        ["beginnings", name] => next.beginnings = Some(String::from_str(alloc, name)?),
+        [what, name] => return set_name(alloc, next, what, name),
+        _ => return Ok(false),
+    }
+    Ok(true)
+}
+
+fn set_name(alloc: Global, next: &mut Meeting, what: &str, name: &str) -> Result<bool> {
+    match what {
+        "into" => next.into = Some(String::from_str(alloc, name)?),
+        "beginnings" => next.beginnings = Some(String::from_str(alloc, name)?),
         _ => return Ok(false),
     }
     Ok(true)
@@ -226,15 +247,27 @@ impl Outside {
         if self.next.is_sure {
             let store = SureKeeper::new(self.store.clone()?);
             let ended = centre_main(rt, alloc, &owned, files, sink, store);
-            self.store = ended.store.kept().to_vec(alloc)?;
-            self.keep_histories(ended.histories.as_slice())?;
-            return Ok(ended.status);
+            self.keep_left(alloc, ended.store.kept(), ended.histories.as_slice())?;
+            Ok(ended.status)
+        } else {
+            let store = self.met_store()?;
+            let ended = centre_main(rt, alloc, &owned, files, sink, store);
+            self.keep_left(alloc, ended.store.kept(), ended.histories.as_slice())?;
+            Ok(ended.status)
         }
-        let store = MemKeeper::new(self.store.clone()?, self.next.keeps.clone()?);
-        let ended = centre_main(rt, alloc, &owned, files, sink, store);
-        self.store = ended.store.kept().to_vec(alloc)?;
-        self.keep_histories(ended.histories.as_slice())?;
-        Ok(ended.status)
+    }
+
+    /// The store as the next command meets it.
+    fn met_store(&self) -> Result<MemKeeper> {
+        let kept = self.store.clone()?;
+        let fails = self.next.keeps.clone()?;
+        Ok(MemKeeper::new(kept, fails))
+    }
+
+    /// Keeps the store's bytes, and what is told of the histories.
+    fn keep_left(&mut self, alloc: Global, kept: &[u8], histories: &[History]) -> Result<()> {
+        self.store = kept.to_vec(alloc)?;
+        self.keep_histories(histories)
     }
 
     /// The status of the call that replays the store.
@@ -245,13 +278,8 @@ impl Outside {
         sink: &mut O,
         names: [&str; 2],
     ) -> Result<u8> {
-        let [net, journal] = names;
-        let words = vec![in alloc;
-            String::from_str(alloc, "replay")?,
-            String::from_str(alloc, net)?,
-            String::from_str(alloc, journal)?,
-        ]?;
-        let store = MemKeeper::new(self.store.clone()?, self.next.keeps.clone()?);
+        let store = self.met_store()?;
+        let words = words_of(alloc, "replay", names)?;
         let (status, left) = replay_command(alloc, &words, files, sink, store);
         self.store = left.kept().to_vec(alloc)?;
         Ok(status)
@@ -297,12 +325,7 @@ fn check_alone<F: Files, O: Sink>(
     sink: &mut O,
     names: [&str; 2],
 ) -> Result<u8> {
-    let [first, second] = names;
-    let words = vec![in alloc;
-        String::from_str(alloc, "check")?,
-        String::from_str(alloc, first)?,
-        String::from_str(alloc, second)?,
-    ]?;
+    let words = words_of(alloc, "check", names)?;
     Ok(check_command(alloc, &words, files, sink))
 }
 
@@ -325,13 +348,21 @@ fn plan_alone<F: Files, O: Sink>(
     sink: &mut O,
     names: [&str; 2],
 ) -> Result<u8> {
+    let words = words_of(alloc, "plan", names)?;
+    Ok(plan_command(alloc, &words, files, sink))
+}
+
+/// The words of a command with two names.
+fn words_of(alloc: Global, command: &str, names: [&str; 2]) -> Result<Vec<String>>
+    ensures { IfOk result (λ words. first_word (map string_bytes words.items) ≡ Some command.now) }
+{
     let [first, second] = names;
     let words = vec![in alloc;
-        String::from_str(alloc, "plan")?,
+        String::from_str(alloc, command)?,
         String::from_str(alloc, first)?,
         String::from_str(alloc, second)?,
     ]?;
-    Ok(plan_command(alloc, &words, files, sink))
+    Ok(words)
 }
 
 /// The words, each with bytes of its own.

@@ -4,11 +4,12 @@ ghost use Rattle.std.specs.Bool.{OnTrue};
 ghost use Rattle.bt_demand.specs.Traffic.{matrix_of, AreOfNetwork, HasSumsTo};
 ghost use Rattle.bt_frame.specs.Critical.{IsOfBeams};
 ghost use Rattle.bt_matrix.specs.Traffic.{IsLine};
+ghost use Rattle.bt_verdict.specs.PlanVerdict.{AreBetweenTerminals};
 
 use anyhow::{Context, Result, bail, ensure};
 use bt_case_text::{Part, Shelf, number_of, put_lines, take_bytes};
-use bt_demand::{Demand, traffic_of};
-use bt_frame::{BeamNo, Critical, MOST_BEAMS, MOST_TEXT_BYTES, Schedule, TermNo};
+use bt_demand::{Demand, Plan, traffic_of};
+use bt_frame::{BeamNo, Critical, MOST_BEAMS, MOST_TEXT_BYTES, OutOfMemory, Schedule, TermNo};
 use bt_matrix::{Dense, MOST_SUM, Traffic};
 use bt_net::Network;
 use bt_plan::{plan_text, read_demand, read_matrix, read_plan, read_schedule, schedule_text};
@@ -175,11 +176,18 @@ fn put_plan(alloc: Global, net: &[u8], bytes: &[u8], out: &mut String) -> Result
     let Ok(plan) = read_plan(alloc, &net, bytes) else {
         bail!("no plan");
     };
-    let Ok(copy) = plan.copy(alloc) else {
-        bail!("out of memory");
-    };
-    let text = plan_text(alloc, &net, &copy).ok().context("out of memory")?;
+    let text = text_of_copy(alloc, &net, &plan)
+        .ok()
+        .context("out of memory")?;
     put_lines(alloc, &text, Part::All, out)
+}
+
+/// The text of a copy of a plan.
+fn text_of_copy(alloc: Global, net: &Network, plan: &Plan) -> Result<Vec<u8>, OutOfMemory>
+    requires { AreBetweenTerminals net.now plan.now.bursts }
+{
+    let copy = plan.copy(alloc)?;
+    plan_text(alloc, net, &copy)
 }
 
 /// Appends the verdict on a schedule that was read for another number of beams than the matrix has.
@@ -205,7 +213,7 @@ pub fn put_verdict(
 
 /// The line is one of the matrix.
 pub fn is_line(matrix: &Dense, line: Critical) -> bool
-    ensures { OnTrue result (IsLine matrix.now line) }
+    ensures line { OnTrue result (IsLine matrix.now line) }
 {
     match line {
         Critical::Row(beam) => u32::from(beam.0) < matrix.size(),
@@ -223,7 +231,7 @@ pub fn matrix_from(alloc: Global, bytes: &[u8]) -> Result<Dense> {
 
 /// The schedule of a text that is one for so many beams.
 pub fn schedule_from(alloc: Global, beams: u32, bytes: &[u8]) -> Result<Schedule>
-    ensures { IfOk result (λ schedule. IsOfBeams beams schedule.critical) }
+    ensures critical { IfOk result (λ schedule. IsOfBeams beams schedule.critical) }
 {
     ensure!(
         beams <= MOST_BEAMS as u32 && bytes.len() <= MOST_TEXT_BYTES,

@@ -28,20 +28,11 @@ use Rattle.bt_centre.specs.Output.{Output, Prints}
 use Rattle.bt_centre.specs.Progress.{Hand, IsBegun, IsLeftAtRestart, IsLeftEarly, IsLeftOf, IsLegalHand, ItemFailed, ItemPlayed, ItemsDone, ItemsWritten, Left, PartsEnded, histories_in, start_of}
 use Rattle.bt_centre.specs.RecoverFaults.{PrintsNamed, recover_line, recover_status}
 use Rattle.bt_centre.specs.Run.{AreLegalTimes, IsRun, LeavesStore, changes_at, entries_of, first_line, lost_in, opening_on, status_after, whole_text}
-use Rattle.bt_centre.specs.Stored.{Stored}
 use Rattle.bt_round.proofs.Closing.{ran_nothing}
 use Rattle.bt_centre.proofs.Going.{breaks_off, left_early, legal_times}
 use Rattle.bt_centre.proofs.Restarts.{cut_at_fault}
 use Rattle.bt_centre.proofs.Played.{changes_are, gained-append, item_goes_on, items_begin, next_parts, same_histories, start_is}
 use Rattle.bt_centre.proofs.Times.{rose_still}
-
--- a first part of a text is a first part of a longer one
-prefix_longer : (told after : Option (List ℕ)) (text more : List ℕ) → GainsPrefix told text after → GainsPrefix told (text ++ more) after
-prefix_longer told after text more (kept, wrote) =
-    let front = take kept text in
-    let rest = drop kept text ++ more in
-    let whole : text ++ more ≡ front ++ rest = ap (λ (t : List ℕ). t ++ more) (sym (take-append-drop kept text)) ∙ append_assoc front (drop kept text) more in
-    (length front + 0, wrote ∙ ap (gained told) (sym (ap (take (length front + 0)) whole ∙ take-append-add front rest 0 ∙ append-nil front)))
 
 -- a first part of what comes behind a text
 prefix_behind : (told between after : Option (List ℕ)) (text more : List ℕ) → between ≡ gained told text → GainsPrefix between more after → GainsPrefix told (text ++ more) after
@@ -57,10 +48,6 @@ AreGood net = (changes : List Change) → Follows net changes → All (IsGoodFor
 -- what the output tells, and how often it failed, from the start of a run on
 abbrev pub output_of : Option (List ℕ) → Option (List ℕ) → ℕ → ℕ → Output
 output_of before after faults now = record { before = before; after = after; faults_before = faults; faults_after = now }
-
--- what the store tells
-abbrev pub store_of : Books → Left → Stored
-store_of begun left = record { before = begun.told; after = left.told; faults_before = begun.faults; faults_after = left.faults }
 
 -- these parts were run
 run_of : (net : Net) (begun : Books) (items : List Item) (hand : Hand) (lines : List ℕ) (histories : List History) (events : List Event) → AreGood net

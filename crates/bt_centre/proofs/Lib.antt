@@ -1,4 +1,3 @@
-pub mod Totals
 pub mod Times
 pub mod Going
 pub mod Restarts

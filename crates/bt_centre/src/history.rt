@@ -32,7 +32,7 @@ impl Model for Histories {
 impl Histories {
     /// None: nothing was run.
     pub fn none(alloc: Global) -> Histories
-        ensures { result ≡ [] }
+        ensures none { result ≡ [] }
     {
         Histories {
             histories: Vec::new(alloc),
@@ -41,14 +41,14 @@ impl Histories {
 
     /// These histories.
     pub fn of(histories: Vec<History>) -> Histories
-        ensures { result ≡ histories.items }
+        ensures same { result ≡ histories.items }
     {
         Histories { histories }
     }
 
     /// The histories in order.
     pub fn as_slice(&self) -> &[History]
-        ensures { result.now ≡ self.now }
+        ensures same { result.now ≡ self.now }
     {
         self.histories.as_slice()
     }

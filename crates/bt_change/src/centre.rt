@@ -60,7 +60,7 @@ impl Centre {
 
     /// The edition that the centre knows to be in front in a superframe, if it knows one.
     pub fn known(&self, mark: Mark) -> Option<EditionNo>
-        ensures { result ≡ known_to self.now mark.0 }
+        ensures known { result ≡ known_to self.now mark.0 }
     {
         match self.kept {
             Some(status) => known_by(&status, mark, self.behind(status.last)),
@@ -70,15 +70,15 @@ impl Centre {
 
     /// Takes note of a status. Keeps it where none is kept or it is later than the one kept.
     pub fn status(&mut self, status: Status)
-        ensures { self.new ≡ having_noted self.old status }
+        ensures noted { self.new ≡ having_noted self.old status }
     {
         self.kept = Some(later_of(self.kept, status));
     }
 
     /// Notes that a terminal holds its bursts of an edition.
     pub fn confirm(&mut self, mark: Mark, terminal: TermNo, edition: EditionNo)
-        requires { terminal.0 < MOST_TERMINALS }
-        ensures { self.new ≡ having_confirmed self.old mark.0 terminal edition }
+        requires terminal { terminal.0 < MOST_TERMINALS }
+        ensures confirmed { self.new ≡ having_confirmed self.old mark.0 terminal edition }
     {
         let is_last = is_load_of(self.last_order(), edition);
         let is_known = names(self.known(mark), edition);
@@ -92,8 +92,8 @@ impl Centre {
 
     /// Notes that a terminal has restarted.
     pub fn lost(&mut self, terminal: TermNo)
-        requires { terminal.0 < MOST_TERMINALS }
-        ensures { self.new ≡ having_lost self.old terminal }
+        requires terminal { terminal.0 < MOST_TERMINALS }
+        ensures lost { self.new ≡ having_lost self.old terminal }
     {
         self.confirmed = without_terminal(self.confirmed, terminal);
         self.asking = with_terminal(self.asking, terminal);
@@ -117,38 +117,38 @@ impl Centre {
 
     /// The order that the centre wants placed.
     pub fn wanted(&self) -> Option<Order>
-        ensures { result ≡ self.now.wanted }
+        ensures wanted { result ≡ self.now.wanted }
     {
         self.wanted
     }
 
     /// The terminal has still to confirm the edition of the last order.
     pub fn missing(&self, terminal: TermNo) -> bool
-        requires { terminal.0 < MOST_TERMINALS }
-        ensures { result ≡ is_missing self.now terminal }
+        requires terminal { terminal.0 < MOST_TERMINALS }
+        ensures missing { result ≡ is_missing self.now terminal }
     {
         is_load(self.last_order()) && has(self.needs, terminal) && !has(self.confirmed, terminal)
     }
 
     /// The terminal has restarted, and asks for its bursts until it holds the edition known.
     pub fn asking(&self, terminal: TermNo) -> bool
-        requires { terminal.0 < MOST_TERMINALS }
-        ensures { result ≡ has self.now.asking terminal }
+        requires terminal { terminal.0 < MOST_TERMINALS }
+        ensures asking { result ≡ has self.now.asking terminal }
     {
         has(self.asking, terminal)
     }
 
     /// How many orders were placed.
     pub fn order_count(&self) -> u32
-        ensures { result ≡ length self.now.orders }
+        ensures count { result ≡ length self.now.orders }
     {
         self.orders.len() as u32
     }
 
     /// The order that was placed at this place, counted from 0.
     pub fn order(&self, place: u32) -> Order
-        requires { place < length self.now.orders }
-        ensures { slice_get (reverse self.now.orders) place ≡ Some result }
+        requires place { place < length self.now.orders }
+        ensures order { slice_get (reverse self.now.orders) place ≡ Some result }
     {
         self.orders[place as usize]
     }

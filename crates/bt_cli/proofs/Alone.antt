@@ -8,8 +8,8 @@ use Rattle.bt_centre.specs.Output.{Output}
 use Rattle.bt_cli.specs.Outcome.{Input}
 use Rattle.bt_cli.specs.Request.{Request, Faulty, CheckModes, CheckPlan, PlanModes, PlanDemand, RunScript, ReplayJournal}
 use Rattle.bt_cli.specs.Replay.{EndsReplayWords}
-use Rattle.bt_cli.specs.Run.{BeginsNoRun, End}
-use Rattle.bt_cli.specs.Top.{Reported, AsksNoStore, Ends}
+use Rattle.bt_cli.specs.Run.{End}
+use Rattle.bt_cli.specs.Top.{AsksNoStore, Ends}
 
 none_asked : (read : CommandLine) → ((net script journal : Bor (List ℕ)) → read ≡ command.RunScript net script journal → ⊥)
     → ((net journal : Bor (List ℕ)) → read ≡ command.ReplayJournal net journal → ⊥) → AsksNoStore (asked read)
@@ -25,25 +25,6 @@ none_asked (command.ReplayJournal net journal) no_run no_replay = absurd (no_rep
 pub asks_none : (read : CommandLine) (request : Request) → asked read ≡ request → ((net script journal : Bor (List ℕ)) → read ≡ command.RunScript net script journal → ⊥)
     → ((net journal : Bor (List ℕ)) → read ≡ command.ReplayJournal net journal → ⊥) → AsksNoStore request
 asks_none read request is no_run no_replay = subst AsksNoStore is (none_asked read no_run no_replay)
-
--- and words that are read as a run ask for one
-pub runs_one : (net script journal : List ℕ) (request : Request) → RunScript net script journal ≡ request → AsksNoStore request → ⊥
-runs_one net script journal request is none = subst AsksNoStore (sym is) none
-
-ends_so : (input : Input) (output : Output) (stored : Stored) (request : Request) (end : End) → AsksNoStore request → BeginsNoRun stored end → Reported input output request end.status
-    → Ends input output stored request end
-ends_so input output stored Faulty end none nothing so = (nothing, so)
-ends_so input output stored (CheckModes _ _) end none nothing so = (nothing, so)
-ends_so input output stored (CheckPlan _ _ _) end none nothing so = (nothing, so)
-ends_so input output stored (PlanModes _) end none nothing so = (nothing, so)
-ends_so input output stored (PlanDemand _ _) end none nothing so = (nothing, so)
-ends_so input output stored (RunScript _ _ _) end none nothing so = absurd none
-ends_so input output stored (ReplayJournal _ _) end none nothing so = absurd none
-
--- a command that asks for no store ends so
-pub ends_alone : (input : Input) (output : Output) (stored : Stored) (request : Request) (end : End) (status : ℕ) → AsksNoStore request → BeginsNoRun stored end
-    → end.status ≡ status → Reported input output request status → Ends input output stored request end
-ends_alone input output stored request end status none nothing is so = ends_so input output stored request end none nothing (subst (λ s. Reported input output request s) (sym is) so)
 
 -- what a store tells between two calls
 abbrev pub stored_of : {Store : Type 0} → (Store → Option (List ℕ)) → (Store → ℕ) → Store → Store → Stored

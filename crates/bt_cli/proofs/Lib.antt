@@ -1,6 +1,5 @@
 pub mod Loads
 pub mod Others
-pub mod Words
 pub mod OneReport
 pub mod Kept
 pub mod NamedFaults

@@ -3,15 +3,12 @@ use Rattle.std.proofs.Common.{◌≡◌, ℕ, List, [], ◌∷◌, codes, Some, 
 use Rattle.std.specs.Str.{bytes_eq}
 use Rattle.std.proofs.lemmas.Option.{same_Some}
 use Rattle.std.proofs.lemmas.Slice.Eq.{bytes_eq-Decides}
-use Rattle.bt_centre.specs.Stored.{Stored}
 use Rattle.bt_cli.specs.declared.report.Report.{Report}
 use Rattle.bt_cli.specs.declared.command_line.CommandLine.{CommandLine}
 use Rattle.bt_cli.specs.declared.command_line.CommandLine.TheVariants as command
 use Rattle.bt_cli.specs.Report.{ReportIs}
 use Rattle.bt_cli.specs.CommandLine.{asked, name_of}
-use Rattle.bt_centre.specs.Output.{Output}
-use Rattle.bt_cli.specs.Outcome.{Input, Says}
-use Rattle.bt_cli.specs.Replay.{EndsReplayWords}
+use Rattle.bt_cli.specs.Outcome.{Says}
 use Rattle.bt_cli.specs.Request.{Request, Faulty}
 use Rattle.bt_cli.specs.Top.{Reports}
 
@@ -50,19 +47,6 @@ faulty_plan (command.PlanDemand net traffic) request first is named plan other =
 faulty_plan (command.ReplayJournal _ _) request first is named plan other = absurd (two_names (codes "replay") (codes "plan") first refl named plan)
 faulty_plan (command.RunScript _ _ _) request first is named plan other = absurd (two_names (codes "run") (codes "plan") first refl named plan)
 
-pub faulty_replay : (read : CommandLine) (request : Request) (first : Option (List ℕ)) → asked read ≡ request → IfSome (name_of read) (λ name. first ≡ Some name) → first ≡ Some (codes "replay") → ((net journal : Bor (List ℕ)) → read ≡ command.ReplayJournal net journal → ⊥) → request ≡ Faulty
-faulty_replay command.Faulty request first is named replay other = sym is
-faulty_replay (command.CheckModes _ _) request first is named replay other = absurd (two_names (codes "check") (codes "replay") first refl named replay)
-faulty_replay (command.CheckPlan _ _ _) request first is named replay other = absurd (two_names (codes "check") (codes "replay") first refl named replay)
-faulty_replay (command.PlanDemand _ _) request first is named replay other = absurd (two_names (codes "plan") (codes "replay") first refl named replay)
-faulty_replay (command.PlanModes matrix) request first is named replay other = absurd (two_names (codes "modes") (codes "replay") first refl named replay)
-faulty_replay (command.RunScript _ _ _) request first is named replay other = absurd (two_names (codes "run") (codes "replay") first refl named replay)
-faulty_replay (command.ReplayJournal net journal) request first is named replay other = absurd (other net journal refl)
-
 -- the report to words of no command
 pub reports_faulty : (told : List ℕ → Option (List ℕ)) (failed : Type 0) (request : Request) (report : Report) → request ≡ Faulty → ReportIs (Says (codes "fault" ∷ codes "words" ∷ []) 2) report → ReportIs (Reports told failed request) report
 reports_faulty told failed request report is says = subst (λ r. ReportIs (Reports told failed r) report) (sym is) says
-
--- and how a replay's call ends on them
-pub replays_faulty : (input : Input) (output : Output) (stored : Stored) (request : Request) (status : ℕ) → request ≡ Faulty → EndsReplayWords input output stored Faulty status → EndsReplayWords input output stored request status
-replays_faulty input output stored request status is so = subst (λ r. EndsReplayWords input output stored r status) (sym is) so

@@ -29,7 +29,7 @@ pub fn check_plan_files<F: Files>(
     traffic: &str,
     plan: &str,
 ) -> Result<Report, Stop>
-    ensures { CameTo (ChecksPlan (F.told files.old) (Rose (F.fault_count files.old) (F.fault_count files.new)) net.now traffic.now plan.now) result }
+    ensures judged { CameTo (ChecksPlan (F.told files.old) (Rose (F.fault_count files.old) (F.fault_count files.new)) net.now traffic.now plan.now) result }
 {
     let net = load_network(alloc, files, net)?;
     check_demand_file(alloc, files, &net, traffic, plan)

@@ -13,7 +13,7 @@ use std::alloc::Global;
 
 /// The report to words that are no command's.
 pub fn faulty_words(alloc: Global) -> Result<Report, OutOfMemory>
-    ensures { IfOk result (ReportIs (Says (codes "fault" ∷ codes "words" ∷ []) 2)) }
+    ensures report { IfOk result (ReportIs (Says (codes "fault" ∷ codes "words" ∷ []) 2)) }
 {
     let words = [Word::Text("fault"), Word::Text("words")];
     Report::says(alloc, &words, FAULTY_WORDS)
@@ -21,7 +21,7 @@ pub fn faulty_words(alloc: Global) -> Result<Report, OutOfMemory>
 
 /// Prints that report, and gives the status to end with.
 pub fn print_faulty_words<O: Sink>(alloc: Global, out: &mut O) -> u8
-    ensures { PrintsOneOf (record { before = O.told out.old; after = O.told out.new; faults_before = O.fault_count out.old; faults_after = O.fault_count out.new })
+    ensures printed { PrintsOneOf (record { before = O.told out.old; after = O.told out.new; faults_before = O.fault_count out.old; faults_after = O.fault_count out.new })
         (Says (codes "fault" ∷ codes "words" ∷ []) 2) result }
 {
     let outcome = faulty_words(alloc).map_err(Stop::from);

@@ -32,7 +32,7 @@ use bt_verdict::{one_plan_verdict, one_verdict};
 /// has one report: no two cases of the promise hold together. Of the good schedules for a matrix any may be printed, of the
 /// good plans for a demand, and of the runs of a script, which then lose nothing.
 pub fn one_report()
-    ensures { (told : List ℕ → Option (List ℕ)) (one other : Stored) (request : Request)
+    ensures same { (told : List ℕ → Option (List ℕ)) (one other : Stored) (request : Request)
         → AreTold told request → AreOneStore request one other
         → (a b : Outcome) → ReportsWith told ⊥ one request a → ReportsWith told ⊥ other request b
         → IsOneReport request a b }
@@ -47,7 +47,7 @@ pub fn one_report()
 /// However the program ends, what was asked was answered, but where the output failed: memory ran out, or one of the
 /// outcomes that the promise allows was printed with its status.
 pub fn ends_are_reports()
-    ensures { (input : Input) (output : Output) (stored : Stored) (request : Request) (end : End) → Ends input output stored request end
+    ensures printed { (input : Input) (output : Output) (stored : Stored) (request : Request) (end : End) → Ends input output stored request end
         → (end.status ≡ 6) ⊎ PrintsOneOf output (ReportsWith input.told (FilesFailed input) stored request) end.status }
 {}
 

@@ -28,8 +28,8 @@ pub fn modes_command<F: Files, O: Sink>(
     files: &mut F,
     out: &mut O,
 ) -> u8
-    requires { first_word (map string_bytes words.now) ≡ Some (codes "modes") }
-    ensures { Reported (record { told = F.told files.old; faults_before = F.fault_count files.old; faults_after = F.fault_count files.new })
+    requires first { first_word (map string_bytes words.now) ≡ Some (codes "modes") }
+    ensures reported { Reported (record { told = F.told files.old; faults_before = F.fault_count files.old; faults_after = F.fault_count files.new })
         (record { before = O.told out.old; after = O.told out.new; faults_before = O.fault_count out.old; faults_after = O.fault_count out.new })
         (request_of (map string_bytes words.now)) result }
 {

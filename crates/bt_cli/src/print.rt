@@ -8,7 +8,7 @@ use std::alloc::Global;
 
 /// Prints what the work came to, and gives the status to end with.
 pub fn print<O: Sink>(alloc: Global, out: &mut O, outcome: Result<Report, Stop>) -> u8
-    ensures { EndsWith (record { before = O.told out.old; after = O.told out.new; faults_before = O.fault_count out.old; faults_after = O.fault_count out.new }) outcome result }
+    ensures ends { EndsWith (record { before = O.told out.old; after = O.told out.new; faults_before = O.fault_count out.old; faults_after = O.fault_count out.new }) outcome result }
 {
     match outcome {
         Ok(report) | Err(Stop::Early(report)) => {

@@ -30,8 +30,8 @@ pub fn replay_command<F: Files, O: Sink, K: Keeper>(
     out: &mut O,
     store: K,
 ) -> (u8, K)
-    requires { first_word (map string_bytes words.now) ≡ Some (codes "replay") }
-    ensures { EndsReplayWords (record { told = F.told files.old; faults_before = F.fault_count files.old; faults_after = F.fault_count files.new })
+    requires first { first_word (map string_bytes words.now) ≡ Some (codes "replay") }
+    ensures ends { EndsReplayWords (record { told = F.told files.old; faults_before = F.fault_count files.old; faults_after = F.fault_count files.new })
         (record { before = O.told out.old; after = O.told out.new; faults_before = O.fault_count out.old; faults_after = O.fault_count out.new })
         (record { before = K.told store; after = K.told result.1; faults_before = K.fault_count store; faults_after = K.fault_count result.1 })
         (request_of (map string_bytes words.now)) result.0 }

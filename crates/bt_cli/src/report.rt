@@ -22,7 +22,7 @@ impl Report {
         words: &[Word<'_>],
         status: u8,
     ) -> Result<Report, bt_frame::OutOfMemory>
-        ensures { IfOk result (ReportIs (Says (map word_bytes words.now) status)) }
+        ensures report { IfOk result (ReportIs (Says (map word_bytes words.now) status)) }
     {
         let mut text = Vec::new(alloc);
         add_line(alloc, words, &mut text)?;
@@ -42,7 +42,7 @@ pub enum Stop {
 impl Stop {
     /// One line of these words in the place of the command's own report, and the status to end with.
     pub fn says(alloc: Global, words: &[Word<'_>], status: u8) -> Stop
-        ensures { StopIs (Says (map word_bytes words.now) status) result }
+        ensures report { StopIs (Says (map word_bytes words.now) status) result }
     {
         match Report::says(alloc, words, status) {
             Ok(report) => Stop::Early(report),

@@ -16,7 +16,7 @@ use std::alloc::Global;
 
 /// The report that names a text's first fault.
 pub fn text_stop(alloc: Global, fault: TextFault) -> Stop
-    ensures { StopIs (NamesTextFault fault) result }
+    ensures stop { StopIs (NamesTextFault fault) result }
 {
     match fault {
         TextFault::OutOfMemory => Stop::OutOfMemory,
@@ -51,7 +51,7 @@ fn code_text(code: TextCode) -> &'static str
 
 /// The report that names a network's first fault.
 pub fn network_stop(alloc: Global, fault: NetFault) -> Stop
-    ensures { StopIs (NamesNetworkFault fault) result }
+    ensures stop { StopIs (NamesNetworkFault fault) result }
 {
     match fault {
         NetFault::OutOfMemory => Stop::OutOfMemory,
@@ -79,7 +79,7 @@ fn path_stop(alloc: Global, code: &str, path: Path) -> Stop
 
 /// The report that names a script's first fault.
 pub fn script_stop(alloc: Global, fault: ScriptFault) -> Stop
-    ensures { StopIs (NamesScriptFault fault) result }
+    ensures stop { StopIs (NamesScriptFault fault) result }
 {
     match fault {
         ScriptFault::OutOfMemory => Stop::OutOfMemory,

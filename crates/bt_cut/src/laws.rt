@@ -11,7 +11,7 @@ ghost use Rattle.bt_cut.specs.Cutting.{IsCutting};
 
 /// Bursts that are the cutting of a good schedule make a good plan of it, whoever cut them.
 pub fn cuttings_are_good()
-    ensures { (net : Net) (links : List Link) (plan : Plan)
+    ensures good { (net : Net) (links : List Link) (plan : Plan)
         → IsSound net → IsDemand links → AreOfNetwork net links → IsGood (matrix_of net links) plan.schedule
         → IsCutting net links plan.schedule.modes plan.bursts → IsGoodPlan net links plan }
 {}

@@ -27,14 +27,14 @@ pub struct Burst {
 impl Burst {
     /// The slot behind the last one.
     pub fn end(self) -> u64
-        ensures { result ≡ self.start + self.length }
+        ensures end { result ≡ self.start + self.length }
     {
         u64::from(self.start) + u64::from(self.length)
     }
 
     /// What bursts are put in order by: the start, then the terminal that sends, then the one that receives.
     pub fn key(self) -> (u32, TermNo, TermNo)
-        ensures { result ≡ (self.start, self.from, self.to) }
+        ensures key { result ≡ (self.start, self.from, self.to) }
     {
         (self.start, self.from, self.to)
     }
@@ -73,7 +73,7 @@ impl Bursts {
     pub fn of(bursts: Vec<Burst>) -> Bursts
         requires ordered { AllPairs IsNotAfter bursts.items }
         requires few { vec_len bursts ≤ MOST_BURSTS }
-        ensures { result ≡ bursts.items }
+        ensures same { result ≡ bursts.items }
     {
         Bursts { bursts }
     }
@@ -88,7 +88,7 @@ impl Bursts {
 
     /// The same bursts.
     pub fn copy(&self, alloc: Global) -> Result<Bursts, OutOfMemory>
-        ensures { IfOk result (λ copy. copy ≡ self.now) }
+        ensures same { IfOk result (λ copy. copy ≡ self.now) }
     {
         Ok(Bursts {
             bursts: Vec::from_slice(alloc, self.bursts.as_slice())?,

@@ -41,7 +41,7 @@ impl Model for Demand {
 impl Demand {
     /// The demand that asks for nothing.
     pub fn empty(alloc: Global) -> Demand
-        ensures { result ≡ [] }
+        ensures empty { result ≡ [] }
     {
         Demand {
             links: Vec::new(alloc),
@@ -50,8 +50,8 @@ impl Demand {
 
     /// The demand of these links, which stand in order, each once.
     pub fn of(links: Vec<Link>) -> Demand
-        requires { IsDemand links.items }
-        ensures { result ≡ links.items }
+        requires demand { IsDemand links.items }
+        ensures same { result ≡ links.items }
     {
         Demand { links }
     }
@@ -66,7 +66,7 @@ impl Demand {
 
     /// An equal demand.
     pub fn copy(&self, alloc: Global) -> Result<Demand, OutOfMemory>
-        ensures { IfOk result (λ copy. copy ≡ self.now) }
+        ensures same { IfOk result (λ copy. copy ≡ self.now) }
     {
         Ok(Demand {
             links: Vec::from_slice(alloc, self.links.as_slice())?,
@@ -75,7 +75,7 @@ impl Demand {
 
     /// The slots of a link, 0 where it is not in the demand.
     pub fn units(&self, from: TermNo, to: TermNo) -> u32
-        ensures { result ≡ units_of self.now from to }
+        ensures units { result ≡ units_of self.now from to }
     {
         match self.find(from, to) {
             Ok(place) => self.links[place].units,

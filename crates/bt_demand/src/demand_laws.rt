@@ -11,7 +11,7 @@ ghost use Rattle.bt_net.specs.Terminals.{IsInBeam};
 
 /// Demands that give each link the same slots are the same.
 pub fn links_tell_demands()
-    ensures { (a b : List Link) → IsDemand a → IsDemand b
+    ensures same { (a b : List Link) → IsDemand a → IsDemand b
         → ((from to : TermNo) → units_of a from to ≡ units_of b from to) → a ≡ b }
 {}
 
@@ -25,7 +25,7 @@ pub fn gain_changes_one_link()
 
 /// Where a link gains, so does the entry of its beams in the traffic matrix, and all other entries stay.
 pub fn gain_adds_to_one_entry()
-    ensures { (net : Net) (old new : List Link) (from to : TermNo) (units : ℕ) (up down : BeamNo)
+    ensures matrix { (net : Net) (old new : List Link) (from to : TermNo) (units : ℕ) (up down : BeamNo)
         → Gains old new from to units → IsInBeam net from up → IsInBeam net to down
         → up.0 < length net.beams → down.0 < length net.beams
         → matrix_of net new

@@ -19,7 +19,7 @@ pub struct Plan {
 impl Plan {
     /// The same plan.
     pub fn copy(&self, alloc: Global) -> Result<Plan, OutOfMemory>
-        ensures { IfOk result (λ copy. copy ≡ self.now) }
+        ensures same { IfOk result (λ copy. copy ≡ self.now) }
     {
         Ok(Plan {
             edition: self.edition,

@@ -14,7 +14,7 @@ use std::alloc::Global;
 pub fn traffic_of(alloc: Global, net: &Network, demand: &Demand) -> Result<Dense, OutOfMemory>
     requires terminals { AreOfNetwork net.now demand.now }
     requires sums { HasSumsTo MOST_SUM (matrix_of net.now demand.now) }
-    ensures { IfOk result (λ matrix. matrix ≡ matrix_of net.now demand.now) }
+    ensures matrix { IfOk result (λ matrix. matrix ≡ matrix_of net.now demand.now) }
 {
     let mut matrix = Dense::new(alloc, net.beam_count())?;
     for link in demand.as_slice() {

@@ -30,8 +30,8 @@ impl Model for Columns {
 impl Columns {
     /// These values, at most 2,147,483,648 of them.
     pub fn of(values: Vec<u8>) -> Columns
-        requires { vec_len values ≤ 2147483648 }
-        ensures { result ≡ values.items }
+        requires few { vec_len values ≤ MOST_ENTRIES }
+        ensures same { result ≡ values.items }
     {
         Columns {
             values: SmallVec::from_vec(values),
@@ -40,8 +40,8 @@ impl Columns {
 
     /// The same values, at most 2,147,483,648 of them.
     pub fn from_slice(alloc: Global, values: &[u8]) -> Result<Columns, OutOfMemory>
-        requires { length values.now ≤ MOST_ENTRIES }
-        ensures { IfOk result (λ columns. columns ≡ values.now) }
+        requires few { length values.now ≤ MOST_ENTRIES }
+        ensures same { IfOk result (λ columns. columns ≡ values.now) }
     {
         Ok(Columns {
             values: SmallVec::from_slice(alloc, values)?,
@@ -58,7 +58,7 @@ impl Columns {
 
     /// The same values.
     pub fn copy(&self, alloc: Global) -> Result<Columns, OutOfMemory>
-        ensures { IfOk result (λ copy. copy ≡ self.now) }
+        ensures same { IfOk result (λ copy. copy ≡ self.now) }
     {
         Columns::from_slice(alloc, self.values.as_slice())
     }
@@ -76,7 +76,7 @@ pub struct Mode {
 impl Mode {
     /// The same setting, held for as long.
     pub fn copy(&self, alloc: Global) -> Result<Mode, OutOfMemory>
-        ensures { IfOk result (λ copy. copy ≡ self.now) }
+        ensures same { IfOk result (λ copy. copy ≡ self.now) }
     {
         Ok(Mode {
             duration: self.duration,
@@ -105,8 +105,8 @@ impl Model for Modes {
 impl Modes {
     /// These modes, at most 2,147,483,648 of them.
     pub fn of(modes: Vec<Mode>) -> Modes
-        requires { vec_len modes ≤ 2147483648 }
-        ensures { result ≡ modes.items }
+        requires few { vec_len modes ≤ MOST_ENTRIES }
+        ensures same { result ≡ modes.items }
     {
         Modes { modes }
     }
@@ -121,7 +121,7 @@ impl Modes {
 
     /// The same modes.
     pub fn copy(&self, alloc: Global) -> Result<Modes, OutOfMemory>
-        ensures { IfOk result (λ copy. copy ≡ self.now) }
+        ensures same { IfOk result (λ copy. copy ≡ self.now) }
     {
         let mut modes = Vec::with_capacity(alloc, self.modes.len())?;
         for mode in self.modes.as_slice() {

@@ -52,7 +52,7 @@ impl Model for Units {
 impl Units {
     /// The units of that number, or None outside 1 to `MOST_UNITS`.
     pub fn new(number: u32) -> Option<Units>
-        ensures { SomeIff result ((1 ≤ number) × (number ≤ MOST_UNITS)) number }
+        ensures range { SomeIff result ((1 ≤ number) × (number ≤ MOST_UNITS)) number }
     {
         if 1 <= number && number <= MOST_UNITS {
             Some(Units { number })

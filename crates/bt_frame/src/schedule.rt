@@ -27,7 +27,7 @@ pub struct Schedule {
 impl Schedule {
     /// The same schedule.
     pub fn copy(&self, alloc: Global) -> Result<Schedule, OutOfMemory>
-        ensures { IfOk result (λ copy. copy ≡ self.now) }
+        ensures same { IfOk result (λ copy. copy ≡ self.now) }
     {
         Ok(Schedule {
             length: self.length,

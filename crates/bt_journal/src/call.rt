@@ -49,7 +49,7 @@ pub enum Call {
 impl Call {
     /// An equal call.
     pub fn copy(&self, alloc: Global) -> Result<Call, OutOfMemory>
-        ensures { IfOk result (λ copy. copy ≡ self.now) }
+        ensures same { IfOk result (λ copy. copy ≡ self.now) }
     {
         match self {
             Call::Edit(edit) => Ok(Call::Edit(*edit)),

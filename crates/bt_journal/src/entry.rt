@@ -31,14 +31,14 @@ impl Model for Entries {
 impl Entries {
     /// These entries.
     pub fn of(entries: Vec<Entry>) -> Entries
-        ensures { result ≡ entries.items }
+        ensures same { result ≡ entries.items }
     {
         Entries { entries }
     }
 
     /// The entries in order.
     pub fn as_slice(&self) -> &[Entry]
-        ensures { result.now ≡ self.now }
+        ensures same { result.now ≡ self.now }
     {
         self.entries.as_slice()
     }

@@ -80,7 +80,7 @@ pub enum Reply {
 impl Reply {
     /// It says that a change was made.
     pub fn is_made(&self) -> bool
-        ensures { result ≡ is_made self.now }
+        ensures made { result ≡ is_made self.now }
     {
         match *self {
             Reply::Done { .. } | Reply::Installed { .. } | Reply::Placed => true,
@@ -90,7 +90,7 @@ impl Reply {
 
     /// It tells of a fault of the store, now or before.
     pub fn is_fault(&self) -> bool
-        ensures { result ≡ is_fault self.now }
+        ensures fault { result ≡ is_fault self.now }
     {
         match *self {
             Reply::StoreFault | Reply::Stopped => true,
@@ -100,7 +100,7 @@ impl Reply {
 
     /// It refuses a change for a cause of its own.
     pub fn is_refusal(&self) -> bool
-        ensures { result ≡ is_refusal self.now }
+        ensures refusal { result ≡ is_refusal self.now }
     {
         match *self {
             Reply::Demand { .. } | Reply::Newest { .. } => false,
@@ -110,7 +110,7 @@ impl Reply {
 
     /// An equal reply.
     pub fn copy(&self, alloc: Global) -> Result<Reply, OutOfMemory>
-        ensures { IfOk result (λ copy. copy ≡ self.now) }
+        ensures same { IfOk result (λ copy. copy ≡ self.now) }
     {
         match *self {
             Reply::Done { edition, length } => Ok(Reply::Done { edition, length }),

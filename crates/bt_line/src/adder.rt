@@ -26,7 +26,7 @@ impl Model for Adder {
 
 impl Adder {
     pub fn new(alloc: Global, limit: u64) -> Adder
-        ensures { result ≡ record { limit = limit; total = 0; past = [] } }
+        ensures made { result ≡ record { limit = limit; total = 0; past = [] } }
     {
         Adder {
             limit,
@@ -36,14 +36,14 @@ impl Adder {
     }
 
     pub fn total(&self) -> u64
-        ensures { result ≡ self.now.total }
+        ensures total { result ≡ self.now.total }
     {
         self.total
     }
 
     /// How many calls it has stored.
     pub fn count(&self) -> usize
-        ensures { result ≡ length self.now.past }
+        ensures count { result ≡ length self.now.past }
     {
         self.past.len()
     }

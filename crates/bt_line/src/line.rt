@@ -39,7 +39,7 @@ impl<O: Object> Line<O> {
     /// A line for so many callers, 1 to `MOST_CALLERS`, and their passes: the pass at place `k` has the number `k`, and has seen
     /// nothing yet. Where memory runs out, the object comes back.
     pub fn start(alloc: Global, object: O, seats: u32) -> Result<(Line<O>, Vec<Pass<O>>), O>
-        requires { (0 < seats) × (seats ≤ MOST_CALLERS) }
+        requires seats { (0 < seats) × (seats ≤ MOST_CALLERS) }
         ensures start { IfOk result (λ made. made.0.table.shared.key.value ≡ object) }
         ensures count { IfOk result (λ made. vec_len made.1 ≡ seats) }
         ensures passes { IfOk result (λ made. (i : ℕ) (d : _) → i < vec_len made.1

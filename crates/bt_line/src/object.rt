@@ -38,7 +38,7 @@ pub trait Object {
         caller: u32,
         call: Self::Call,
     ) -> Result<Self::Reply, OutOfMemory>
-        requires { takes self.old call }
+        requires takes { takes self.old call }
         ensures step { IfOk result (λ reply. steps self.old caller call reply self.new) }
         ensures entry { IfOk result (λ reply. history self.new
             ≡ history self.old ++ record { caller = caller; call = call; reply = reply } ∷ []) }

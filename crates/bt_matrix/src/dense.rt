@@ -34,7 +34,7 @@ impl Dense {
     pub fn new(alloc: Global, size: u32) -> Result<Dense, OutOfMemory>
         requires some { 1 ≤ size }
         requires few { size ≤ MOST_BEAMS }
-        ensures { IfOk result (λ matrix. matrix ≡ replicate size (replicate size 0)) }
+        ensures zeros { IfOk result (λ matrix. matrix ≡ replicate size (replicate size 0)) }
     {
         let mut rows = Vec::new(alloc);
         for _ in 0..size {
@@ -45,8 +45,8 @@ impl Dense {
 
     /// The matrix of these rows, one for each uplink beam.
     pub fn of(rows: Vec<Vec<u32>>) -> Dense
-        requires { IsTraffic (map (λ row. row.items) rows.items) }
-        ensures { result ≡ map (λ row. row.items) rows.items }
+        requires traffic { IsTraffic (map (λ row. row.items) rows.items) }
+        ensures same { result ≡ map (λ row. row.items) rows.items }
     {
         let row_sums = row_sums_of(rows.as_slice());
         let column_sums = column_sums_of(rows.as_slice());

@@ -11,7 +11,7 @@ pub fn heaviest_line(row_sums: &[u32], column_sums: &[u32]) -> (Critical, u32)
     requires square { length column_sums.now ≡ length row_sums.now }
     requires some { 0 < length row_sums.now }
     requires few { length row_sums.now ≤ MOST_BEAMS }
-    ensures { (rows : List (List ℕ)) → AreLineSums rows row_sums.now column_sums.now
+    ensures heaviest { (rows : List (List ℕ)) → AreLineSums rows row_sums.now column_sums.now
         → IsHeaviest rows result.0 result.1 }
 {
     let (up, most_up) = first_greatest(row_sums);

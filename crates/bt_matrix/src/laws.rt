@@ -13,6 +13,6 @@ pub fn one_line_is_heaviest()
 
 /// Whatever modes carry a matrix, they last as long as a good schedule at least.
 pub fn no_schedule_is_shorter()
-    ensures { (rows : List (List ℕ)) (schedule other : Schedule) → IsTraffic rows → IsGood rows schedule
+    ensures least { (rows : List (List ℕ)) (schedule other : Schedule) → IsTraffic rows → IsGood rows schedule
         → HasPermutations rows other → CarriesAll rows other → schedule.length ≤ total_duration other.modes }
 {}

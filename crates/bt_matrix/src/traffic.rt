@@ -24,25 +24,25 @@ pub trait Traffic {
     fn get(&self, up: BeamNo, down: BeamNo) -> u32
         requires up { up.0 < length (rows self.now) }
         requires down { down.0 < length (rows self.now) }
-        ensures { result ≡ entry (rows self.now) up.0 down.0 };
+        ensures entry { result ≡ entry (rows self.now) up.0 down.0 };
 
     /// The slots from an uplink beam.
     fn row_sum(&self, up: BeamNo) -> u32
-        requires { up.0 < length (rows self.now) }
-        ensures { result ≡ row_sum (rows self.now) up.0 };
+        requires up { up.0 < length (rows self.now) }
+        ensures sum { result ≡ row_sum (rows self.now) up.0 };
 
     /// The slots to a downlink beam.
     fn column_sum(&self, down: BeamNo) -> u32
-        requires { down.0 < length (rows self.now) }
-        ensures { result ≡ column_sum (rows self.now) down.0 };
+        requires down { down.0 < length (rows self.now) }
+        ensures sum { result ≡ column_sum (rows self.now) down.0 };
 
     /// The first line that has the greatest line sum, rows before columns, and that sum.
     fn heaviest(&self) -> (Critical, u32)
-        ensures { IsHeaviest (rows self.now) result.0 result.1 };
+        ensures heaviest { IsHeaviest (rows self.now) result.0 result.1 };
 
     /// How many more entries may become positive before `reserve` is needed.
     fn spare(&self) -> u32
-        ensures { result ≡ room self.now };
+        ensures room { result ≡ room self.now };
 
     /// Takes room for so many entries that become positive.
     fn reserve(&mut self, alloc: Global, entries: u32) -> Result<(), OutOfMemory>

@@ -39,7 +39,7 @@ impl Path {
 
     /// The place as it is printed, such as `beams[1]` or `terminals[3].name`.
     pub fn text(self, alloc: Global) -> Result<String, bt_frame::OutOfMemory>
-        ensures { IfOk result (λ text. string_bytes text ≡ path_text self) }
+        ensures text { IfOk result (λ text. string_bytes text ≡ path_text self) }
     {
         let text = self.printed(alloc)?;
         Ok(text)

@@ -21,7 +21,7 @@ fn are_name_bytes(bytes: &[u8]) -> bool
 /// Whether a word has the shape of a name: a letter, and letters, digits or underscores behind it, in at most
 /// `MOST_NAME_BYTES` bytes.
 pub fn is_name(word: &[u8]) -> bool
-    ensures { result ≡ is_name_of word.now }
+    ensures name { result ≡ is_name_of word.now }
 {
     match word {
         [] => false,
@@ -33,7 +33,7 @@ pub fn is_name(word: &[u8]) -> bool
 
 /// Whether both words have the shape of a name.
 pub fn are_names(from: &[u8], to: &[u8]) -> bool
-    ensures { result ≡ are_names_of from.now to.now }
+    ensures names { result ≡ are_names_of from.now to.now }
 {
     is_name(from) && is_name(to)
 }
@@ -47,7 +47,7 @@ fn is_reserved(word: &[u8]) -> bool
 
 /// Whether a terminal may have this name: none is called `all`, `sat` or `centre`.
 pub fn is_terminal_name(word: &[u8]) -> bool
-    ensures { result ≡ is_terminal_name_of word.now }
+    ensures name { result ≡ is_terminal_name_of word.now }
 {
     is_name(word) && !is_reserved(word)
 }

@@ -100,7 +100,7 @@ impl Network {
 
     /// The beam of a terminal.
     pub fn beam_of(&self, terminal: TermNo) -> BeamNo
-        requires { terminal.0 < length self.now.terminals }
+        requires terminal { terminal.0 < length self.now.terminals }
         ensures beam { option_map (λ t. t.1) (slice_get self.now.terminals terminal.0) ≡ Some result }
         ensures in_range { result.0 < length self.now.beams }
         ensures few { result.0 < MOST_BEAMS }
@@ -110,7 +110,7 @@ impl Network {
 
     /// The name of a terminal.
     pub fn name_of(&self, terminal: TermNo) -> &str
-        requires { terminal.0 < length self.now.terminals }
+        requires terminal { terminal.0 < length self.now.terminals }
         ensures name { option_map (λ t. t.0) (slice_get self.now.terminals terminal.0) ≡ Some result.now }
         ensures good { IsTrue (is_terminal_name result.now) }
     {
@@ -119,7 +119,7 @@ impl Network {
 
     /// The name of a beam.
     pub fn beam_name(&self, beam: BeamNo) -> &str
-        requires { beam.0 < length self.now.beams }
+        requires beam { beam.0 < length self.now.beams }
         ensures name { slice_get self.now.beams beam.0 ≡ Some result.now }
         ensures good { IsTrue (is_name_of result.now) }
     {
@@ -164,7 +164,7 @@ impl Network {
 
     /// An equal network.
     pub fn copy(&self, alloc: Global) -> Result<Network, OutOfMemory>
-        ensures { IfOk result (λ net. net ≡ self.now) }
+        ensures same { IfOk result (λ net. net ≡ self.now) }
     {
         Ok(Network {
             beams: self.beams.copy(alloc)?,

@@ -236,7 +236,7 @@ impl Network {
     /// its range, and its entries from the first.
     #[tactic(auto, unfolding(crate::specs::Reading::network_in))]
     pub fn read(alloc: Global, bytes: &[u8]) -> Result<Network, NetFault>
-        ensures { Gives (λ net. net) result (network_in bytes.now) }
+        ensures reading { Gives (λ net. net) result (network_in bytes.now) }
     {
         network_of(alloc, &json_of(alloc, bytes)?)
     }

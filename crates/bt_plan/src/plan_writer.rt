@@ -14,7 +14,7 @@ use std::alloc::Global;
 /// The text of a burst time plan, as `read_plan` reads it. Its bursts are between terminals of the network.
 pub fn plan_text(alloc: Global, net: &Network, plan: &Plan) -> Result<Vec<u8>, OutOfMemory>
     requires terminals { AreBetweenTerminals net.now plan.now.bursts }
-    ensures { IfOk result (λ text. text.items ≡ plan_spelling net.now plan.now) }
+    ensures spelled { IfOk result (λ text. text.items ≡ plan_spelling net.now plan.now) }
 {
     let mut text = Vec::new(alloc);
     write_edition(alloc, plan.edition, &mut text)?;

@@ -9,7 +9,7 @@ use std::alloc::Global;
 
 /// The text of a switching schedule, as `read_schedule` reads it.
 pub fn schedule_text(alloc: Global, schedule: &Schedule) -> Result<Vec<u8>, OutOfMemory>
-    ensures { IfOk result (λ text. text.items ≡ schedule_spelling schedule.now) }
+    ensures spelled { IfOk result (λ text. text.items ≡ schedule_spelling schedule.now) }
 {
     let mut text = Vec::new(alloc);
     write_schedule(alloc, schedule, &mut text)?;

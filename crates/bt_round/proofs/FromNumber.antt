@@ -79,8 +79,3 @@ pub lines-more : (net : Net) (first k : ℕ) (xs : List Sent) (x : Sent) (before
     → after ≡ before ++ sent_lines net first (take (k + 1 - first) (drop first xs))
 lines-more net first k xs x before now after from is so added =
     stepped (sent_line net) (sent_lines net) (λ n. refl) (λ n y l. refl) first k xs x before now after from is so added
-
--- and behind the last
-pub lines-ended : (net : Net) (first k : ℕ) (xs : List Sent) (before now : List ℕ) → k ≡ length xs
-    → now ≡ before ++ sent_lines net first (take (k - first) (drop first xs)) → now ≡ before ++ sent_lines net first (drop first xs)
-lines-ended net first k xs before now end so = ended (sent_line net) (sent_lines net) (λ n. refl) (λ n x l. refl) first k xs before now end so

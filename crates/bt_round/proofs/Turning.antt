@@ -1,6 +1,5 @@
 -- The parts of the centre's turn, joined.
-use Rattle.std.proofs.Common.{◌≡◌, ℕ, ◌<◌, nat_lt, Bool, true, false, if◌then◌else◌, List, [], ◌∷◌, ◌++◌, Option, Some, None, IfSome, refl, sym, ap, ◌∙◌, subst, append_assoc}
-use Rattle.std.proofs.lemmas.Bool.{ltb-true}
+use Rattle.std.proofs.Common.{◌≡◌, ℕ, nat_lt, Bool, true, false, if◌then◌else◌, List, [], ◌∷◌, ◌++◌, Option, Some, None, IfSome, refl, sym, ap, ◌∙◌, subst, append_assoc}
 use Rattle.std.proofs.lemmas.List.{append-nil}
 use Rattle.std.proofs.lemmas.List.Elements.{All-cons, All-nil}
 use Rattle.bt_frame.specs.declared.numbers.EditionNo.{EditionNo}
@@ -13,9 +12,9 @@ use Rattle.bt_journal.specs.declared.call.Call.{Call}
 use Rattle.bt_journal.specs.declared.call.Call.TheVariants as call
 use Rattle.bt_journal.specs.declared.entry.Entry.{Entry}
 use Rattle.bt_journal.specs.declared.reply.Reply.TheVariants as replies
-use Rattle.bt_timeline.specs.Air.{order_line, turn_line}
+use Rattle.bt_timeline.specs.Air.{turn_line}
 use Rattle.bt_world.specs.World.{wanted}
-use Rattle.bt_round.specs.AirLines.{AirState, PlaysOrder, PlaysTurn, PlaysTurning, answer_text, happened, having, installing, mark_of, newest_in, once_answered, sends_text, turning}
+use Rattle.bt_round.specs.AirLines.{AirState, PlaysOrder, PlaysTurn, PlaysTurning, happened, having, installing, mark_of, newest_in, sends_text, turning}
 use Rattle.bt_round.specs.Callers.{Calling, IsAnswered}
 use Rattle.bt_round.specs.Worker.{Asks}
 
@@ -30,11 +29,6 @@ none-asked net air want history text none = record {
   kept = sym (append-nil history);
   added = sym (append-nil text);
 }
-
--- the plan that the book lends is newer
-newer-known : (b : Bool) (after : EditionNo) (plan : Plan) → nat_lt after.0 plan.edition.0 ≡ b → IfSome (if b then Some plan else None) (λ (p : Plan). after.0 < p.edition.0)
-newer-known true after plan e = ltb-true after.0 plan.edition.0 e
-newer-known false after plan e = tt
 
 holds-known : (P : Plan → Type 0) (b : Bool) (plan : Plan) → P plan → IfSome (if b then Some plan else None) P
 holds-known P true plan holds = holds

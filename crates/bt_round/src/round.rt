@@ -53,22 +53,13 @@ fn work_all<R: Threads + Wait + Sync, G: Gate + Sync, K: Keeper + Send>(
     ensures length { length workers.new ≡ length workers.old }
     ensures done { (i : ℕ) (d : _) → i < length workers.old → WorkDone net.now (slice_index_or workers.old i d) (slice_index_or workers.new i d) }
 {
-    work_apart(rt, alloc, net, &mut workers[..apart]);
+    for_each_chunk_mut(
+        rt,
+        &mut workers[..apart],
+        1,
+        &|_, part| work_part(rt, alloc, net, part),
+    );
     work_part(rt, alloc, net, &mut workers[apart..]);
-}
-
-/// Workers do their lines at once, each on a thread of its own where one can be made.
-fn work_apart<R: Threads + Wait + Sync, G: Gate + Sync, K: Keeper + Send>(
-    rt: &R,
-    alloc: Global,
-    net: &Network,
-    workers: &mut [Worker<'_, G, K>],
-)
-    requires can { All (λ worker. (worker.caller.start.net ≡ net.now) × CanDo net.now worker.caller worker.job) workers.old }
-    ensures length { length workers.new ≡ length workers.old }
-    ensures done { (i : ℕ) (d : _) → i < length workers.old → WorkDone net.now (slice_index_or workers.old i d) (slice_index_or workers.new i d) }
-{
-    for_each_chunk_mut(rt, workers, 1, &|_, part| work_part(rt, alloc, net, part));
 }
 
 /// Workers do their lines one after the other.

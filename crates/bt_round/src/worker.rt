@@ -39,8 +39,8 @@ impl Model for CentreWorker {
 impl CentreWorker {
     /// The worker of a world. Nobody waits.
     pub fn new(alloc: Global, world: World) -> CentreWorker
-        requires { IsWorld world.opening (reverse world.events) }
-        ensures { result ≡ record { life = world; waiting = [] } }
+        requires world { IsWorld world.opening (reverse world.events) }
+        ensures made { result ≡ record { life = world; waiting = [] } }
     {
         CentreWorker {
             world,
@@ -50,7 +50,7 @@ impl CentreWorker {
 
     /// The present superframe.
     pub fn mark(&self) -> Mark
-        ensures { result ≡ mark_of self.now }
+        ensures mark { result ≡ mark_of self.now }
     {
         self.world.mark()
     }
@@ -111,14 +111,14 @@ impl CentreWorker {
 
     /// The order that the centre wants, if any.
     pub fn wanted(&self) -> Option<Order>
-        ensures { result ≡ wanted (happened self.now) }
+        ensures wanted { result ≡ wanted (happened self.now) }
     {
         self.world.wanted()
     }
 
     /// How many orders are placed.
     pub fn order_count(&self) -> u32
-        ensures { result ≡ length (orders_in self.now) }
+        ensures count { result ≡ length (orders_in self.now) }
     {
         self.world.order_count()
     }

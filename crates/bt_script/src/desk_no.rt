@@ -30,7 +30,7 @@ impl Model for DeskNo {
 impl DeskNo {
     /// The desk of that number, or None outside 1 to `MOST_DESKS`.
     pub fn new(number: u64) -> Option<DeskNo>
-        ensures { result ≡ within MOST_DESKS number }
+        ensures range { result ≡ within MOST_DESKS number }
     {
         if 1 <= number && number <= u64::from(MOST_DESKS) {
             Some(DeskNo {

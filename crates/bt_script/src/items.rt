@@ -12,8 +12,8 @@ use std::mem;
 
 /// The rounds and restarts that the lines say.
 pub fn items_of(alloc: Global, said: &[ScriptLine]) -> Result<Items, OutOfMemory>
-    requires { length said.now ≤ MOST_LINES }
-    ensures { IfOk result (λ items. items ≡ items_of said.now) }
+    requires few { length said.now ≤ MOST_LINES }
+    ensures items { IfOk result (λ items. items ≡ items_of said.now) }
 {
     let mut items = Vec::new(alloc);
     let mut rest = said;

@@ -35,7 +35,7 @@ pub fn read_line(
     is_open: bool,
     line: &[u8],
 ) -> Result<ScriptLine, ScriptFault>
-    ensures { Gives (λ line. line) result (line_in net.now at is_open line.now) }
+    ensures reading { Gives (λ line. line) result (line_in net.now at is_open line.now) }
 {
     let shape = shape_of(line).ok_or(fault_at(ScriptCode::S1, at))?;
     let named = with_terminals(net, shape).ok_or(fault_at(ScriptCode::S2, at))?;

@@ -9,7 +9,7 @@ use bt_net::Network;
 
 /// The line with the terminals of its names, or None where no terminal has one of them.
 pub fn with_terminals(net: &Network, shape: LineShape<&[u8]>) -> Option<LineShape<TermNo>>
-    ensures { result ≡ with_terminals net.now (each_name (λ name. name.now) shape.entry) }
+    ensures named { result ≡ with_terminals net.now (each_name (λ name. name.now) shape.entry) }
 {
     match shape {
         LineShape::Remark => Some(LineShape::Remark),

@@ -14,7 +14,7 @@ use bt_journal::Edit;
 
 /// The line, or None where a number is out of range.
 pub fn in_range(named: LineShape<TermNo>) -> Option<ScriptLine>
-    ensures { result ≡ in_range named }
+    ensures line { result ≡ in_range named }
 {
     match named {
         LineShape::Remark => Some(ScriptLine::Remark),

@@ -22,7 +22,7 @@ impl Script {
     /// than a text may have.
     #[tactic(auto, using(crate::proofs::Naming::items_named, crate::proofs::Order::items_in_order, crate::proofs::Counting::items_short))]
     pub fn read(alloc: Global, net: &Network, bytes: &[u8]) -> Result<Script, ScriptFault>
-        requires { length bytes.now ≤ MOST_TEXT_BYTES }
+        requires short { length bytes.now ≤ MOST_TEXT_BYTES }
         ensures reading { Gives (λ script. script) result (script_of net.now bytes.now) }
         ensures terminals { IfOk result (λ script. All (IsItemFor net.now) script.items) }
         ensures ascending { IfOk result (λ script. All HasDesksInOrder script.items) }

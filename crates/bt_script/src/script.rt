@@ -35,14 +35,14 @@ impl Model for DeskLines {
 impl DeskLines {
     /// These lines.
     pub fn of(lines: Vec<DeskLine>) -> DeskLines
-        ensures { result ≡ lines.items }
+        ensures same { result ≡ lines.items }
     {
         DeskLines { lines }
     }
 
     /// No lines.
     pub fn none(alloc: Global) -> DeskLines
-        ensures { result ≡ [] }
+        ensures none { result ≡ [] }
     {
         DeskLines {
             lines: Vec::new(alloc),
@@ -63,7 +63,7 @@ impl DeskLines {
 
     /// The lines in order.
     pub fn as_slice(&self) -> &[DeskLine]
-        ensures { result.now ≡ self.now }
+        ensures same { result.now ≡ self.now }
     {
         self.lines.as_slice()
     }
@@ -90,8 +90,8 @@ impl Model for Desks {
 impl Desks {
     /// These desks.
     pub fn of(desks: Vec<(u8, DeskLines)>) -> Desks
-        requires { AreDesks desks.items }
-        ensures { result ≡ desks.items }
+        requires desks { AreDesks desks.items }
+        ensures same { result ≡ desks.items }
     {
         Desks { desks }
     }
@@ -152,14 +152,14 @@ impl Model for AirLines {
 impl AirLines {
     /// These lines.
     pub fn of(lines: Vec<AirLine>) -> AirLines
-        ensures { result ≡ lines.items }
+        ensures same { result ≡ lines.items }
     {
         AirLines { lines }
     }
 
     /// The lines in order.
     pub fn as_slice(&self) -> &[AirLine]
-        ensures { result.now ≡ self.now }
+        ensures same { result.now ≡ self.now }
     {
         self.lines.as_slice()
     }
@@ -203,14 +203,14 @@ impl Model for Items {
 impl Items {
     /// These parts.
     pub fn of(items: Vec<Item>) -> Items
-        ensures { result ≡ items.items }
+        ensures same { result ≡ items.items }
     {
         Items { items }
     }
 
     /// The parts in order.
     pub fn as_slice(&self) -> &[Item]
-        ensures { result.now ≡ self.now }
+        ensures same { result.now ≡ self.now }
     {
         self.items.as_slice()
     }

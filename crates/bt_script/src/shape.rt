@@ -94,7 +94,7 @@ pub enum LineShape<Name> {
 
 /// The shape of a line, or None where it has none.
 pub fn shape_of(line: &[u8]) -> Option<LineShape<&[u8]>>
-    ensures { option_map (each_name (λ name. name.now)) result ≡ shape_of line.now }
+    ensures shape { option_map (each_name (λ name. name.now)) result ≡ shape_of line.now }
 {
     match line {
         [] => Some(LineShape::Remark),

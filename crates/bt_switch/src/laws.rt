@@ -14,19 +14,19 @@ use bt_air::{Message, Order, Taken};
 
 /// A message that is not accepted leaves the satellite as it was.
 pub fn refusals_change_nothing()
-    ensures { (s : State) (message : Message) → (step_of s message).0 ≢ Taken.Accepted → (step_of s message).1 ≡ s }
+    ensures unchanged { (s : State) (message : Message) → (step_of s message).0 ≢ Taken.Accepted → (step_of s message).1 ≡ s }
 {}
 
 /// The numbers of the orders that a satellite accepts ascend, whatever it hears.
 pub fn accepted_commands_ascend()
-    ensures { (mark : Mark) (events : List SatelliteEvent)
+    ensures ascend { (mark : Mark) (events : List SatelliteEvent)
         → AllPairs (λ a b. (command_of a).0 < (command_of b).0) (accepted (new_at mark) events) }
 {}
 
 /// After every run a satellite is what the orders say that it accepted: their last command, the change that is to
 /// come, and the editions in front and in the background.
 pub fn satellites_stand_for_their_orders()
-    ensures { (mark : Mark) (events : List SatelliteEvent)
+    ensures stands { (mark : Mark) (events : List SatelliteEvent)
         → StandsFor (reverse (accepted (new_at mark) events)) (state_after (new_at mark) events) }
 {}
 
@@ -45,19 +45,19 @@ pub fn accepted_orders_are_said_by_events()
 
 /// An order to arm is accepted only for a superframe after the one in which it is heard.
 pub fn changes_are_armed_ahead()
-    ensures { (orders : List Order) (mark : ℕ) (message : Message) → All (IsAhead mark) (joining orders mark message) }
+    ensures ahead { (orders : List Order) (mark : ℕ) (message : Message) → All (IsAhead mark) (joining orders mark message) }
 {}
 
 /// No message changes which edition was in front in a superframe that has begun.
 pub fn past_fronts_stay()
-    ensures { (orders : List Order) (mark past : ℕ) (message : Message) → past ≤ mark
+    ensures same { (orders : List Order) (mark past : ℕ) (message : Message) → past ≤ mark
         → fore_at (joining orders mark message ++ orders) past ≡ fore_at orders past }
 {}
 
 /// Once a satellite is armed, the edition of the change is in front in the superframe that it names, whatever else
 /// the satellite hears.
 pub fn armed_edition_comes_to_the_front()
-    ensures { (mark : Mark) (before events : List SatelliteEvent) (armed : Armed)
+    ensures front { (mark : Mark) (before events : List SatelliteEvent) (armed : Armed)
         → (state_after (new_at mark) before).armed ≡ Some armed
         → (state_after (new_at mark) (before ++ events)).mark ≡ armed.due
         → (state_after (new_at mark) (before ++ events)).fore.edition ≡ armed.edition }

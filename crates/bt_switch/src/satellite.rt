@@ -33,7 +33,7 @@ impl Model for Satellite {
 impl Satellite {
     /// A satellite at this superframe: edition 0 in both banks without modes, nothing armed, no command accepted.
     pub fn new(alloc: Global, mark: Mark) -> Satellite
-        ensures { result ≡ new_at mark }
+        ensures made { result ≡ new_at mark }
     {
         Satellite {
             mark,
@@ -46,7 +46,7 @@ impl Satellite {
 
     /// What the satellite says of itself.
     pub fn status(&self) -> Status
-        ensures { result ≡ status_of self.now }
+        ensures status { result ≡ status_of self.now }
     {
         Status {
             mark: self.mark,

@@ -14,21 +14,21 @@ use bt_air::{Heard, Message};
 
 /// Only `Took` and `Stored` change a terminal.
 pub fn refusals_change_nothing()
-    ensures { (s : State) (mark : Mark) (message : Message)
+    ensures unchanged { (s : State) (mark : Mark) (message : Message)
         → (step_of s mark message).0 ≢ Heard.Took → (step_of s mark message).0 ≢ Heard.Stored → (step_of s mark message).1 ≡ s }
 {}
 
 /// A terminal is silent in each superframe whose reference burst it did not take, whatever else it hears: it does not
 /// go on with the edition of an earlier superframe.
 pub fn unheard_superframes_are_silent()
-    ensures { (number : TermNo) (events : List TerminalEvent) (mark : Mark)
+    ensures silent { (number : TermNo) (events : List TerminalEvent) (mark : Mark)
         → All (λ event. ¬ (TakesReference mark event)) events → transmitted (state_after (new_of number) events) mark ≡ [] }
 {}
 
 /// While the terminal holds bursts of the edition named, no bursts that come for it change what it transmits in
 /// this superframe.
 pub fn bursts_in_force_stay()
-    ensures { (s : State) (mark : Mark) (named : EditionNo) (to : TermNo) (edition : EditionNo) (bursts : List Burst)
+    ensures same { (s : State) (mark : Mark) (named : EditionNo) (to : TermNo) (edition : EditionNo) (bursts : List Burst)
         → in_force s.heard mark ≡ Some named → hold s.banks named ≡ true
         → transmitted (step_of s mark (Message.PlanFor to edition bursts)).1 mark ≡ transmitted s mark }
 {}
@@ -36,13 +36,13 @@ pub fn bursts_in_force_stay()
 /// What a terminal has heard in the present superframe, and the editions of which it holds its bursts, are said by its
 /// events alone, where superframes never fall. Here the latest event stands first.
 pub fn terminals_are_said_by_events()
-    ensures { (number : TermNo) (now : ℕ) (latest : List TerminalEvent) → NeverFalls now latest
+    ensures agrees { (number : TermNo) (now : ℕ) (latest : List TerminalEvent) → NeverFalls now latest
         → Agrees number now (heard_in now latest) (held_after number latest) (state_after (new_of number) (oldest_first latest)) }
 {}
 
 /// No run brings one edition into both banks.
 pub fn banks_stay_distinct()
-    ensures { (number : TermNo) (events : List TerminalEvent)
+    ensures distinct { (number : TermNo) (events : List TerminalEvent)
         → AreDistinct (state_after (new_of number) events).banks.first (state_after (new_of number) events).banks.second }
 {}
 

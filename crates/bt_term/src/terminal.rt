@@ -34,7 +34,7 @@ impl Terminal {
     ///
     /// Empty banks need no allocator. It is taken as by every constructor of a type that keeps lists.
     pub fn new(_alloc: Global, number: TermNo) -> Terminal
-        ensures { result ≡ new_of number }
+        ensures made { result ≡ new_of number }
     {
         Terminal {
             number,
@@ -45,7 +45,7 @@ impl Terminal {
 
     /// Loses all that the terminal holds and has heard.
     pub fn restart(&mut self)
-        ensures { self.new ≡ new_of self.old.number }
+        ensures made { self.new ≡ new_of self.old.number }
     {
         self.banks = Banks::empty();
         self.heard = None;

@@ -39,7 +39,7 @@ impl<Code> From<bt_frame::OutOfMemory> for LineFault<Code> {
 
 /// What is wrong with a line, counted from 1.
 pub fn fault_at<Code>(code: Code, line: u32) -> LineFault<Code>
-    ensures { result ≡ LineFault.At code line }
+    ensures fault { result ≡ LineFault.At code line }
 {
     LineFault::At { code, line }
 }

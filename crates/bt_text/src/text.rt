@@ -79,7 +79,7 @@ pub fn number_text(alloc: Global, number: u64, out: &mut Vec<u8>) -> Result<(), 
 /// Where the line that begins at a place begins and ends, its newline left out; None where no newline
 /// follows.
 pub fn next_line(bytes: &[u8], place: usize) -> Option<(usize, usize)>
-    requires { place ≤ length bytes.now }
+    requires place { place ≤ length bytes.now }
     ensures start { IfSome result (λ line. line.0 ≡ place) }
     ensures within { IfSome result (λ line. (place ≤ line.1) × (line.1 < length bytes.now)) }
     ensures line { IfSome result (λ line. lines (drop place bytes.now)

@@ -27,7 +27,7 @@ impl<'a> WordReader<'a> {
     /// All words of a line, cut at every single space.
     #[inline(always)]
     pub fn of(line: &'a [u8]) -> WordReader<'a>
-        ensures { result ≡ words line.now }
+        ensures words { result ≡ words line.now }
     {
         WordReader { rest: Some(line) }
     }
@@ -82,7 +82,7 @@ impl<'a> WordReader<'a> {
     /// No word is left.
     #[inline(always)]
     pub fn is_done(&self) -> bool
-        ensures { result ≡ (length self.now == 0) }
+        ensures done { result ≡ (length self.now == 0) }
     {
         self.rest.is_none()
     }

@@ -75,7 +75,7 @@ pub fn reset_text(
     terminal: TermNo,
     out: &mut Vec<u8>,
 ) -> Result<(), OutOfMemory>
-    requires { IsTerminal net.now terminal }
+    requires terminal { IsTerminal net.now terminal }
     ensures added { OnOk result (out.new.items ≡ out.old.items ++ reset_line net.now terminal) }
     ensures unchanged { OnErr result (out.new.items ≡ out.old.items) }
 {

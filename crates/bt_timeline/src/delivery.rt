@@ -18,7 +18,7 @@ pub fn got_text(
     answer: Answer,
     out: &mut Vec<u8>,
 ) -> Result<(), OutOfMemory>
-    requires { IsPlaceOf net.now place }
+    requires place { IsPlaceOf net.now place }
     ensures added { OnOk result (out.new.items ≡ out.old.items ++ got_line net.now number place answer) }
     ensures unchanged { OnErr result (out.new.items ≡ out.old.items) }
 {

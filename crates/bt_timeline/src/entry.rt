@@ -23,7 +23,7 @@ pub fn entry_text(
     entry: &Entry,
     out: &mut Vec<u8>,
 ) -> Result<(), OutOfMemory>
-    requires { IsPrinted net.now desk entry.now }
+    requires printed { IsPrinted net.now desk entry.now }
     ensures added { OnOk result (out.new.items ≡ out.old.items ++ entry_line net.now desk entry.now) }
     ensures unchanged { OnErr result (out.new.items ≡ out.old.items) }
 {

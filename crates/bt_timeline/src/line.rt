@@ -26,7 +26,7 @@ pub enum Word<'a> {
 impl Word<'_> {
     /// A small number in decimal digits.
     pub fn number(number: u32) -> Word<'static>
-        ensures { word_bytes result ≡ decimal number }
+        ensures spelled { word_bytes result ≡ decimal number }
     {
         Word::Number(u64::from(number))
     }

@@ -41,7 +41,7 @@ pub fn order_text(alloc: Global, order: Order, out: &mut Vec<u8>) -> Result<(), 
 /// Appends the line of an order that was not placed, by the reply to it: a refusal, a fault of the store, or that the
 /// book is stopped.
 pub fn unplaced_text(alloc: Global, reply: &Reply, out: &mut Vec<u8>) -> Result<(), OutOfMemory>
-    requires { IsUnplaced reply.now }
+    requires unplaced { IsUnplaced reply.now }
     ensures added { OnOk result (out.new.items ≡ out.old.items ++ unplaced_line reply.now) }
     ensures unchanged { OnErr result (out.new.items ≡ out.old.items) }
 {

@@ -23,7 +23,7 @@ pub fn replay_text(
     demand: &Demand,
     out: &mut Vec<u8>,
 ) -> Result<(), OutOfMemory>
-    requires { AreOfNetwork net.now demand.now }
+    requires demand { AreOfNetwork net.now demand.now }
     ensures added { OnOk result (out.new.items ≡ out.old.items ++ replay_lines net.now edition.0 newest.now orders demand.now) }
     ensures unchanged { OnErr result (out.new.items ≡ out.old.items) }
 {

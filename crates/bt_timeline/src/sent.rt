@@ -17,7 +17,7 @@ pub fn sent_text(
     sent: &Sent,
     out: &mut Vec<u8>,
 ) -> Result<(), OutOfMemory>
-    requires { NamesTerminal net.now sent.now }
+    requires terminal { NamesTerminal net.now sent.now }
     ensures added { OnOk result (out.new.items ≡ out.old.items ++ sent_line net.now number sent.now) }
     ensures unchanged { OnErr result (out.new.items ≡ out.old.items) }
 {

@@ -15,7 +15,7 @@ pub fn verdict_text(
     verdict: &Verdict,
     out: &mut Vec<u8>,
 ) -> Result<(), OutOfMemory>
-    requires { CanName (lent net) verdict.now }
+    requires beams { CanName (lent net) verdict.now }
     ensures added { OnOk result (out.new.items ≡ out.old.items ++ verdict_line (lent net.entry) verdict.now) }
     ensures unchanged { OnErr result (out.new.items ≡ out.old.items) }
 {

@@ -6,6 +6,6 @@ ghost use Rattle.bt_verdict.specs.Verdict.{IsVerdict};
 
 /// A schedule has at most one verdict for a matrix.
 pub fn one_verdict()
-    ensures { (rows : List (List ℕ)) (schedule : Schedule) (a b : Verdict)
+    ensures same { (rows : List (List ℕ)) (schedule : Schedule) (a b : Verdict)
         → IsVerdict rows schedule a → IsVerdict rows schedule b → a ≡ b }
 {}

@@ -28,7 +28,7 @@ pub fn check(net: &Network, demand: &Demand, plan: &Plan) -> Verdict
     requires bursts { AreBetweenTerminals net.now plan.now.bursts }
     requires critical { IsOfBeams (length net.now.beams) plan.now.schedule.critical }
     requires sums { HasSumsTo MOST_SUM (matrix_of net.now demand.now) }
-    ensures { IsPlanVerdict net.now demand.now plan.now result }
+    ensures verdict { IsPlanVerdict net.now demand.now plan.now result }
 {
     let links = demand.as_slice();
     match modes_fault(net, links, plan) {

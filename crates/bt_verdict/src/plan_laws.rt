@@ -16,7 +16,7 @@ ghost use Rattle.bt_demand.specs.Traffic.{matrix_of, AreOfNetwork};
 /// However slots are given out, a demand takes as many as any line of its matrix asks for: the beam of that line can be
 /// used by one link at a time.
 pub fn no_assignment_is_shorter()
-    ensures { (net : Net) (links : List Link) (triples : List Triple) (slots : ℕ) (line : Critical)
+    ensures least { (net : Net) (links : List Link) (triples : List Triple) (slots : ℕ) (line : Critical)
         → IsDemand links → Carries net links slots triples
         → IsLine (matrix_of net links) line → line_sum (matrix_of net links) line ≤ slots }
 {}
@@ -24,7 +24,7 @@ pub fn no_assignment_is_shorter()
 /// A plan is good where its modes are, and its bursts do not meet, lie within the modes that make their connections,
 /// and have as many slots on each link as it asks for.
 pub fn plans_are_good_by_their_parts()
-    ensures { (net : Net) (links : List Link) (plan : Plan)
+    ensures good { (net : Net) (links : List Link) (plan : Plan)
         → IsDemand links → AreOfNetwork net links → AreBetweenTerminals net plan.bursts
         → HasGoodModes net links plan.schedule → AreApart net plan.bursts → All (IsHeld net plan.schedule.modes) plan.bursts
         → ((from to : TermNo) → from.0 < length net.terminals → to.0 < length net.terminals → IsServed links plan.bursts from to)
@@ -45,6 +45,6 @@ pub fn good_plans_have_their_parts()
 
 /// A plan has at most one verdict for a demand.
 pub fn one_plan_verdict()
-    ensures { (net : Net) (links : List Link) (plan : Plan) (a b : Verdict) → IsDemand links
+    ensures same { (net : Net) (links : List Link) (plan : Plan) (a b : Verdict) → IsDemand links
         → IsPlanVerdict net links plan a → IsPlanVerdict net links plan b → a ≡ b }
 {}

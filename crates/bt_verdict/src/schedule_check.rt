@@ -15,8 +15,8 @@ use bt_matrix::{Dense, Traffic};
 /// It looks twice at each beam of each mode, for its permutation and for its slots, and once at each entry of the
 /// matrix. It takes no memory.
 pub fn check_modes(matrix: &Dense, schedule: &Schedule) -> Verdict
-    requires { IsLine matrix.now schedule.now.critical }
-    ensures { IsVerdict matrix.now schedule.now result }
+    requires line { IsLine matrix.now schedule.now.critical }
+    ensures verdict { IsVerdict matrix.now schedule.now result }
 {
     verdict_on(matrix, schedule)
 }

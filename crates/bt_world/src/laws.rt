@@ -38,13 +38,13 @@ pub fn orders_come_first()
 /// From its superframe on, whatever happens afterwards, each Status that was sent makes nothing known to the centre, or
 /// the edition in front.
 pub fn statuses_stay_true()
-    ensures { (o : Opening) (events : List Event)
+    ensures front { (o : Opening) (events : List Event)
         → All (TellsFront (orders o (log o events)) (accepted o (log o events))) (sent o (log o events)) }
 {}
 
 /// Each Reference names none, or the edition in front in its superframe.
 pub fn references_are_right()
-    ensures { (o : Opening) (events : List Event) → All (IsRight (accepted o (log o events))) (sent o (log o events)) }
+    ensures right { (o : Opening) (events : List Event) → All (IsRight (accepted o (log o events))) (sent o (log o events)) }
 {}
 
 /// Every frame is safe where each plan can be flown, as in every world it can, and each terminal that transmits sends
@@ -75,13 +75,13 @@ pub fn satellite_is_said()
 /// Each bank of the satellite holds the modes of the plan of its edition, so that the connections of a safe frame are
 /// those that the switch makes.
 pub fn banks_hold_plans()
-    ensures { (o : Opening) (events : List Event) → IsWorld o events → BanksHold (plans o (log o events)) (satellite o (log o events)) }
+    ensures banks { (o : Opening) (events : List Event) → IsWorld o events → BanksHold (plans o (log o events)) (satellite o (log o events)) }
 {}
 
 /// Every message that a world sends has a spelling: with the modes and the bursts of its plan, each of its fields is in
 /// its range.
 pub fn messages_are_in_range()
-    ensures { (o : Opening) (events : List Event) → IsSound o.net → IsWorld o events → AreStored o (log o events)
+    ensures in_range { (o : Opening) (events : List Event) → IsSound o.net → IsWorld o events → AreStored o (log o events)
         → All (λ one. IsInRange (carried (plans o (log o events)) one)) (sent o (log o events)) }
 {
     flyable_plans_are_small();
@@ -90,7 +90,7 @@ pub fn messages_are_in_range()
 /// The centre's orders, the status that it keeps, the order that it wants, the terminals that have confirmed, that ask
 /// and that it misses, and what it does in its turn are what the events say.
 pub fn centre_is_said()
-    ensures { (o : Opening) (events : List Event) → IsSound o.net → IsWorld o events → AreStored o (log o events)
+    ensures said { (o : Opening) (events : List Event) → IsSound o.net → IsWorld o events → AreStored o (log o events)
         → IsCentreSaid o (log o events) (centre o (log o events)) }
 {
     sets_hold_what_joined();
@@ -98,7 +98,7 @@ pub fn centre_is_said()
 
 /// Each terminal has heard and holds what the events say.
 pub fn terminals_are_said()
-    ensures { (o : Opening) (past : List Happening) (number : TermNo) → Agrees number (mark o past) (heard o past number) (held o past number) (terminal o past number) }
+    ensures agrees { (o : Opening) (past : List Happening) (number : TermNo) → Agrees number (mark o past) (heard o past number) (held o past number) (terminal o past number) }
 {}
 
 /// What the satellite and a terminal send when they hear a message is what their answers call for: the satellite tells its
@@ -115,7 +115,7 @@ pub fn answers_are_said()
 
 /// Each terminal transmits what the events say.
 pub fn transmissions_are_said()
-    ensures { (o : Opening) (events : List Event) (number : TermNo)
+    ensures bursts { (o : Opening) (events : List Event) (number : TermNo)
         → transmitted (terminal o (log o events) number) (record { 0 = mark o (log o events) }) ≡ transmits o (log o events) number }
 {}
 

@@ -58,8 +58,8 @@ impl World {
         plans: Vec<Plan>,
         orders: Vec<Order>,
     ) -> Result<World, OutOfMemory>
-        requires { IsOpening (opening_of net.now plans.items orders.items) }
-        ensures { IfOk result (λ world. world ≡ record { opening = opening_of net.now plans.items orders.items; events = [] }) }
+        requires opening { IsOpening (opening_of net.now plans.items orders.items) }
+        ensures made { IfOk result (λ world. world ≡ record { opening = opening_of net.now plans.items orders.items; events = [] }) }
     {
         let count = net.terminal_count();
         let mark = greatest_due(orders.as_slice());
@@ -82,7 +82,7 @@ impl World {
 
     /// The present superframe.
     pub fn mark(&self) -> Mark
-        ensures { result.0 ≡ mark self.now.opening (past_of self.now) }
+        ensures mark { result.0 ≡ mark self.now.opening (past_of self.now) }
     {
         satellite_is_said();
         self.satellite.status().mark
@@ -90,36 +90,36 @@ impl World {
 
     /// The number that the next frame of the present superframe has, from 0.
     pub fn frame_number(&self) -> u32
-        ensures { result ≡ frames_shown (past_of self.now) }
+        ensures count { result ≡ frames_shown (past_of self.now) }
     {
         self.frames_shown
     }
 
     /// How many messages were sent.
     pub fn sent_count(&self) -> u32
-        ensures { result ≡ length (sent self.now.opening (past_of self.now)) }
+        ensures count { result ≡ length (sent self.now.opening (past_of self.now)) }
     {
         self.sent.len() as u32
     }
 
     /// The message of this number, counted from 0 in the order in which they were sent.
     pub fn sent(&self, number: u32) -> &Sent
-        requires { number < length (sent self.now.opening (past_of self.now)) }
-        ensures { slice_get (sent self.now.opening (past_of self.now)) number ≡ Some result.now }
+        requires number { number < length (sent self.now.opening (past_of self.now)) }
+        ensures sent { slice_get (sent self.now.opening (past_of self.now)) number ≡ Some result.now }
     {
         &self.sent[number as usize]
     }
 
     /// The newest edition that has a plan.
     pub fn newest(&self) -> EditionNo
-        ensures { result ≡ newest_of (plans self.now.opening (past_of self.now)) }
+        ensures newest { result ≡ newest_of (plans self.now.opening (past_of self.now)) }
     {
         self.log.newest()
     }
 
     /// The order that the last turn wanted, where it was neither placed nor lost since.
     pub fn wanted(&self) -> Option<Order>
-        ensures { result ≡ wanted (past_of self.now) }
+        ensures wanted { result ≡ wanted (past_of self.now) }
     {
         centre_is_said();
         self.centre.wanted()
@@ -127,7 +127,7 @@ impl World {
 
     /// How many orders are placed.
     pub fn order_count(&self) -> u32
-        ensures { result ≡ length (orders self.now.opening (past_of self.now)) }
+        ensures count { result ≡ length (orders self.now.opening (past_of self.now)) }
     {
         centre_is_said();
         self.centre.order_count()
@@ -145,7 +145,7 @@ impl World {
 
     /// The events from the first on.
     pub fn into_events(self) -> Vec<Event>
-        ensures { result.items ≡ self.events }
+        ensures events { result.items ≡ self.events }
     {
         self.log.into_events()
     }

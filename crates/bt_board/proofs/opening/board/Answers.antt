@@ -11,7 +11,7 @@ loop-preserved g c =
     let seat = c.seat_one.ensures in
     let push = c.push_reserved.ensures in
     let P : Posted → Type 0 = λ r. r ≡ posted c.in_ok-head.shown.seen.book c.in_ok-head.shown.seen.log in
-    let one : c.seat_one.result ≡ posted c.in_ok-head.shown.seen.book c.in_ok-head.shown.seen.log = seat.reader ∙ ap (λ s. posted s.book s.log) c.in-Ok.ensures in (
+    let one : c.seat_one.result ≡ posted c.in_ok-head.shown.seen.book c.in_ok-head.shown.seen.log = seat.reader ∙ ap (λ s. posted s.book s.log) c.in-Ok.ensures.seen in (
       ap (λ p. p.value.seen) seat.shown ∙ inv.0,
       seat.pending ∙ inv.1,
       subst (λ v. Knows v c.in_ok-head.shown.seen.book) (sym seat.view) inv.2,

@@ -2,4 +2,4 @@ use Rattle.bt_book.proofs.Histories.{Legal-follows}
 use Rattle.bt_book.proofs.laws.legal_changes_follow.Goals as goal
 
 pub returns : goal.returns
-returns c = Legal-follows
+returns c = record { follows = Legal-follows }

@@ -28,7 +28,7 @@ returns-in-Ok-begin_again-clause-played g c =
     let old : Hand = record { over = inside.over.items; before = inside.before; book = inside.station.book; air = inside.station.centre; rounds = inside.rounds } in
     let view : old ≡ c.args.playing = c.playing.view_is in
     let is = c.book_and_centre-book.ensures.book in
-    let all = pushed_is c.push_reserved.new.self.items c.reserve.new.self.items inside.over.items inside.before c.of.result _ old.book.history c.push_reserved.ensures.items c.reserve.ensures.items c.of.ensures
+    let all = pushed_is c.push_reserved.new.self.items c.reserve.new.self.items inside.over.items inside.before c.of.result _ old.book.history c.push_reserved.ensures.items c.reserve.ensures.items c.of.ensures.same
     (c.into_parts-store.ensures.history ∙ ap (λ (b : Books). b.history) is) in
     let laws : Laws = record { next = c.stores_tell_next_openings.ensures.next; short = c.stores_tell_next_openings.ensures.short } in
     let now = c.in-Ok-recover.ensures in
@@ -45,7 +45,7 @@ returns-in-Err-begin_again-clause-failed g c =
     let old : Hand = record { over = inside.over.items; before = inside.before; book = inside.station.book; air = inside.station.centre; rounds = inside.rounds } in
     let view : old ≡ c.args.playing = c.playing.view_is in
     let is = c.book_and_centre-book.ensures.book in
-    let all = pushed_is c.push_reserved.new.self.items c.reserve.new.self.items inside.over.items inside.before c.of.result _ old.book.history c.push_reserved.ensures.items c.reserve.ensures.items c.of.ensures
+    let all = pushed_is c.push_reserved.new.self.items c.reserve.new.self.items inside.over.items inside.before c.of.result _ old.book.history c.push_reserved.ensures.items c.reserve.ensures.items c.of.ensures.same
     (c.into_parts-store.ensures.history ∙ ap (λ (b : Books). b.history) is) in
     inl (
       refl,
@@ -64,7 +64,7 @@ returns-in-Err-clause-failed g c =
     let view : old ≡ c.args.playing = c.playing.view_is in
     let is = c.book_and_centre-book.ensures.book in
     let air_is = c.book_and_centre-book.ensures.centre in
-    let all = pushed_is c.push_reserved.new.self.items c.reserve.new.self.items inside.over.items inside.before c.of.result _ old.book.history c.push_reserved.ensures.items c.reserve.ensures.items c.of.ensures
+    let all = pushed_is c.push_reserved.new.self.items c.reserve.new.self.items inside.over.items inside.before c.of.result _ old.book.history c.push_reserved.ensures.items c.reserve.ensures.items c.of.ensures.same
     (c.into_parts-store.ensures.history ∙ ap (λ (b : Books). b.history) is) in
     let laws : Laws = record { next = c.stores_tell_next_openings.ensures.next; short = c.stores_tell_next_openings.ensures.short } in
     let left : Left = record { told = g.K.Keeper.told c.in-Err.store; faults = g.K.Keeper.fault_count c.in-Err.store; histories = c.push_reserved.new.self.items; events = c.into_events.result.items } in

@@ -22,5 +22,5 @@ returns-in-Err g c =
     } in
     record {
       ends = nothing_run c.args.net.now c.args.script.now _ stored c.in-Err.fault c.print_fault.result c.none.result c.new.result.items c.in-Err.ensures.fault c.in-Err.ensures.fault_later
-          c.none.ensures c.new.ensures.items c.print_fault.ensures.printed;
+          c.none.ensures.none c.new.ensures.items c.print_fault.ensures.printed;
     }

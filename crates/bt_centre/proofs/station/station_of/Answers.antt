@@ -9,7 +9,7 @@ returns-in-Ok-board-clause-published g c = record {
   opening = c.args.book.state.changes;
   since = [];
   parts = sym (append-nil c.args.book.state.changes);
-  posted = c.in-Ok-board.ensures.plans ∙ ap (λ (plan : Plan). plan ∷ []) (c.in-Ok.ensures ∙ c.newest.ensures);
+  posted = c.in-Ok-board.ensures.plans ∙ ap (λ (plan : Plan). plan ∷ []) (c.in-Ok.ensures.same ∙ c.newest.ensures.newest);
   desks = c.in-Ok-board.ensures.count;
   met = c.in-Ok-board.ensures.same;
 }

@@ -11,4 +11,4 @@ returns-in_ok-faulty_words-in_default g c =
     let words = map string_bytes c.args.words.now in
     let files = c.args.files.now in
     let faulty = faulty_check c.command_line_of.result (request_of words) (first_word words) c.command_line_of.ensures.asked c.command_line_of.ensures.named c.requires c.in_default.not-CheckModes c.in_default.not-CheckPlan in
-    reports_faulty (g.F.Files.told files) (Rose (g.F.Files.fault_count files) (g.F.Files.fault_count files)) (request_of words) c.in_ok-faulty_words-in_default.field-0 faulty c.in_ok-faulty_words-in_default.ensures
+    reports_faulty (g.F.Files.told files) (Rose (g.F.Files.fault_count files) (g.F.Files.fault_count files)) (request_of words) c.in_ok-faulty_words-in_default.field-0 faulty c.in_ok-faulty_words-in_default.ensures.report

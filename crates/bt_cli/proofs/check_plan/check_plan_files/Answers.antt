@@ -15,5 +15,7 @@ returns g c =
     let net = c.in_ok-net.net in
     let traffic = c.args.traffic.now in
     let plan = c.args.plan.now in
-    CameTo-loaded network_file told (Rose before end) c.args.net.now (λ network. ChecksDemand told (Rose before end) traffic plan network) net c.in_ok-net.ensures.loaded c.check_demand_file.result
-    (CameTo-among (ChecksDemand now (Rose between end) traffic plan net) (ChecksDemand told (Rose before end) traffic plan net) (demand_sooner told now before between end traffic plan net c.in_ok-net.ensures.same c.in_ok-net.ensures.later) c.check_demand_file.result c.check_demand_file.ensures)
+    record {
+      judged = CameTo-loaded network_file told (Rose before end) c.args.net.now (λ network. ChecksDemand told (Rose before end) traffic plan network) net c.in_ok-net.ensures.loaded c.check_demand_file.result
+          (CameTo-among (ChecksDemand now (Rose between end) traffic plan net) (ChecksDemand told (Rose before end) traffic plan net) (demand_sooner told now before between end traffic plan net c.in_ok-net.ensures.same c.in_ok-net.ensures.later) c.check_demand_file.result c.check_demand_file.ensures);
+    }

@@ -2,4 +2,4 @@ use Rattle.bt_cli.proofs.Runs.{ends_reported}
 use Rattle.bt_cli.proofs.laws.ends_are_reports.Goals as goal
 
 pub returns : goal.returns
-returns c = ends_reported
+returns c = record { printed = ends_reported }

@@ -17,4 +17,4 @@ returns-clause-judged c = λ net links outcome demand printed. good_plan_line ne
 
 pub returns-clause-alone : goal.returns-clause-alone
 returns-clause-alone c = λ net links outcome judged printed judges.
-    JudgesPlan-same c.one_plan_verdict.ensures net links printed.plan judged (text_alone (line_of (codes "good" ∷ [])) 0) judges (good_plan_line net links printed.plan judges.demand printed.good)
+    JudgesPlan-same c.one_plan_verdict.ensures.same net links printed.plan judged (text_alone (line_of (codes "good" ∷ [])) 0) judges (good_plan_line net links printed.plan judges.demand printed.good)

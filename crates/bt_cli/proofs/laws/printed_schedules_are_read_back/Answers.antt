@@ -16,4 +16,4 @@ returns-clause-judged c = good_line
 
 pub returns-clause-alone : goal.returns-clause-alone
 returns-clause-alone c = λ rows schedule outcome good judged.
-    Judges-same c.one_verdict.ensures rows schedule outcome (text_alone (line_of (codes "good" ∷ [])) 0) judged (good_line rows schedule good)
+    Judges-same c.one_verdict.ensures.same rows schedule outcome (text_alone (line_of (codes "good" ∷ [])) 0) judged (good_line rows schedule good)

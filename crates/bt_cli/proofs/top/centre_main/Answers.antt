@@ -13,5 +13,5 @@ pub returns-in-ReplayJournal : goal.returns-in-ReplayJournal
 returns-in-ReplayJournal g c = record {
   ends = ends_replay g.K.Keeper.told g.K.Keeper.fault_count _ _ _ _ c.replay_command-status.result.1 c.replay_command-status.result.0 c.in-ReplayJournal.net.now c.in-ReplayJournal.journal.now
       (request_of (map string_bytes c.args.words.now)) _ c.in-ReplayJournal.ensures.asked c.without_run.ensures.histories c.without_run.ensures.events c.without_run.ensures.store c.without_run.ensures.status
-      c.replay_command-status.ensures;
+      c.replay_command-status.ensures.ends;
 }

@@ -22,12 +22,12 @@ of-requires-clause-few c =
 in_order_parts : (c : goal.After-of) → AreParts c.args.net.now c.args.demand.now c.args.schedule.modes (length c.args.demand.now) c.of.result
 in_order_parts c =
     parts_in_order c.args.net.now c.args.demand.now c.args.schedule.modes c.as_slice.result.now (length c.args.demand.now) c.in_ok-bursts.bursts.items c.in_ok-ordered.ordered.items c.of.result
-    c.as_slice.ensures.same c.of.ensures c.in_ok-ordered.ensures.moved c.in_ok-bursts.ensures.parts
+    c.as_slice.ensures.same c.of.ensures.same c.in_ok-ordered.ensures.moved c.in_ok-bursts.ensures.parts
 
 pub returns-clause-bursts : goal.returns-clause-bursts
 returns-clause-bursts c =
     IsCutting-parts c.args.net.now c.args.demand.now c.args.schedule.modes c.of.result (in_order_parts c)
-    (subst (λ (bursts : List Burst). AllPairs IsNotAfter bursts) (sym c.of.ensures) c.in_ok-ordered.ensures.ordered)
+    (subst (λ (bursts : List Burst). AllPairs IsNotAfter bursts) (sym c.of.ensures.same) c.in_ok-ordered.ensures.ordered)
 
 pub returns-clause-terminals : goal.returns-clause-terminals
 returns-clause-terminals c = plan_between c.args.net.now c.args.demand.now c.args.schedule.modes c.of.result c.requires.terminals (in_order_parts c)

@@ -8,7 +8,7 @@ use Rattle.bt_demand.proofs.traffic.traffic_of.Goals as goal
 -- no link was looked at yet
 pub loop-link-init : goal.loop-link-init
 loop-link-init c =
-    c.in_ok-matrix.ensures ∙ (ap (λ (n : ℕ). replicate n (replicate n 0)) c.beam_count.ensures.count ∙ sym (matrix_of-none c.args.net.now))
+    c.in_ok-matrix.ensures.zeros ∙ (ap (λ (n : ℕ). replicate n (replicate n 0)) c.beam_count.ensures.count ∙ sym (matrix_of-none c.args.net.now))
 
 -- both beams are on the matrix, and their lines have room
 pub add-requires-clause-up : goal.add-requires-clause-up
@@ -41,4 +41,4 @@ loop-link-preserved c =
 -- each link was looked at
 pub returns : goal.returns
 returns c =
-    c.loop-link.invariant ∙ ap (matrix_of c.args.net.now) (take_all _ _ c.loop-link-test.false ∙ c.as_slice-link-items.ensures.same)
+    record { matrix = c.loop-link.invariant ∙ ap (matrix_of c.args.net.now) (take_all _ _ c.loop-link-test.false ∙ c.as_slice-link-items.ensures.same) }

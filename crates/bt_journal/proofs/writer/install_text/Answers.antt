@@ -11,5 +11,5 @@ returns c =
     let net = c.args.net.now in
     let plan = c.args.plan.now in
     let text = c.join_lines.new.text in
-    let joined = c.join_lines.ensures ∙ (ap (map space_for_newline) c.in_ok-text.ensures ∙ space-plan net c.beam_count-beams.ensures.sound plan c.requires.range) in
+    let joined = c.join_lines.ensures ∙ (ap (map space_for_newline) c.in_ok-text.ensures.spelled ∙ space-plan net c.beam_count-beams.ensures.sound plan c.requires.range) in
     without_last text.items c.pop-last.new.self.items (spaced (plan_lines net plan)) 32 text.len joined c.pop-last.ensures.rest (omega arith)

@@ -17,8 +17,10 @@ apply-answer-requires g c = let turn = c.take_turn.ensures.turn.1 in let o = tur
     let got : c.exchange.result ≡ Some o = same_held (Some o) c.exchange.result c.take_turn.new.place.me.1 carried (_, c.exchange.ensures.2) in
     let is : o ≡ c.unwrap-object.result = same_Some o c.unwrap-object.result (sym got ∙ c.unwrap-object.ensures) in
     let known = turn.3 c.args.top.now.key.value c.requires.start in
-    subst (λ p. g.O.Object.takes p c.args.call) is
-    (legal_keeps g.O.Object.steps (λ p. g.O.Object.takes p c.args.call) (λ a k d r p step. g.met.O.Object.keeps_test a k d r p step c.args.call) c.args.top.now.key.value o turn.0 known.0 c.requires.test)
+    record {
+      takes = subst (λ p. g.O.Object.takes p c.args.call) is
+          (legal_keeps g.O.Object.steps (λ p. g.O.Object.takes p c.args.call) (λ a k d r p step. g.met.O.Object.keeps_test a k d r p step c.args.call) c.args.top.now.key.value o turn.0 known.0 c.requires.test);
+    }
 
 pub give_back-requires-clause-may : goal.give_back-requires-clause-may
 give_back-requires-clause-may g c = let turn = c.take_turn.ensures.turn.1 in let o = turn.1 in let carried : c.take_turn.new.place.me.1 ≡ (0, Some o) ∷ [] = ap (λ m. m.1) turn.2 in

@@ -5,10 +5,10 @@ use Rattle.bt_modes.proofs.Fillings.{IsPartPadding-same, IsPartPadding-with_entr
 use Rattle.bt_modes.proofs.padding.fill_entry.Goals as goal
 
 pub overflow_sub-sum : goal.overflow_sub-sum
-overflow_sub-sum g c = omega (arith, c.requires.within (Row c.args.up) c.requires.up, c.row_sum.ensures)
+overflow_sub-sum g c = omega (arith, c.requires.within (Row c.args.up) c.requires.up, c.row_sum.ensures.sum)
 
 pub overflow_sub-sum-2 : goal.overflow_sub-sum-2
-overflow_sub-sum-2 g c = omega (arith, c.requires.within (Column c.args.down) c.requires.down, c.column_sum.ensures)
+overflow_sub-sum-2 g c = omega (arith, c.requires.within (Column c.args.down) c.requires.down, c.column_sum.ensures.sum)
 
 pub returns-then-slack-gt0-clause-filled : goal.returns-then-slack-gt0-clause-filled
 returns-then-slack-gt0-clause-filled g c =
@@ -22,8 +22,8 @@ returns-then-slack-gt0-clause-one_line g c =
     let gain = IsGain-with_entry rows c.args.up.0 c.args.down.0 c.min-slack.result c.requires.traffic c.requires.up c.requires.down in
     rw c.add.ensures.rows (
     elim (cases_lt c.column_sum.result c.row_sum.result) [
-      | inl row ↦ inl (omega (arith, gain.row, c.row_sum.ensures, c.requires.within (Row c.args.up) c.requires.up))
-      | inr column ↦ inr (omega (arith, gain.column, c.column_sum.ensures, c.requires.within (Column c.args.down) c.requires.down))
+      | inl row ↦ inl (omega (arith, gain.row, c.row_sum.ensures.sum, c.requires.within (Row c.args.up) c.requires.up))
+      | inr column ↦ inr (omega (arith, gain.column, c.column_sum.ensures.sum, c.requires.within (Column c.args.down) c.requires.down))
     ])
 
 pub returns-else-slack-gt0-clause-filled : goal.returns-else-slack-gt0-clause-filled
@@ -32,6 +32,6 @@ returns-else-slack-gt0-clause-filled g c = IsPartPadding-same (g.M.Traffic.rows 
 pub returns-else-slack-gt0-clause-one_line : goal.returns-else-slack-gt0-clause-one_line
 returns-else-slack-gt0-clause-one_line g c =
     elim (cases_lt c.column_sum.result c.row_sum.result) [
-      | inl row ↦ inl (omega (arith, c.row_sum.ensures, c.requires.within (Row c.args.up) c.requires.up))
-      | inr column ↦ inr (omega (arith, c.column_sum.ensures, c.requires.within (Column c.args.down) c.requires.down))
+      | inl row ↦ inl (omega (arith, c.row_sum.ensures.sum, c.requires.within (Row c.args.up) c.requires.up))
+      | inr column ↦ inr (omega (arith, c.column_sum.ensures.sum, c.requires.within (Column c.args.down) c.requires.down))
     ]

@@ -10,7 +10,7 @@ loop-up-preserved-then-row_sum-sum g c =
     record {
       so_far = IsPaddedTo-row (g.M.Traffic.rows c.args.matrix.now) (g.M.Traffic.rows c.loop-up.matrix) (g.M.Traffic.rows c.fill_entry.new.matrix)
           c.args.sum c.loop-up.up c.loop-up.down c.loop-up.invariant.so_far c.fill_entry.ensures.filled (omega arith) (omega arith)
-          (omega (arith, c.row_sum.ensures, c.if-row_sum-sum.true));
+          (omega (arith, c.row_sum.ensures.sum, c.if-row_sum-sum.true));
       room = omega (arith, c.loop-up.invariant.room, c.fill_entry.ensures.room);
       in_rows = omega arith;
       in_columns = omega arith;
@@ -21,7 +21,7 @@ pub loop-up-preserved : goal.loop-up-preserved
 loop-up-preserved g c =
     let size : length (g.M.Traffic.rows c.loop-up.matrix) ≡ length (g.M.Traffic.rows c.args.matrix.now) = c.loop-up.invariant.so_far.filled.size in
     let full : column_sum (g.M.Traffic.rows c.fill_entry.new.matrix) c.loop-up.down ≡ c.args.sum = ⊎_elim
-    (λ row. absurd (c.if-row_sum-sum.false (c.row_sum.ensures ∙ row)))
+    (λ row. absurd (c.if-row_sum-sum.false (c.row_sum.ensures.sum ∙ row)))
     (λ column. column)
     c.fill_entry.ensures.one_line in
     record {

@@ -6,4 +6,4 @@ use Rattle.bt_modes.proofs.planning.schedule.Goals as goal
 pub of-requires : goal.of-requires
 of-requires c =
     let modes = c.in_ok-modes.modes in
-    omega (arith, modes.ok.0, modes-le-duration modes.items c.in_ok-modes.ensures.modes.durations, c.in_ok-modes.ensures.filled, c.in_ok-padded.ensures.limit)
+    record { few = omega (arith, modes.ok.0, modes-le-duration modes.items c.in_ok-modes.ensures.modes.durations, c.in_ok-modes.ensures.filled, c.in_ok-padded.ensures.limit) }

@@ -9,5 +9,5 @@ loop-up-preserved g c =
     let rows = g.M.Traffic.rows c.args.matrix.now in
     let more = IsLeastBelow-more (λ (up : ℕ). entry rows up (slice_index c.args.perm.now up)) c.loop-up.up c.loop-up.least c.min-least.result
     (record { positive = c.loop-up.invariant.positive; reached = c.loop-up.invariant.reached; fewest = c.loop-up.invariant.fewest })
-    (c.requires.inside c.loop-up.up (omega (arith, c.size-size.ensures.size))) (omega (arith, c.min-least.ensures, c.get.ensures)) in
+    (c.requires.inside c.loop-up.up (omega (arith, c.size-size.ensures.size))) (omega (arith, c.min-least.ensures, c.get.ensures.entry)) in
     record { positive = more.positive; reached = more.reached; fewest = more.fewest }

@@ -4,4 +4,4 @@ use Rattle.bt_plan.proofs.Spelled.{matrix_of-IsTraffic}
 use Rattle.bt_plan.proofs.matrix_reader.read_matrix.Goals as goal
 
 pub of-requires : goal.of-requires
-of-requires c = matrix_of-IsTraffic c.args.bytes.now (map (λ row. row.items) c.in_ok-rows.rows.items) c.in_ok-rows.ensures
+of-requires c = record { traffic = matrix_of-IsTraffic c.args.bytes.now (map (λ row. row.items) c.in_ok-rows.rows.items) c.in_ok-rows.ensures }

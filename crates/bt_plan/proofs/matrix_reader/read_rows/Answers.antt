@@ -19,4 +19,4 @@ loop-at-preserved c =
     (goes_on c.args.size c.loop-at.at (map (λ row. row.items) c.loop-at.rows.items) (lines c.loop-at.rest.now) c.in-Some.line.now c.in-Some.after.now row.items (rows_in c.args.size c.args.size 2 (lines c.args.text.now)) c.loop-at-test.true c.in-Some.ensures.line c.in_ok-read_row.ensures c.loop-at.invariant)
 
 pub returns-then-not-is_empty : goal.returns-then-not-is_empty
-returns-then-not-is_empty c = rw c.fault_at-then-not-is_empty.ensures (ends_late c.args.size c.loop-at.at (map (λ row. row.items) c.loop-at.rows.items) c.loop-at.rest.now (rows_in c.args.size c.args.size 2 (lines c.args.text.now)) (omega arith) (sym c.if-not-is_empty.ensures) c.loop-at.invariant)
+returns-then-not-is_empty c = rw c.fault_at-then-not-is_empty.ensures.fault (ends_late c.args.size c.loop-at.at (map (λ row. row.items) c.loop-at.rows.items) c.loop-at.rest.now (rows_in c.args.size c.args.size 2 (lines c.args.text.now)) (omega arith) (sym c.if-not-is_empty.ensures) c.loop-at.invariant)

@@ -8,4 +8,4 @@ pub returns-else-is_done : goal.returns-else-is_done
 returns-else-is_done c =
     let so_far = c.loop.columns.items in
     let none_left : c.args.size - c.loop.counter ≡ 0 = omega arith in
-    sym (sym c.loop.invariant.whole ∙ ap (λ k. behind so_far (numbers_to 255 k c.loop.words)) none_left ∙ numbers_past 255 so_far c.loop.words c.if-is_done.ensures)
+    sym (sym c.loop.invariant.whole ∙ ap (λ k. behind so_far (numbers_to 255 k c.loop.words)) none_left ∙ numbers_past 255 so_far c.loop.words c.if-is_done.ensures.done)

@@ -11,6 +11,6 @@ returns-clause-reading c =
     let first = front_word from c.args.words c.next.new.self c.in-Some.ensures.word c.in-Some.ensures.rest in
     let second = front_word to c.next.new.self c.next-2.new.self c.in-Some-next.ensures.word c.in-Some-next.ensures.rest in
     let third = front_word units c.next-2.new.self c.next-3.new.self c.in-Some-next-2.ensures.word c.in-Some-next-2.ensures.rest in
-    let none = no_word c.next-3.new.self c.if-not-is_done.ensures in
+    let none = no_word c.next-3.new.self c.if-not-is_done.ensures.done in
     let whole : c.args.words ≡ from ∷ to ∷ units ∷ [] = first ∙ ap (λ ws. from ∷ ws) second ∙ ap (λ ws. from ∷ to ∷ ws) third ∙ ap (λ ws. from ∷ to ∷ units ∷ ws) none in
     rw whole c.named_link.ensures.reading

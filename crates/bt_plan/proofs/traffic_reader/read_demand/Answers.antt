@@ -9,7 +9,7 @@ use Rattle.bt_plan.proofs.traffic_reader.read_demand.Goals as goal
 
 pub loop-line-init : goal.loop-line-init
 loop-line-init c =
-    let matrix_is = c.in_ok-matrix.ensures ∙ ap (λ (n : ℕ). replicate n (replicate n 0)) c.beam_count.ensures.count in
+    let matrix_is = c.in_ok-matrix.ensures.zeros ∙ ap (λ (n : ℕ). replicate n (replicate n 0)) c.beam_count.ensures.count in
     record {
       reading = rw c.in_ok-links.ensures refl;
       read = rw (c.in_ok-links.ensures, matrix_is) (none_read c.args.net.now c.beam_count.ensures.sound.beams.count.0 c.beam_count.ensures.sound.beams.count.1);

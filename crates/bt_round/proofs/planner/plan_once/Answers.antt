@@ -61,7 +61,7 @@ returns-clause-done g c =
     let seen = c.in_ok-seen.ensures in
     let plan = c.in_ok-plan.ensures in
     let entry = c.in_ok-entry.ensures in
-    let names = c.replies_name_beams_of_the_network.ensures c.args.net.now entry.answered.old c.in_ok-entry.entry.call c.in_ok-entry.entry.reply entry.answered.new c.beam_count-beams.ensures.sound entry.answered.step in
+    let names = c.replies_name_beams_of_the_network.ensures.beams c.args.net.now entry.answered.old c.in_ok-entry.entry.call c.in_ok-entry.entry.reply entry.answered.new c.beam_count-beams.ensures.sound entry.answered.step in
     on_ok c.post_installed.result c.post_installed.ensures.posted (λ posts.
     edition_planned c.args.net.now c.in_ok-seen.seen c.in_ok-entry.entry c.in-Demand.edition c.in-Demand.newest c.in-Demand.demand c.in_ok-plan.plan _ _ _ _ _ _ _ (seen.caller ∙ c.requires.number) seen.call
     c.in-Demand.is c.if-edition-newest.false seen.kept plan.edition plan.good (entry.caller ∙ (seen.same.place.number_is ∙ c.requires.number)) entry.call

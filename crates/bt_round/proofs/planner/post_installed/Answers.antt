@@ -11,5 +11,5 @@ pub post-requires : goal.post-requires
 post-requires g c =
     let plan = c.in-Install.plan in
     let MayFollow : Plan → Type 0 = λ (p : Plan). next_edition c.args.publisher.now.plans ≤ p.edition.0 in
-    let made : is_made c.args.entry.reply ≡ true = sym c.is_made.ensures ∙ c.if-not-is_made.false in
+    let made : is_made c.args.entry.reply ≡ true = sym c.is_made.ensures.made ∙ c.if-not-is_made.false in
     record { newer = All-head MayFollow plan [] (subst (All MayFollow) (installed_first c.args.entry plan c.in-Install.is made) c.requires.newer) }

@@ -32,38 +32,9 @@ run_on-crew-requires-clause-posted g c = λ κs bounds.
     last_edition board.opening board.since c.args.station.publisher.plans board.posted ∙ ap (λ (made : List Change). (newest made).edition.0 + 1) (sym board.parts) in
     omega (arith, edition, ap (λ (b : Books). (newest b.state.changes).edition.0) c.in-Ok.ensures.start)
 
-pub returns-in-Ok-clause-network : goal.returns-in-Ok-clause-network
-returns-in-Ok-clause-network g c =
-    let net = c.args.net.now in
-    let station = c.args.station in
-    let start = c.in-Ok.line.table.shared.key.value in
-    let is = c.in-Ok.ensures.start in
-    let h = c.close-book.ensures.history in
-    let all = c.locked_books_are_legal.ensures in
-    let on = c.locked_books_go_on.ensures in
-    let laws : Laws = record { legal = all.legal; state = all.state; from = on.state; net = all.net; rose = all.rose; follow = on.follow; tells = on.tells } in
-    let follow : Follows start.net start.state.changes = subst (λ (b : Books). Follows b.net b.state.changes) (sym is) (subst (λ (n : Net). Follows n station.book.state.changes) (sym c.requires.network) c.requires.follows) in
-    let ran : BookRan start c.close-book.result = comes_back laws start c.close-book.result h.0 follow h.1.legal h.1.stored in
-    let back : BookRan station.book c.close-book.result = subst (λ (b : Books). BookRan b c.close-book.result) is ran in
-    back.net ∙ c.requires.network
-
-pub returns-in-Ok-clause-ran : goal.returns-in-Ok-clause-ran
-returns-in-Ok-clause-ran g c =
-    let net = c.args.net.now in
-    let station = c.args.station in
-    let start = c.in-Ok.line.table.shared.key.value in
-    let is = c.in-Ok.ensures.start in
-    let h = c.close-book.ensures.history in
-    let all = c.locked_books_are_legal.ensures in
-    let on = c.locked_books_go_on.ensures in
-    let laws : Laws = record { legal = all.legal; state = all.state; from = on.state; net = all.net; rose = all.rose; follow = on.follow; tells = on.tells } in
-    let follow : Follows start.net start.state.changes = subst (λ (b : Books). Follows b.net b.state.changes) (sym is) (subst (λ (n : Net). Follows n station.book.state.changes) (sym c.requires.network) c.requires.follows) in
-    let ran : BookRan start c.close-book.result = comes_back laws start c.close-book.result h.0 follow h.1.legal h.1.stored in
-    let back : BookRan station.book c.close-book.result = subst (λ (b : Books). BookRan b c.close-book.result) is ran in
-    back
-
-pub returns-in-Ok-clause-done : goal.returns-in-Ok-clause-done
-returns-in-Ok-clause-done g c =
+-- the book comes back with the changes of the round, and what the workers left is that of a round over its history
+pub returns-in-Ok : goal.returns-in-Ok
+returns-in-Ok g c =
     let net = c.args.net.now in
     let station = c.args.station in
     let start = c.in-Ok.line.table.shared.key.value in
@@ -83,39 +54,23 @@ returns-in-Ok-clause-done g c =
     let over = c.run_on-crew.result.0.centre in
     let passes = c.run_on-crew.result.0.passes in
     let seen = seen_through passes.items (λ pass. pass.place) h.0 (λ i d within. h.2 i d (omega (arith, within, passes.ok.0))) (λ n past. h.3 n (omega (arith, past, passes.ok.0))) in
-    on_ok c.run_on-crew.result.1 c.run_on-crew.ensures.done (λ worked.
-    round_over net c.args.round.now station.publisher last station.centre over entries worked.texts station.book c.close-book.result board.opening board.since
-    c.args.text.now.items c.run_on-crew.new.text.items c.as_slice-desks.ensures.desks (worked.done h.0 seen) kept from board.parts
-    (subst (λ (n : Net). Follows n c.close-book.result.state.changes) c.requires.network back.follows) board.posted worked.printed)
-
-pub returns-in-Ok-clause-published : goal.returns-in-Ok-clause-published
-returns-in-Ok-clause-published g c =
-    let net = c.args.net.now in
-    let station = c.args.station in
-    let start = c.in-Ok.line.table.shared.key.value in
-    let is = c.in-Ok.ensures.start in
-    let h = c.close-book.ensures.history in
-    let all = c.locked_books_are_legal.ensures in
-    let on = c.locked_books_go_on.ensures in
-    let laws : Laws = record { legal = all.legal; state = all.state; from = on.state; net = all.net; rose = all.rose; follow = on.follow; tells = on.tells } in
-    let follow : Follows start.net start.state.changes = subst (λ (b : Books). Follows b.net b.state.changes) (sym is) (subst (λ (n : Net). Follows n station.book.state.changes) (sym c.requires.network) c.requires.follows) in
-    let ran : BookRan start c.close-book.result = comes_back laws start c.close-book.result h.0 follow h.1.legal h.1.stored in
-    let back : BookRan station.book c.close-book.result = subst (λ (b : Books). BookRan b c.close-book.result) is ran in
-    let entries = map journal_entry h.0 in
-    let board = c.requires.published in
-    let from = laws.from start c.close-book.result h.0 h.1.legal ∙ ap (λ (b : Books). state_from b.state entries) is in
-    let last = c.run_on-crew.result.0.publisher in
-    let over = c.run_on-crew.result.0.centre in
-    let passes = c.run_on-crew.result.0.passes in
-    let seen = seen_through passes.items (λ pass. pass.place) h.0 (λ i d within. h.2 i d (omega (arith, within, passes.ok.0))) (λ n past. h.3 n (omega (arith, past, passes.ok.0))) in
-    on_three c.run_on-crew.result.1 c.run_on-crew.ensures.done c.run_on-crew.ensures.desks c.run_on-crew.ensures.met (λ worked desks met. record {
-      opening = board.opening;
-      since = board.since ++ changes_of entries;
-      parts = changes_over station.book c.close-book.result entries board.opening board.since from board.parts;
-      posted = posted_over net c.args.round.now station.publisher last station.centre over entries worked.texts board.opening board.since (worked.done h.0 seen) board.posted;
-      desks = desks;
-      met = met;
-    })
+    record {
+      network = back.net ∙ c.requires.network;
+      opening = c.run_on-crew.ensures.opening;
+      done = on_ok c.run_on-crew.result.1 c.run_on-crew.ensures.done (λ worked.
+          round_over net c.args.round.now station.publisher last station.centre over entries worked.texts station.book c.close-book.result board.opening board.since
+          c.args.text.now.items c.run_on-crew.new.text.items c.as_slice-desks.ensures.desks (worked.done h.0 seen) kept from board.parts
+          (subst (λ (n : Net). Follows n c.close-book.result.state.changes) c.requires.network back.follows) board.posted worked.printed);
+      published = on_three c.run_on-crew.result.1 c.run_on-crew.ensures.done c.run_on-crew.ensures.desks c.run_on-crew.ensures.met (λ worked desks met. record {
+        opening = board.opening;
+        since = board.since ++ changes_of entries;
+        parts = changes_over station.book c.close-book.result entries board.opening board.since from board.parts;
+        posted = posted_over net c.args.round.now station.publisher last station.centre over entries worked.texts board.opening board.since (worked.done h.0 seen) board.posted;
+        desks = desks;
+        met = met;
+      });
+      ran = back;
+    }
 
 pub returns-in-Err-clause-ran : goal.returns-in-Err-clause-ran
 returns-in-Err-clause-ran g c =

@@ -31,7 +31,7 @@ loop-pass-init g c =
     seated table start round posted centre 0 first.place c.seat.result.caller c.seat.result.job c.seat.result.text.items
     (subst (λ p. IsPass table start SEATS 0 p.place) (sym c.remove-first.ensures.value) (c.requires.passes 0 first (omega (arith, c.requires.seats))))
     (subst (λ p. seen_at p.place ≡ []) (sym c.remove-first.ensures.value) (c.requires.unseen 0 first (omega (arith, c.requires.seats))))
-    c.seat.ensures.caller (subst (IsJobAt round posted centre 0) (sym c.seat.ensures.job) (refl, c.as_slice.ensures, refl)) c.seat.ensures.text in
+    c.seat.ensures.caller (subst (IsJobAt round posted centre 0) (sym c.seat.ensures.job) (refl, c.as_slice.ensures.same, refl)) c.seat.ensures.text in
     let next : IsReady table start round posted centre 1 c.seat-2.result.caller c.seat-2.result.job c.seat-2.result.text.items =
     seated table start round posted centre 1 second.place c.seat-2.result.caller c.seat-2.result.job c.seat-2.result.text.items
     (subst (λ p. IsPass table start SEATS 1 p.place) (sym second_is) (c.requires.passes 1 second (omega (arith, c.requires.seats))))

@@ -23,4 +23,4 @@ loop-desk-preserved c =
     }
 
 pub of-requires : goal.of-requires
-of-requires c = all_desks c.loop-desk.desks.items c.loop-desk.desk (round_lines c.args.said.now) c.loop-desk-test.false c.loop-desk.invariant.desks
+of-requires c = record { desks = all_desks c.loop-desk.desks.items c.loop-desk.desk (round_lines c.args.said.now) c.loop-desk-test.false c.loop-desk.invariant.desks }

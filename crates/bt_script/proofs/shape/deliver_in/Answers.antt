@@ -7,7 +7,7 @@ pub returns : goal.returns
 returns c =
     rw (
       deliver_read c.in_ok-number.number.now c.in_ok-word.word.now c.args.words c.next.new.self c.next-2.new.self
-          c.in_ok-number.ensures.word c.in_ok-number.ensures.rest c.in_ok-word.ensures.word c.in_ok-word.ensures.rest c.if-not-is_done.ensures,
+          c.in_ok-number.ensures.word c.in_ok-number.ensures.rest c.in_ok-word.ensures.word c.in_ok-word.ensures.rest c.if-not-is_done.ensures.done,
       ← c.in_ok-message.ensures,
       ← c.in_ok-receiver.ensures,
     ) (search rules)

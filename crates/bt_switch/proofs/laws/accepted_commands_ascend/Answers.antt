@@ -3,4 +3,4 @@ use Rattle.bt_switch.proofs.Ascending.{accepted_ascend}
 use Rattle.bt_switch.proofs.laws.accepted_commands_ascend.Goals as goal
 
 pub returns : goal.returns
-returns c = λ mark events. accepted_ascend (new_at mark) events
+returns c = record { ascend = λ mark events. accepted_ascend (new_at mark) events }

@@ -2,4 +2,4 @@ use Rattle.bt_verdict.proofs.OneVerdict.{the_same}
 use Rattle.bt_verdict.proofs.laws.one_verdict.Goals as goal
 
 pub returns : goal.returns
-returns c = the_same
+returns c = record { same = the_same }

@@ -19,7 +19,7 @@ loop-place-preserved c =
           let at_up : slice_index c.loop-place.up_ends c.beam_of-up.result.0 ≤ (get_or c.args.bursts.now c.loop-place.place no_burst).start = search rules in
           let at_down : slice_index c.loop-place.down_ends c.beam_of-down.result.0 ≤ (get_or c.args.bursts.now c.loop-place.place no_burst).start = search rules in
           rw (w.up_ends-is, w.down_ends-is) (IsWalked-add c.args.net.now (take c.loop-place.place c.args.bursts.now) c.loop-place.up_ends c.loop-place.down_ends (get_or c.args.bursts.now c.loop-place.place no_burst) c.beam_of-up.result c.beam_of-down.result w.end-end.result
-          c.loop-place.invariant c.beam_of-up.ensures.beam c.beam_of-down.ensures.beam c.beam_of-up.ensures.few c.beam_of-down.ensures.few (omega arith) at_up at_down w.end-end.ensures)
+          c.loop-place.invariant c.beam_of-up.ensures.beam c.beam_of-down.ensures.beam c.beam_of-up.ensures.few c.beam_of-down.ensures.few (omega arith) at_up at_down w.end-end.ensures.end)
       | else-burst-ne0 w ↦ rw (w.up_ends-is, w.down_ends-is) (IsWalked-skip c.args.net.now (take c.loop-place.place c.args.bursts.now) c.loop-place.up_ends c.loop-place.down_ends (get_or c.args.bursts.now c.loop-place.place no_burst) c.loop-place.invariant (omega arith))
     ])
 

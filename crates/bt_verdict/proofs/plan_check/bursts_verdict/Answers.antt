@@ -31,7 +31,7 @@ returns-in-Some-first_unserved c =
 -- nothing is wrong
 pub returns-in-None : goal.returns-in-None
 returns-in-None c =
-    c.plans_are_good_by_their_parts.ensures c.args.net.now c.args.links.now c.args.plan.now c.requires.demand c.requires.links c.requires.bursts c.requires.modes
+    c.plans_are_good_by_their_parts.ensures.good c.args.net.now c.args.links.now c.args.plan.now c.requires.demand c.requires.links c.requires.bursts c.requires.modes
     (subst (AreApart c.args.net.now) c.as_slice-bursts.ensures.same c.in_default.ensures)
     (subst (λ (modes : List Mode). All (IsHeld c.args.net.now modes) c.args.plan.now.bursts) c.as_slice.ensures.same
     (subst (All (IsHeld c.args.net.now c.as_slice.result.now)) c.as_slice-bursts.ensures.same c.in_default-first_unheld.ensures))

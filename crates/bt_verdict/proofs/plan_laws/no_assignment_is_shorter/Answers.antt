@@ -2,4 +2,4 @@ use Rattle.bt_verdict.proofs.Triples.{line_sum-le-slots}
 use Rattle.bt_verdict.proofs.plan_laws.no_assignment_is_shorter.Goals as goal
 
 pub returns : goal.returns
-returns c = line_sum-le-slots
+returns c = record { least = line_sum-le-slots }

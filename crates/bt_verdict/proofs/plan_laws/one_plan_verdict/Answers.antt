@@ -2,4 +2,4 @@ use Rattle.bt_verdict.proofs.OnePlanVerdict.{the_same}
 use Rattle.bt_verdict.proofs.plan_laws.one_plan_verdict.Goals as goal
 
 pub returns : goal.returns
-returns c = the_same
+returns c = record { same = the_same }

@@ -2,4 +2,4 @@ use Rattle.bt_world.proofs.Standing.{statuses-tell}
 use Rattle.bt_world.proofs.laws.statuses_stay_true.Goals as goal
 
 pub returns : goal.returns
-returns c = λ o events. statuses-tell o events
+returns c = record { front = λ o events. statuses-tell o events }

@@ -14,7 +14,7 @@ loop-number-preserved c =
           let len = ap (λ (v : Vec Sent Global). vec_len v) w.sent-is in
           let cap = ap (λ (v : Vec Sent Global). vec_capacity v) w.sent-is in
           record {
-            said = sends-one (is_missing c.args.centre.now) c.args.edition c.loop-number.number _ _ _ (sym c.missing.ensures ∙ w.if-missing.true) before.said (ap (λ (v : Vec Sent Global). v.items) w.sent-is ∙ w.push_reserved.ensures.items);
+            said = sends-one (is_missing c.args.centre.now) c.args.edition c.loop-number.number _ _ _ (sym c.missing.ensures.missing ∙ w.if-missing.true) before.said (ap (λ (v : Vec Sent Global). v.items) w.sent-is ∙ w.push_reserved.ensures.items);
             room = omega (arith, len, cap, w.push_reserved.ensures.len, w.push_reserved.ensures.capacity, before.room, c.loop-number-test.true, c.terminal_count-number-end.ensures.count);
             capacity = cap ∙ w.push_reserved.ensures.capacity ∙ before.capacity;
             count = omega (arith, len, w.push_reserved.ensures.len, before.count);
@@ -23,7 +23,7 @@ loop-number-preserved c =
           let len = ap (λ (v : Vec Sent Global). vec_len v) w.sent-is in
           let cap = ap (λ (v : Vec Sent Global). vec_capacity v) w.sent-is in
           record {
-            said = ap (λ (v : Vec Sent Global). v.items) w.sent-is ∙ sends-none (is_missing c.args.centre.now) c.args.edition c.loop-number.number _ _ (sym c.missing.ensures ∙ w.if-missing.false) before.said;
+            said = ap (λ (v : Vec Sent Global). v.items) w.sent-is ∙ sends-none (is_missing c.args.centre.now) c.args.edition c.loop-number.number _ _ (sym c.missing.ensures.missing ∙ w.if-missing.false) before.said;
             room = omega (arith, len, cap, before.room);
             capacity = cap ∙ before.capacity;
             count = omega (arith, len, before.count);

@@ -10,4 +10,4 @@ returns c =
     let theirs = c.other.inside.kept.seen.log in
     let both = c.learn.new.self.log in
     let this : IsPrefix mine both = subst (λ (l : List Plan). IsPrefix l both) (ap (λ s. s.log) c.again-both.ensures) c.learn.ensures.2 in
-    rw (← c.self.view_is, ← c.other.view_is) (one_begins mine theirs both c.learn.ensures.4.1.ascends this c.learn.ensures.3)
+    record { begins = rw (← c.self.view_is, ← c.other.view_is) (one_begins mine theirs both c.learn.ensures.4.1.ascends this c.learn.ensures.3) }

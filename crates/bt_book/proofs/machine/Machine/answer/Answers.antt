@@ -9,12 +9,12 @@ pub invariant_of-self-2 : goal.invariant_of-self-2
 invariant_of-self-2 c =
     let before = λ (fault : is_fault c.args.reply ≡ true). ap (λ (r : Records). r.state.stopped) c.self.view_is ∙ c.requires.no_fault fault in
     keeps_answered c.self.inside.occupancy.net c.self.inside.opening.items c.self.inside.history.items c.push.new.self.items c.self.inside.occupancy.links c.self.inside.count c.self.inside.edits
-    c.self.inside.bytes c.self.inside.stopped c.self.inside.plans.items c.self.inside.orders.items _ c.args.reply c.in_ok-push.ensures.items c.in_ok-kept.ensures c.requires.not_made before c.self.invariant
+    c.self.inside.bytes c.self.inside.stopped c.self.inside.plans.items c.self.inside.orders.items _ c.args.reply c.in_ok-push.ensures.items c.in_ok-kept.ensures.same c.requires.not_made before c.self.invariant
 
 -- and so does the state
 pub returns-clause-state : goal.returns-clause-state
 returns-clause-state c =
     let before = λ (fault : is_fault c.args.reply ≡ true). ap (λ (r : Records). r.state.stopped) c.self.view_is ∙ c.requires.no_fault fault in
-    state_answered c.self.inside.opening.items c.self.inside.history.items c.push.new.self.items _ c.args.reply c.in_ok-push.ensures.items c.in_ok-kept.ensures
+    state_answered c.self.inside.opening.items c.self.inside.history.items c.push.new.self.items _ c.args.reply c.in_ok-push.ensures.items c.in_ok-kept.ensures.same
     c.requires.not_made before
     ∙ ap (λ (r : Records). r.state) c.self.view_is

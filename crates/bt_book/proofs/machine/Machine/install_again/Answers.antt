@@ -17,7 +17,7 @@ invariant_of-self-2 c =
     c.self.inside.count c.self.inside.edits c.self.inside.bytes c.args.line c.self.inside.stopped c.self.inside.plans.items c.push.new.self.items c.self.inside.orders.items c.self.inside.orders.items (change.Install c.args.plan)
     (ap (λ (r : Records). r.history) c.self.view_is ∙ c.requires.history) c.reserve.ensures.items c.in-Ok.ensures.items refl c.self.invariant
     (subst (λ (r : Records). IsPlanOn r.net c.args.plan) (sym c.self.view_is) c.requires.on) can line
-    (c.in_ok-push.ensures.items ∙ ap (λ (p : Plan). c.self.inside.plans.items ++ p ∷ []) c.in_ok-kept.ensures)
+    (c.in_ok-push.ensures.items ∙ ap (λ (p : Plan). c.self.inside.plans.items ++ p ∷ []) c.in_ok-kept.ensures.same)
     (sym (append-nil c.self.inside.orders.items))
 
 -- and so has the state

@@ -18,7 +18,7 @@ invariant_of-self-then-branch g c =
     kept_other a.occupancy.net a.opening.items a.history.items c.reserve.new.self.items c.keep_entry.new.history.items a.occupancy.links
     a.count a.edits a.bytes (length c.args.line.now) a.stopped a.plans.items c.push.new.self.items a.orders.items a.orders.items (change.Install c.args.plan) _ c.reserve.ensures.items c.keep_entry.ensures refl refl refl
     c.self.invariant c.slots-slots.ensures.sound (subst (λ (r : Records). IsPlanOn r.net c.args.plan) (sym c.self.view_is) c.requires.on) can line
-    (c.in-Ok.ensures.items ∙ (ap (λ (all : List Plan). all ++ c.in_ok-kept.kept ∷ []) c.reserve-2.ensures.items ∙ ap (λ (p : Plan). a.plans.items ++ p ∷ []) c.in_ok-kept.ensures))
+    (c.in-Ok.ensures.items ∙ (ap (λ (all : List Plan). all ++ c.in_ok-kept.kept ∷ []) c.reserve-2.ensures.items ∙ ap (λ (p : Plan). a.plans.items ++ p ∷ []) c.in_ok-kept.ensures.same))
     (sym (append-nil a.orders.items))
 
 -- and so it is where the store failed

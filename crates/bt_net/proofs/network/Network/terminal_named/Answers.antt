@@ -7,4 +7,4 @@ use Rattle.bt_net.proofs.network.Network.terminal_named.Goals as goal
 
 pub returns-then-not-is_name-clause-terminal : goal.returns-then-not-is_name-clause-terminal
 returns-then-not-is_name-clause-terminal c =
-    subst (λ (net : Net). None ≡ terminal_of net c.args.word.now) c.self.view_is (names_none _ _ c.args.word.now c.self.invariant.terminals (sym c.is_name.ensures ∙ c.if-not-is_name.true))
+    subst (λ (net : Net). None ≡ terminal_of net c.args.word.now) c.self.view_is (names_none _ _ c.args.word.now c.self.invariant.terminals (sym c.is_name.ensures.name ∙ c.if-not-is_name.true))

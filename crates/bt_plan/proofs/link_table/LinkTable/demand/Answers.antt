@@ -31,8 +31,8 @@ loop-place-preserved c =
 pub of-requires : goal.of-requires
 of-requires c =
     let places = c.self.inside.places.items in
-    subst IsDemand (sym (all places c.loop-place.place c.loop-place.links.items c.self.invariant c.loop-place-test.false c.loop-place.invariant)) (places-IsDemand 0 places c.self.invariant.each)
+    record { demand = subst IsDemand (sym (all places c.loop-place.place c.loop-place.links.items c.self.invariant c.loop-place-test.false c.loop-place.invariant)) (places-IsDemand 0 places c.self.invariant.each) }
 
 pub returns : goal.returns
 returns c =
-    c.of.ensures ∙ all c.self.inside.places.items c.loop-place.place c.loop-place.links.items c.self.invariant c.loop-place-test.false c.loop-place.invariant ∙ c.self.view_is
+    c.of.ensures.same ∙ all c.self.inside.places.items c.loop-place.place c.loop-place.links.items c.self.invariant c.loop-place-test.false c.loop-place.invariant ∙ c.self.view_is

@@ -17,6 +17,6 @@ returns-clause-answered g c =
     let entry = made c.call.new.pass.number c.in_ok-asked.asked c.in_ok-reply.reply in
     let caller : Calling = calling_at shared.table_id shared.key.value c.self.inside.pass.place in
     subst (λ (caller : Calling). IsAnswered c.args.net.now caller entry) c.self.view_is
-    (answered_by_step c.locked_calls_are_steps.ensures c.args.net.now caller (seen_at c.call.new.pass.place) c.args.call entry
+    (answered_by_step c.locked_calls_are_steps.ensures.step c.args.net.now caller (seen_at c.call.new.pass.place) c.args.call entry
     (ap (λ (caller : Calling). caller.start.net) c.self.view_is ∙ c.requires.network)
-    c.self.invariant.begins c.in_ok-asked.ensures (subst (λ n. Gains book_steps shared.key.value (seen_at c.self.inside.pass.place) (entry_of n c.args.call c.in_ok-reply.reply) (seen_at c.call.new.pass.place)) (sym c.self.inside.pass.numbered) c.in_ok-reply.ensures.call))
+    c.self.invariant.begins c.in_ok-asked.ensures.same (subst (λ n. Gains book_steps shared.key.value (seen_at c.self.inside.pass.place) (entry_of n c.args.call c.in_ok-reply.reply) (seen_at c.call.new.pass.place)) (sym c.self.inside.pass.numbered) c.in_ok-reply.ensures.call))

@@ -3,4 +3,4 @@ use Rattle.bt_text.proofs.Fronts.{done_from_left}
 use Rattle.bt_text.proofs.word_reader.WordReader.is_done.Goals as goal
 
 pub returns : goal.returns
-returns c = rw (← c.self.view_is) (done_from_left (λ r. r.now) c.self.inside.rest c.is_none.result c.is_none.ensures)
+returns c = record { done = rw (← c.self.view_is) (done_from_left (λ r. r.now) c.self.inside.rest c.is_none.result c.is_none.ensures) }

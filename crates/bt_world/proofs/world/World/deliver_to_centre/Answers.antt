@@ -19,4 +19,4 @@ invariant_of-self-2 c =
     c.reserve.ensures.opening c.reserve.ensures.events c.push.ensures.opening c.push.ensures.events in
     let count = c.push.ensures.terminals ∙ c.reserve.ensures.terminals in
     let hears = c.note-answer.ensures.state (plans view.opening (past_of view)) one.0 one.2 in
-    centre-kept view _ c.args.number one.0 _ _ is c.requires now one.1 count refl refl refl (hears ∙ ap (λ n. once_heard inside.centre n (Some one.0)) c.mark-mark.ensures) refl
+    centre-kept view _ c.args.number one.0 _ _ is c.requires now one.1 count refl refl refl (hears ∙ ap (λ n. once_heard inside.centre n (Some one.0)) c.mark-mark.ensures.mark) refl

@@ -26,7 +26,7 @@ invariant_of-self-2 c =
     let count = c.push.ensures.terminals ∙ c.reserve.ensures.terminals in
     let within = c.requires.meets.1 in
     let was = terminal-at view.opening (past_of view) inside.terminals.items c.from.result c.args.to c.index_mut.result.now is.terminals c.from.ensures within c.index_mut.ensures.value in
-    let step = terminal-step view.opening (past_of view) c.args.to one.0 c.index_mut.result.now c.mark-mark.result message was c.mark-mark.ensures one.2 in
+    let step = terminal-step view.opening (past_of view) c.args.to one.0 c.index_mut.result.now c.mark-mark.result message was c.mark-mark.ensures.mark one.2 in
     let told = c.confirmed_by.ensures (plans view.opening (past_of view)) one.0 (c.planned_in-planned.ensures ∙ ap planned_in one.2) in
     let said = c.send.ensures ∙ ap (λ (list : List Sent). list ++ option_to_list c.confirmed_by.result) c.in_ok-reserve-2.ensures.items ∙ ap (λ (list : List Sent). inside.sent.items ++ list) told in
     terminal-kept c.answers_are_said.ensures.terminal view _ c.args.number c.args.to one.0 _ _ c.hear-heard.result c.hear-heard.new.self is c.requires now one.1
@@ -46,5 +46,5 @@ returns-clause-shown c =
     let is = kept-as _ _ _ c.self.view_is c.self.invariant in
     let one = one-delivered view c.args.number (Terminal c.args.to) message c.requires c.in_ok-message.ensures.same in
     let was = terminal-at view.opening (past_of view) c.self.inside.terminals.items c.from.result c.args.to c.index_mut.result.now is.terminals c.from.ensures c.requires.meets.1 c.index_mut.ensures.value in
-    let step = terminal-step view.opening (past_of view) c.args.to one.0 c.index_mut.result.now c.mark-mark.result message was c.mark-mark.ensures one.2 in
+    let step = terminal-step view.opening (past_of view) c.args.to one.0 c.index_mut.result.now c.mark-mark.result message was c.mark-mark.ensures.mark one.2 in
     rw one.1 (ap (λ (heard : Heard). shows.Delivered (answers.Heard heard)) (c.hear-heard.ensures.answer ∙ ap (λ t. t.0) step))

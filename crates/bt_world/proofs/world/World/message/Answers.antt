@@ -23,14 +23,14 @@ message_of-requires-clause-in_range c =
     let is = kept-as _ _ _ c.self.view_is c.self.invariant in
     let all = logged-plans c.self.inside.net c.self.inside.orders.items c.self.inside.log _ c.self.view_is in
     subst (λ (plans : List Plan). IsInRange (carried plans c.index.result.now)) (sym all)
-    (number-in-range c.messages_are_in_range.ensures _ _ c.args.number c.index.result.now is c.index.ensures c.requires)
+    (number-in-range c.messages_are_in_range.ensures.in_range _ _ c.args.number c.index.result.now is c.index.ensures c.requires)
 
 pub received-requires : goal.received-requires
 received-requires c =
     let is = kept-as _ _ _ c.self.view_is c.self.invariant in
     let all = logged-plans c.self.inside.net c.self.inside.orders.items c.self.inside.log _ c.self.view_is in
     let made = c.in_ok-message.ensures ∙ ap (λ (plans : List Plan). carried plans c.index.result.now) all in
-    subst IsInRange (sym made) (number-in-range c.messages_are_in_range.ensures _ _ c.args.number c.index.result.now is c.index.ensures c.requires)
+    subst IsInRange (sym made) (number-in-range c.messages_are_in_range.ensures.in_range _ _ c.args.number c.index.result.now is c.index.ensures c.requires)
 
 pub returns-clause-same : goal.returns-clause-same
 returns-clause-same c =
@@ -48,5 +48,5 @@ returns-clause-in_range c =
     let is = kept-as _ _ _ c.self.view_is c.self.invariant in
     let all = logged-plans c.self.inside.net c.self.inside.orders.items c.self.inside.log _ c.self.view_is in
     let made = c.in_ok-message.ensures ∙ ap (λ (plans : List Plan). carried plans c.index.result.now) all in
-    let fits = number-in-range c.messages_are_in_range.ensures _ _ c.args.number c.index.result.now is c.index.ensures c.requires in
+    let fits = number-in-range c.messages_are_in_range.ensures.in_range _ _ c.args.number c.index.result.now is c.index.ensures c.requires in
     IfOk-weaker c.received.result (λ (m : Message). m ≡ c.in_ok-message.message) IsInRange (λ m same. subst IsInRange (sym (same ∙ made)) fits) c.received.ensures

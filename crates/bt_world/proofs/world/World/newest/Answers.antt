@@ -4,4 +4,4 @@ use Rattle.bt_world.proofs.Started.{plans-logged}
 use Rattle.bt_world.proofs.world.World.newest.Goals as goal
 
 pub returns : goal.returns
-returns c = rw (← c.self.view_is) (c.newest.ensures ∙ ap newest_of (sym (plans-logged c.self.inside.net c.self.inside.orders.items c.self.inside.log)))
+returns c = record { newest = rw (← c.self.view_is) (c.newest.ensures ∙ ap newest_of (sym (plans-logged c.self.inside.net c.self.inside.orders.items c.self.inside.log))) }

@@ -24,6 +24,6 @@ invariant_of-self-2 c =
     let all = same-plans log c.self.inside.log c.reserve.ensures.opening c.reserve.ensures.events ∙ sym (plans-logged c.self.inside.net c.self.inside.orders.items c.self.inside.log) in
     let everyone = ap terminals_of (c.reserve.ensures.terminals ∙ c.self.invariant.terminal_count) in
     let told = c.send_order.ensures ∙ ap (λ (list : List Sent). list ++ sent_by_order (plans_in log) (terminals_of log.terminals) (Some order)) c.reserve-2.ensures.items in
-    let needs = c.needs-needs.ensures ∙ ap (λ (w : Option Order). needed_by (terminals_of log.terminals) (plans_in log) w) (c.wanted.ensures ∙ wants) in
+    let needs = c.needs-needs.ensures ∙ ap (λ (w : Option Order). needed_by (terminals_of log.terminals) (plans_in log) w) (c.wanted.ensures.wanted ∙ wants) in
     let placed = c.in_ok-order.ensures.state ∙ ap (λ (set : TermSet). having_placed c.self.inside.centre order set) needs in
-    order-kept c.centre_is_said.ensures _ _ order (plans_in log) (terminals_of log.terminals) _ _ c.self.invariant may now wants all everyone (c.push.ensures.terminals ∙ c.reserve.ensures.terminals) told refl refl placed refl
+    order-kept c.centre_is_said.ensures.said _ _ order (plans_in log) (terminals_of log.terminals) _ _ c.self.invariant may now wants all everyone (c.push.ensures.terminals ∙ c.reserve.ensures.terminals) told refl refl placed refl

@@ -20,5 +20,5 @@ invariant_of-self-2 c =
     let room = c.reserve.ensures.events in
     let now : life_of c.self.inside.net c.self.inside.orders.items c.push.new.self ≡ having_had (life_of c.self.inside.net c.self.inside.orders.items c.self.inside.log) (ResetTerminal c.args.terminal) = cc in
     let told = c.push_reserved.ensures.items ∙ ap (λ (list : List Sent). list ++ sends.Lost c.args.terminal ∷ []) c.reserve-2.ensures.items in
-    reset-kept c.terminals_are_said.ensures _ _ c.args.terminal c.index_mut.result.now c.restart.new.self _ _ c.self.invariant may now (c.index_mut.ensures.value ∙ ap (λ n. get_or c.self.inside.terminals.items n c.index_mut.result.now) c.from.ensures) c.restart.ensures (c.push.ensures.terminals ∙ c.reserve.ensures.terminals) told refl
+    reset-kept c.terminals_are_said.ensures.agrees _ _ c.args.terminal c.index_mut.result.now c.restart.new.self _ _ c.self.invariant may now (c.index_mut.ensures.value ∙ ap (λ n. get_or c.self.inside.terminals.items n c.index_mut.result.now) c.from.ensures) c.restart.ensures.made (c.push.ensures.terminals ∙ c.reserve.ensures.terminals) told refl
     (ap (λ n. slice_set c.self.inside.terminals.items n c.restart.new.self) c.from.ensures) refl refl

@@ -11,7 +11,7 @@ use Rattle.bt_world.proofs.Started.{plans-logged}
 use Rattle.bt_world.proofs.world.World.restart.Goals as goal
 
 pub from_orders-requires-clause-numbered : goal.from_orders-requires-clause-numbered
-from_orders-requires-clause-numbered c = restart-numbered c.centre_is_said.ensures _ _ c.args.kept _ c.self.invariant c.in_ok-orders.ensures
+from_orders-requires-clause-numbered c = restart-numbered c.centre_is_said.ensures.said _ _ c.args.kept _ c.self.invariant c.in_ok-orders.ensures
 
 pub invariant_of-self-2 : goal.invariant_of-self-2
 invariant_of-self-2 c =
@@ -28,4 +28,4 @@ invariant_of-self-2 c =
     let last = c.last_of.ensures ∙ ap (λ (l : List Order). last_order (reverse l)) c.as_slice.ensures.value in
     let needs = c.needs-needs.ensures ∙ ap (λ (w : Option Order). needed_by (terminals_of log.terminals) (plans_in log) w) last in
     let begins = c.from_orders.ensures.state ∙ ap (λ (set : TermSet). begins_with list set) needs in
-    restart-kept c.centre_is_said.ensures _ _ c.args.kept list (plans_in log) (terminals_of log.terminals) _ _ c.self.invariant may now c.in_ok-orders.ensures all everyone (c.push.ensures.terminals ∙ c.reserve.ensures.terminals) refl refl refl begins refl
+    restart-kept c.centre_is_said.ensures.said _ _ c.args.kept list (plans_in log) (terminals_of log.terminals) _ _ c.self.invariant may now c.in_ok-orders.ensures all everyone (c.push.ensures.terminals ∙ c.reserve.ensures.terminals) refl refl refl begins refl

@@ -18,7 +18,7 @@ use Rattle.bt_world.proofs.world.World.turn.Goals as goal
 pub turn-act-requires-clause-mark : goal.turn-act-requires-clause-mark
 turn-act-requires-clause-mark c =
     let life = life_of c.self.inside.net c.self.inside.orders.items c.self.inside.log in
-    let at = ap (λ (s : Status). s.mark.0) c.status.ensures ∙ ap (λ (s : Onboard). s.mark.0) c.self.invariant.satellite ∙ c.satellite_is_said.ensures.mark life.opening (past_of life) in
+    let at = ap (λ (s : Status). s.mark.0) c.status.ensures.status ∙ ap (λ (s : Onboard). s.mark.0) c.self.invariant.satellite ∙ c.satellite_is_said.ensures.mark life.opening (past_of life) in
     omega (arith, at, mark-few _ _ c.self.invariant)
 
 pub invariant_of-self-2 : goal.invariant_of-self-2
@@ -30,7 +30,7 @@ invariant_of-self-2 c =
     let events = c.push.ensures.events in
     let room = c.reserve.ensures.events in
     let now : life_of c.self.inside.net c.self.inside.orders.items c.push.new.self ≡ having_had life event = cc in
-    let at = ap (λ (s : Status). s.mark.0) c.status.ensures ∙ ap (λ (s : Onboard). s.mark.0) c.self.invariant.satellite ∙ c.satellite_is_said.ensures.mark life.opening (past_of life) in
+    let at = ap (λ (s : Status). s.mark.0) c.status.ensures.status ∙ ap (λ (s : Onboard). s.mark.0) c.self.invariant.satellite ∙ c.satellite_is_said.ensures.mark life.opening (past_of life) in
     let log = c.reserve.new.self in
     let superframe = c.status.result.mark in
     let in_force = c.known-in_force.result in
@@ -49,7 +49,7 @@ invariant_of-self-2 c =
     let patience = c.patience.ensures.same in
     let act = c.turn-act.ensures.act ∙ ap (λ n. act_at s superframe c.args.newest n c.patience.result) lead ∙ ap (λ n. act_at s superframe c.args.newest c.self.inside.net.lead n) patience in
     let turned = c.turn-act.ensures.state ∙ ap (λ n. after_turn s superframe c.args.newest n c.patience.result) lead ∙ ap (λ n. after_turn s superframe c.args.newest c.self.inside.net.lead n) patience in
-    turn-kept c.centre_is_said.ensures _ _ c.args.newest superframe does in_force (plans_in log) log.terminals _ _ c.self.invariant may now at c.known-in_force.ensures act all count
+    turn-kept c.centre_is_said.ensures.said _ _ c.args.newest superframe does in_force (plans_in log) log.terminals _ _ c.self.invariant may now at c.known-in_force.ensures.known act all count
     (c.push.ensures.terminals ∙ c.reserve.ensures.terminals)
     told
     refl refl turned refl
