@@ -21,10 +21,10 @@ pub fn put_lines(alloc: Global, bytes: &[u8], part: Part, out: &mut String) -> R
         Part::Last(count) => (lines.len().saturating_sub(count), count),
     };
     for line in lines.iter().skip(skipped).take(shown) {
-        put_line(alloc, line, "\n", out)?;
+        put_line(line, "\n", out)?;
     }
     if !last.is_empty() {
-        put_line(alloc, last, "\\\n", out)?;
+        put_line(last, "\\\n", out)?;
     }
     Ok(())
 }

@@ -3,7 +3,6 @@
 ghost use Rattle.std.specs.Prelude.{◌<◌, IfOk};
 
 use anyhow::{Result, bail};
-use std::alloc::Global;
 
 /// Appends the bytes of a line, and the newline unless a backslash ends the line.
 pub fn take_text(line: &str, bytes: &mut Vec<u8>) -> Result<()> {
@@ -59,15 +58,20 @@ fn digit(byte: u8) -> Result<u8>
 }
 
 /// Appends a line behind a `>`, with what ends it.
-pub fn put_line(alloc: Global, line: &[u8], end: &str, out: &mut String) -> Result<()> {
+pub fn put_line(line: &[u8], end: &str, out: &mut String) -> Result<()> {
     out.push('>')?;
     for byte in line {
-        if (b' '..=b'~').contains(byte) && *byte != b'\\' {
-            out.push(char::from(*byte))?;
-        } else {
-            out.push_str(&format!(in alloc; "\\x{byte:02x}")?)?;
-        }
+        put_byte(*byte, out)?;
     }
     out.push_str(end)?;
+    Ok(())
+}
+
+fn put_byte(byte: u8, out: &mut String) -> Result<()> {
+    if (b' '..=b'~').contains(&byte) && byte != b'\\' {
+        out.push(char::from(byte))?;
+    } else {
+        write!(out, "\\x{byte:02x}")?;
+    }
     Ok(())
 }

@@ -5,7 +5,7 @@ ghost use Rattle.bt_matrix.specs.Good.{IsGood};
 
 use crate::texts::{demand_from, is_line, network_from, schedule_from};
 use anyhow::{Result, bail, ensure};
-use bt_case_text::{Part, number_of, put_lines};
+use bt_case_text::{Part, put_lines};
 use bt_cut::cut;
 use bt_demand::{Demand, traffic_of};
 use bt_frame::{EditionNo, MOST_SLOTS, Schedule};
@@ -19,34 +19,47 @@ use std::alloc::Global;
 pub fn put_cutting(
     alloc: Global,
     texts: [&[u8]; 3],
-    edition: &str,
+    edition: EditionNo,
     out: &mut String,
 ) -> Result<()> {
     let [net, traffic, modes] = texts;
-    let edition = EditionNo(number_of(edition)?);
     let net = network_from(alloc, net)?;
-    let demand = demand_from(alloc, &net, traffic)?;
-    let text = text_cut_from(alloc, &net, &demand, edition, modes)?;
-    put_lines(alloc, &text, Part::All, out)
+    put_cut_for(alloc, &net, edition, [traffic, modes], out)
 }
 
-/// The text of the plan that is cut from the schedule that a text is read as.
-fn text_cut_from(
+/// Appends the plan that is cut for the demand of a text from the schedule of another.
+fn put_cut_for(
+    alloc: Global,
+    net: &Network,
+    edition: EditionNo,
+    texts: [&[u8]; 2],
+    out: &mut String,
+) -> Result<()> {
+    let [traffic, modes] = texts;
+    let demand = demand_from(alloc, net, traffic)?;
+    see_fit(alloc, net, &demand)?;
+    put_cut_from(alloc, net, &demand, edition, modes, out)
+}
+
+/// Appends the plan that is cut from the schedule of a text, which must be good for the demand.
+fn put_cut_from(
     alloc: Global,
     net: &Network,
     demand: &Demand,
     edition: EditionNo,
     modes: &[u8],
-) -> Result<Vec<u8>>
+    out: &mut String,
+) -> Result<()>
     requires terminals { AreOfNetwork net.now demand.now }
-    requires sums { HasSumsTo MOST_SUM (matrix_of net.now demand.now) }
+    requires sums { HasSumsTo MOST_SLOTS (matrix_of net.now demand.now) }
 {
-    see_fit(alloc, net, demand)?;
     let schedule = schedule_from(alloc, net.beam_count(), modes)?;
-    cut_text(alloc, net, demand, edition, schedule)
+    see_good(alloc, net, demand, &schedule)?;
+    let text = cut_text(alloc, net, demand, edition, schedule)?;
+    put_lines(alloc, &text, Part::All, out)
 }
 
-/// The text of the plan that is cut from a schedule, which must be good for the demand.
+/// The text of the plan that is cut from a schedule which is good for the demand.
 fn cut_text(
     alloc: Global,
     net: &Network,
@@ -56,8 +69,8 @@ fn cut_text(
 ) -> Result<Vec<u8>>
     requires terminals { AreOfNetwork net.now demand.now }
     requires sums { HasSumsTo MOST_SLOTS (matrix_of net.now demand.now) }
+    requires good { IsGood (matrix_of net.now demand.now) schedule }
 {
-    see_good(alloc, net, demand, &schedule)?;
     let Ok(plan) = cut(alloc, net, demand, edition, schedule) else {
         bail!("out of memory");
     };

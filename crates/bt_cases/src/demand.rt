@@ -48,14 +48,8 @@ fn put_copy(alloc: Global, demand: &Demand, out: &mut String) -> Result<()> {
 }
 
 /// Appends the slots of a link.
-pub fn put_units(
-    alloc: Global,
-    demand: &Demand,
-    from: &str,
-    to: &str,
-    out: &mut String,
-) -> Result<()> {
+pub fn put_units(demand: &Demand, from: &str, to: &str, out: &mut String) -> Result<()> {
     let units = demand.units(TermNo(byte_of(from)?), TermNo(byte_of(to)?));
-    out.push_str(&format!(in alloc; ">{units}\n")?)?;
+    write!(out, ">{units}\n")?;
     Ok(())
 }

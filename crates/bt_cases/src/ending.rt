@@ -11,16 +11,23 @@ pub struct Ending {
 }
 
 impl Ending {
+    /// A copy of what was written, and the status.
+    pub fn of(alloc: Global, written: &[u8], status: u8) -> Result<Ending> {
+        Ok(Ending {
+            written: written.to_vec(alloc)?,
+            status,
+        })
+    }
+
     /// Appends these of its lines and the status.
     pub fn put(&self, alloc: Global, part: Part, out: &mut String) -> Result<()> {
         put_lines(alloc, &self.written, part, out)?;
-        self.put_status(alloc, out)
+        self.put_status(out)
     }
 
     /// Appends the status.
-    pub fn put_status(&self, alloc: Global, out: &mut String) -> Result<()> {
-        let status = self.status;
-        out.push_str(&format!(in alloc; "= {status}\n")?)?;
+    pub fn put_status(&self, out: &mut String) -> Result<()> {
+        write!(out, "= {}\n", self.status)?;
         Ok(())
     }
 }

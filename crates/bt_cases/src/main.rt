@@ -14,30 +14,58 @@ mod ending;
 mod outside;
 mod pieces;
 mod planning;
-mod play;
 mod stage;
 mod texts;
 
-use anyhow::{Context, Result, ensure};
-use play::{Tally, play};
-use std::{env, fs};
+use anyhow::{Context, Result};
+use bt_case_text::{Sheet, Tally};
+use stage::Texts;
+use std::alloc::Global;
+use std::sync::Wait;
+use std::thread::Threads;
+use std::{env, fs, rt};
 
 fn main(rt: HostRuntime) -> Result<()> {
     let alloc = rt.alloc();
     let names: Vec<String> = env::args(&rt)?.skip(1).collect(alloc)?;
-    let mut out = String::new(alloc);
-    let mut tally = Tally::none();
+    let mut tally = Tally::none(alloc);
     for name in &names {
-        let name = name.as_str();
-        let text = fs::read_to_string(&rt, name).context(format_args!("{name}"))?;
-        play(&rt, alloc, name, text.as_str(), &mut tally, &mut out)?;
+        play_file(&rt, alloc, name.as_str(), &mut tally)?;
     }
-    let (cases, others) = (tally.cases, tally.others);
-    ensure!(0 < cases, "no cases");
-    if 0 < others {
-        print!(rt; "{out}")?;
-    }
-    ensure!(others == 0, "{others} of {cases} cases got another answer");
+    let (cases, others) = (tally.cases(), tally.others());
+    print!(rt; "{others}")?;
+    tally.see_all_well()?;
     println!(rt; "{cases} cases")?;
     Ok(())
+}
+
+/// Plays the cases of a file.
+fn play_file<R: Alloc + rt::Files + Threads + Wait + Sync>(
+    rt: &R,
+    alloc: Global,
+    name: &str,
+    tally: &mut Tally,
+) -> Result<()> {
+    let text = fs::read_to_string(rt, name).context(format_args!("{name}"))?;
+    play(rt, alloc, name, text.as_str(), tally)
+}
+
+/// Plays the cases of a text on a stage of its own.
+fn play<R: Threads + Wait + Sync>(
+    rt: &R,
+    alloc: Global,
+    name: &str,
+    text: &str,
+    tally: &mut Tally,
+) -> Result<()> {
+    let mut stage = Texts::new(alloc);
+    let mut came = String::new(alloc);
+    let mut sheet = Sheet::new(alloc, name, tally)?;
+    for line in text.lines() {
+        if sheet.meets(alloc, line, &mut came, tally)? {
+            let taken = stage.take(rt, alloc, line, &mut came);
+            taken.context(format_args!("{name}: {line}"))?;
+        }
+    }
+    sheet.end(alloc, &mut came, tally)
 }

@@ -52,7 +52,10 @@ impl Meeting {
 
 /// Sets up what the next command meets; false where the words are another line.
 pub fn set_meeting(alloc: Global, next: &mut Meeting, words: &[&str]) -> Result<bool> {
-    Ok(set_fail(next, words)? || set_flag(next, words) || set_part(alloc, next, words)?)
+    if set_flag(next, words) || set_fail(next, words)? {
+        return Ok(true);
+    }
+    set_part(alloc, next, words)
 }
 
 fn set_fail(next: &mut Meeting, words: &[&str]) -> Result<bool> {
@@ -159,7 +162,7 @@ impl Outside {
         match self.next.into.take() {
             None => ending.put(alloc, self.next.part, out),
             Some(name) => {
-                ending.put_status(alloc, out)?;
+                ending.put_status(out)?;
                 shelf.begin(alloc, name.as_str(), ending.written)
             }
         }
@@ -202,21 +205,38 @@ impl Outside {
             self.store.clear();
         }
         if self.next.is_sure {
-            let mut files = shelf.sure()?;
-            let mut sink = SureSink::new(alloc);
-            let status = self.status_of(rt, alloc, &mut files, &mut sink, words)?;
-            return Ok(Ending {
-                written: sink.written().to_vec(alloc)?,
-                status,
-            });
+            self.sure_end_of(rt, alloc, shelf, words)
+        } else {
+            self.met_end_of(rt, alloc, shelf, words)
         }
+    }
+
+    /// What a command writes whose files and output do not fail, and its status.
+    fn sure_end_of<R: Threads + Wait + Sync>(
+        &mut self,
+        rt: &R,
+        alloc: Global,
+        shelf: &Shelf,
+        words: &[&str],
+    ) -> Result<Ending> {
+        let mut files = shelf.sure()?;
+        let mut sink = SureSink::new(alloc);
+        let status = self.status_of(rt, alloc, &mut files, &mut sink, words)?;
+        Ending::of(alloc, sink.written(), status)
+    }
+
+    /// What a command writes whose files and output may fail, and its status.
+    fn met_end_of<R: Threads + Wait + Sync>(
+        &mut self,
+        rt: &R,
+        alloc: Global,
+        shelf: &Shelf,
+        words: &[&str],
+    ) -> Result<Ending> {
         let mut files = shelf.failing(self.next.reads.clone()?)?;
         let mut sink = MemSink::new(alloc, self.next.writes.clone()?);
         let status = self.status_of(rt, alloc, &mut files, &mut sink, words)?;
-        Ok(Ending {
-            written: sink.written().to_vec(alloc)?,
-            status,
-        })
+        Ending::of(alloc, sink.written(), status)
     }
 
     fn status_of<R: Threads + Wait + Sync, F: Files, O: Sink>(
@@ -245,20 +265,42 @@ impl Outside {
     ) -> Result<u8> {
         let owned = owned_words(alloc, words)?;
         if self.next.is_sure {
-            let store = SureKeeper::new(self.store.clone()?);
-            let ended = centre_main(rt, alloc, &owned, files, sink, store);
-            self.keep_left(alloc, ended.store.kept(), ended.histories.as_slice())?;
-            Ok(ended.status)
+            self.status_with_sure(rt, alloc, files, sink, &owned)
         } else {
-            let store = self.met_store()?;
-            let ended = centre_main(rt, alloc, &owned, files, sink, store);
-            self.keep_left(alloc, ended.store.kept(), ended.histories.as_slice())?;
-            Ok(ended.status)
+            self.status_with_met(rt, alloc, files, sink, &owned)
         }
     }
 
+    fn status_with_sure<R: Threads + Wait + Sync, F: Files, O: Sink>(
+        &mut self,
+        rt: &R,
+        alloc: Global,
+        files: &mut F,
+        sink: &mut O,
+        words: &[String],
+    ) -> Result<u8> {
+        let store = SureKeeper::new(self.store.clone()?);
+        let ended = centre_main(rt, alloc, words, files, sink, store);
+        self.keep_left(alloc, ended.store.kept(), ended.histories.as_slice())?;
+        Ok(ended.status)
+    }
+
+    fn status_with_met<R: Threads + Wait + Sync, F: Files, O: Sink>(
+        &mut self,
+        rt: &R,
+        alloc: Global,
+        files: &mut F,
+        sink: &mut O,
+        words: &[String],
+    ) -> Result<u8> {
+        let store = self.met_store()?;
+        let ended = centre_main(rt, alloc, words, files, sink, store);
+        self.keep_left(alloc, ended.store.kept(), ended.histories.as_slice())?;
+        Ok(ended.status)
+    }
+
     /// The store as the next command meets it.
-    fn met_store(&self) -> Result<MemKeeper> {
+    pub fn met_store(&self) -> Result<MemKeeper> {
         let kept = self.store.clone()?;
         let fails = self.next.keeps.clone()?;
         Ok(MemKeeper::new(kept, fails))
@@ -296,9 +338,9 @@ impl Outside {
     }
 
     /// Appends a line for each history of the last command.
-    pub fn put_histories(&self, alloc: Global, out: &mut String) -> Result<()> {
+    pub fn put_histories(&self, out: &mut String) -> Result<()> {
         for (before, entries) in &self.histories {
-            out.push_str(&format!(in alloc; ">before {before} entries {entries}\n")?)?;
+            write!(out, ">before {before} entries {entries}\n")?;
         }
         Ok(())
     }

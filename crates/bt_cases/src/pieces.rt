@@ -4,7 +4,8 @@ ghost use Rattle.bt_base.specs.Told.{HasBytes};
 use crate::outside::Outside;
 use anyhow::{Context, Result, bail, ensure};
 use bt_base::{
-    FileFault, Files, KeepFault, Keeper, MemKeeper, MemSink, Sink, SinkFault, SureKeeper, SureSink,
+    Fail, FileFault, Files, KeepFault, Keeper, MemKeeper, MemSink, Sink, SinkFault, SureKeeper,
+    SureSink,
 };
 use bt_case_text::{Part, Shelf, number_of, put_lines};
 use std::alloc::Global;
@@ -37,15 +38,25 @@ fn put_reads_of<F: Files>(
         let [name, limit] = pair else {
             bail!("a name without the most bytes");
         };
-        match files.read(alloc, name, u64::from(number_of(limit)?)) {
-            Ok(bytes) => put_lines(alloc, &bytes, Part::All, out)?,
-            Err(FileFault::Failed) => out.push_str(">failed\n")?,
-            Err(FileFault::TooLong) => out.push_str(">too long\n")?,
-            Err(FileFault::OutOfMemory) => bail!("out of memory"),
-        }
-        let faults = files.faults();
-        out.push_str(&format!(in alloc; "= {faults}\n")?)?;
+        put_read(alloc, files, name, number_of(limit)?, out)?;
     }
+    Ok(())
+}
+
+fn put_read<F: Files>(
+    alloc: Global,
+    files: &mut F,
+    name: &str,
+    limit: u32,
+    out: &mut String,
+) -> Result<()> {
+    match files.read(alloc, name, u64::from(limit)) {
+        Ok(bytes) => put_lines(alloc, &bytes, Part::All, out)?,
+        Err(FileFault::Failed) => out.push_str(">failed\n")?,
+        Err(FileFault::TooLong) => out.push_str(">too long\n")?,
+        Err(FileFault::OutOfMemory) => bail!("out of memory"),
+    }
+    write!(out, "= {}\n", files.faults())?;
     Ok(())
 }
 
@@ -59,32 +70,52 @@ pub fn put_writes(
 ) -> Result<()> {
     if outside.next.is_sure {
         outside.next.is_sure = false;
-        let mut sink = SureSink::new(alloc);
-        for piece in words {
-            let answer = answer_to(alloc, &mut sink, piece)?;
-            put_lines(alloc, sink.written(), Part::All, out)?;
-            out.push_str(&answer)?;
-        }
-        return Ok(());
+        return put_sure_writes(alloc, words, out);
     }
-    let mut sink = MemSink::new(alloc, outside.next.writes.clone()?);
+    let fails = outside.next.writes.clone()?;
     outside.next.writes.clear();
+    put_failing_writes(alloc, fails, words, out)
+}
+
+fn put_sure_writes(alloc: Global, words: &[&str], out: &mut String) -> Result<()> {
+    let mut sink = SureSink::new(alloc);
     for piece in words {
-        let answer = answer_to(alloc, &mut sink, piece)?;
+        let is_written = write_to(alloc, &mut sink, piece)?;
         put_lines(alloc, sink.written(), Part::All, out)?;
-        out.push_str(&answer)?;
+        put_answer(is_written, sink.faults(), out)?;
     }
     Ok(())
 }
 
-fn answer_to<S: Sink>(alloc: Global, sink: &mut S, piece: &str) -> Result<String> {
-    let answer = match sink.write(alloc, piece.as_bytes()) {
-        Ok(()) => "ok",
-        Err(SinkFault::Failed) => "failed",
+fn put_failing_writes(
+    alloc: Global,
+    fails: Vec<Fail>,
+    words: &[&str],
+    out: &mut String,
+) -> Result<()> {
+    let mut sink = MemSink::new(alloc, fails);
+    for piece in words {
+        let is_written = write_to(alloc, &mut sink, piece)?;
+        put_lines(alloc, sink.written(), Part::All, out)?;
+        put_answer(is_written, sink.faults(), out)?;
+    }
+    Ok(())
+}
+
+/// Did the call write the piece?
+fn write_to<S: Sink>(alloc: Global, sink: &mut S, piece: &str) -> Result<bool> {
+    match sink.write(alloc, piece.as_bytes()) {
+        Ok(()) => Ok(true),
+        Err(SinkFault::Failed) => Ok(false),
         Err(SinkFault::OutOfMemory) => bail!("out of memory"),
-    };
-    let faults = sink.faults();
-    Ok(format!(in alloc; "= {answer} {faults}\n")?)
+    }
+}
+
+/// Appends whether a call did what it was asked for, and the number of faults so far.
+fn put_answer(is_done: bool, faults: u64, out: &mut String) -> Result<()> {
+    let answer = if is_done { "ok" } else { "failed" };
+    write!(out, "= {answer} {faults}\n")?;
+    Ok(())
 }
 
 /// Makes calls on a store that has the bytes of the store, one after the other, and appends after each what is kept,
@@ -95,23 +126,32 @@ pub fn put_keeps(
     words: &[&str],
     out: &mut String,
 ) -> Result<()> {
-    let mut store = MemKeeper::new(outside.store.clone()?, outside.next.keeps.clone()?);
+    let mut store = outside.met_store()?;
     outside.next.keeps.clear();
     for word in words {
-        let is_done = match word.strip_prefix('+') {
-            Some(piece) => append_to(alloc, &mut store, piece.as_bytes())?,
-            None if *word == "?" => all_of(alloc, &mut store)?.is_some(),
-            None => {
-                let length = number_of(word)?;
-                ensure!(length as usize <= store.kept().len(), "a longer store");
-                cut_to(alloc, &mut store, u64::from(length))?
-            }
-        };
+        let is_done = call_on(alloc, &mut store, word)?;
         put_lines(alloc, store.kept(), Part::All, out)?;
-        let (answer, faults) = (if is_done { "ok" } else { "failed" }, store.faults());
-        out.push_str(&format!(in alloc; "= {answer} {faults}\n")?)?;
+        put_answer(is_done, store.faults(), out)?;
     }
     Ok(())
+}
+
+/// Did the call that the word says do what it was asked for?
+fn call_on(alloc: Global, store: &mut MemKeeper, word: &str) -> Result<bool> {
+    match word.strip_prefix('+') {
+        Some(piece) => append_to(alloc, store, piece.as_bytes()),
+        None if word == "?" => is_read(alloc, store),
+        None => cut_at(alloc, store, number_of(word)?),
+    }
+}
+
+fn is_read(alloc: Global, store: &mut MemKeeper) -> Result<bool> {
+    Ok(all_of(alloc, store)?.is_some())
+}
+
+fn cut_at(alloc: Global, store: &mut MemKeeper, length: u32) -> Result<bool> {
+    ensure!(length as usize <= store.kept().len(), "a longer store");
+    cut_to(alloc, store, u64::from(length))
 }
 
 /// The store gains the bytes.

@@ -6,8 +6,8 @@ ghost use Rattle.bt_match.specs.Matching.{HasEqualLineSums};
 use crate::cutting::put_cutting;
 use crate::texts::{matrix_from, put_verdict};
 use anyhow::{Result, bail, ensure};
-use bt_case_text::{Shelf, byte_of};
-use bt_frame::BeamNo;
+use bt_case_text::{Shelf, byte_of, number_of};
+use bt_frame::{BeamNo, EditionNo};
 use bt_match::{Partial, Perm, perfect};
 use bt_matrix::{Dense, Traffic};
 use std::alloc::Global;
@@ -15,19 +15,38 @@ use std::alloc::Global;
 /// Shows steps of planning over texts.
 pub fn show_steps(alloc: Global, shelf: &Shelf, words: &[&str], out: &mut String) -> Result<bool> {
     match words {
-        ["judge", matrix, beams, modes] => {
-            put_verdict(alloc, shelf.text(matrix)?, beams, shelf.text(modes)?, out)?;
-        }
+        ["judge", matrix, beams, modes] => judge(alloc, shelf, matrix, [beams, modes], out)?,
         ["match", matrix, first, second, third] => {
             put_permutations(alloc, shelf.text(matrix)?, [first, second, third], out)?;
         }
         ["cutting", net, traffic, edition, modes] => {
-            let texts = [shelf.text(net)?, shelf.text(traffic)?, shelf.text(modes)?];
-            put_cutting(alloc, texts, edition, out)?;
+            cut_texts(alloc, shelf, [net, traffic, modes], edition, out)?;
         }
         _ => return Ok(false),
     }
     Ok(true)
+}
+
+fn judge(
+    alloc: Global,
+    shelf: &Shelf,
+    matrix: &str,
+    [beams, modes]: [&str; 2],
+    out: &mut String,
+) -> Result<()> {
+    let (matrix, modes) = (shelf.text(matrix)?, shelf.text(modes)?);
+    put_verdict(alloc, matrix, beams, modes, out)
+}
+
+fn cut_texts(
+    alloc: Global,
+    shelf: &Shelf,
+    [net, traffic, modes]: [&str; 3],
+    edition: &str,
+    out: &mut String,
+) -> Result<()> {
+    let texts = [shelf.text(net)?, shelf.text(traffic)?, shelf.text(modes)?];
+    put_cutting(alloc, texts, EditionNo(number_of(edition)?), out)
 }
 
 /// Appends a permutation inside a matrix of equal line sums, and the one that is found after three rows were freed.
@@ -37,29 +56,36 @@ fn put_permutations(
     freed: [&str; 3],
     out: &mut String,
 ) -> Result<()> {
+    let [first, second, third] = freed;
+    let rows = [byte_of(first)?, byte_of(second)?, byte_of(third)?];
     let matrix = matrix_from(alloc, matrix)?;
     ensure!(has_equal_sums(&matrix), "other line sums");
+    put_perms(alloc, &matrix, rows, out)
+}
+
+fn put_perms(alloc: Global, matrix: &Dense, freed: [u8; 3], out: &mut String) -> Result<()>
+    requires { HasEqualLineSums matrix.now }
+{
     let [first, second, third] = freed;
-    let (first, second, third) = (byte_of(first)?, byte_of(second)?, byte_of(third)?);
     let Ok(begin) = Partial::empty(alloc, matrix.size()) else {
         bail!("out of memory");
     };
-    let Ok(perm) = perfect(alloc, &matrix, begin) else {
+    let Ok(perm) = perfect(alloc, matrix, begin) else {
         bail!("out of memory");
     };
-    put_perm(alloc, &perm, out)?;
+    put_perm(&perm, out)?;
     let mut begin = Partial::of(perm);
     begin.free(BeamNo(first));
     begin.free(BeamNo(second));
     begin.free(BeamNo(third));
-    let Ok(perm) = perfect(alloc, &matrix, begin) else {
+    let Ok(perm) = perfect(alloc, matrix, begin) else {
         bail!("out of memory");
     };
-    put_perm(alloc, &perm, out)
+    put_perm(&perm, out)
 }
 
-fn put_perm(alloc: Global, perm: &Perm, out: &mut String) -> Result<()> {
-    out.push_str(&format!(in alloc; ">{:?}\n", perm.as_slice())?)?;
+fn put_perm(perm: &Perm, out: &mut String) -> Result<()> {
+    write!(out, ">{:?}\n", perm.as_slice())?;
     Ok(())
 }
 

@@ -54,15 +54,19 @@ impl Texts {
 
     /// Does what a line says that runs no command.
     fn act(&mut self, alloc: Global, words: &[&str], out: &mut String) -> Result<()> {
-        let is_done = self.set(alloc, words)?
-            || self.show_outside(alloc, words, out)?
-            || show_text(alloc, &self.shelf, words, out)?
-            || self.show_planning(alloc, words, out)?;
-        if is_done {
-            Ok(())
-        } else {
-            bail!("no line of cases")
+        if self.set(alloc, words)? {
+            return Ok(());
         }
+        if self.show_outside(alloc, words, out)? {
+            return Ok(());
+        }
+        if show_text(alloc, &self.shelf, words, out)? {
+            return Ok(());
+        }
+        if self.show_planning(alloc, words, out)? {
+            return Ok(());
+        }
+        bail!("no line of cases")
     }
 
     /// Sets up files, the store, and what the next command meets.
@@ -72,14 +76,16 @@ impl Texts {
             self.outside.next.goes_on = true;
             return Ok(true);
         }
-        let next = &mut self.outside.next;
-        Ok(set_files(alloc, &mut self.shelf, words)? || set_meeting(alloc, next, words)?)
+        if set_files(alloc, &mut self.shelf, words)? {
+            return Ok(true);
+        }
+        set_meeting(alloc, &mut self.outside.next, words)
     }
 
     /// Shows the outside, call by call, and what a command left.
     fn show_outside(&mut self, alloc: Global, words: &[&str], out: &mut String) -> Result<bool> {
         match words {
-            ["histories"] => self.outside.put_histories(alloc, out)?,
+            ["histories"] => self.outside.put_histories(out)?,
             ["stored"] => put_store(alloc, &self.outside, out)?,
             ["append", name] => append(alloc, &mut self.outside, self.shelf.text(name)?)?,
             ["cut", length] => cut(alloc, &mut self.outside, number_of(length)?)?,
@@ -115,7 +121,7 @@ impl Texts {
             ["lose", from, to, units] => {
                 put_loss(alloc, &mut self.demand, [from, to, units], out)?;
             }
-            ["units", from, to] => put_units(alloc, &self.demand, from, to, out)?,
+            ["units", from, to] => put_units(&self.demand, from, to, out)?,
             words => return show_steps(alloc, &self.shelf, words, out),
         }
         Ok(true)

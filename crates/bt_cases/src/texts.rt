@@ -20,13 +20,46 @@ use std::alloc::Global;
 /// Shows what the readers make of a text.
 pub fn show_text(alloc: Global, shelf: &Shelf, words: &[&str], out: &mut String) -> Result<bool> {
     match words {
-        ["number", word] => put_number(alloc, word, out)?,
-        ["network", net] => put_network(alloc, shelf.text(net)?, out)?,
-        ["matrix", matrix] => put_matrix(alloc, shelf.text(matrix)?, out)?,
-        ["line", name, place] => put_line_end(alloc, shelf.text(name)?, place, out)?,
-        ["count", word, name] => put_count(alloc, shelf.text(name)?, word, out)?,
-        ["schedule", beams, modes] => put_schedule(alloc, beams, shelf.text(modes)?, out)?,
-        [name, net, text] => return show_over(alloc, shelf, name, [net, text], out),
+        ["number", word] => {
+            put_number(alloc, word, out)?;
+            Ok(true)
+        }
+        [name, text] => show_alone(alloc, shelf, name, text, out),
+        [name, first, second] => show_with(alloc, shelf, name, [first, second], out),
+        _ => Ok(false),
+    }
+}
+
+/// Shows what the readers make of a text that is read by itself.
+fn show_alone(
+    alloc: Global,
+    shelf: &Shelf,
+    name: &str,
+    text: &str,
+    out: &mut String,
+) -> Result<bool> {
+    match name {
+        "network" => put_network(alloc, shelf.text(text)?, out)?,
+        "matrix" => put_matrix(alloc, shelf.text(text)?, out)?,
+        _ => return Ok(false),
+    }
+    Ok(true)
+}
+
+/// Shows what the readers make of a text beside a word.
+fn show_with(
+    alloc: Global,
+    shelf: &Shelf,
+    name: &str,
+    words: [&str; 2],
+    out: &mut String,
+) -> Result<bool> {
+    let [first, second] = words;
+    match name {
+        "line" => put_line_end(shelf.text(first)?, second, out)?,
+        "count" => put_count(alloc, shelf.text(second)?, first, out)?,
+        "schedule" => put_schedule(alloc, first, shelf.text(second)?, out)?,
+        "demand" | "traffic" | "plan" => show_over(alloc, shelf, name, words, out)?,
         _ => return Ok(false),
     }
     Ok(true)
@@ -39,15 +72,20 @@ fn show_over(
     name: &str,
     texts: [&str; 2],
     out: &mut String,
-) -> Result<bool> {
+) -> Result<()> {
     let [net, text] = texts;
+    let (net, text) = (shelf.text(net)?, shelf.text(text)?);
+    let net = network_from(alloc, net)?;
+    put_over(alloc, &net, name, text, out)
+}
+
+/// Appends a plan, or the links or the matrix of a demand.
+fn put_over(alloc: Global, net: &Network, name: &str, text: &[u8], out: &mut String) -> Result<()> {
     match name {
-        "demand" => put_demand(alloc, shelf.text(net)?, shelf.text(text)?, out)?,
-        "traffic" => put_traffic(alloc, shelf.text(net)?, shelf.text(text)?, out)?,
-        "plan" => put_plan(alloc, shelf.text(net)?, shelf.text(text)?, out)?,
-        _ => return Ok(false),
+        "plan" => put_plan(alloc, net, text, out),
+        "demand" => put_links(&demand_from(alloc, net, text)?, out),
+        _ => put_traffic(alloc, net, text, out),
     }
-    Ok(true)
 }
 
 /// Appends the number that a word spells, printed again.
@@ -66,14 +104,13 @@ fn put_number(alloc: Global, word: &str, out: &mut String) -> Result<()> {
 }
 
 /// Appends the place of the newline of the line that begins at that place.
-fn put_line_end(alloc: Global, bytes: &[u8], place: &str, out: &mut String) -> Result<()> {
+fn put_line_end(bytes: &[u8], place: &str, out: &mut String) -> Result<()> {
     let place = number_of(place)? as usize;
     ensure!(place <= bytes.len(), "a place past the end");
-    let text = match next_line(bytes, place) {
-        Some((start, end)) => format!(in alloc; ">{start} to {end}\n")?,
-        None => format!(in alloc; ">none\n")?,
-    };
-    out.push_str(&text)?;
+    match next_line(bytes, place) {
+        Some((start, end)) => write!(out, ">{start} to {end}\n")?,
+        None => out.push_str(">none\n")?,
+    }
     Ok(())
 }
 
@@ -87,7 +124,7 @@ fn put_count(alloc: Global, bytes: &[u8], word: &str, out: &mut String) -> Resul
             count = count.saturating_add(1);
         }
     }
-    out.push_str(&format!(in alloc; ">{count}\n")?)?;
+    write!(out, ">{count}\n")?;
     Ok(())
 }
 
@@ -98,12 +135,11 @@ fn put_matrix(alloc: Global, bytes: &[u8], out: &mut String) -> Result<()> {
 }
 
 /// Appends the rows of the traffic matrix of a demand.
-fn put_traffic(alloc: Global, net: &[u8], traffic: &[u8], out: &mut String) -> Result<()> {
-    let net = network_from(alloc, net)?;
-    let demand = demand_from(alloc, &net, traffic)?;
-    let matrix = traffic_of(alloc, &net, &demand)
-        .ok()
-        .context("out of memory")?;
+fn put_traffic(alloc: Global, net: &Network, traffic: &[u8], out: &mut String) -> Result<()> {
+    let demand = demand_from(alloc, net, traffic)?;
+    let Ok(matrix) = traffic_of(alloc, net, &demand) else {
+        bail!("out of memory");
+    };
     put_rows(&matrix, out)
 }
 
@@ -121,13 +157,6 @@ fn put_rows(matrix: &Dense, out: &mut String) -> Result<()> {
     Ok(())
 }
 
-/// Appends the links of a demand in order.
-fn put_demand(alloc: Global, net: &[u8], traffic: &[u8], out: &mut String) -> Result<()> {
-    let net = network_from(alloc, net)?;
-    let demand = demand_from(alloc, &net, traffic)?;
-    put_links(&demand, out)
-}
-
 /// Appends each link with its slots, its ends by number.
 pub fn put_links(demand: &Demand, out: &mut String) -> Result<()> {
     for link in demand.as_slice() {
@@ -139,24 +168,44 @@ pub fn put_links(demand: &Demand, out: &mut String) -> Result<()> {
 
 /// Appends a copy of a network: its beams, its terminals with the numbers of their beams, and its numbers.
 fn put_network(alloc: Global, bytes: &[u8], out: &mut String) -> Result<()> {
-    let Ok(net) = network_from(alloc, bytes)?.copy(alloc) else {
-        bail!("out of memory");
-    };
-    for beam in 0..net.beam_count() as u8 {
-        let name = net.beam_name(BeamNo(beam));
-        write!(out, ">beam {name}\n")?;
+    let net = network_from(alloc, bytes)?;
+    put_copy(alloc, &net, out)
+}
+
+fn put_copy(alloc: Global, net: &Network, out: &mut String) -> Result<()> {
+    match net.copy(alloc) {
+        Ok(copy) => put_net(&copy, out),
+        Err(_full) => bail!("out of memory"),
     }
+}
+
+fn put_net(net: &Network, out: &mut String) -> Result<()> {
+    put_beams(net, out)?;
+    put_terminals(net, out)?;
+    put_settings(net, out)
+}
+
+fn put_beams(net: &Network, out: &mut String) -> Result<()> {
+    for beam in 0..net.beam_count() as u8 {
+        write!(out, ">beam {}\n", net.beam_name(BeamNo(beam)))?;
+    }
+    Ok(())
+}
+
+fn put_terminals(net: &Network, out: &mut String) -> Result<()> {
     for terminal in 0..net.terminal_count() as u8 {
         let name = net.name_of(TermNo(terminal));
-        let BeamNo(beam) = net.beam_of(TermNo(terminal));
-        write!(out, ">terminal {name} {beam}\n")?;
+        let beam = net.beam_of(TermNo(terminal));
+        write!(out, ">terminal {name} {}\n", beam.0)?;
     }
+    Ok(())
+}
+
+fn put_settings(net: &Network, out: &mut String) -> Result<()> {
     let (slots, frames, lead) = (net.slots(), net.frames(), net.lead());
     let (patience, journal) = (net.patience(), net.journal());
-    write!(
-        out,
-        ">slots {slots} frames {frames} lead {lead}\n>patience {patience} journal {journal}\n"
-    )?;
+    write!(out, ">slots {slots} frames {frames} lead {lead}\n")?;
+    write!(out, ">patience {patience} journal {journal}\n")?;
     Ok(())
 }
 
@@ -170,16 +219,15 @@ fn put_schedule(alloc: Global, beams: &str, bytes: &[u8], out: &mut String) -> R
 }
 
 /// Appends a plan, read, copied, and written again.
-fn put_plan(alloc: Global, net: &[u8], bytes: &[u8], out: &mut String) -> Result<()> {
+fn put_plan(alloc: Global, net: &Network, bytes: &[u8], out: &mut String) -> Result<()> {
     ensure!(bytes.len() <= MOST_TEXT_BYTES, "a long text");
-    let net = network_from(alloc, net)?;
-    let Ok(plan) = read_plan(alloc, &net, bytes) else {
+    let Ok(plan) = read_plan(alloc, net, bytes) else {
         bail!("no plan");
     };
-    let text = text_of_copy(alloc, &net, &plan)
-        .ok()
-        .context("out of memory")?;
-    put_lines(alloc, &text, Part::All, out)
+    match text_of_copy(alloc, net, &plan) {
+        Ok(text) => put_lines(alloc, &text, Part::All, out),
+        Err(_full) => bail!("out of memory"),
+    }
 }
 
 /// The text of a copy of a plan.
@@ -201,13 +249,11 @@ pub fn put_verdict(
     let matrix = matrix_from(alloc, matrix)?;
     let schedule = schedule_from(alloc, number_of(beams)?, modes)?;
     ensure!(is_line(&matrix, schedule.critical), "a line of no beam");
-    let verdict = check_modes(&matrix, &schedule);
-    let text = match verdict {
-        Verdict::Good => format!(in alloc; ">good\n")?,
-        Verdict::V1 { mode } => format!(in alloc; ">V1 {mode}\n")?,
+    match check_modes(&matrix, &schedule) {
+        Verdict::Good => out.push_str(">good\n")?,
+        Verdict::V1 { mode } => write!(out, ">V1 {mode}\n")?,
         _ => bail!("a verdict that a command prints"),
-    };
-    out.push_str(&text)?;
+    }
     Ok(())
 }
 

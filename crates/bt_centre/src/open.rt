@@ -2,9 +2,11 @@
 ghost use Rattle.std.specs.Prelude.{◌≡◌, ◌<◌, ◌≤◌, ◌+◌, [], ℕ, length, option_map, take, IfErr, IfOk, IfSome};
 ghost use Rattle.bt_book.specs.Causes.{Follows};
 ghost use Rattle.bt_book.specs.Changes.{orders, plans};
+ghost use Rattle.bt_book.specs.Machine.{running};
 ghost use Rattle.bt_book.specs.Recovery.{IsReadable, IsRecoverFault, Recovered, whole};
 ghost use Rattle.bt_centre.specs.Progress.{IsBegun};
-ghost use Rattle.bt_centre.specs.Run.{opening_on};
+ghost use Rattle.bt_centre.specs.Run.{at_start, opening_on};
+ghost use Rattle.bt_round.specs.Boards.{IsPublished};
 
 use crate::playing::Playing;
 use crate::station::station_of;
@@ -14,7 +16,7 @@ use bt_book::{Book, RecoverFault, installed_plans_can_be_flown};
 use bt_demand::Plan;
 use bt_frame::OutOfMemory;
 use bt_net::Network;
-use bt_round::CentreWorker;
+use bt_round::{CentreWorker, Station};
 use bt_world::World;
 use std::alloc::Global;
 use std::sync::Wait;
@@ -36,25 +38,65 @@ pub(crate) fn open<R: Threads + Wait + Sync, K: Keeper>(
     ensures fault { IfErr result (λ end. IsRecoverFault net.now (K.told store) (K.told end.0) (K.fault_count store) (K.fault_count end.0) end.1) }
     ensures fault_later { IfErr result (λ end. K.fault_count store ≤ K.fault_count end.0) }
 {
-    let Ok(over) = Vec::with_capacity(alloc, 1) else {
-        return Err((store, RecoverFault::OutOfMemory));
-    };
-    let book = match Book::recover(alloc, net, store) {
-        Ok(book) => book,
-        Err(end) => return Err(end),
-    };
+    match Book::recover(alloc, net, store) {
+        Ok(book) => match begin(rt, alloc, net, book) {
+            Ok(playing) => Ok(playing),
+            Err(store) => Err((store, RecoverFault::OutOfMemory)),
+        },
+        Err(end) => Err(end),
+    }
+}
+
+/// A run that begins with a book as it was recovered. Where memory runs out, its store is handed back.
+fn begin<R: Threads + Wait + Sync, K: Keeper>(
+    rt: &R,
+    alloc: Global,
+    net: &Network,
+    book: Book<K>,
+) -> Result<Playing<K>, K>
+    requires network { book.net ≡ net.now }
+    requires none { book.history ≡ [] }
+    requires runs { book.state ≡ running book.state.changes }
+    requires follow { Follows net.now book.state.changes }
+    ensures begun { IfOk result (λ hand. IsBegun net.now hand) }
+    ensures book { IfOk result (λ hand. hand.book ≡ book) }
+    ensures told { IfErr result (λ store. K.told store ≡ book.told) }
+    ensures faults { IfErr result (λ store. K.fault_count store ≡ book.faults) }
+{
     let before = book.change_count();
-    let Ok(world) = open_world(alloc, net, &book) else {
-        return Err((book.into_parts().0, RecoverFault::OutOfMemory));
+    let Ok(over) = Vec::with_capacity(alloc, 1) else {
+        return Err(book.into_parts().0);
     };
-    match station_of(rt, alloc, book, CentreWorker::new(alloc, world)) {
+    match man(rt, alloc, net, book) {
         Ok(station) => Ok(Playing {
             station,
             before,
             over,
             rounds: 0,
         }),
-        Err((book, _)) => Err((book.into_parts().0, RecoverFault::OutOfMemory)),
+        Err(book) => Err(book.into_parts().0),
+    }
+}
+
+/// The station of a book and of the world that opens with it. Where memory runs out, the book comes back.
+fn man<R: Threads + Wait + Sync, K: Keeper>(
+    rt: &R,
+    alloc: Global,
+    net: &Network,
+    book: Book<K>,
+) -> Result<Station<K>, Book<K>>
+    requires follow { Follows net.now book.state.changes }
+    ensures book { IfOk result (λ station. station.book ≡ book) }
+    ensures air { IfOk result (λ station. station.centre ≡ (at_start net.now book.state.changes).air) }
+    ensures published { IfOk result (λ station. IsPublished station.book.state.changes station.publisher station.readers.items) }
+    ensures back { IfErr result (λ back. back ≡ book) }
+{
+    let Ok(world) = open_world(alloc, net, &book) else {
+        return Err(book);
+    };
+    match station_of(rt, alloc, book, CentreWorker::new(alloc, world)) {
+        Ok(station) => Ok(station),
+        Err((book, _)) => Err(book),
     }
 }
 

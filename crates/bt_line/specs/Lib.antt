@@ -1,4 +1,3 @@
 pub mod Legal
 pub mod Passes
 pub mod Turns
-pub mod Sums

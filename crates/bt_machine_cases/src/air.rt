@@ -5,20 +5,33 @@ use anyhow::{Context, Result, bail};
 use bt_air::{AirFault, Armed, Message, Status, decode, encode, messages_have_one_spelling};
 use bt_case_text::hex_byte;
 use bt_demand::Burst;
-use bt_frame::{Command, EditionNo, Mark, Modes, TermNo};
+use bt_frame::{Command, EditionNo, Mark, Mode, Modes, TermNo};
 use std::alloc::Global;
 
 /// Appends what the bytes are read as, and a message's bytes when it is written again.
 pub fn put_message(alloc: Global, digits: &str, out: &mut String) -> Result<()> {
     let bytes = bytes_of(alloc, digits)?;
-    let message = match decode(alloc, &bytes) {
-        Ok(message) => message,
-        Err(fault) => return put_fault(alloc, fault, out),
-    };
-    let told = message_told(alloc, &message)?;
-    out.push_str(&format!(in alloc; ">{told}\n= ")?)?;
-    for byte in written_again(alloc, &bytes).context("out of memory")? {
-        out.push_str(&format!(in alloc; "{byte:02x}")?)?;
+    match decode(alloc, &bytes) {
+        Ok(message) => {
+            put_told(&message, out)?;
+            put_again(alloc, &bytes, out)
+        }
+        Err(fault) => put_fault(fault, out),
+    }
+}
+
+/// Appends the bytes of the message that the bytes are read as.
+fn put_again(alloc: Global, bytes: &[u8], out: &mut String) -> Result<()>
+    requires { length bytes.now ≤ 4096 }
+{
+    let again = written_again(alloc, bytes).context("out of memory")?;
+    put_hex(&again, out)
+}
+
+fn put_hex(bytes: &[u8], out: &mut String) -> Result<()> {
+    out.push_str("= ")?;
+    for byte in bytes {
+        write!(out, "{byte:02x}")?;
     }
     out.push('\n')?;
     Ok(())
@@ -52,94 +65,127 @@ fn bytes_of(alloc: Global, digits: &str) -> Result<Vec<u8>>
     Ok(bytes)
 }
 
-fn put_fault(alloc: Global, fault: AirFault, out: &mut String) -> Result<()> {
-    let text = match fault {
-        AirFault::A1 { place } => format!(in alloc; ">A1 {place}\n")?,
-        AirFault::A2 => format!(in alloc; ">A2\n")?,
-        AirFault::A3 { place } => format!(in alloc; ">A3 {place}\n")?,
-        AirFault::A4 { place } => format!(in alloc; ">A4 {place}\n")?,
+fn put_fault(fault: AirFault, out: &mut String) -> Result<()> {
+    match fault {
+        AirFault::A1 { place } => put_fault_at("A1", place, out),
+        AirFault::A2 => put_word("A2", out),
+        AirFault::A3 { place } => put_fault_at("A3", place, out),
+        AirFault::A4 { place } => put_fault_at("A4", place, out),
         AirFault::OutOfMemory => bail!("out of memory"),
-    };
-    out.push_str(&text)?;
+    }
+}
+
+fn put_fault_at(name: &str, place: u32, out: &mut String) -> Result<()> {
+    write!(out, ">{name} {place}\n")?;
     Ok(())
 }
 
-/// A message in a line: its kind, and its fields.
-fn message_told(alloc: Global, message: &Message) -> Result<String> {
-    let text = match message {
+/// Appends a line of one word.
+pub fn put_word(word: &str, out: &mut String) -> Result<()> {
+    write!(out, ">{word}\n")?;
+    Ok(())
+}
+
+/// Appends a message in a line: its kind, and its fields.
+fn put_told(message: &Message, out: &mut String) -> Result<()> {
+    match message {
         Message::Load {
-            command: Command(command),
-            edition: EditionNo(edition),
+            command,
+            edition,
             modes,
-        } => {
-            let modes = modes_told(alloc, modes)?;
-            format!(in alloc; "load {command} {edition}{modes}")?
-        }
+        } => put_load(*command, *edition, modes, out),
         Message::Arm {
-            command: Command(command),
-            edition: EditionNo(edition),
-            due: Mark(due),
-        } => format!(in alloc; "arm {command} {edition} {due}")?,
-        Message::Status(status) => status_told(alloc, status)?,
+            command,
+            edition,
+            due,
+        } => put_arm(*command, *edition, *due, out),
+        Message::Status(status) => put_status(status, out),
         Message::PlanFor {
-            to: TermNo(to),
-            edition: EditionNo(edition),
+            to,
+            edition,
             bursts,
-        } => {
-            let bursts = bursts_told(alloc, bursts.as_slice())?;
-            format!(in alloc; "plan {to} {edition}{bursts}")?
-        }
-        Message::Confirm {
-            from: TermNo(from),
-            edition: EditionNo(edition),
-        } => format!(in alloc; "confirm {from} {edition}")?,
+        } => put_plan_for(*to, *edition, bursts.as_slice(), out),
+        Message::Confirm { from, edition } => put_confirm(*from, *edition, out),
         Message::Reference {
-            superframe: Mark(superframe),
-            in_force: Some(EditionNo(edition)),
-        } => format!(in alloc; "reference {superframe} {edition}")?,
-        Message::Reference {
-            superframe: Mark(superframe),
-            in_force: None,
-        } => format!(in alloc; "reference {superframe} none")?,
-        Message::Lost { from: TermNo(from) } => format!(in alloc; "lost {from}")?,
-    };
-    Ok(text)
+            superframe,
+            in_force,
+        } => put_reference(*superframe, *in_force, out),
+        Message::Lost { from } => put_lost(*from, out),
+    }
 }
 
-/// What the satellite says of itself, in a line.
-pub fn status_told(alloc: Global, status: &Status) -> Result<String> {
-    let (Mark(mark), EditionNo(fore), EditionNo(back)) = (status.mark, status.fore, status.back);
-    let Command(last) = status.last;
-    let armed = match status.armed {
-        Some(
-            Armed {
-                edition: EditionNo(edition),
-                due: Mark(due),
-            },
-        ) => format!(in alloc; "armed {edition} {due}")?,
-        None => format!(in alloc; "none")?,
-    };
-    Ok(format!(in alloc; "status {mark} {fore} {back} {armed} last {last}")?)
-}
-
-/// Of each mode its duration and its downlinks.
-fn modes_told(alloc: Global, modes: &Modes) -> Result<String> {
-    let mut text = String::new(alloc);
+fn put_load(command: Command, edition: EditionNo, modes: &Modes, out: &mut String) -> Result<()> {
+    write!(out, ">load {} {}", command.0, edition.0)?;
     for mode in modes.as_slice() {
-        let duration = mode.duration;
-        let perm = mode.perm.as_slice();
-        write!(text, " : {duration} {perm:?}")?;
+        put_mode(mode, out)?;
     }
-    Ok(text)
+    out.push('\n')?;
+    Ok(())
 }
 
-/// Of each burst its sender, its receiver, its first slot and its slots.
-pub fn bursts_told(alloc: Global, bursts: &[Burst]) -> Result<String> {
-    let mut text = String::new(alloc);
-    for burst in bursts {
-        let (TermNo(from), TermNo(to)) = (burst.from, burst.to);
-        let (start, length) = (burst.start, burst.length);
-        write!(text, " : {from} {to} {start} {length}")?;
+/// Appends the duration of a mode and its downlinks.
+fn put_mode(mode: &Mode, out: &mut String) -> Result<()> {
+    write!(out, " : {} {:?}", mode.duration, mode.perm.as_slice())?;
+    Ok(())
+}
+
+fn put_arm(command: Command, edition: EditionNo, due: Mark, out: &mut String) -> Result<()> {
+    write!(out, ">arm {} {} {}\n", command.0, edition.0, due.0)?;
+    Ok(())
+}
+
+/// Appends what the satellite says of itself, in a line.
+pub fn put_status(status: &Status, out: &mut String) -> Result<()> {
+    let (mark, fore, back) = (status.mark.0, status.fore.0, status.back.0);
+    write!(out, ">status {mark} {fore} {back} ")?;
+    put_armed(status.armed, out)?;
+    write!(out, " last {}\n", status.last.0)?;
+    Ok(())
+}
+
+fn put_armed(armed: Option<Armed>, out: &mut String) -> Result<()> {
+    match armed {
+        Some(armed) => write!(out, "armed {} {}", armed.edition.0, armed.due.0)?,
+        None => out.push_str("none")?,
     }
-    Ok(text)
+    Ok(())
+}
+
+fn put_plan_for(to: TermNo, edition: EditionNo, bursts: &[Burst], out: &mut String) -> Result<()> {
+    write!(out, ">plan {} {}", to.0, edition.0)?;
+    put_bursts(bursts, out)
+}
+
+fn put_confirm(from: TermNo, edition: EditionNo, out: &mut String) -> Result<()> {
+    write!(out, ">confirm {} {}\n", from.0, edition.0)?;
+    Ok(())
+}
+
+fn put_reference(superframe: Mark, in_force: Option<EditionNo>, out: &mut String) -> Result<()> {
+    write!(out, ">reference {} ", superframe.0)?;
+    match in_force {
+        Some(edition) => write!(out, "{}\n", edition.0)?,
+        None => out.push_str("none\n")?,
+    }
+    Ok(())
+}
+
+fn put_lost(from: TermNo, out: &mut String) -> Result<()> {
+    write!(out, ">lost {}\n", from.0)?;
+    Ok(())
+}
+
+/// Appends the sender of each burst, its receiver, its first slot and its slots, and ends the line.
+pub fn put_bursts(bursts: &[Burst], out: &mut String) -> Result<()> {
+    for burst in bursts {
+        put_burst(*burst, out)?;
+    }
+    out.push('\n')?;
+    Ok(())
+}
+
+fn put_burst(burst: Burst, out: &mut String) -> Result<()> {
+    let (from, to) = (burst.from.0, burst.to.0);
+    write!(out, " : {from} {to} {} {}", burst.start, burst.length)?;
+    Ok(())
 }

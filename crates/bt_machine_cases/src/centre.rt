@@ -1,8 +1,9 @@
 // The lines of a centre.
 ghost use Rattle.std.specs.Prelude.{◌<◌, IfOk};
 
+use crate::air::put_word;
 use crate::message::status_of;
-use crate::shown::{act_told, order_told};
+use crate::shown::{put_act, put_order};
 use anyhow::{Context, Result, bail, ensure};
 use bt_case_text::{byte_of, number_of};
 use bt_change::{Centre, with_terminal};
@@ -21,9 +22,9 @@ pub fn show_centre(
     match words {
         ["centre"] => *centre = new_centre(alloc),
         ["note", words @ ..] => note(centre, words)?,
-        ["known", mark] => put_known(alloc, centre, mark, out)?,
+        ["known", mark] => put_known(centre, mark, out)?,
         ["turn", mark, newest, lead, patience] => {
-            put_turn(alloc, centre, [mark, newest, lead, patience], out)?;
+            put_turn(centre, [mark, newest, lead, patience], out)?;
         }
         ["ordered", terminals @ ..] => put_ordered(alloc, centre, terminals, out)?,
         ["waiting", terminal] => put_waiting(centre, terminal, out)?,
@@ -42,12 +43,17 @@ fn note(centre: &mut Centre, words: &[&str]) -> Result<()> {
     match words {
         ["status", words @ ..] => centre.status(status_of(words)?),
         ["confirm", mark, terminal, edition] => {
-            let (mark, edition) = (Mark(number_of(mark)?), EditionNo(number_of(edition)?));
-            centre.confirm(mark, terminal_of(terminal)?, edition);
+            note_confirm(centre, mark, terminal, edition)?;
         }
         ["lost", terminal] => centre.lost(terminal_of(terminal)?),
         _ => bail!("nothing to note"),
     }
+    Ok(())
+}
+
+fn note_confirm(centre: &mut Centre, mark: &str, terminal: &str, edition: &str) -> Result<()> {
+    let (mark, edition) = (Mark(number_of(mark)?), EditionNo(number_of(edition)?));
+    centre.confirm(mark, terminal_of(terminal)?, edition);
     Ok(())
 }
 
@@ -61,17 +67,20 @@ fn terminal_of(word: &str) -> Result<TermNo>
 }
 
 /// Appends the edition that the centre knows to be in force in that superframe.
-fn put_known(alloc: Global, centre: &Centre, mark: &str, out: &mut String) -> Result<()> {
-    let text = match centre.known(Mark(number_of(mark)?)) {
-        Some(EditionNo(edition)) => format!(in alloc; ">{edition}\n")?,
-        None => format!(in alloc; ">none\n")?,
-    };
-    out.push_str(&text)?;
+fn put_known(centre: &Centre, mark: &str, out: &mut String) -> Result<()> {
+    match centre.known(Mark(number_of(mark)?)) {
+        Some(edition) => put_edition(edition, out),
+        None => put_word("none", out),
+    }
+}
+
+fn put_edition(edition: EditionNo, out: &mut String) -> Result<()> {
+    write!(out, ">{}\n", edition.0)?;
     Ok(())
 }
 
 /// Appends what the centre does in its turn, which has a superframe, the newest edition, the lead and the patience.
-fn put_turn(alloc: Global, centre: &mut Centre, turn: [&str; 4], out: &mut String) -> Result<()> {
+fn put_turn(centre: &mut Centre, turn: [&str; 4], out: &mut String) -> Result<()> {
     let [mark, newest, lead, patience] = turn;
     let (mark, newest) = (number_of(mark)?, EditionNo(number_of(newest)?));
     let (lead, patience) = (number_of(lead)?, number_of(patience)?);
@@ -80,9 +89,7 @@ fn put_turn(alloc: Global, centre: &mut Centre, turn: [&str; 4], out: &mut Strin
         "no superframe or no lead"
     );
     ensure!(centre.order_count() <= MOST_PLACED, "too many orders");
-    let act = act_told(alloc, centre.turn(Mark(mark), newest, lead, patience))?;
-    out.push_str(&format!(in alloc; ">{act}\n")?)?;
-    Ok(())
+    put_act(centre.turn(Mark(mark), newest, lead, patience), out)
 }
 
 /// Appends the order that was wanted and is placed now. These terminals transmit in its edition.
@@ -92,15 +99,18 @@ fn put_ordered(
     terminals: &[&str],
     out: &mut String,
 ) -> Result<()> {
-    let mut needs = TermSet(0);
-    for terminal in terminals {
-        needs = with_terminal(needs, terminal_of(terminal)?);
-    }
+    let needs = terminals_of(terminals)?;
     ensure!(centre.wanted().is_some(), "no order is wanted");
     let order = centre.ordered(alloc, needs).ok().context("out of memory")?;
-    let told = order_told(alloc, "ordered", order)?;
-    out.push_str(&format!(in alloc; ">{told}\n")?)?;
-    Ok(())
+    put_order("ordered", order, out)
+}
+
+fn terminals_of(words: &[&str]) -> Result<TermSet> {
+    let mut terminals = TermSet(0);
+    for word in words {
+        terminals = with_terminal(terminals, terminal_of(word)?);
+    }
+    Ok(terminals)
 }
 
 /// Appends whether a terminal has still to confirm, and whether it asks for its bursts.

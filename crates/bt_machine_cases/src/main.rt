@@ -18,23 +18,46 @@ mod terminal;
 mod world;
 
 use anyhow::{Context, Result};
-use bt_case_text::{Tally, play};
+use bt_case_text::{Sheet, Tally};
 use stage::Machines;
-use std::{env, fs};
+use std::alloc::Global;
+use std::{env, fs, rt};
 
 fn main(rt: HostRuntime) -> Result<()> {
     let alloc = rt.alloc();
     let names: Vec<String> = env::args(&rt)?.skip(1).collect(alloc)?;
     let mut tally = Tally::none(alloc);
     for name in &names {
-        let name = name.as_str();
-        let text = fs::read_to_string(&rt, name).context(format_args!("{name}"))?;
-        let mut stage = Machines::new(alloc);
-        play(&rt, alloc, &mut stage, name, text.as_str(), &mut tally)?;
+        play_file(&rt, alloc, name.as_str(), &mut tally)?;
     }
     let (cases, others) = (tally.cases(), tally.others());
     print!(rt; "{others}")?;
     tally.see_all_well()?;
     println!(rt; "{cases} cases")?;
     Ok(())
+}
+
+/// Plays the cases of a file.
+fn play_file<R: Alloc + rt::Files>(
+    rt: &R,
+    alloc: Global,
+    name: &str,
+    tally: &mut Tally,
+) -> Result<()> {
+    let text = fs::read_to_string(rt, name).context(format_args!("{name}"))?;
+    play(alloc, name, text.as_str(), tally)
+}
+
+/// Plays the cases of a text on a stage of its own.
+fn play(alloc: Global, name: &str, text: &str, tally: &mut Tally) -> Result<()> {
+    let mut stage = Machines::new(alloc);
+    let mut came = String::new(alloc);
+    let mut sheet = Sheet::new(alloc, name, tally)?;
+    for line in text.lines() {
+        if sheet.meets(alloc, line, &mut came, tally)? {
+            let taken = stage.take(alloc, line, &mut came);
+            taken.context(format_args!("{name}: {line}"))?;
+        }
+    }
+    sheet.end(alloc, &mut came, tally)
 }

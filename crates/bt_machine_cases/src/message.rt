@@ -9,58 +9,109 @@ use std::alloc::Global;
 /// The message that the words say.
 pub fn message_of(alloc: Global, words: &[&str]) -> Result<Message> {
     match words {
-        ["load", command, edition, durations @ ..] => Ok(Message::Load {
-            command: Command(number_of(command)?),
-            edition: EditionNo(number_of(edition)?),
-            modes: modes_of(alloc, durations)?,
-        }),
-        ["arm", command, edition, due] => Ok(Message::Arm {
-            command: Command(number_of(command)?),
-            edition: EditionNo(number_of(edition)?),
-            due: Mark(number_of(due)?),
-        }),
-        ["plan", to, edition, length] => Ok(Message::PlanFor {
-            to: TermNo(byte_of(to)?),
-            edition: EditionNo(number_of(edition)?),
-            bursts: burst_of(alloc, TermNo(byte_of(to)?), number_of(length)?)?,
-        }),
-        ["confirm", from, edition] => Ok(Message::Confirm {
-            from: TermNo(byte_of(from)?),
-            edition: EditionNo(number_of(edition)?),
-        }),
-        ["reference", superframe, "none"] => Ok(Message::Reference {
-            superframe: Mark(number_of(superframe)?),
-            in_force: None,
-        }),
-        ["reference", superframe, edition] => Ok(Message::Reference {
-            superframe: Mark(number_of(superframe)?),
-            in_force: Some(EditionNo(number_of(edition)?)),
-        }),
-        ["lost", from] => Ok(Message::Lost {
-            from: TermNo(byte_of(from)?),
-        }),
+        ["load", command, edition, durations @ ..] => load_of(alloc, command, edition, durations),
+        ["arm", command, edition, due] => arm_of(command, edition, due),
+        ["plan", to, edition, length] => plan_for(alloc, to, edition, length),
+        ["confirm", from, edition] => confirm_of(from, edition),
+        ["reference", superframe, edition] => reference_of(superframe, edition),
+        ["lost", from] => lost_of(from),
         ["status", words @ ..] => Ok(Message::Status(status_of(words)?)),
         _ => bail!("no message"),
     }
 }
 
+fn load_of(alloc: Global, command: &str, edition: &str, durations: &[&str]) -> Result<Message> {
+    let (command, edition) = (command_of(command)?, edition_of(edition)?);
+    let modes = modes_of(alloc, durations)?;
+    Ok(Message::Load {
+        command,
+        edition,
+        modes,
+    })
+}
+
+fn arm_of(command: &str, edition: &str, due: &str) -> Result<Message> {
+    let (command, edition) = (command_of(command)?, edition_of(edition)?);
+    let due = mark_of(due)?;
+    Ok(Message::Arm {
+        command,
+        edition,
+        due,
+    })
+}
+
+/// A plan of one burst, which the terminal itself sends.
+fn plan_for(alloc: Global, to: &str, edition: &str, length: &str) -> Result<Message> {
+    let (to, edition) = (TermNo(byte_of(to)?), edition_of(edition)?);
+    let bursts = burst_of(alloc, to, number_of(length)?)?;
+    Ok(Message::PlanFor {
+        to,
+        edition,
+        bursts,
+    })
+}
+
+fn confirm_of(from: &str, edition: &str) -> Result<Message> {
+    let (from, edition) = (TermNo(byte_of(from)?), edition_of(edition)?);
+    Ok(Message::Confirm { from, edition })
+}
+
+/// A reference burst that names an edition, or `none`.
+fn reference_of(superframe: &str, edition: &str) -> Result<Message> {
+    let superframe = mark_of(superframe)?;
+    let in_force = match edition {
+        "none" => None,
+        edition => Some(edition_of(edition)?),
+    };
+    Ok(Message::Reference {
+        superframe,
+        in_force,
+    })
+}
+
+fn lost_of(from: &str) -> Result<Message> {
+    let from = TermNo(byte_of(from)?);
+    Ok(Message::Lost { from })
+}
+
+fn command_of(word: &str) -> Result<Command> {
+    Ok(Command(number_of(word)?))
+}
+
+fn edition_of(word: &str) -> Result<EditionNo> {
+    Ok(EditionNo(number_of(word)?))
+}
+
+fn mark_of(word: &str) -> Result<Mark> {
+    Ok(Mark(number_of(word)?))
+}
+
 /// The status that the words say: superframe, foreground, background, `none` or the edition and the superframe of a
 /// change to come, last command.
 pub fn status_of(words: &[&str]) -> Result<Status> {
-    let (mark, fore, back, armed, last) = match words {
-        [mark, fore, back, "none", last] => (mark, fore, back, None, last),
+    match words {
+        [mark, fore, back, "none", last] => status_with([mark, fore, back, last], None),
         [mark, fore, back, edition, due, last] => {
-            let (edition, due) = (EditionNo(number_of(edition)?), Mark(number_of(due)?));
-            (mark, fore, back, Some(Armed { edition, due }), last)
+            let armed = armed_of(edition, due)?;
+            status_with([mark, fore, back, last], Some(armed))
         }
         _ => bail!("no status"),
-    };
+    }
+}
+
+fn armed_of(edition: &str, due: &str) -> Result<Armed> {
+    let (edition, due) = (edition_of(edition)?, mark_of(due)?);
+    Ok(Armed { edition, due })
+}
+
+fn status_with(words: [&str; 4], armed: Option<Armed>) -> Result<Status> {
+    let [mark, fore, back, last] = words;
     Ok(Status {
-        mark: Mark(number_of(mark)?),
-        fore: EditionNo(number_of(fore)?),
-        back: EditionNo(number_of(back)?),
+        mark: mark_of(mark)?,
+        fore: edition_of(fore)?,
+        back: edition_of(back)?,
         armed,
-        last: Command(number_of(last)?),
+        last: command_of(last)?,
     })
 }
 

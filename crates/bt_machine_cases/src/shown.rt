@@ -1,54 +1,64 @@
 // What an event of a world shows, as a printed line.
-use crate::air::bursts_told;
+use crate::air::{put_bursts, put_word};
 use anyhow::Result;
 use bt_air::{Act, AirFrame, Answer, Heard, Order, Shown, Taken};
 use bt_frame::{Command, EditionNo, Mark};
-use std::alloc::Global;
 
-/// The line of what an event showed.
-pub fn shown_told(alloc: Global, shown: &Shown) -> Result<String> {
-    let text = match shown {
-        Shown::Ticked(status) => {
-            let Mark(mark) = status.mark;
-            format!(in alloc; "tick {mark}")?
-        }
-        Shown::Turned(act) => act_told(alloc, *act)?,
-        Shown::Ordered(order) => order_told(alloc, "ordered", *order)?,
-        Shown::Delivered(answer) => format!(in alloc; "{}", answer_told(*answer))?,
-        Shown::Framed(frame) => frame_told(alloc, frame)?,
-        Shown::Reset => format!(in alloc; "reset")?,
-        Shown::Restarted => format!(in alloc; "restarted")?,
-        Shown::Installed => format!(in alloc; "installed")?,
-    };
-    Ok(text)
+/// Appends the line of what an event showed.
+pub fn put_shown(shown: &Shown, out: &mut String) -> Result<()> {
+    match shown {
+        Shown::Ticked(status) => put_tick(status.mark, out),
+        Shown::Turned(act) => put_act(*act, out),
+        Shown::Ordered(order) => put_order("ordered", *order, out),
+        Shown::Delivered(answer) => put_word(answer_told(*answer), out),
+        Shown::Framed(frame) => put_frame(frame, out),
+        Shown::Reset => put_word("reset", out),
+        Shown::Restarted => put_word("restarted", out),
+        Shown::Installed => put_word("installed", out),
+    }
 }
 
-/// What the centre does in its turn.
-pub fn act_told(alloc: Global, act: Act) -> Result<String> {
-    let text = match act {
-        Act::Quiet => "quiet",
-        Act::RepeatLoad { load: true } => "repeat load",
-        Act::RepeatLoad { load: false } => "repeat plans",
-        Act::RepeatArm => "repeat arm",
-        Act::Want(order) => return order_told(alloc, "want", order),
-    };
-    Ok(String::from_str(alloc, text)?)
+fn put_tick(mark: Mark, out: &mut String) -> Result<()> {
+    write!(out, ">tick {}\n", mark.0)?;
+    Ok(())
 }
 
-/// An order behind a word.
-pub fn order_told(alloc: Global, word: &str, order: Order) -> Result<String> {
-    let text = match order {
-        Order::Load {
-            command: Command(command),
-            edition: EditionNo(edition),
-        } => format!(in alloc; "{word} load {command} {edition}")?,
+/// Appends what the centre does in its turn.
+pub fn put_act(act: Act, out: &mut String) -> Result<()> {
+    match act {
+        Act::Quiet => put_word("quiet", out),
+        Act::RepeatLoad { load: true } => put_word("repeat load", out),
+        Act::RepeatLoad { load: false } => put_word("repeat plans", out),
+        Act::RepeatArm => put_word("repeat arm", out),
+        Act::Want(order) => put_order("want", order, out),
+    }
+}
+
+/// Appends an order behind a word.
+pub fn put_order(word: &str, order: Order, out: &mut String) -> Result<()> {
+    match order {
+        Order::Load { command, edition } => put_load(word, command, edition, out),
         Order::Arm {
-            command: Command(command),
-            edition: EditionNo(edition),
-            due: Mark(due),
-        } => format!(in alloc; "{word} arm {command} {edition} {due}")?,
-    };
-    Ok(text)
+            command,
+            edition,
+            due,
+        } => put_arm(word, (command, edition), due, out),
+    }
+}
+
+fn put_load(word: &str, command: Command, edition: EditionNo, out: &mut String) -> Result<()> {
+    write!(out, ">{word} load {} {}\n", command.0, edition.0)?;
+    Ok(())
+}
+
+fn put_arm(
+    word: &str,
+    (command, edition): (Command, EditionNo),
+    due: Mark,
+    out: &mut String,
+) -> Result<()> {
+    write!(out, ">{word} arm {} {} {}\n", command.0, edition.0, due.0)?;
+    Ok(())
 }
 
 fn answer_told(answer: Answer) -> &'static str {
@@ -85,11 +95,9 @@ pub fn heard_told(heard: Heard) -> &'static str {
     }
 }
 
-/// A frame: its superframe and number, the edition in the foreground, and of each burst on the air its sender, its
-/// receiver, its first slot and its slots.
-fn frame_told(alloc: Global, frame: &AirFrame) -> Result<String> {
-    let (Mark(mark), EditionNo(fore)) = (frame.mark, frame.fore);
-    let number = frame.number;
-    let bursts = bursts_told(alloc, frame.bursts.as_slice())?;
-    Ok(format!(in alloc; "frame {mark}.{number} fore {fore}{bursts}")?)
+/// Appends a frame: its superframe and number, the edition in the foreground, and the bursts on the air.
+fn put_frame(frame: &AirFrame, out: &mut String) -> Result<()> {
+    let (mark, number, fore) = (frame.mark.0, frame.number, frame.fore.0);
+    write!(out, ">frame {mark}.{number} fore {fore}")?;
+    put_bursts(frame.bursts.as_slice(), out)
 }

@@ -1,5 +1,5 @@
 // The lines of a terminal.
-use crate::air::bursts_told;
+use crate::air::{put_bursts, put_word};
 use crate::message::message_of;
 use crate::shown::heard_told;
 use anyhow::Result;
@@ -18,7 +18,7 @@ pub fn show_terminal(
     match words {
         ["terminal", number] => *terminal = terminal_of(alloc, number)?,
         ["hear", mark, words @ ..] => put_heard(alloc, terminal, mark, words, out)?,
-        ["sends", mark] => put_sent(alloc, terminal, mark, out)?,
+        ["sends", mark] => put_sent(terminal, mark, out)?,
         ["restart"] => terminal.restart(),
         _ => return Ok(false),
     }
@@ -39,14 +39,13 @@ fn put_heard(
     out: &mut String,
 ) -> Result<()> {
     let message = message_of(alloc, words)?;
-    let heard = heard_told(terminal.hear(Mark(number_of(mark)?), message));
-    out.push_str(&format!(in alloc; ">{heard}\n")?)?;
-    Ok(())
+    let mark = Mark(number_of(mark)?);
+    put_word(heard_told(terminal.hear(mark, message)), out)
 }
 
 /// Appends the bursts that the terminal transmits in that superframe.
-fn put_sent(alloc: Global, terminal: &Terminal, mark: &str, out: &mut String) -> Result<()> {
-    let told = bursts_told(alloc, terminal.sends(Mark(number_of(mark)?)))?;
-    out.push_str(&format!(in alloc; ">bursts{told}\n")?)?;
-    Ok(())
+fn put_sent(terminal: &Terminal, mark: &str, out: &mut String) -> Result<()> {
+    let mark = Mark(number_of(mark)?);
+    out.push_str(">bursts")?;
+    put_bursts(terminal.sends(mark), out)
 }

@@ -6,7 +6,7 @@ ghost use Rattle.bt_timeline.specs.Air.{NamesTerminal};
 ghost use Rattle.bt_world.specs.Fits.{Meets, no_plan};
 ghost use Rattle.bt_world.specs.Life.{past_of};
 
-use crate::shown::shown_told;
+use crate::shown::put_shown;
 use anyhow::{Result, bail, ensure};
 use bt_air::{Event, Place, Sent, Shown};
 use bt_case_text::{Part, byte_of, number_of, put_lines};
@@ -44,8 +44,7 @@ impl Flight {
     pub fn put_event(&mut self, alloc: Global, words: &[&str], out: &mut String) -> Result<()> {
         let before = self.world.sent_count();
         let shown = self.event_of(alloc, words)?;
-        let told = shown_told(alloc, &shown)?;
-        out.push_str(&format!(in alloc; ">{told}\n")?)?;
+        put_shown(&shown, out)?;
         self.put_sent(alloc, before, out)
     }
 
@@ -59,9 +58,7 @@ impl Flight {
     ) -> Result<()> {
         let plan = good_plan_from(alloc, &self.net, traffic, plan)?;
         let shown = self.install(alloc, plan)?;
-        let told = shown_told(alloc, &shown)?;
-        out.push_str(&format!(in alloc; ">{told}\n")?)?;
-        Ok(())
+        put_shown(&shown, out)
     }
 
     /// The event that the words say happens.

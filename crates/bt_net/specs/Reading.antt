@@ -9,10 +9,12 @@ use Rattle.serde_json.specs.Read as json
 use Rattle.bt_text.specs.Reading.{◌>>=◌}
 use Rattle.bt_frame.specs.declared.limits.TheConstants.{MOST_BEAMS, MOST_TERMINALS, MOST_SLOTS, MOST_FRAMES, LEAST_LEAD, MOST_LEAD, MOST_PATIENCE, LEAST_JOURNAL_BYTES, MOST_JOURNAL_BYTES}
 use Rattle.bt_frame.specs.declared.numbers.BeamNo.{BeamNo}
+use Rattle.bt_frame.specs.Range.{IsWithin}
 use Rattle.bt_net.specs.declared.fault.NetFault.{NetFault}
 use Rattle.bt_net.specs.declared.fault.NetFault.TheVariants.{N1, N2, N3, N4, N5, N6, OutOfMemory}
 use Rattle.bt_net.specs.declared.fault.Path.{Path}
 use Rattle.bt_net.specs.declared.fault.Path.TheVariants as path
+use Rattle.bt_net.specs.declared.reading.Numbers.{Numbers}
 use Rattle.bt_net.specs.Name.{is_name, is_terminal_name}
 use Rattle.bt_net.specs.Network.{Net, names_of}
 
@@ -100,18 +102,36 @@ journal_found (Some found) value = number_at path.Journal LEAST_JOURNAL_BYTES MO
 unfoldable pub journal_of : Data → Result ℕ NetFault
 journal_of value = journal_found (get (codes "journal") value) value
 
+-- the numbers behind the terminals
+unfoldable pub numbers_of : Data → Result Numbers NetFault
+numbers_of value = do
+  slots ← number_at path.Slots 1 MOST_SLOTS (codes "slots") value
+  frames ← number_at path.Frames 1 MOST_FRAMES (codes "frames") value
+  lead ← number_at path.Lead LEAST_LEAD MOST_LEAD (codes "lead") value
+  patience ← number_at path.Patience 1 MOST_PATIENCE (codes "patience") value
+  journal ← journal_of value
+  Ok (record { slots = slots; frames = frames; lead = lead; patience = patience; journal = journal })
+
+-- each of these numbers is in its range
+pub record AreInRange (numbers : Numbers) : Type 0 where
+  pub slots : IsWithin 1 MOST_SLOTS numbers.slots
+  pub frames : IsWithin 1 MOST_FRAMES numbers.frames
+  pub lead : IsWithin LEAST_LEAD MOST_LEAD numbers.lead
+  pub patience : IsWithin 1 MOST_PATIENCE numbers.patience
+  pub journal : IsWithin LEAST_JOURNAL_BYTES MOST_JOURNAL_BYTES numbers.journal
+
+-- a network of these beams, terminals and numbers
+abbrev pub net_of : List (List ℕ) → List (List ℕ × BeamNo) → Numbers → Net
+net_of beams terminals numbers = record { beams = beams; terminals = terminals; slots = numbers.slots; frames = numbers.frames; lead = numbers.lead; patience = numbers.patience; journal = numbers.journal }
+
 -- the network that a value of JSON is, or the first fault in it
 unfoldable pub network_of : Data → Result Net NetFault
 network_of value = do
   fields ← ok_or (as_object value) (N2 path.Top)
   beams ← beams_of value
   terminals ← terminals_of beams value
-  slots ← number_at path.Slots 1 MOST_SLOTS (codes "slots") value
-  frames ← number_at path.Frames 1 MOST_FRAMES (codes "frames") value
-  lead ← number_at path.Lead LEAST_LEAD MOST_LEAD (codes "lead") value
-  patience ← number_at path.Patience 1 MOST_PATIENCE (codes "patience") value
-  journal ← journal_of value
-  Ok (record { beams = beams; terminals = terminals; slots = slots; frames = frames; lead = lead; patience = patience; journal = journal })
+  numbers ← numbers_of value
+  Ok (net_of beams terminals numbers)
 
 -- the value of JSON that the bytes are
 unfoldable pub json_of : List ℕ → Option Data

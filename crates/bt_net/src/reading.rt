@@ -6,7 +6,7 @@ ghost use Rattle.serde_json.specs.View.{view};
 ghost use Rattle.bt_net.specs.declared.fault.NetFault.TheVariants.{N1};
 ghost use Rattle.bt_net.specs.Network.{AreBeams, AreTerminals};
 ghost use Rattle.bt_frame.specs.Range.{IsWithin};
-ghost use Rattle.bt_net.specs.Reading.{Gives, array_at, text_at, entries_at, number_at, journal_of, checked, beam_at, with_beam, through, beams_of, with_terminal, terminals_of, json_of, network_of, network_in};
+ghost use Rattle.bt_net.specs.Reading.{Gives, array_at, text_at, entries_at, number_at, journal_of, checked, beam_at, with_beam, through, beams_of, with_terminal, terminals_of, AreInRange, numbers_of, json_of, network_of, network_in};
 
 use crate::Network;
 use crate::beams::Beams;
@@ -193,20 +193,52 @@ fn terminals_of(alloc: Global, beams: &Beams, value: &Value) -> Result<Terminals
     )
 }
 
+/// The numbers of a network file, which stand behind its terminals.
+#[derive(Clone, Copy)]
+pub(crate) struct Numbers {
+    slots: u32,
+    frames: u32,
+    lead: u32,
+    patience: u32,
+    journal: u32,
+}
+
+#[tactic(auto, unfolding(crate::specs::Reading::numbers_of))]
+fn numbers_of(value: &Value) -> Result<Numbers, NetFault>
+    ensures walk { Gives (λ numbers. numbers) result (numbers_of (view value.now)) }
+    ensures in_range { IfOk result AreInRange }
+{
+    Ok(Numbers {
+        slots: number_at(value, "slots", Path::Slots, 1, MOST_SLOTS)?,
+        frames: number_at(value, "frames", Path::Frames, 1, MOST_FRAMES)?,
+        lead: number_at(value, "lead", Path::Lead, LEAST_LEAD, MOST_LEAD)?,
+        patience: number_at(value, "patience", Path::Patience, 1, MOST_PATIENCE)?,
+        journal: journal_of(value)?,
+    })
+}
+
 #[tactic(auto, unfolding(crate::specs::Reading::network_of))]
 fn network_of(alloc: Global, value: &Value) -> Result<Network, NetFault>
     ensures { Gives (λ net. net) result (network_of (view value.now)) }
 {
     value.as_object().ok_or(NetFault::N2 { path: Path::Top })?;
     let beams = beams_of(alloc, value)?;
+    let terminals = terminals_of(alloc, &beams, value)?;
+    let Numbers {
+        slots,
+        frames,
+        lead,
+        patience,
+        journal,
+    } = numbers_of(value)?;
     Ok(Network {
-        terminals: terminals_of(alloc, &beams, value)?,
         beams,
-        slots: number_at(value, "slots", Path::Slots, 1, MOST_SLOTS)?,
-        frames: number_at(value, "frames", Path::Frames, 1, MOST_FRAMES)?,
-        lead: number_at(value, "lead", Path::Lead, LEAST_LEAD, MOST_LEAD)?,
-        patience: number_at(value, "patience", Path::Patience, 1, MOST_PATIENCE)?,
-        journal: journal_of(value)?,
+        terminals,
+        slots,
+        frames,
+        lead,
+        patience,
+        journal,
     })
 }
 

@@ -1,5 +1,5 @@
 // The events of a world, and where its plans stand.
-ghost use Rattle.std.specs.Prelude.{◌≡◌, ◌<◌, ◌≤◌, ◌++◌, ◌∷◌, [], length, reverse, slice_index_or, All, IfOk, MatchOption, OnOk, OnErr, None};
+ghost use Rattle.std.specs.Prelude.{◌≡◌, ◌<◌, ◌≤◌, ◌++◌, ◌∷◌, [], length, reverse, slice_index_or, All, IfOk, MatchOption, OnOk, OnErr, None, vec_capacity, vec_len};
 ghost use Rattle.std.specs.Option.{option_copied};
 ghost use Rattle.bt_frame.specs.declared.limits.TheConstants.{MOST_TERMINALS};
 ghost use Rattle.bt_demand.specs.declared.plan.Plan.{Plan};
@@ -163,10 +163,12 @@ impl EventLog {
         ensures opening { self.new.opening ≡ self.old.opening }
         ensures err { OnErr result (self.new.events ≡ self.old.events) }
     {
-        self.events.reserve(1)?;
-        self.editions.reserve(1)?;
-        self.shares.reserve(1)?;
-        self.places.reserve(1)?;
+        reserve_each(
+            &mut self.events,
+            &mut self.editions,
+            &mut self.shares,
+            &mut self.places,
+        )?;
         let share = Shares::of(alloc, self.terminals, plan.bursts.as_slice())?;
         let edition = edition_of(&plan);
         let place = self.events.len();
@@ -229,4 +231,27 @@ fn held(edition: EditionNo) -> EditionNo
     ensures word { IsWord edition.0 }
 {
     edition
+}
+
+// Room for one entry more in each.
+fn reserve_each(
+    events: &mut Vec<Event>,
+    editions: &mut Vec<EditionNo>,
+    shares: &mut Vec<Shares>,
+    places: &mut Vec<usize>,
+) -> Result<(), OutOfMemory>
+    ensures events { events.new.items ≡ events.old.items }
+    ensures editions { editions.new.items ≡ editions.old.items }
+    ensures shares { shares.new.items ≡ shares.old.items }
+    ensures places { places.new.items ≡ places.old.items }
+    ensures event_room { OnOk result (vec_len events.new < vec_capacity events.new) }
+    ensures edition_room { OnOk result (vec_len editions.new < vec_capacity editions.new) }
+    ensures share_room { OnOk result (vec_len shares.new < vec_capacity shares.new) }
+    ensures place_room { OnOk result (vec_len places.new < vec_capacity places.new) }
+{
+    events.reserve(1)?;
+    editions.reserve(1)?;
+    shares.reserve(1)?;
+    places.reserve(1)?;
+    Ok(())
 }

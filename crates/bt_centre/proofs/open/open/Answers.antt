@@ -4,6 +4,6 @@ use Rattle.bt_book.specs.Book.{Books}
 use Rattle.bt_book.specs.Recovery.{Recovered}
 use Rattle.bt_centre.proofs.open.open.Goals as goal
 
-pub returns-in-Ok-station_of-clause-changes : goal.returns-in-Ok-station_of-clause-changes
-returns-in-Ok-station_of-clause-changes g c =
-    subst (λ (b : Books). IfSome (g.K.Keeper.told c.args.store) (λ bytes. Recovered c.args.net.now bytes b.state.changes)) (sym c.in-Ok-station_of.ensures.book) c.in-Ok-recover.ensures.changes
+pub returns-in-Ok-begin-clause-changes : goal.returns-in-Ok-begin-clause-changes
+returns-in-Ok-begin-clause-changes g c =
+    subst (λ (b : Books). IfSome (g.K.Keeper.told c.args.store) (λ bytes. Recovered c.args.net.now bytes b.state.changes)) (sym c.in-Ok-begin.ensures.book) c.in-Ok.ensures.changes

@@ -1,6 +1,0 @@
-use Rattle.bt_line.specs.Passes.{IsSamePass}
-use Rattle.bt_line.proofs.tests.add_many.Given as goal
-
--- it is the same pass
-abbrev pub invariant-loop : goal.invariant-loop
-invariant-loop g l = IsSamePass l.fn.pass.place l.pass.place
