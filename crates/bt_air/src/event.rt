@@ -4,7 +4,7 @@ use bt_demand::Plan;
 use bt_frame::{EditionNo, TermNo};
 
 /// What happens next to the satellite, the terminals and the centre.
-#[derive(Debug, Drop)]
+#[derive(Drop)]
 pub enum Event {
     /// The satellite's next superframe begins.
     Tick,

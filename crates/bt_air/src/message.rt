@@ -4,7 +4,7 @@ use bt_demand::Bursts;
 use bt_frame::{Command, EditionNo, Mark, Modes, TermNo};
 
 /// A message from one end of the air to another.
-#[derive(Debug, Drop)]
+#[derive(Drop)]
 pub enum Message {
     /// To the satellite: take these modes into the background.
     Load {

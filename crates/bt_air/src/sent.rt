@@ -3,7 +3,7 @@ use crate::{Order, Status};
 use bt_frame::{Command, EditionNo, Mark, TermNo};
 
 /// A message that was sent, without its modes and bursts.
-#[derive(Clone, Copy, Debug, PartialEq, Eq)]
+#[derive(Clone, Copy)]
 pub enum Sent {
     Load {
         command: Command,
@@ -33,7 +33,7 @@ pub enum Sent {
 }
 
 /// An end of the air.
-#[derive(Clone, Copy, Debug, PartialEq, Eq)]
+#[derive(Clone, Copy)]
 pub enum Place {
     Satellite,
     Centre,
@@ -41,7 +41,7 @@ pub enum Place {
 }
 
 /// What the centre does in its turn, beside the reference burst that it always sends.
-#[derive(Clone, Copy, Debug, PartialEq, Eq)]
+#[derive(Clone, Copy)]
 pub enum Act {
     /// Nothing.
     Quiet,
@@ -54,7 +54,7 @@ pub enum Act {
 }
 
 /// What the satellite does with a message.
-#[derive(Clone, Copy, Debug, PartialEq, Eq)]
+#[derive(Clone, Copy)]
 pub enum Taken {
     /// It was carried out.
     Accepted,
@@ -71,7 +71,7 @@ pub enum Taken {
 }
 
 /// What a terminal does with a message.
-#[derive(Clone, Copy, Debug, PartialEq, Eq)]
+#[derive(Clone, Copy)]
 pub enum Heard {
     /// It took the reference burst.
     Took,
@@ -90,7 +90,7 @@ pub enum Heard {
 }
 
 /// What the receiver of a message does with it.
-#[derive(Clone, Copy, Debug, PartialEq, Eq)]
+#[derive(Clone, Copy)]
 pub enum Answer {
     /// The satellite.
     Taken(Taken),

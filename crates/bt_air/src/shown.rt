@@ -4,7 +4,7 @@ use bt_demand::Bursts;
 use bt_frame::{EditionNo, Mark};
 
 /// What is on the air in a frame.
-#[derive(Debug, Drop)]
+#[derive(Drop)]
 pub struct AirFrame {
     /// The superframe.
     pub mark: Mark,
@@ -17,7 +17,7 @@ pub struct AirFrame {
 }
 
 /// The answer to an event.
-#[derive(Debug, Drop)]
+#[derive(Drop)]
 pub enum Shown {
     /// What the satellite says of itself in its new superframe.
     Ticked(Status),

@@ -5,7 +5,7 @@ ghost use Rattle.bt_base.specs.Calls.{fail_at, raised};
 use std::marker::Model;
 
 /// A call that is to fail, and what of a piece it keeps.
-#[derive(Clone, Copy, Debug, PartialEq, Eq)]
+#[derive(Clone, Copy)]
 pub struct Fail {
     /// Its number, counted from 0 over all calls but those of `faults`.
     pub call: u32,

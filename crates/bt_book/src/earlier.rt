@@ -11,6 +11,7 @@ use crate::machine::Machine;
 use bt_demand::Demand;
 use bt_frame::{EditionNo, OutOfMemory};
 use bt_journal::{Call, Change, Edit, Entry};
+use bt_net::Network;
 use bt_occupancy::Occupancy;
 use std::alloc::Global;
 
@@ -22,18 +23,38 @@ impl Machine {
         ensures network { IfOk result (λ demand. AreOfNetwork self.now.net demand) }
         ensures sums { IfOk result (λ demand. HasSumsTo MOST_SUM (matrix_of self.now.net demand)) }
     {
-        let mut occupancy = Occupancy::new(alloc, self.network())?;
-        // This is there for what holds of each network: its frame has at most `MOST_SLOTS` slots.
-        let _slots = occupancy.slots();
-        redo(
+        demand_of(
             alloc,
-            &mut occupancy,
+            self.network(),
             self.opening.as_slice(),
             self.history.as_slice(),
             number.0,
-        )?;
-        Ok(occupancy.into_demand())
+        )
     }
+}
+
+/// The demand of a network after so many edits, of those at the opening and in the history.
+fn demand_of(
+    alloc: Global,
+    net: &Network,
+    opening: &[Change],
+    history: &[Entry],
+    number: u32,
+) -> Result<Demand, OutOfMemory>
+    requires follows { Follows net.now (opening.now ++ changes_of history.now) }
+    requires made { number ≤ edition (opening.now ++ changes_of history.now) }
+    ensures demand { IfOk result (λ demand. IsDemandAt (opening.now ++ changes_of history.now) number demand) }
+    ensures network { IfOk result (λ demand. AreOfNetwork net.now demand) }
+    ensures sums { IfOk result (λ demand. HasSumsTo MOST_SUM (matrix_of net.now demand)) }
+{
+    let mut occupancy = Occupancy::new(alloc, net)?;
+    // This is there for what holds of each network: its frame has at most `MOST_SLOTS` slots.
+    let _slots = occupancy.slots();
+    let redone = redo(alloc, &mut occupancy, opening, history, number);
+    // The demand alone is left before the answer is looked at: what else is there goes with the occupancy.
+    let demand = occupancy.into_demand();
+    redone?;
+    Ok(demand)
 }
 
 /// Makes again the first edits, so many, of those at the opening and in the history.

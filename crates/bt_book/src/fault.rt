@@ -6,7 +6,7 @@ ghost use Rattle.bt_book.specs.declared.fault.RecoverFault.TheVariants.{OutOfMem
 use bt_base::KeepFault;
 
 /// Why a book was not recovered. Lines are counted from 1.
-#[derive(Clone, Copy, Debug, PartialEq, Eq)]
+#[derive(Clone, Copy, PartialEq, Eq)]
 pub enum RecoverFault {
     /// This line is of no change, and those before it are of changes that follow one another.
     J1 { line: u32 },

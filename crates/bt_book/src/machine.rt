@@ -151,6 +151,8 @@ impl Machine {
     pub(crate) fn into_history(self) -> Vec<Entry>
         ensures { result.items ≡ self.history }
     {
+        // The network and the traffic matrix go with the demand.
+        self.occupancy.into_demand();
         self.history
     }
 }

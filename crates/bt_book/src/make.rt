@@ -1,5 +1,5 @@
 // A change is made and its line kept, or neither: all room is taken before the store is asked, and nothing can fail behind it.
-ghost use Rattle.std.specs.Prelude.{◌≡◌, ◌<◌, ◌≤◌, ◌++◌, ◌∷◌, [], true, false, IfOk, OnErr, vec_capacity, vec_len};
+ghost use Rattle.std.specs.Prelude.{◌≡◌, ◌<◌, ◌≤◌, ◌++◌, ◌∷◌, [], true, false, IfOk, OnErr, OnOk, vec_capacity, vec_len};
 ghost use Rattle.bt_base.specs.Told.{gained, GainsPrefix, Rose};
 ghost use Rattle.bt_frame.specs.declared.limits.TheConstants.{MOST_SLOTS};
 ghost use Rattle.bt_demand.specs.Traffic.{matrix_of, HasSumsTo};
@@ -75,9 +75,14 @@ impl Machine {
     {
         // This is there for what holds of each network: it is sound.
         let _slots = self.occupancy.slots();
-        let call = Call::Edit(edit);
-        self.history.reserve(1)?;
-        if keep_edit(alloc, &mut self.occupancy, &edit, line, store)? {
+        if keep_edit(
+            alloc,
+            &mut self.occupancy,
+            &mut self.history,
+            &edit,
+            line,
+            store,
+        )? {
             self.count += 1;
             self.edits += 1;
             self.bytes += line.len() as u32;
@@ -86,13 +91,18 @@ impl Machine {
             keep_entry(
                 &mut self.history,
                 caller,
-                call,
+                Call::Edit(edit),
                 Reply::Done { edition, length },
             );
             Ok(Reply::Done { edition, length })
         } else {
             self.stopped = true;
-            keep_entry(&mut self.history, caller, call, Reply::StoreFault);
+            keep_entry(
+                &mut self.history,
+                caller,
+                Call::Edit(edit),
+                Reply::StoreFault,
+            );
             Ok(Reply::StoreFault)
         }
     }
@@ -122,27 +132,26 @@ impl Machine {
     {
         // This is there for what holds of each network: it is sound.
         let _slots = self.occupancy.slots();
-        let kept = plan.copy(alloc)?;
-        let edition = plan.edition;
-        let call = Call::Install(plan);
-        self.history.reserve(1)?;
-        self.plans.reserve(1)?;
-        if keep_line(alloc, line, store)? {
-            let Ok(()) = self.plans.push(kept) else {
-                unreachable!();
-            };
+        let copy = plan.copy(alloc)?;
+        if keep_item(alloc, &mut self.plans, &mut self.history, copy, line, store)? {
             self.count += 1;
             self.bytes += line.len() as u32;
+            let edition = plan.edition;
             keep_entry(
                 &mut self.history,
                 caller,
-                call,
+                Call::Install(plan),
                 Reply::Installed { edition },
             );
             Ok(Reply::Installed { edition })
         } else {
             self.stopped = true;
-            keep_entry(&mut self.history, caller, call, Reply::StoreFault);
+            keep_entry(
+                &mut self.history,
+                caller,
+                Call::Install(plan),
+                Reply::StoreFault,
+            );
             Ok(Reply::StoreFault)
         }
     }
@@ -172,20 +181,26 @@ impl Machine {
     {
         // This is there for what holds of each network: it is sound.
         let _slots = self.occupancy.slots();
-        let call = Call::Place(order);
-        self.history.reserve(1)?;
-        self.orders.reserve(1)?;
-        if keep_line(alloc, line, store)? {
-            let Ok(()) = self.orders.push(order) else {
-                unreachable!();
-            };
+        if keep_item(
+            alloc,
+            &mut self.orders,
+            &mut self.history,
+            order,
+            line,
+            store,
+        )? {
             self.count += 1;
             self.bytes += line.len() as u32;
-            keep_entry(&mut self.history, caller, call, Reply::Placed);
+            keep_entry(&mut self.history, caller, Call::Place(order), Reply::Placed);
             Ok(Reply::Placed)
         } else {
             self.stopped = true;
-            keep_entry(&mut self.history, caller, call, Reply::StoreFault);
+            keep_entry(
+                &mut self.history,
+                caller,
+                Call::Place(order),
+                Reply::StoreFault,
+            );
             Ok(Reply::StoreFault)
         }
     }
@@ -196,6 +211,7 @@ impl Machine {
 fn keep_edit<K: Keeper>(
     alloc: Global,
     occupancy: &mut Occupancy,
+    history: &mut Vec<Entry>,
     edit: &Edit,
     line: &[u8],
     store: &mut K,
@@ -211,36 +227,76 @@ fn keep_edit<K: Keeper>(
     ensures prefix { IfOk result (λ kept. kept ≡ false → GainsPrefix (K.told store.old) line.now (K.told store.new)) }
     ensures rose { IfOk result (λ kept. kept ≡ false → Rose (K.fault_count store.old) (K.fault_count store.new)) }
     ensures net { occupancy.new.net ≡ occupancy.old.net }
+    ensures history { history.new.items ≡ history.old.items }
+    ensures room { OnOk result (vec_len history.new < vec_capacity history.new) }
     ensures err_units { OnErr result (SameUnits occupancy.old.links occupancy.new.links) }
     ensures err_told { OnErr result (K.told store.new ≡ K.told store.old) }
     ensures err_faults { OnErr result (K.fault_count store.new ≡ K.fault_count store.old) }
 {
     occupancy.gain_first(alloc, edit)?;
-    match store.append(alloc, line) {
-        Ok(()) => {
+    match keep_line(alloc, history, line, store) {
+        Ok(true) => {
             occupancy.lose_then(edit);
             Ok(true)
         }
+        Ok(false) => {
+            occupancy.take_back(edit);
+            Ok(false)
+        }
         Err(fault) => {
             occupancy.take_back(edit);
-            match fault {
-                KeepFault::Failed => Ok(false),
-                KeepFault::OutOfMemory => Err(OutOfMemory),
-                KeepFault::TooLong => unreachable!(),
-            }
+            Err(fault)
         }
     }
 }
 
-/// Keeps a line. The answer says whether it is kept.
-fn keep_line<K: Keeper>(alloc: Global, line: &[u8], store: &mut K) -> Result<bool, OutOfMemory>
+/// Keeps a line, and then an item behind those of a list. The answer says whether the line is kept; where it is not, the
+/// list is as it was.
+fn keep_item<T: Drop, K: Keeper>(
+    alloc: Global,
+    list: &mut Vec<T>,
+    history: &mut Vec<Entry>,
+    item: T,
+    line: &[u8],
+    store: &mut K,
+) -> Result<bool, OutOfMemory>
+    ensures kept { IfOk result (λ kept. kept ≡ true → list.new.items ≡ list.old.items ++ item ∷ []) }
+    ensures told { IfOk result (λ kept. kept ≡ true → K.told store.new ≡ gained (K.told store.old) line.now) }
+    ensures later { IfOk result (λ kept. kept ≡ true → K.fault_count store.old ≤ K.fault_count store.new) }
+    ensures lost { IfOk result (λ kept. kept ≡ false → list.new.items ≡ list.old.items) }
+    ensures prefix { IfOk result (λ kept. kept ≡ false → GainsPrefix (K.told store.old) line.now (K.told store.new)) }
+    ensures rose { IfOk result (λ kept. kept ≡ false → Rose (K.fault_count store.old) (K.fault_count store.new)) }
+    ensures history { history.new.items ≡ history.old.items }
+    ensures room { OnOk result (vec_len history.new < vec_capacity history.new) }
+    ensures err_list { OnErr result (list.new.items ≡ list.old.items) }
+    ensures err_told { OnErr result (K.told store.new ≡ K.told store.old) }
+    ensures err_faults { OnErr result (K.fault_count store.new ≡ K.fault_count store.old) }
+{
+    list.reserve(1)?;
+    if keep_line(alloc, history, line, store)? {
+        list.push_reserved(item);
+        return Ok(true);
+    }
+    Ok(false)
+}
+
+/// Takes room for an entry of the history, and keeps a line. The answer says whether the line is kept.
+fn keep_line<K: Keeper>(
+    alloc: Global,
+    history: &mut Vec<Entry>,
+    line: &[u8],
+    store: &mut K,
+) -> Result<bool, OutOfMemory>
     ensures told { IfOk result (λ kept. kept ≡ true → K.told store.new ≡ gained (K.told store.old) line.now) }
     ensures later { IfOk result (λ kept. kept ≡ true → K.fault_count store.old ≤ K.fault_count store.new) }
     ensures prefix { IfOk result (λ kept. kept ≡ false → GainsPrefix (K.told store.old) line.now (K.told store.new)) }
     ensures rose { IfOk result (λ kept. kept ≡ false → Rose (K.fault_count store.old) (K.fault_count store.new)) }
+    ensures history { history.new.items ≡ history.old.items }
+    ensures room { OnOk result (vec_len history.new < vec_capacity history.new) }
     ensures err_told { OnErr result (K.told store.new ≡ K.told store.old) }
     ensures err_faults { OnErr result (K.fault_count store.new ≡ K.fault_count store.old) }
 {
+    history.reserve(1)?;
     match store.append(alloc, line) {
         Ok(()) => Ok(true),
         Err(KeepFault::Failed) => Ok(false),
@@ -259,7 +315,5 @@ fn keep_entry(history: &mut Vec<Entry>, caller: u32, call: Call, reply: Reply)
         call,
         reply,
     };
-    let Ok(()) = history.push(entry) else {
-        unreachable!();
-    };
+    history.push_reserved(entry);
 }

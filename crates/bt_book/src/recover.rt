@@ -28,10 +28,41 @@ pub(crate) fn recover_machine<K: Keeper>(
     ensures later { K.fault_count store.old ≤ K.fault_count store.new }
     ensures fault { IfErr result (IsRecoverFault net.now (K.told store.old) (K.told store.new) (K.fault_count store.old) (K.fault_count store.new)) }
 {
+    let mut machine = Machine::open(alloc, net)?;
+    match take_store(alloc, &mut machine, store) {
+        Ok(()) => Ok(machine),
+        Err(fault) => {
+            // All that the machine holds goes with its history.
+            machine.into_history();
+            Err(fault)
+        }
+    }
+}
+
+/// Makes the changes of all lines of a store again, on a machine that has made none, and then cuts what the store has behind
+/// its last newline.
+fn take_store<K: Keeper>(
+    alloc: Global,
+    machine: &mut Machine,
+    store: &mut K,
+) -> Result<(), RecoverFault>
+    requires state { machine.old.state ≡ running [] }
+    requires history { machine.old.history ≡ [] }
+    ensures net { machine.new.net ≡ machine.old.net }
+    ensures history { machine.new.history ≡ [] }
+    ensures state { OnOk result (machine.new.state ≡ running machine.new.state.changes) }
+    ensures changes { OnOk result (IfSome (K.told store.old) (λ bytes. Recovered machine.old.net bytes machine.new.state.changes)) }
+    ensures readable { OnOk result (IsReadable (K.told store.old)) }
+    ensures follows { OnOk result (Follows machine.old.net machine.new.state.changes) }
+    ensures ranges { OnOk result (AreInRange machine.old.net 0 machine.new.state.changes) }
+    ensures told { OnOk result (K.told store.new ≡ option_map whole (K.told store.old)) }
+    ensures later { K.fault_count store.old ≤ K.fault_count store.new }
+    ensures fault { IfErr result (IsRecoverFault machine.old.net (K.told store.old) (K.told store.new) (K.fault_count store.old) (K.fault_count store.new)) }
+{
     let bytes = store.read_all(alloc)?;
-    let (machine, kept) = Machine::replay(alloc, net, bytes.as_slice())?;
+    let kept = machine.take_lines(alloc, bytes.as_slice())?;
     cut_tail(alloc, store, bytes.as_slice(), kept)?;
-    Ok(machine)
+    Ok(())
 }
 
 /// Cuts a store after that many of its bytes, by one call, where it has more.

@@ -1,5 +1,5 @@
 // The lines of a journal, whose changes are made again one after the other.
-ghost use Rattle.std.specs.Prelude.{◌≡◌, ◌↔◌, ◌+◌, ◌≤◌, ◌++◌, ◌∷◌, [], length, take, IfOk, IfErr, IsTrue, OnOk, OnErr};
+ghost use Rattle.std.specs.Prelude.{◌≡◌, ◌↔◌, ◌+◌, ◌<◌, ◌≤◌, ◌++◌, ◌∷◌, [], length, take, IfOk, IfErr, IsTrue, OnOk, OnErr, vec_capacity, vec_len};
 ghost use Rattle.bt_frame.specs.declared.limits.TheConstants.{MOST_JOURNAL_BYTES};
 ghost use Rattle.bt_book.specs.Causes.{IsChangeOn};
 ghost use Rattle.bt_book.specs.Machine.{bytes_of, line_behind, running};
@@ -12,35 +12,30 @@ use bt_air::Order;
 use bt_demand::Plan;
 use bt_frame::{EditionNo, OutOfMemory};
 use bt_journal::{Change, Edit, LineFault, read_change};
-use bt_net::Network;
 use bt_text::first_line;
 use std::alloc::Global;
 
 impl Machine {
-    /// The machine that the lines of a text tell, and how many bytes these lines have. What stands behind the last
-    /// newline is passed over.
-    pub(crate) fn replay(
-        alloc: Global,
-        net: &Network,
-        text: &[u8],
-    ) -> Result<(Machine, usize), RecoverFault>
-        requires { length text.now ≤ MOST_JOURNAL_BYTES }
-        ensures net { IfOk result (λ told. told.0.net ≡ net.now) }
-        ensures history { IfOk result (λ told. told.0.history ≡ []) }
-        ensures state { IfOk result (λ told. told.0.state ≡ running told.0.state.changes) }
-        ensures changes { IfOk result (λ told. Recovered net.now text.now told.0.state.changes) }
-        ensures whole { IfOk result (λ told. take told.1 text.now ≡ whole text.now) }
-        ensures within { IfOk result (λ told. told.1 ≤ length text.now) }
-        ensures err { IfErr result (IsTextFault net.now text.now) }
+    /// Makes the changes of the lines of a text again, on a machine that has made none, and answers how many bytes these
+    /// lines have. What stands behind the last newline is passed over.
+    pub(crate) fn take_lines(&mut self, alloc: Global, text: &[u8]) -> Result<usize, RecoverFault>
+        requires state { self.old.state ≡ running [] }
+        requires history { self.old.history ≡ [] }
+        requires short { length text.now ≤ MOST_JOURNAL_BYTES }
+        ensures net { self.new.net ≡ self.old.net }
+        ensures history { self.new.history ≡ [] }
+        ensures state { OnOk result (self.new.state ≡ running self.new.state.changes) }
+        ensures changes { OnOk result (Recovered self.old.net text.now self.new.state.changes) }
+        ensures whole { IfOk result (λ kept. take kept text.now ≡ whole text.now) }
+        ensures within { IfOk result (λ kept. kept ≤ length text.now) }
+        ensures err { IfErr result (IsTextFault self.old.net text.now) }
     {
-        let mut machine = Machine::open(alloc, net)?;
         let mut rest = text;
         while let Some((line, after)) = first_line(rest) {
-            machine.take_line(alloc, &rest[..line.len() + 1])?;
+            self.take_line(alloc, &rest[..line.len() + 1])?;
             rest = after;
         }
-        let kept = text.len() - rest.len();
-        Ok((machine, kept))
+        Ok(text.len() - rest.len())
     }
 
     /// Makes the change of the next line again. The line has its newline.
@@ -127,9 +122,7 @@ impl Machine {
         self.count += 1;
         self.bytes += line;
         self.edits += 1;
-        let Ok(()) = self.opening.push(Change::Edit(edit)) else {
-            unreachable!();
-        };
+        self.opening.push_reserved(Change::Edit(edit));
         Ok(())
     }
 
@@ -143,14 +136,12 @@ impl Machine {
         ensures history { self.new.history ≡ [] }
         ensures err { OnErr result (self.new ≡ self.old) }
     {
-        let kept = plan.copy(alloc)?;
-        self.opening.reserve(1)?;
-        self.plans.push(kept)?;
+        reserve_both(&mut self.opening, &mut self.plans)?;
+        let copy = plan.copy(alloc)?;
+        self.plans.push_reserved(copy);
         self.count += 1;
         self.bytes += line;
-        let Ok(()) = self.opening.push(Change::Install(plan)) else {
-            unreachable!();
-        };
+        self.opening.push_reserved(Change::Install(plan));
         Ok(())
     }
 
@@ -164,13 +155,23 @@ impl Machine {
         ensures history { self.new.history ≡ [] }
         ensures err { OnErr result (self.new ≡ self.old) }
     {
-        self.opening.reserve(1)?;
-        self.orders.push(order)?;
+        reserve_both(&mut self.opening, &mut self.orders)?;
+        self.orders.push_reserved(order);
         self.count += 1;
         self.bytes += line;
-        let Ok(()) = self.opening.push(Change::Order(order)) else {
-            unreachable!();
-        };
+        self.opening.push_reserved(Change::Order(order));
         Ok(())
     }
+}
+
+/// Takes room for one change more at the opening, and one item more of a list.
+fn reserve_both<T: Drop>(opening: &mut Vec<Change>, list: &mut Vec<T>) -> Result<(), OutOfMemory>
+    ensures opening { opening.new.items ≡ opening.old.items }
+    ensures list { list.new.items ≡ list.old.items }
+    ensures opening_room { OnOk result (vec_len opening.new < vec_capacity opening.new) }
+    ensures list_room { OnOk result (vec_len list.new < vec_capacity list.new) }
+{
+    opening.reserve(1)?;
+    list.reserve(1)?;
+    Ok(())
 }

@@ -1,6 +1,6 @@
 // Answers as lines of a file of cases.
 use crate::escape::put_line;
-use anyhow::{Context, Result};
+use crate::fault::{CaseFault, Result};
 use std::alloc::Global;
 
 /// Which lines of what a command writes are shown.
@@ -14,7 +14,7 @@ pub enum Part {
 /// Appends these of the lines, each behind a `>`.
 pub fn put_lines(alloc: Global, bytes: &[u8], part: Part, out: &mut String) -> Result<()> {
     let mut lines: Vec<&[u8]> = bytes.split(|byte| *byte == b'\n').collect(alloc)?;
-    let last = lines.pop().context("a split has a part")?;
+    let last = lines.pop().ok_or(CaseFault("a split has a part"))?;
     let (skipped, shown) = match part {
         Part::All => (0, lines.len()),
         Part::First(count) => (0, count),

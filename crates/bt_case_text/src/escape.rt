@@ -2,7 +2,7 @@
 // hexadecimal digits. A backslash at the end of a line says that no newline follows there.
 ghost use Rattle.std.specs.Prelude.{◌<◌, IfOk};
 
-use anyhow::{Result, bail};
+use crate::fault::{CaseFault, Result};
 
 /// Appends the bytes of a line, and the newline unless a backslash ends the line.
 pub fn take_text(line: &str, bytes: &mut Vec<u8>) -> Result<()> {
@@ -37,7 +37,7 @@ fn take_escaped(part: &str, bytes: &mut Vec<u8>) -> Result<()> {
             bytes.extend_from_slice(rest)?;
             Ok(())
         }
-        _ => bail!("a backslash without x and two digits"),
+        _ => Err(CaseFault("a backslash without x and two digits")),
     }
 }
 
@@ -53,7 +53,7 @@ fn digit(byte: u8) -> Result<u8>
     match byte {
         b'0'..=b'9' => Ok(byte - b'0'),
         b'a'..=b'f' => Ok(byte - b'a' + 10),
-        _ => bail!("no hexadecimal digit"),
+        _ => Err(CaseFault("no hexadecimal digit")),
     }
 }
 

@@ -1,8 +1,8 @@
 // The files in memory that the cases of a text share.
 use crate::escape::take_text;
+use crate::fault::{CaseFault, Result};
 use crate::links::put_links;
 use crate::words::number_of;
-use anyhow::{Context, Result, bail, ensure};
 use bt_base::{Fail, MemFiles, SureFiles};
 use std::alloc::Global;
 
@@ -47,7 +47,9 @@ impl Shelf {
 
     /// A file of a name that no file has.
     pub fn begin(&mut self, alloc: Global, name: &str, contents: Vec<u8>) -> Result<()> {
-        ensure!(self.contents(name).is_none(), "a second file of that name");
+        if self.contents(name).is_some() {
+            return Err(CaseFault("a second file of that name"));
+        }
         self.files.push((String::from_str(alloc, name)?, contents))?;
         Ok(())
     }
@@ -77,7 +79,7 @@ impl Shelf {
     pub fn text(&self, name: &str) -> Result<&[u8]> {
         match self.contents(name) {
             Some(contents) => Ok(contents),
-            None => bail!("no file {name}"),
+            None => Err(CaseFault("no file of that name")),
         }
     }
 
@@ -90,7 +92,7 @@ impl Shelf {
             } else {
                 contents.len()
             };
-            let bytes = contents.get(..kept).context("a shorter file")?;
+            let bytes = contents.get(..kept).ok_or(CaseFault("a shorter file"))?;
             files.push((other.clone()?, bytes.to_vec(alloc)?))?;
         }
         Ok(Shelf { files })
@@ -118,7 +120,7 @@ impl Shelf {
     fn last(&mut self) -> Result<&mut Vec<u8>> {
         match self.files.last_mut() {
             Some(file) => Ok(&mut file.1),
-            None => bail!("no file was begun"),
+            None => Err(CaseFault("no file was begun")),
         }
     }
 }

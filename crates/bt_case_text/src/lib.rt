@@ -7,6 +7,7 @@
 
 mod answers;
 mod escape;
+mod fault;
 mod files;
 mod links;
 mod sheet;
@@ -15,6 +16,7 @@ mod words;
 
 pub use answers::{Part, put_lines};
 pub use escape::{hex_byte, take_bytes};
+pub use fault::{CaseFault, Result};
 pub use files::{Shelf, set_files};
 pub use sheet::Sheet;
 pub use tally::Tally;

@@ -1,10 +1,10 @@
 // A file of cases: which of its lines are cases, and which of these got another answer than stands below them.
-ghost use Rattle.std.specs.Prelude.{◌≡◌, ◌≤◌, ◌⊎◌, [], true, IfOk, OnOk};
+ghost use Rattle.std.specs.Prelude.{◌≡◌, ◌≤◌, ◌⊎◌, ◌++◌, ◌∷◌, [], true, false, IfOk, OnOk};
 ghost use Rattle.std.specs.String.{string_bytes};
 ghost use Rattle.bt_base.specs.Told.{Rose};
 
+use crate::fault::{CaseFault, Result};
 use crate::tally::Tally;
-use anyhow::{Result, ensure};
 use std::alloc::Global;
 use std::marker::Model;
 
@@ -58,6 +58,9 @@ impl Sheet {
     ) -> Result<bool>
         ensures judged { IfOk result (λ acts. acts ≡ true → (string_bytes came.old ≡ self.old) ⊎ Rose tally.old.others tally.new.others) }
         ensures later { tally.old.others ≤ tally.new.others }
+        ensures wanted { IfOk result (λ acts. acts ≡ false → self.new ≡ self.old ++ (line.now ++ 10 ∷ [])) }
+        ensures cleared { IfOk result (λ acts. acts ≡ true → (string_bytes came.new ≡ []) × (self.new ≡ [])) }
+        ensures kept { IfOk result (λ acts. acts ≡ false → string_bytes came.new ≡ string_bytes came.old) }
     {
         self.met = self.met.saturating_add(1);
         if line.starts_with('>') || line.starts_with('=') {
@@ -75,13 +78,21 @@ impl Sheet {
         ensures later { tally.old.others ≤ tally.new.others }
     {
         self.judge(alloc, came, tally)?;
-        let name = self.name.as_str();
-        ensure!(self.before < tally.cases(), "{name} has no case");
+        if tally.cases() <= self.before {
+            return Err(CaseFault("no case"));
+        }
         Ok(())
     }
 
+    /// The last line that acts.
+    pub fn line(&self) -> &str {
+        self.line.as_str()
+    }
+
     /// The line acts.
-    fn act(&mut self, line: &str) -> Result<()> {
+    fn act(&mut self, line: &str) -> Result<()>
+        ensures same { self.new ≡ self.old }
+    {
         self.line.clear();
         self.line.push_str(line)?;
         self.number = self.met;
@@ -89,7 +100,9 @@ impl Sheet {
     }
 
     /// A line more of the answer that must come.
-    fn want(&mut self, line: &str) -> Result<()> {
+    fn want(&mut self, line: &str) -> Result<()>
+        ensures wanted { OnOk result (self.new ≡ self.old ++ (line.now ++ 10 ∷ [])) }
+    {
         self.wanted.push_str(line)?;
         self.wanted.push('\n')?;
         Ok(())
@@ -99,6 +112,7 @@ impl Sheet {
     fn judge(&mut self, alloc: Global, came: &mut String, tally: &mut Tally) -> Result<()>
         ensures judged { (string_bytes came.old ≡ self.old) ⊎ Rose tally.old.others tally.new.others }
         ensures later { tally.old.others ≤ tally.new.others }
+        ensures cleared { OnOk result ((string_bytes came.new ≡ []) × (self.new ≡ [])) }
     {
         count(came, &self.wanted, tally);
         self.tell(alloc, came, tally)?;

@@ -3,7 +3,7 @@ ghost use Rattle.std.specs.Prelude.{◌≡◌, ◌<◌, ◌≤◌, OnOk};
 ghost use Rattle.bt_base.specs.Calls.{raised};
 ghost use Rattle.bt_base.specs.Told.{Rose};
 
-use anyhow::{Result, ensure};
+use crate::fault::{CaseFault, Result};
 use std::alloc::Global;
 use std::marker::Model;
 
@@ -51,9 +51,12 @@ impl Tally {
     pub fn see_all_well(&self) -> Result<()>
         ensures well { OnOk result ((0 < self.now.cases) × (self.now.others ≡ 0)) }
     {
-        let (cases, others) = (self.cases, self.others);
-        ensure!(0 < cases, "no cases");
-        ensure!(others == 0, "{others} of {cases} cases got another answer");
+        if self.cases == 0 {
+            return Err(CaseFault("no cases"));
+        }
+        if 0 < self.others {
+            return Err(CaseFault("a case got another answer"));
+        }
         Ok(())
     }
 

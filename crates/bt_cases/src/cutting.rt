@@ -4,8 +4,7 @@ ghost use Rattle.bt_demand.specs.Traffic.{matrix_of, AreOfNetwork, HasSumsTo};
 ghost use Rattle.bt_matrix.specs.Good.{IsGood};
 
 use crate::texts::{demand_from, is_line, network_from, schedule_from};
-use anyhow::{Result, bail, ensure};
-use bt_case_text::{Part, put_lines};
+use bt_case_text::{CaseFault, Part, Result, put_lines};
 use bt_cut::cut;
 use bt_demand::{Demand, traffic_of};
 use bt_frame::{EditionNo, MOST_SLOTS, Schedule};
@@ -55,28 +54,28 @@ fn put_cut_from(
 {
     let schedule = schedule_from(alloc, net.beam_count(), modes)?;
     see_good(alloc, net, demand, &schedule)?;
-    let text = cut_text(alloc, net, demand, edition, schedule)?;
-    put_lines(alloc, &text, Part::All, out)
+    put_cut(alloc, net, demand, edition, schedule, out)
 }
 
-/// The text of the plan that is cut from a schedule which is good for the demand.
-fn cut_text(
+/// Appends the plan that is cut from a schedule which is good for the demand.
+fn put_cut(
     alloc: Global,
     net: &Network,
     demand: &Demand,
     edition: EditionNo,
     schedule: Schedule,
-) -> Result<Vec<u8>>
+    out: &mut String,
+) -> Result<()>
     requires terminals { AreOfNetwork net.now demand.now }
     requires sums { HasSumsTo MOST_SLOTS (matrix_of net.now demand.now) }
     requires good { IsGood (matrix_of net.now demand.now) schedule }
 {
     let Ok(plan) = cut(alloc, net, demand, edition, schedule) else {
-        bail!("out of memory");
+        return Err(CaseFault("out of memory"));
     };
     match plan_text(alloc, net, &plan) {
-        Ok(text) => Ok(text),
-        Err(_full) => bail!("out of memory"),
+        Ok(text) => put_lines(alloc, &text, Part::All, out),
+        Err(_full) => Err(CaseFault("out of memory")),
     }
 }
 
@@ -87,10 +86,12 @@ fn see_fit(alloc: Global, net: &Network, demand: &Demand) -> Result<()>
     ensures { OnOk result (HasSumsTo MOST_SLOTS (matrix_of net.now demand.now)) }
 {
     let Ok(matrix) = traffic_of(alloc, net, demand) else {
-        bail!("out of memory");
+        return Err(CaseFault("out of memory"));
     };
     let (_, most) = matrix.heaviest();
-    ensure!(most <= MOST_SLOTS, "too much for a frame");
+    if MOST_SLOTS < most {
+        return Err(CaseFault("too much for a frame"));
+    }
     Ok(())
 }
 
@@ -101,11 +102,13 @@ fn see_good(alloc: Global, net: &Network, demand: &Demand, schedule: &Schedule) 
     ensures { OnOk result (IsGood (matrix_of net.now demand.now) schedule.now) }
 {
     let Ok(matrix) = traffic_of(alloc, net, demand) else {
-        bail!("out of memory");
+        return Err(CaseFault("out of memory"));
     };
-    ensure!(is_line(&matrix, schedule.critical), "a line of no beam");
+    if !is_line(&matrix, schedule.critical) {
+        return Err(CaseFault("a line of no beam"));
+    }
     match check_modes(&matrix, schedule) {
         Verdict::Good => Ok(()),
-        _ => bail!("no good schedule"),
+        _ => Err(CaseFault("no good schedule")),
     }
 }

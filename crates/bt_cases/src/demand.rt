@@ -1,7 +1,6 @@
 // The lines of a demand whose links gain and lose slots.
 use crate::texts::put_links;
-use anyhow::{Result, bail, ensure};
-use bt_case_text::{byte_of, number_of};
+use bt_case_text::{CaseFault, Result, byte_of, number_of};
 use bt_demand::Demand;
 use bt_frame::TermNo;
 use bt_matrix::MOST_SUM;
@@ -17,10 +16,14 @@ pub fn put_gain(
     let [from, to, units] = link;
     let (from, to, units) = (byte_of(from)?, byte_of(to)?, number_of(units)?);
     let held = demand.units(TermNo(from), TermNo(to));
-    ensure!(from != to && 0 < units, "no gain");
-    ensure!(held <= MOST_SUM && units <= MOST_SUM - held, "too much");
+    if from == to || units == 0 {
+        return Err(CaseFault("no gain"));
+    }
+    if MOST_SUM < held || MOST_SUM - held < units {
+        return Err(CaseFault("too much"));
+    }
     if demand.add(alloc, TermNo(from), TermNo(to), units).is_err() {
-        bail!("out of memory");
+        return Err(CaseFault("out of memory"));
     }
     put_copy(alloc, demand, out)
 }
@@ -35,7 +38,9 @@ pub fn put_loss(
     let [from, to, units] = link;
     let (from, to, units) = (byte_of(from)?, byte_of(to)?, number_of(units)?);
     let held = demand.units(TermNo(from), TermNo(to));
-    ensure!(0 < units && units <= held, "no loss");
+    if units == 0 || held < units {
+        return Err(CaseFault("no loss"));
+    }
     demand.take(TermNo(from), TermNo(to), units);
     put_copy(alloc, demand, out)
 }
@@ -43,7 +48,7 @@ pub fn put_loss(
 fn put_copy(alloc: Global, demand: &Demand, out: &mut String) -> Result<()> {
     match demand.copy(alloc) {
         Ok(copy) => put_links(&copy, out),
-        Err(_full) => bail!("out of memory"),
+        Err(_full) => Err(CaseFault("out of memory")),
     }
 }
 

@@ -1,6 +1,5 @@
 // How a command ended.
-use anyhow::Result;
-use bt_case_text::{Part, put_lines};
+use bt_case_text::{Part, Result, put_lines};
 use std::alloc::Global;
 
 /// What a command wrote, and its status.

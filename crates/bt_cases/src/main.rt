@@ -17,8 +17,7 @@ mod planning;
 mod stage;
 mod texts;
 
-use anyhow::{Context, Result};
-use bt_case_text::{Sheet, Tally};
+use bt_case_text::{Result, Sheet, Tally};
 use stage::Texts;
 use std::alloc::Global;
 use std::sync::Wait;
@@ -32,40 +31,61 @@ fn main(rt: HostRuntime) -> Result<()> {
     for name in &names {
         play_file(&rt, alloc, name.as_str(), &mut tally)?;
     }
+    print_tally(&rt, &tally)
+}
+
+/// Plays the cases of a file. Where a line of it can't be taken, names the file and the line on standard error.
+fn play_file<R: Alloc + rt::Files + Eprint + Threads + Wait + Sync>(
+    rt: &R,
+    alloc: Global,
+    name: &str,
+    tally: &mut Tally,
+) -> Result<()> {
+    let mut sheet = Sheet::new(alloc, name, tally)?;
+    let played = play(rt, alloc, name, &mut sheet, tally);
+    if played.is_err() {
+        // where standard error cannot be written either, the status alone tells
+        let _told = eprintln!(rt; "{name}: {}", sheet.line());
+    }
+    played
+}
+
+/// Plays the cases of a file on a stage of its own.
+fn play<R: Alloc + rt::Files + Threads + Wait + Sync>(
+    rt: &R,
+    alloc: Global,
+    name: &str,
+    sheet: &mut Sheet,
+    tally: &mut Tally,
+) -> Result<()> {
+    let text = fs::read_to_string(rt, name)?;
+    let mut stage = Texts::new(alloc);
+    play_lines(rt, alloc, text.as_str(), &mut stage, sheet, tally)
+}
+
+/// Plays the cases of a text on a stage, line by line.
+fn play_lines<R: Threads + Wait + Sync>(
+    rt: &R,
+    alloc: Global,
+    text: &str,
+    stage: &mut Texts,
+    sheet: &mut Sheet,
+    tally: &mut Tally,
+) -> Result<()> {
+    let mut came = String::new(alloc);
+    for line in text.lines() {
+        if sheet.meets(alloc, line, &mut came, tally)? {
+            stage.take(rt, alloc, line, &mut came)?;
+        }
+    }
+    sheet.end(alloc, &mut came, tally)
+}
+
+/// Prints the cases that got another answer and, where all is well, how many cases there were.
+fn print_tally<R: Print>(rt: &R, tally: &Tally) -> Result<()> {
     let (cases, others) = (tally.cases(), tally.others());
     print!(rt; "{others}")?;
     tally.see_all_well()?;
     println!(rt; "{cases} cases")?;
     Ok(())
-}
-
-/// Plays the cases of a file.
-fn play_file<R: Alloc + rt::Files + Threads + Wait + Sync>(
-    rt: &R,
-    alloc: Global,
-    name: &str,
-    tally: &mut Tally,
-) -> Result<()> {
-    let text = fs::read_to_string(rt, name).context(format_args!("{name}"))?;
-    play(rt, alloc, name, text.as_str(), tally)
-}
-
-/// Plays the cases of a text on a stage of its own.
-fn play<R: Threads + Wait + Sync>(
-    rt: &R,
-    alloc: Global,
-    name: &str,
-    text: &str,
-    tally: &mut Tally,
-) -> Result<()> {
-    let mut stage = Texts::new(alloc);
-    let mut came = String::new(alloc);
-    let mut sheet = Sheet::new(alloc, name, tally)?;
-    for line in text.lines() {
-        if sheet.meets(alloc, line, &mut came, tally)? {
-            let taken = stage.take(rt, alloc, line, &mut came);
-            taken.context(format_args!("{name}: {line}"))?;
-        }
-    }
-    sheet.end(alloc, &mut came, tally)
 }

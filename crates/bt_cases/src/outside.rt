@@ -4,9 +4,8 @@ ghost use Rattle.std.specs.String.{string_bytes};
 ghost use Rattle.bt_cli.specs.Request.{first_word};
 
 use crate::ending::Ending;
-use anyhow::{Result, bail};
-use bt_base::{Fail, Files, MemKeeper, MemSink, Sink, SureKeeper, SureSink};
-use bt_case_text::{Part, Shelf, number_of};
+use bt_base::{Fail, Files, MemFiles, MemKeeper, MemSink, Sink, SureKeeper, SureSink};
+use bt_case_text::{CaseFault, Part, Result, Shelf, number_of};
 use bt_cli::{History, centre_main, check_command, modes_command, plan_command, replay_command};
 use std::alloc::Global;
 use std::sync::Wait;
@@ -234,8 +233,19 @@ impl Outside {
         words: &[&str],
     ) -> Result<Ending> {
         let mut files = shelf.failing(self.next.reads.clone()?)?;
+        self.met_end_over(rt, alloc, &mut files, words)
+    }
+
+    /// What a command writes over these files whose output may fail, and its status.
+    fn met_end_over<R: Threads + Wait + Sync>(
+        &mut self,
+        rt: &R,
+        alloc: Global,
+        files: &mut MemFiles,
+        words: &[&str],
+    ) -> Result<Ending> {
         let mut sink = MemSink::new(alloc, self.next.writes.clone()?);
-        let status = self.status_of(rt, alloc, &mut files, &mut sink, words)?;
+        let status = self.status_of(rt, alloc, files, &mut sink, words)?;
         Ending::of(alloc, sink.written(), status)
     }
 
@@ -357,7 +367,7 @@ fn status_alone<F: Files, O: Sink>(
         ["check", first, second] => check_alone(alloc, files, sink, [first, second]),
         ["modes", first] => modes_alone(alloc, files, sink, first),
         ["plan", first, second] => plan_alone(alloc, files, sink, [first, second]),
-        _ => bail!("no command with a call of its own"),
+        _ => Err(CaseFault("no command with a call of its own")),
     }
 }
 

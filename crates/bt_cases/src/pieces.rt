@@ -2,12 +2,11 @@
 ghost use Rattle.bt_base.specs.Told.{HasBytes};
 
 use crate::outside::Outside;
-use anyhow::{Context, Result, bail, ensure};
 use bt_base::{
     Fail, FileFault, Files, KeepFault, Keeper, MemKeeper, MemSink, Sink, SinkFault, SureKeeper,
     SureSink,
 };
-use bt_case_text::{Part, Shelf, number_of, put_lines};
+use bt_case_text::{CaseFault, Part, Result, Shelf, number_of, put_lines};
 use std::alloc::Global;
 
 /// Reads files one after the other, each with the most bytes that it may have, and appends the answers, with the
@@ -36,7 +35,7 @@ fn put_reads_of<F: Files>(
 ) -> Result<()> {
     for pair in words.chunks(2) {
         let [name, limit] = pair else {
-            bail!("a name without the most bytes");
+            return Err(CaseFault("a name without the most bytes"));
         };
         put_read(alloc, files, name, number_of(limit)?, out)?;
     }
@@ -54,7 +53,7 @@ fn put_read<F: Files>(
         Ok(bytes) => put_lines(alloc, &bytes, Part::All, out)?,
         Err(FileFault::Failed) => out.push_str(">failed\n")?,
         Err(FileFault::TooLong) => out.push_str(">too long\n")?,
-        Err(FileFault::OutOfMemory) => bail!("out of memory"),
+        Err(FileFault::OutOfMemory) => return Err(CaseFault("out of memory")),
     }
     write!(out, "= {}\n", files.faults())?;
     Ok(())
@@ -95,11 +94,16 @@ fn put_failing_writes(
 ) -> Result<()> {
     let mut sink = MemSink::new(alloc, fails);
     for piece in words {
-        let is_written = write_to(alloc, &mut sink, piece)?;
-        put_lines(alloc, sink.written(), Part::All, out)?;
-        put_answer(is_written, sink.faults(), out)?;
+        put_write(alloc, &mut sink, piece, out)?;
     }
     Ok(())
+}
+
+/// Writes a piece, and appends what was written so far, the answer, and the number of faults so far.
+fn put_write(alloc: Global, sink: &mut MemSink, piece: &str, out: &mut String) -> Result<()> {
+    let is_written = write_to(alloc, sink, piece)?;
+    put_lines(alloc, sink.written(), Part::All, out)?;
+    put_answer(is_written, sink.faults(), out)
 }
 
 /// Did the call write the piece?
@@ -107,7 +111,7 @@ fn write_to<S: Sink>(alloc: Global, sink: &mut S, piece: &str) -> Result<bool> {
     match sink.write(alloc, piece.as_bytes()) {
         Ok(()) => Ok(true),
         Err(SinkFault::Failed) => Ok(false),
-        Err(SinkFault::OutOfMemory) => bail!("out of memory"),
+        Err(SinkFault::OutOfMemory) => Err(CaseFault("out of memory")),
     }
 }
 
@@ -129,11 +133,16 @@ pub fn put_keeps(
     let mut store = outside.met_store()?;
     outside.next.keeps.clear();
     for word in words {
-        let is_done = call_on(alloc, &mut store, word)?;
-        put_lines(alloc, store.kept(), Part::All, out)?;
-        put_answer(is_done, store.faults(), out)?;
+        put_keep(alloc, &mut store, word, out)?;
     }
     Ok(())
+}
+
+/// Makes a call on the store, and appends what is kept, the answer, and the number of faults so far.
+fn put_keep(alloc: Global, store: &mut MemKeeper, word: &str, out: &mut String) -> Result<()> {
+    let is_done = call_on(alloc, store, word)?;
+    put_lines(alloc, store.kept(), Part::All, out)?;
+    put_answer(is_done, store.faults(), out)
 }
 
 /// Did the call that the word says do what it was asked for?
@@ -150,14 +159,18 @@ fn is_read(alloc: Global, store: &mut MemKeeper) -> Result<bool> {
 }
 
 fn cut_at(alloc: Global, store: &mut MemKeeper, length: u32) -> Result<bool> {
-    ensure!(length as usize <= store.kept().len(), "a longer store");
+    if store.kept().len() < length as usize {
+        return Err(CaseFault("a longer store"));
+    }
     cut_to(alloc, store, u64::from(length))
 }
 
 /// The store gains the bytes.
 pub fn append(alloc: Global, outside: &mut Outside, bytes: &[u8]) -> Result<()> {
     let mut store = SureKeeper::new(outside.store.clone()?);
-    ensure!(append_to(alloc, &mut store, bytes)?, "not appended");
+    if !append_to(alloc, &mut store, bytes)? {
+        return Err(CaseFault("not appended"));
+    }
     outside.store = store.kept().to_vec(alloc)?;
     Ok(())
 }
@@ -165,8 +178,12 @@ pub fn append(alloc: Global, outside: &mut Outside, bytes: &[u8]) -> Result<()> 
 /// The store keeps so many bytes, which it has.
 pub fn cut(alloc: Global, outside: &mut Outside, length: u32) -> Result<()> {
     let mut store = SureKeeper::new(outside.store.clone()?);
-    ensure!(length as usize <= store.kept().len(), "a longer store");
-    ensure!(cut_to(alloc, &mut store, u64::from(length))?, "not cut");
+    if store.kept().len() < length as usize {
+        return Err(CaseFault("a longer store"));
+    }
+    if !cut_to(alloc, &mut store, u64::from(length))? {
+        return Err(CaseFault("not cut"));
+    }
     outside.store = store.kept().to_vec(alloc)?;
     Ok(())
 }
@@ -174,7 +191,7 @@ pub fn cut(alloc: Global, outside: &mut Outside, length: u32) -> Result<()> {
 /// Appends the bytes of the store.
 pub fn put_store(alloc: Global, outside: &Outside, out: &mut String) -> Result<()> {
     let mut store = SureKeeper::new(outside.store.clone()?);
-    let bytes = all_of(alloc, &mut store)?.context("not read")?;
+    let bytes = all_of(alloc, &mut store)?.ok_or(CaseFault("not read"))?;
     put_lines(alloc, &bytes, Part::All, out)
 }
 
@@ -194,7 +211,7 @@ fn is_done(answer: Result<(), KeepFault>) -> Result<bool> {
     match answer {
         Ok(()) => Ok(true),
         Err(KeepFault::Failed) => Ok(false),
-        Err(_) => bail!("out of memory"),
+        Err(_) => Err(CaseFault("out of memory")),
     }
 }
 
@@ -203,6 +220,6 @@ fn all_of<K: Keeper>(alloc: Global, store: &mut K) -> Result<Option<Vec<u8>>> {
     match store.read_all(alloc) {
         Ok(bytes) => Ok(Some(bytes)),
         Err(KeepFault::Failed) => Ok(None),
-        Err(_) => bail!("no bytes for memory"),
+        Err(_) => Err(CaseFault("no bytes for memory")),
     }
 }

@@ -5,8 +5,7 @@ ghost use Rattle.bt_match.specs.Matching.{HasEqualLineSums};
 
 use crate::cutting::put_cutting;
 use crate::texts::{matrix_from, put_verdict};
-use anyhow::{Result, bail, ensure};
-use bt_case_text::{Shelf, byte_of, number_of};
+use bt_case_text::{CaseFault, Result, Shelf, byte_of, number_of};
 use bt_frame::{BeamNo, EditionNo};
 use bt_match::{Partial, Perm, perfect};
 use bt_matrix::{Dense, Traffic};
@@ -16,14 +15,25 @@ use std::alloc::Global;
 pub fn show_steps(alloc: Global, shelf: &Shelf, words: &[&str], out: &mut String) -> Result<bool> {
     match words {
         ["judge", matrix, beams, modes] => judge(alloc, shelf, matrix, [beams, modes], out)?,
-        ["match", matrix, first, second, third] => {
-            put_permutations(alloc, shelf.text(matrix)?, [first, second, third], out)?;
-        }
         ["cutting", net, traffic, edition, modes] => {
             cut_texts(alloc, shelf, [net, traffic, modes], edition, out)?;
         }
-        _ => return Ok(false),
+        words => return show_permutations(alloc, shelf, words, out),
     }
+    Ok(true)
+}
+
+fn show_permutations(
+    alloc: Global,
+    shelf: &Shelf,
+    words: &[&str],
+    out: &mut String,
+) -> Result<bool> {
+    let ["match", matrix, first, second, third] = words else {
+        return Ok(false);
+    };
+    let rows = [byte_of(first)?, byte_of(second)?, byte_of(third)?];
+    put_permutations(alloc, shelf.text(matrix)?, rows, out)?;
     Ok(true)
 }
 
@@ -50,16 +60,11 @@ fn cut_texts(
 }
 
 /// Appends a permutation inside a matrix of equal line sums, and the one that is found after three rows were freed.
-fn put_permutations(
-    alloc: Global,
-    matrix: &[u8],
-    freed: [&str; 3],
-    out: &mut String,
-) -> Result<()> {
-    let [first, second, third] = freed;
-    let rows = [byte_of(first)?, byte_of(second)?, byte_of(third)?];
+fn put_permutations(alloc: Global, matrix: &[u8], rows: [u8; 3], out: &mut String) -> Result<()> {
     let matrix = matrix_from(alloc, matrix)?;
-    ensure!(has_equal_sums(&matrix), "other line sums");
+    if !has_equal_sums(&matrix) {
+        return Err(CaseFault("other line sums"));
+    }
     put_perms(alloc, &matrix, rows, out)
 }
 
@@ -68,10 +73,10 @@ fn put_perms(alloc: Global, matrix: &Dense, freed: [u8; 3], out: &mut String) ->
 {
     let [first, second, third] = freed;
     let Ok(begin) = Partial::empty(alloc, matrix.size()) else {
-        bail!("out of memory");
+        return Err(CaseFault("out of memory"));
     };
     let Ok(perm) = perfect(alloc, matrix, begin) else {
-        bail!("out of memory");
+        return Err(CaseFault("out of memory"));
     };
     put_perm(&perm, out)?;
     let mut begin = Partial::of(perm);
@@ -79,7 +84,7 @@ fn put_perms(alloc: Global, matrix: &Dense, freed: [u8; 3], out: &mut String) ->
     begin.free(BeamNo(second));
     begin.free(BeamNo(third));
     let Ok(perm) = perfect(alloc, matrix, begin) else {
-        bail!("out of memory");
+        return Err(CaseFault("out of memory"));
     };
     put_perm(&perm, out)
 }

@@ -4,8 +4,7 @@ use crate::outside::{Outside, set_meeting};
 use crate::pieces::{append, cut, put_keeps, put_reads, put_store, put_writes};
 use crate::planning::show_steps;
 use crate::texts::show_text;
-use anyhow::{Context, Result, bail};
-use bt_case_text::{Shelf, number_of, set_files};
+use bt_case_text::{CaseFault, Result, Shelf, number_of, set_files};
 use bt_demand::Demand;
 use std::alloc::Global;
 use std::sync::Wait;
@@ -41,11 +40,22 @@ impl Texts {
             return self.shelf.fill(1, text);
         }
         if let Some(text) = line.strip_prefix("fill ") {
-            let (count, text) = text.split_once(' ').context("no text")?;
+            let (count, text) = text.split_once(' ').ok_or(CaseFault("no text"))?;
             return self.shelf.fill(number_of(count)?, text);
         }
         let words: Vec<&str> = line.split(' ').collect(alloc)?;
-        match words.as_slice() {
+        self.take_words(rt, alloc, &words, out)
+    }
+
+    /// Does what the words of a line say.
+    fn take_words<R: Threads + Wait + Sync>(
+        &mut self,
+        rt: &R,
+        alloc: Global,
+        words: &[&str],
+        out: &mut String,
+    ) -> Result<()> {
+        match words {
             [""] | ["#", ..] => Ok(()),
             ["$", words @ ..] => self.outside.run(rt, alloc, &mut self.shelf, words, out),
             words => self.act(alloc, words, out),
@@ -66,7 +76,7 @@ impl Texts {
         if self.show_planning(alloc, words, out)? {
             return Ok(());
         }
-        bail!("no line of cases")
+        Err(CaseFault("no line of cases"))
     }
 
     /// Sets up files, the store, and what the next command meets.

@@ -6,8 +6,7 @@ ghost use Rattle.bt_frame.specs.Critical.{IsOfBeams};
 ghost use Rattle.bt_matrix.specs.Traffic.{IsLine};
 ghost use Rattle.bt_verdict.specs.PlanVerdict.{AreBetweenTerminals};
 
-use anyhow::{Context, Result, bail, ensure};
-use bt_case_text::{Part, Shelf, number_of, put_lines, take_bytes};
+use bt_case_text::{CaseFault, Part, Result, Shelf, number_of, put_lines, take_bytes};
 use bt_demand::{Demand, Plan, traffic_of};
 use bt_frame::{BeamNo, Critical, MOST_BEAMS, MOST_TEXT_BYTES, OutOfMemory, Schedule, TermNo};
 use bt_matrix::{Dense, MOST_SUM, Traffic};
@@ -96,7 +95,7 @@ fn put_number(alloc: Global, word: &str, out: &mut String) -> Result<()> {
     match number(&spelling) {
         Some(number) => number_text(alloc, number, &mut text)
             .ok()
-            .context("out of memory")?,
+            .ok_or(CaseFault("out of memory"))?,
         None => text.extend_from_slice(b"none")?,
     }
     text.push(b'\n')?;
@@ -106,7 +105,9 @@ fn put_number(alloc: Global, word: &str, out: &mut String) -> Result<()> {
 /// Appends the place of the newline of the line that begins at that place.
 fn put_line_end(bytes: &[u8], place: &str, out: &mut String) -> Result<()> {
     let place = number_of(place)? as usize;
-    ensure!(place <= bytes.len(), "a place past the end");
+    if bytes.len() < place {
+        return Err(CaseFault("a place past the end"));
+    }
     match next_line(bytes, place) {
         Some((start, end)) => write!(out, ">{start} to {end}\n")?,
         None => out.push_str(">none\n")?,
@@ -138,7 +139,7 @@ fn put_matrix(alloc: Global, bytes: &[u8], out: &mut String) -> Result<()> {
 fn put_traffic(alloc: Global, net: &Network, traffic: &[u8], out: &mut String) -> Result<()> {
     let demand = demand_from(alloc, net, traffic)?;
     let Ok(matrix) = traffic_of(alloc, net, &demand) else {
-        bail!("out of memory");
+        return Err(CaseFault("out of memory"));
     };
     put_rows(&matrix, out)
 }
@@ -175,7 +176,7 @@ fn put_network(alloc: Global, bytes: &[u8], out: &mut String) -> Result<()> {
 fn put_copy(alloc: Global, net: &Network, out: &mut String) -> Result<()> {
     match net.copy(alloc) {
         Ok(copy) => put_net(&copy, out),
-        Err(_full) => bail!("out of memory"),
+        Err(_full) => Err(CaseFault("out of memory")),
     }
 }
 
@@ -212,21 +213,23 @@ fn put_settings(net: &Network, out: &mut String) -> Result<()> {
 /// Appends a schedule, read for so many beams and written again.
 fn put_schedule(alloc: Global, beams: &str, bytes: &[u8], out: &mut String) -> Result<()> {
     let schedule = schedule_from(alloc, number_of(beams)?, bytes)?;
-    let text = schedule_text(alloc, &schedule)
-        .ok()
-        .context("out of memory")?;
-    put_lines(alloc, &text, Part::All, out)
+    match schedule_text(alloc, &schedule) {
+        Ok(text) => put_lines(alloc, &text, Part::All, out),
+        Err(_full) => Err(CaseFault("out of memory")),
+    }
 }
 
 /// Appends a plan, read, copied, and written again.
 fn put_plan(alloc: Global, net: &Network, bytes: &[u8], out: &mut String) -> Result<()> {
-    ensure!(bytes.len() <= MOST_TEXT_BYTES, "a long text");
+    if MOST_TEXT_BYTES < bytes.len() {
+        return Err(CaseFault("a long text"));
+    }
     let Ok(plan) = read_plan(alloc, net, bytes) else {
-        bail!("no plan");
+        return Err(CaseFault("no plan"));
     };
     match text_of_copy(alloc, net, &plan) {
         Ok(text) => put_lines(alloc, &text, Part::All, out),
-        Err(_full) => bail!("out of memory"),
+        Err(_full) => Err(CaseFault("out of memory")),
     }
 }
 
@@ -248,11 +251,18 @@ pub fn put_verdict(
 ) -> Result<()> {
     let matrix = matrix_from(alloc, matrix)?;
     let schedule = schedule_from(alloc, number_of(beams)?, modes)?;
-    ensure!(is_line(&matrix, schedule.critical), "a line of no beam");
-    match check_modes(&matrix, &schedule) {
+    put_verdict_on(&matrix, &schedule, out)
+}
+
+/// Appends the verdict on a schedule.
+fn put_verdict_on(matrix: &Dense, schedule: &Schedule, out: &mut String) -> Result<()> {
+    if !is_line(matrix, schedule.critical) {
+        return Err(CaseFault("a line of no beam"));
+    }
+    match check_modes(matrix, schedule) {
         Verdict::Good => out.push_str(">good\n")?,
         Verdict::V1 { mode } => write!(out, ">V1 {mode}\n")?,
-        _ => bail!("a verdict that a command prints"),
+        _ => return Err(CaseFault("a verdict that a command prints")),
     }
     Ok(())
 }
@@ -271,7 +281,7 @@ pub fn is_line(matrix: &Dense, line: Critical) -> bool
 pub fn matrix_from(alloc: Global, bytes: &[u8]) -> Result<Dense> {
     match read_matrix(alloc, bytes) {
         Ok(matrix) => Ok(matrix),
-        Err(_fault) => bail!("no matrix"),
+        Err(_fault) => Err(CaseFault("no matrix")),
     }
 }
 
@@ -279,13 +289,15 @@ pub fn matrix_from(alloc: Global, bytes: &[u8]) -> Result<Dense> {
 pub fn schedule_from(alloc: Global, beams: u32, bytes: &[u8]) -> Result<Schedule>
     ensures critical { IfOk result (λ schedule. IsOfBeams beams schedule.critical) }
 {
-    ensure!(
-        beams <= MOST_BEAMS as u32 && bytes.len() <= MOST_TEXT_BYTES,
-        "too much"
-    );
+    if (MOST_BEAMS as u32) < beams {
+        return Err(CaseFault("too many beams"));
+    }
+    if MOST_TEXT_BYTES < bytes.len() {
+        return Err(CaseFault("a long text"));
+    }
     match read_schedule(alloc, beams, bytes) {
         Ok(schedule) => Ok(schedule),
-        Err(_fault) => bail!("no schedule"),
+        Err(_fault) => Err(CaseFault("no schedule")),
     }
 }
 
@@ -293,7 +305,7 @@ pub fn schedule_from(alloc: Global, beams: u32, bytes: &[u8]) -> Result<Schedule
 pub fn network_from(alloc: Global, bytes: &[u8]) -> Result<Network> {
     match Network::read(alloc, bytes) {
         Ok(net) => Ok(net),
-        Err(_fault) => bail!("no network"),
+        Err(_fault) => Err(CaseFault("no network")),
     }
 }
 
@@ -304,6 +316,6 @@ pub fn demand_from(alloc: Global, net: &Network, bytes: &[u8]) -> Result<Demand>
 {
     match read_demand(alloc, net, bytes) {
         Ok(demand) => Ok(demand),
-        Err(_fault) => bail!("no demand"),
+        Err(_fault) => Err(CaseFault("no demand")),
     }
 }

@@ -6,7 +6,7 @@ use std::alloc::Global;
 use std::marker::Model;
 
 /// What was asked of the book and answered between two starts of the centre.
-#[derive(Debug, Drop)]
+#[derive(Drop)]
 pub struct History {
     /// How many changes the book had at the start.
     pub before: u32,
@@ -15,7 +15,7 @@ pub struct History {
 }
 
 /// The histories of a run, one for each start of the centre, in order.
-#[derive(Debug, Drop)]
+#[derive(Drop)]
 pub struct Histories {
     histories: Vec<History>,
 }

@@ -96,7 +96,11 @@ fn man<R: Threads + Wait + Sync, K: Keeper>(
     };
     match station_of(rt, alloc, book, CentreWorker::new(alloc, world)) {
         Ok(station) => Ok(station),
-        Err((book, _)) => Err(book),
+        Err((book, centre)) => {
+            // A world that has just opened has no events to keep.
+            let _none = centre.into_events();
+            Err(book)
+        }
     }
 }
 

@@ -27,7 +27,7 @@ use std::sync::Wait;
 use std::thread::Threads;
 
 /// What a run gives back.
-#[derive(Debug, Drop)]
+#[derive(Drop)]
 pub struct RunEnd<K> {
     /// 0 where the script was run and printed, 1 where memory ran out, 6 where the sink failed, 7 where the store failed, 8
     /// where its journal is faulty, 10 where it holds more than is read.

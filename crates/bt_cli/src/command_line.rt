@@ -5,7 +5,7 @@ ghost use Rattle.bt_cli.specs.Request.{asked_with_one, asked_with_three, asked_w
 ghost use Rattle.bt_cli.specs.CommandLine.{asked, name_of};
 
 /// A command line: a command with its words.
-#[derive(Clone, Copy, Debug)]
+#[derive(Clone, Copy)]
 pub enum CommandLine<'a> {
     /// The words are none of the table.
     Faulty,

@@ -9,7 +9,7 @@ use bt_timeline::{Word, add_line};
 use std::alloc::{AllocError, Global};
 
 /// A text to print, its last newline included, and the status to end with.
-#[derive(Debug, Drop)]
+#[derive(Drop)]
 pub struct Report {
     pub text: Vec<u8>,
     pub status: u8,
@@ -31,7 +31,7 @@ impl Report {
 }
 
 /// Why the work stops before its end.
-#[derive(Debug, Drop)]
+#[derive(Drop)]
 pub enum Stop {
     /// This report stands in the place of the command's own.
     Early(Report),

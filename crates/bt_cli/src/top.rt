@@ -19,7 +19,7 @@ use std::sync::Wait;
 use std::thread::Threads;
 
 /// What the top call gives back.
-#[derive(Debug, Drop)]
+#[derive(Drop)]
 pub struct Ended<K> {
     /// The status with which the program ends.
     pub status: u8,

@@ -8,7 +8,7 @@ use bt_frame::OutOfMemory;
 use std::alloc::Global;
 
 /// Slots that follow each other within one mode.
-#[derive(Clone, Copy, Debug)]
+#[derive(Clone, Copy)]
 pub(crate) struct Span {
     /// The first slot of the frame.
     pub(crate) start: u32,
@@ -17,7 +17,7 @@ pub(crate) struct Span {
 }
 
 /// What the modes give to one connection, and what of it the links before have taken.
-#[derive(Debug, Drop)]
+#[derive(Drop)]
 pub(crate) struct Connection {
     /// The slots of each mode that makes the connection, in order.
     pub(crate) spans: Vec<Span>,

@@ -12,7 +12,7 @@ pub const MOST_BURSTS: usize = 2_147_483_648;
 /// One burst: terminal `from` sends to terminal `to` in `length` slots, the first of them `start`.
 ///
 /// Slots are counted from the start of the traffic part of the frame, which is slot 0.
-#[derive(Clone, Copy, Debug, PartialEq, Eq)]
+#[derive(Clone, Copy)]
 pub struct Burst {
     /// The terminal that sends.
     pub from: TermNo,
@@ -50,7 +50,7 @@ impl Burst {
 
 /// Bursts in order of their start, and where that is the same, of the terminal that sends and then of the one
 /// that receives. Equal ones are allowed.
-#[derive(Debug, Drop)]
+#[derive(Drop)]
 pub struct Bursts {
     bursts: Vec<Burst>,
 }

@@ -7,7 +7,7 @@ use std::alloc::Global;
 use std::marker::Model;
 
 /// A link of the demand: so many slots per frame from one terminal to another.
-#[derive(Clone, Copy, Debug, PartialEq, Eq)]
+#[derive(Clone, Copy)]
 pub struct Link {
     /// The terminal that sends.
     pub from: TermNo,
@@ -20,7 +20,7 @@ pub struct Link {
 /// The links that ask for slots, in order of the terminal that sends and then of the one that receives.
 ///
 /// Each link stands once, its ends differ, and it asks for 1 to `MOST_SUM` slots.
-#[derive(Debug, Drop)]
+#[derive(Drop)]
 pub struct Demand {
     links: Vec<Link>,
 }

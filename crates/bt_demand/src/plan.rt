@@ -6,7 +6,7 @@ use bt_frame::{EditionNo, OutOfMemory, Schedule};
 use std::alloc::Global;
 
 /// A burst time plan: the modes that the on-board switch takes in a frame, and the bursts that go through it.
-#[derive(Debug, Drop)]
+#[derive(Drop)]
 pub struct Plan {
     /// The edition of the demand that the plan serves.
     pub edition: EditionNo,

@@ -12,7 +12,7 @@ pub const MOST_ENTRIES: usize = 2_147_483_648;
 /// The downlink beam of each uplink beam, by number: place `i` has the downlink of uplink `i`.
 ///
 /// The columns of as many beams as a network may have take no memory of their own.
-#[derive(Debug, Drop)]
+#[derive(Drop)]
 pub struct Columns {
     values: SmallVec<u8, MOST_BEAMS>,
 }
@@ -65,7 +65,7 @@ impl Columns {
 }
 
 /// One setting of the on-board switch and the slots for which it is held.
-#[derive(Debug, Drop)]
+#[derive(Drop)]
 pub struct Mode {
     /// Slots.
     pub duration: u32,
@@ -86,7 +86,7 @@ impl Mode {
 }
 
 /// A list of modes in the order in which the switch takes them.
-#[derive(Debug, Drop)]
+#[derive(Drop)]
 pub struct Modes {
     modes: Vec<Mode>,
 }

@@ -7,31 +7,31 @@ use std::alloc::{AllocError, AllocFailed};
 use std::marker::Model;
 
 /// A beam by its place in the network file, from 0. The same number names it as uplink and as downlink.
-#[derive(Clone, Copy, Debug, PartialEq, Eq, PartialOrd, Ord)]
+#[derive(Clone, Copy, PartialEq, Eq, PartialOrd, Ord)]
 pub struct BeamNo(pub u8);
 
 /// A terminal by its place in the network file, from 0.
-#[derive(Clone, Copy, Debug, PartialEq, Eq, PartialOrd, Ord)]
+#[derive(Clone, Copy, PartialEq, Eq, PartialOrd, Ord)]
 pub struct TermNo(pub u8);
 
 /// An edition of the demand: how many edits were accepted up to it.
-#[derive(Clone, Copy, Debug, PartialEq, Eq, PartialOrd, Ord)]
+#[derive(Clone, Copy, PartialEq, Eq, PartialOrd, Ord)]
 pub struct EditionNo(pub u32);
 
 /// A superframe as the satellite counts them and stamps them on its downlink.
-#[derive(Clone, Copy, Debug, PartialEq, Eq, PartialOrd, Ord)]
+#[derive(Clone, Copy, PartialEq, Eq, PartialOrd, Ord)]
 pub struct Mark(pub u32);
 
 /// A command to the satellite, numbered from 1 in the order in which they were given.
-#[derive(Clone, Copy, Debug, PartialEq, Eq, PartialOrd, Ord)]
+#[derive(Clone, Copy, PartialEq, Eq, PartialOrd, Ord)]
 pub struct Command(pub u32);
 
 /// A set of terminals: bit `t`, counted from the lowest, stands for terminal `t`.
-#[derive(Clone, Copy, Debug, PartialEq, Eq)]
+#[derive(Clone, Copy)]
 pub struct TermSet(pub u64);
 
 /// Units of traffic of one edit or one link line, in slots per frame: 1 to `MOST_UNITS`.
-#[derive(Clone, Copy, Debug, PartialEq, Eq)]
+#[derive(Clone, Copy, PartialEq, Eq)]
 pub struct Units {
     number: u32,
 }
@@ -71,7 +71,7 @@ impl Units {
 }
 
 /// Memory ran out. The call left everything as it was, unless its own words say otherwise.
-#[derive(Clone, Copy, Debug, PartialEq, Eq)]
+#[derive(Clone, Copy)]
 pub struct OutOfMemory;
 
 impl From<AllocError> for OutOfMemory {

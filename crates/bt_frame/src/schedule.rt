@@ -5,7 +5,7 @@ use crate::{BeamNo, Modes, OutOfMemory};
 use std::alloc::Global;
 
 /// A line of a traffic matrix, by the number of its beam.
-#[derive(Clone, Copy, Debug, PartialEq, Eq)]
+#[derive(Clone, Copy)]
 pub enum Critical {
     /// The row of an uplink beam.
     Row(BeamNo),
@@ -14,7 +14,7 @@ pub enum Critical {
 }
 
 /// A switching schedule for one frame.
-#[derive(Debug, Drop)]
+#[derive(Drop)]
 pub struct Schedule {
     /// Slots from the start of the traffic part of the frame to its last mode's end.
     pub length: u32,

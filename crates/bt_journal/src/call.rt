@@ -7,7 +7,7 @@ use bt_frame::{EditionNo, OutOfMemory, TermNo, Units};
 use std::alloc::Global;
 
 /// An edit of the demand, in units of slots per frame.
-#[derive(Clone, Copy, Debug, PartialEq, Eq)]
+#[derive(Clone, Copy, PartialEq, Eq)]
 pub enum Edit {
     /// The link gains the units.
     Add {
@@ -32,7 +32,7 @@ pub enum Edit {
 }
 
 /// A call on the book of changes.
-#[derive(Debug, Drop)]
+#[derive(Drop)]
 pub enum Call {
     /// Edit the demand.
     Edit(Edit),
@@ -62,7 +62,7 @@ impl Call {
 }
 
 /// A change that the book has made.
-#[derive(Debug, Drop)]
+#[derive(Drop)]
 pub enum Change {
     /// The demand was edited.
     Edit(Edit),

@@ -5,7 +5,7 @@ use crate::{Call, Reply};
 use std::marker::Model;
 
 /// One call on the book: who called, what was asked, and what was answered.
-#[derive(Debug, Drop)]
+#[derive(Drop)]
 pub struct Entry {
     /// The number of the caller.
     pub caller: u32,
@@ -14,7 +14,7 @@ pub struct Entry {
 }
 
 /// The entries of a history in order.
-#[derive(Debug, Drop)]
+#[derive(Drop)]
 pub struct Entries {
     entries: Vec<Entry>,
 }

@@ -3,7 +3,7 @@ ghost use Rattle.std.specs.Prelude.{◌≡◌};
 ghost use Rattle.bt_journal.specs.declared.line_fault.LineFault.TheVariants.{OutOfMemory};
 
 /// Why a line of a journal is not read.
-#[derive(Clone, Copy, Debug, PartialEq, Eq)]
+#[derive(Clone, Copy)]
 pub enum LineFault {
     /// No change in range has this line.
     Bad,

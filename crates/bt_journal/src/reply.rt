@@ -8,7 +8,7 @@ use bt_verdict::Verdict;
 use std::alloc::Global;
 
 /// The answer to a call. A refusal leaves the demand, the plans and the orders as they were.
-#[derive(Debug, Drop)]
+#[derive(Drop)]
 pub enum Reply {
     /// The edit was made and makes this edition; the heaviest line has so many slots then.
     Done {

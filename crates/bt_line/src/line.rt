@@ -1,13 +1,13 @@
 // The line, and the passes of its callers.
-ghost use Rattle.std.specs.Prelude.{◌≡◌, ℕ, ◌<◌, ◌≤◌, [], List, MatchResult, IfOk, IfErr, vec_len, slice_index_or};
+ghost use Rattle.std.specs.Prelude.{◌≡◌, ℕ, ◌<◌, ◌≤◌, [], List, MatchResult, IfOk, IfErr, vec_len, vec_capacity, slice_index_or};
 ghost use Rattle.bt_frame.specs.declared.limits.TheConstants.{MOST_CALLERS};
 ghost use Rattle.bt_line.specs.declared.object.Entry.{Entry};
 ghost use Rattle.bt_line.specs.Legal.{IsHistory, calls_by, entry_of};
 ghost use Rattle.bt_line.specs.Passes.{HasSeen, Gains, IsOfLine, IsPass, IsSamePass, seen_at};
-ghost use Rattle.bt_line.specs.Turns.{IsSized, IsIdle};
+ghost use Rattle.bt_line.specs.Turns.{IsSized, IsIdle, opening_view};
 
 use crate::plays::{Admit, TakeIn};
-use crate::turn::{Place, call_at};
+use crate::turn::{Place, Top, call_at};
 use crate::{Object, Turns, View};
 use atomic_table::{Refused, Table};
 use bt_frame::OutOfMemory;
@@ -49,7 +49,7 @@ impl<O: Object> Line<O> {
         ensures err { IfErr result (λ back. back ≡ object) }
     {
         let about = Snapshot::of(&object);
-        let Ok(mut passes) = Vec::with_capacity(alloc, seats as usize) else {
+        let Ok(passes) = Vec::with_capacity(alloc, seats as usize) else {
             return Err(object);
         };
         let Ok(mut slots) = Vec::with_capacity(alloc, 1) else {
@@ -58,21 +58,9 @@ impl<O: Object> Line<O> {
         };
         slots.push_reserved(Some(object));
         match Table::new(alloc, &[0, 0], slots, &about) {
-            Ok((table, mut lead)) => {
-                let mut number = 1;
-                while number < seats {
-                    let place = table.shared.split_seat::<Admit>(&mut lead);
-                    passes.push_reserved(Pass { place, number });
-                    number += 1;
-                }
-                let first = Pass {
-                    place: lead,
-                    number: 0,
-                };
-                match passes.insert(0, first) {
-                    Ok(()) => Ok((Line { table }, passes)),
-                    Err(_refused) => unreachable!(),
-                }
+            Ok((table, lead)) => {
+                let passes = passes_of(&table.shared, lead, seats, passes);
+                Ok((Line { table }, passes))
             }
             Err(Refused { mut slots }) => {
                 passes.destroy_empty();
@@ -142,5 +130,39 @@ impl<O: Object> Line<O> {
             Some(object) => object,
             None => unreachable!(),
         }
+    }
+}
+
+/// The passes of so many callers at a table where the first alone has a place: the place of each other is split off it.
+fn passes_of<O: Object>(
+    top: &Top<O>,
+    first: Place<O>,
+    seats: u32,
+    passes: Vec<Pass<O>>,
+) -> Vec<Pass<O>>
+    requires seats { (0 < seats) × (seats ≤ MOST_CALLERS) }
+    requires table { (first.table_id ≡ top.now.table_id) × IsSized top.now.table_id }
+    requires first { first.me ≡ (opening_view top.now.key.value, []) }
+    requires room { (passes.items ≡ []) × (vec_capacity passes ≡ seats) }
+    ensures count { vec_len result ≡ seats }
+    ensures passes { (i : ℕ) (d : _) → i < vec_len result
+        → IsPass top.now.table_id top.now.key.value seats i (slice_index_or result.items i d).place }
+    ensures unseen { (i : ℕ) (d : _) → i < vec_len result
+        → seen_at (slice_index_or result.items i d).place ≡ [] }
+{
+    let (mut lead, mut passes) = (first, passes);
+    let mut number = 1;
+    while number < seats {
+        let place = top.split_seat::<Admit>(&mut lead);
+        passes.push_reserved(Pass { place, number });
+        number += 1;
+    }
+    let first = Pass {
+        place: lead,
+        number: 0,
+    };
+    match passes.insert(0, first) {
+        Ok(()) => passes,
+        Err(_refused) => unreachable!(),
     }
 }

@@ -6,7 +6,7 @@ use bt_frame::OutOfMemory;
 use std::alloc::Global;
 
 /// One call: who called, what was asked, and what was answered.
-#[derive(Clone, Copy, Debug, PartialEq, Eq, Drop)]
+#[derive(Clone, Copy, Drop)]
 pub struct Entry<C, R> {
     /// The number of the caller.
     pub caller: u32,

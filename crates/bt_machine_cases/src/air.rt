@@ -1,9 +1,8 @@
 // Messages of the air as printed lines.
 ghost use Rattle.std.specs.Prelude.{◌≤◌, length, vec_len, IfOk};
 
-use anyhow::{Context, Result, bail};
 use bt_air::{AirFault, Armed, Message, Status, decode, encode, messages_have_one_spelling};
-use bt_case_text::hex_byte;
+use bt_case_text::{CaseFault, Result, hex_byte};
 use bt_demand::Burst;
 use bt_frame::{Command, EditionNo, Mark, Mode, Modes, TermNo};
 use std::alloc::Global;
@@ -24,7 +23,7 @@ pub fn put_message(alloc: Global, digits: &str, out: &mut String) -> Result<()> 
 fn put_again(alloc: Global, bytes: &[u8], out: &mut String) -> Result<()>
     requires { length bytes.now ≤ 4096 }
 {
-    let again = written_again(alloc, bytes).context("out of memory")?;
+    let again = written_again(alloc, bytes).ok_or(CaseFault("out of memory"))?;
     put_hex(&again, out)
 }
 
@@ -56,11 +55,11 @@ fn bytes_of(alloc: Global, digits: &str) -> Result<Vec<u8>>
     for pair in digits.as_bytes().chunks(2) {
         match pair {
             [high, low] => bytes.push(hex_byte(*high, *low)?)?,
-            _ => bail!("an odd number of digits"),
+            _ => return Err(CaseFault("an odd number of digits")),
         }
     }
     if bytes.len() > 4096 {
-        bail!("too many bytes");
+        return Err(CaseFault("too many bytes"));
     }
     Ok(bytes)
 }
@@ -71,7 +70,7 @@ fn put_fault(fault: AirFault, out: &mut String) -> Result<()> {
         AirFault::A2 => put_word("A2", out),
         AirFault::A3 { place } => put_fault_at("A3", place, out),
         AirFault::A4 { place } => put_fault_at("A4", place, out),
-        AirFault::OutOfMemory => bail!("out of memory"),
+        AirFault::OutOfMemory => Err(CaseFault("out of memory")),
     }
 }
 

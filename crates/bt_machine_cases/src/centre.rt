@@ -4,8 +4,7 @@ ghost use Rattle.std.specs.Prelude.{◌<◌, IfOk};
 use crate::air::put_word;
 use crate::message::status_of;
 use crate::shown::{put_act, put_order};
-use anyhow::{Context, Result, bail, ensure};
-use bt_case_text::{byte_of, number_of};
+use bt_case_text::{CaseFault, Result, byte_of, number_of};
 use bt_change::{Centre, with_terminal};
 use bt_frame::{
     EditionNo, LAST_MARK, MOST_LEAD, MOST_PLACED, MOST_TERMINALS, Mark, TermNo, TermSet,
@@ -23,6 +22,19 @@ pub fn show_centre(
         ["centre"] => *centre = new_centre(alloc),
         ["note", words @ ..] => note(centre, words)?,
         ["known", mark] => put_known(centre, mark, out)?,
+        words => return show_orders(alloc, centre, words, out),
+    }
+    Ok(true)
+}
+
+/// Does what a line says of the centre's turn and its orders; false where the words are another line.
+fn show_orders(
+    alloc: Global,
+    centre: &mut Centre,
+    words: &[&str],
+    out: &mut String,
+) -> Result<bool> {
+    match words {
         ["turn", mark, newest, lead, patience] => {
             put_turn(centre, [mark, newest, lead, patience], out)?;
         }
@@ -46,7 +58,7 @@ fn note(centre: &mut Centre, words: &[&str]) -> Result<()> {
             note_confirm(centre, mark, terminal, edition)?;
         }
         ["lost", terminal] => centre.lost(terminal_of(terminal)?),
-        _ => bail!("nothing to note"),
+        _ => return Err(CaseFault("nothing to note")),
     }
     Ok(())
 }
@@ -62,7 +74,9 @@ fn terminal_of(word: &str) -> Result<TermNo>
     ensures { IfOk result (λ terminal. terminal.0 < MOST_TERMINALS) }
 {
     let number = byte_of(word)?;
-    ensure!(usize::from(number) < MOST_TERMINALS, "no terminal");
+    if MOST_TERMINALS <= usize::from(number) {
+        return Err(CaseFault("no terminal"));
+    }
     Ok(TermNo(number))
 }
 
@@ -84,11 +98,12 @@ fn put_turn(centre: &mut Centre, turn: [&str; 4], out: &mut String) -> Result<()
     let [mark, newest, lead, patience] = turn;
     let (mark, newest) = (number_of(mark)?, EditionNo(number_of(newest)?));
     let (lead, patience) = (number_of(lead)?, number_of(patience)?);
-    ensure!(
-        mark <= LAST_MARK && lead <= MOST_LEAD,
-        "no superframe or no lead"
-    );
-    ensure!(centre.order_count() <= MOST_PLACED, "too many orders");
+    if LAST_MARK < mark || MOST_LEAD < lead {
+        return Err(CaseFault("no superframe or no lead"));
+    }
+    if MOST_PLACED < centre.order_count() {
+        return Err(CaseFault("too many orders"));
+    }
     put_act(centre.turn(Mark(mark), newest, lead, patience), out)
 }
 
@@ -100,9 +115,13 @@ fn put_ordered(
     out: &mut String,
 ) -> Result<()> {
     let needs = terminals_of(terminals)?;
-    ensure!(centre.wanted().is_some(), "no order is wanted");
-    let order = centre.ordered(alloc, needs).ok().context("out of memory")?;
-    put_order("ordered", order, out)
+    if centre.wanted().is_none() {
+        return Err(CaseFault("no order is wanted"));
+    }
+    match centre.ordered(alloc, needs) {
+        Ok(order) => put_order("ordered", order, out),
+        Err(_full) => Err(CaseFault("out of memory")),
+    }
 }
 
 fn terminals_of(words: &[&str]) -> Result<TermSet> {

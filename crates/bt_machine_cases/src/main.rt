@@ -17,8 +17,7 @@ mod stage;
 mod terminal;
 mod world;
 
-use anyhow::{Context, Result};
-use bt_case_text::{Sheet, Tally};
+use bt_case_text::{Result, Sheet, Tally};
 use stage::Machines;
 use std::alloc::Global;
 use std::{env, fs, rt};
@@ -30,34 +29,60 @@ fn main(rt: HostRuntime) -> Result<()> {
     for name in &names {
         play_file(&rt, alloc, name.as_str(), &mut tally)?;
     }
-    let (cases, others) = (tally.cases(), tally.others());
-    print!(rt; "{others}")?;
-    tally.see_all_well()?;
-    println!(rt; "{cases} cases")?;
-    Ok(())
+    print_tally(&rt, &tally)
 }
 
-/// Plays the cases of a file.
-fn play_file<R: Alloc + rt::Files>(
+/// Plays the cases of a file. Where a line of it can't be taken, names the file and the line on standard error.
+fn play_file<R: Alloc + rt::Files + Eprint>(
     rt: &R,
     alloc: Global,
     name: &str,
     tally: &mut Tally,
 ) -> Result<()> {
-    let text = fs::read_to_string(rt, name).context(format_args!("{name}"))?;
-    play(alloc, name, text.as_str(), tally)
+    let mut sheet = Sheet::new(alloc, name, tally)?;
+    let played = play(rt, alloc, name, &mut sheet, tally);
+    if played.is_err() {
+        // where standard error cannot be written either, the status alone tells
+        let _told = eprintln!(rt; "{name}: {}", sheet.line());
+    }
+    played
 }
 
-/// Plays the cases of a text on a stage of its own.
-fn play(alloc: Global, name: &str, text: &str, tally: &mut Tally) -> Result<()> {
+/// Plays the cases of a file on a stage of its own.
+fn play<R: Alloc + rt::Files>(
+    rt: &R,
+    alloc: Global,
+    name: &str,
+    sheet: &mut Sheet,
+    tally: &mut Tally,
+) -> Result<()> {
+    let text = fs::read_to_string(rt, name)?;
     let mut stage = Machines::new(alloc);
+    play_lines(alloc, text.as_str(), &mut stage, sheet, tally)
+}
+
+/// Plays the cases of a text on a stage, line by line.
+fn play_lines(
+    alloc: Global,
+    text: &str,
+    stage: &mut Machines,
+    sheet: &mut Sheet,
+    tally: &mut Tally,
+) -> Result<()> {
     let mut came = String::new(alloc);
-    let mut sheet = Sheet::new(alloc, name, tally)?;
     for line in text.lines() {
         if sheet.meets(alloc, line, &mut came, tally)? {
-            let taken = stage.take(alloc, line, &mut came);
-            taken.context(format_args!("{name}: {line}"))?;
+            stage.take(alloc, line, &mut came)?;
         }
     }
     sheet.end(alloc, &mut came, tally)
+}
+
+/// Prints the cases that got another answer and, where all is well, how many cases there were.
+fn print_tally<R: Print>(rt: &R, tally: &Tally) -> Result<()> {
+    let (cases, others) = (tally.cases(), tally.others());
+    print!(rt; "{others}")?;
+    tally.see_all_well()?;
+    println!(rt; "{cases} cases")?;
+    Ok(())
 }

@@ -1,7 +1,6 @@
 // Messages in words, as lines for the satellite and for a terminal give them.
-use anyhow::{Result, bail, ensure};
 use bt_air::{Armed, Message, Status};
-use bt_case_text::{byte_of, number_of};
+use bt_case_text::{CaseFault, Result, byte_of, number_of};
 use bt_demand::{Burst, Bursts};
 use bt_frame::{Columns, Command, EditionNo, Mark, Mode, Modes, TermNo};
 use std::alloc::Global;
@@ -12,11 +11,18 @@ pub fn message_of(alloc: Global, words: &[&str]) -> Result<Message> {
         ["load", command, edition, durations @ ..] => load_of(alloc, command, edition, durations),
         ["arm", command, edition, due] => arm_of(command, edition, due),
         ["plan", to, edition, length] => plan_for(alloc, to, edition, length),
-        ["confirm", from, edition] => confirm_of(from, edition),
         ["reference", superframe, edition] => reference_of(superframe, edition),
+        words => message_to_centre(words),
+    }
+}
+
+/// The message that the words say, which a centre receives.
+fn message_to_centre(words: &[&str]) -> Result<Message> {
+    match words {
+        ["confirm", from, edition] => confirm_of(from, edition),
         ["lost", from] => lost_of(from),
         ["status", words @ ..] => Ok(Message::Status(status_of(words)?)),
-        _ => bail!("no message"),
+        _ => Err(CaseFault("no message")),
     }
 }
 
@@ -95,7 +101,7 @@ pub fn status_of(words: &[&str]) -> Result<Status> {
             let armed = armed_of(edition, due)?;
             status_with([mark, fore, back, last], Some(armed))
         }
-        _ => bail!("no status"),
+        _ => Err(CaseFault("no status")),
     }
 }
 
@@ -124,7 +130,9 @@ fn modes_of(alloc: Global, durations: &[&str]) -> Result<Modes> {
             perm: Columns::of(vec![in alloc; 0]?),
         })?;
     }
-    ensure!(modes.len() <= 16, "too many modes");
+    if 16 < modes.len() {
+        return Err(CaseFault("too many modes"));
+    }
     Ok(Modes::of(modes))
 }
 

@@ -2,8 +2,7 @@
 use crate::air::{put_status, put_word};
 use crate::message::message_of;
 use crate::shown::taken_told;
-use anyhow::{Result, ensure};
-use bt_case_text::number_of;
+use bt_case_text::{CaseFault, Result, number_of};
 use bt_frame::{LAST_MARK, Mark};
 use bt_switch::Satellite;
 use std::alloc::Global;
@@ -19,6 +18,14 @@ pub fn show_satellite(
         ["satellite", mark] => *satellite = satellite_at(alloc, mark)?,
         ["take", words @ ..] => put_taken(alloc, satellite, words, out)?,
         ["tick"] => put_tick(satellite, out)?,
+        words => return show_state(satellite, words, out),
+    }
+    Ok(true)
+}
+
+/// Shows the status and the modes; false where the words are another line.
+fn show_state(satellite: &Satellite, words: &[&str], out: &mut String) -> Result<bool> {
+    match words {
         ["status"] => put_status(&satellite.status(), out)?,
         ["mode", slot] => put_mode(satellite, slot, out)?,
         _ => return Ok(false),
@@ -45,7 +52,9 @@ fn put_taken(
 /// Appends the status with which the next superframe begins.
 fn put_tick(satellite: &mut Satellite, out: &mut String) -> Result<()> {
     let Mark(mark) = satellite.status().mark;
-    ensure!(mark < LAST_MARK, "the last superframe");
+    if LAST_MARK <= mark {
+        return Err(CaseFault("the last superframe"));
+    }
     let status = satellite.tick();
     put_status(&status, out)
 }

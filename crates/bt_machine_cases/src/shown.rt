@@ -1,7 +1,7 @@
 // What an event of a world shows, as a printed line.
 use crate::air::{put_bursts, put_word};
-use anyhow::Result;
 use bt_air::{Act, AirFrame, Answer, Heard, Order, Shown, Taken};
+use bt_case_text::Result;
 use bt_frame::{Command, EditionNo, Mark};
 
 /// Appends the line of what an event showed.

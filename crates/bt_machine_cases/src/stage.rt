@@ -4,8 +4,7 @@ use crate::centre::{new_centre, show_centre};
 use crate::satellite::show_satellite;
 use crate::terminal::show_terminal;
 use crate::world::Flight;
-use anyhow::{Result, bail};
-use bt_case_text::{Shelf, set_files};
+use bt_case_text::{CaseFault, Result, Shelf, set_files};
 use bt_change::Centre;
 use bt_frame::{Mark, TermNo};
 use bt_switch::Satellite;
@@ -61,7 +60,7 @@ impl Machines {
         if self.show_world(alloc, words, out)? {
             return Ok(());
         }
-        bail!("no line of cases")
+        Err(CaseFault("no line of cases"))
     }
 
     /// Shows the satellite, the terminal and the centre, each by itself.
@@ -104,7 +103,7 @@ impl Machines {
     fn put_event(&mut self, alloc: Global, words: &[&str], out: &mut String) -> Result<()> {
         match self.flights.last_mut() {
             Some(flight) => flight.put_event(alloc, words, out),
-            None => bail!("no world"),
+            None => Err(CaseFault("no world")),
         }
     }
 
@@ -118,7 +117,7 @@ impl Machines {
         let (traffic, plan) = (self.shelf.text(traffic)?, self.shelf.text(plan)?);
         match self.flights.last_mut() {
             Some(flight) => flight.put_install(alloc, traffic, plan, out),
-            None => bail!("no world"),
+            None => Err(CaseFault("no world")),
         }
     }
 }

@@ -2,8 +2,7 @@
 use crate::air::{put_bursts, put_word};
 use crate::message::message_of;
 use crate::shown::heard_told;
-use anyhow::Result;
-use bt_case_text::{byte_of, number_of};
+use bt_case_text::{Result, byte_of, number_of};
 use bt_frame::{Mark, TermNo};
 use bt_term::Terminal;
 use std::alloc::Global;

@@ -7,9 +7,8 @@ ghost use Rattle.bt_world.specs.Fits.{Meets, no_plan};
 ghost use Rattle.bt_world.specs.Life.{past_of};
 
 use crate::shown::put_shown;
-use anyhow::{Result, bail, ensure};
 use bt_air::{Event, Place, Sent, Shown};
-use bt_case_text::{Part, byte_of, number_of, put_lines};
+use bt_case_text::{CaseFault, Part, Result, byte_of, number_of, put_lines};
 use bt_demand::{Bursts, Plan, good_plans_are_flyable};
 use bt_frame::{
     BeamNo, Critical, EditionNo, LAST_MARK, MOST_COUNTED, MOST_SLOTS, MOST_TEXT_BYTES, Modes,
@@ -34,7 +33,7 @@ impl Flight {
     /// The world of a network before its first event, with the empty plan and no order.
     pub fn start(alloc: Global, net: &[u8]) -> Result<Flight> {
         let Ok(net) = Network::read(alloc, net) else {
-            bail!("no network");
+            return Err(CaseFault("no network"));
         };
         let world = world_of(alloc, &net)?;
         Ok(Flight { net, world })
@@ -72,19 +71,23 @@ impl Flight {
             ["reset", terminal] => self.reset(alloc, terminal),
             ["restart", "kept"] => self.restart_with(alloc),
             ["restart"] => self.happen(alloc, Event::RestartCentre { kept: false }),
-            _ => bail!("no event"),
+            _ => Err(CaseFault("no event")),
         }
     }
 
     fn install(&mut self, alloc: Global, plan: Plan) -> Result<Shown>
         requires { IsFlyable self.old.net plan }
     {
-        ensure!(self.world.newest().0 < plan.edition.0, "no newer edition");
+        if plan.edition.0 <= self.world.newest().0 {
+            return Err(CaseFault("no newer edition"));
+        }
         self.happen(alloc, Event::Install { plan })
     }
 
     fn tick(&mut self, alloc: Global) -> Result<Shown> {
-        ensure!(self.world.mark().0 < LAST_MARK, "the last superframe");
+        if LAST_MARK <= self.world.mark().0 {
+            return Err(CaseFault("the last superframe"));
+        }
         self.happen(alloc, Event::Tick)
     }
 
@@ -94,35 +97,39 @@ impl Flight {
     }
 
     fn order(&mut self, alloc: Global) -> Result<Shown> {
-        ensure!(self.world.wanted().is_some(), "no order is wanted");
+        if self.world.wanted().is_none() {
+            return Err(CaseFault("no order is wanted"));
+        }
         self.happen(alloc, Event::Ordered)
     }
 
     fn frame(&mut self, alloc: Global) -> Result<Shown> {
-        ensure!(
-            self.world.frame_number() < self.net.frames(),
-            "no frame is left"
-        );
+        if self.net.frames() <= self.world.frame_number() {
+            return Err(CaseFault("no frame is left"));
+        }
         self.happen(alloc, Event::Frame)
     }
 
     fn restart_with(&mut self, alloc: Global) -> Result<Shown> {
-        ensure!(self.world.wanted().is_some(), "no order is wanted");
+        if self.world.wanted().is_none() {
+            return Err(CaseFault("no order is wanted"));
+        }
         self.happen(alloc, Event::RestartCentre { kept: true })
     }
 
     fn reset(&mut self, alloc: Global, terminal: &str) -> Result<Shown> {
         let terminal = TermNo(byte_of(terminal)?);
-        ensure!(
-            u32::from(terminal.0) < self.net.terminal_count(),
-            "no terminal"
-        );
+        if self.net.terminal_count() <= u32::from(terminal.0) {
+            return Err(CaseFault("no terminal"));
+        }
         self.happen(alloc, Event::ResetTerminal { terminal })
     }
 
     fn deliver(&mut self, alloc: Global, number: &str, place: &str) -> Result<Shown> {
         let message = number_of(number)?;
-        ensure!(message < self.world.sent_count(), "not sent");
+        if self.world.sent_count() <= message {
+            return Err(CaseFault("not sent"));
+        }
         match place {
             "sat" => self.happen(
                 alloc,
@@ -140,10 +147,9 @@ impl Flight {
             ),
             name => {
                 let terminal = TermNo(byte_of(name)?);
-                ensure!(
-                    u32::from(terminal.0) < self.net.terminal_count(),
-                    "no terminal"
-                );
+                if self.net.terminal_count() <= u32::from(terminal.0) {
+                    return Err(CaseFault("no terminal"));
+                }
                 self.happen(
                     alloc,
                     Event::Deliver {
@@ -160,10 +166,12 @@ impl Flight {
         requires { Meets self.old.world.opening (past_of self.old.world) event }
     {
         let (sent, orders) = (self.world.sent_count(), self.world.order_count());
-        ensure!(sent <= MOST_COUNTED && orders <= MOST_COUNTED, "too much");
+        if MOST_COUNTED < sent || MOST_COUNTED < orders {
+            return Err(CaseFault("too much"));
+        }
         match self.world.step(alloc, &self.net, event) {
             Ok(shown) => Ok(shown),
-            Err(_full) => bail!("out of memory"),
+            Err(_full) => Err(CaseFault("out of memory")),
         }
     }
 
@@ -172,9 +180,11 @@ impl Flight {
         let mut text = Vec::new(alloc);
         for number in first..self.world.sent_count() {
             let sent = self.world.sent(number);
-            ensure!(is_named(&self.net, sent), "no terminal");
+            if !is_named(&self.net, sent) {
+                return Err(CaseFault("no terminal"));
+            }
             if sent_text(alloc, &self.net, number, sent, &mut text).is_err() {
-                bail!("out of memory");
+                return Err(CaseFault("out of memory"));
             }
         }
         put_lines(alloc, &text, Part::All, out)
@@ -189,7 +199,7 @@ fn world_of(alloc: Global, net: &Network) -> Result<World>
     plans.push(empty_plan(alloc))?;
     match World::start(alloc, net, plans, Vec::new(alloc)) {
         Ok(world) => Ok(world),
-        Err(_full) => bail!("out of memory"),
+        Err(_full) => Err(CaseFault("out of memory")),
     }
 }
 
@@ -209,18 +219,22 @@ fn is_named(net: &Network, sent: &Sent) -> bool
 fn good_plan_from(alloc: Global, net: &Network, traffic: &[u8], plan: &[u8]) -> Result<Plan>
     ensures { IfOk result (IsFlyable net.now) }
 {
-    ensure!(plan.len() <= MOST_TEXT_BYTES, "a long text");
+    if MOST_TEXT_BYTES < plan.len() {
+        return Err(CaseFault("a long text"));
+    }
     let Ok(demand) = read_demand(alloc, net, traffic) else {
-        bail!("no demand");
+        return Err(CaseFault("no demand"));
     };
     let Ok(plan) = read_plan(alloc, net, plan) else {
-        bail!("no plan");
+        return Err(CaseFault("no plan"));
     };
-    ensure!(plan.schedule.length <= MOST_SLOTS, "a long frame");
+    if MOST_SLOTS < plan.schedule.length {
+        return Err(CaseFault("a long frame"));
+    }
     good_plans_are_flyable();
     match check(net, &demand, &plan) {
         Verdict::Good => Ok(plan),
-        _ => bail!("no good plan"),
+        _ => Err(CaseFault("no good plan")),
     }
 }
 

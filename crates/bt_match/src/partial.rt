@@ -11,7 +11,7 @@ use std::alloc::Global;
 use std::marker::Model;
 
 /// A column for some of 1 to `MOST_BEAMS` rows, each below their number and no column twice.
-#[derive(Debug, Drop)]
+#[derive(Drop)]
 pub struct Partial {
     columns: [Option<u8>; MOST_BEAMS],
     size: usize,

@@ -7,7 +7,7 @@ use bt_frame::MOST_BEAMS;
 use std::marker::Model;
 
 /// A permutation of 1 to `MOST_BEAMS` beams: place `i` has the downlink beam of uplink beam `i`.
-#[derive(Debug, Drop)]
+#[derive(Drop)]
 pub struct Perm {
     columns: [u8; MOST_BEAMS],
     size: usize,

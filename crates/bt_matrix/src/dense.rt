@@ -10,7 +10,7 @@ use std::marker::Model;
 /// A square matrix of slots per frame in which each entry has its place, also where it is 0.
 ///
 /// The sum of each line is kept beside the entries.
-#[derive(Debug, Drop)]
+#[derive(Drop)]
 pub struct Dense {
     rows: Vec<Vec<u32>>,
     row_sums: [u32; MOST_BEAMS],

@@ -5,7 +5,7 @@ ghost use Rattle.bt_net.specs.declared.fault.NetFault.TheVariants.{OutOfMemory};
 use std::alloc::{AllocError, AllocFailed, Global};
 
 /// A place in a network file. Entries are counted from 0.
-#[derive(Clone, Copy, Debug, PartialEq, Eq)]
+#[derive(Clone, Copy)]
 pub enum Path {
     /// The whole value.
     Top,
@@ -66,7 +66,7 @@ impl Path {
 }
 
 /// Why bytes are no network: the first fault in the order of the walk over the file.
-#[derive(Clone, Copy, Debug, PartialEq, Eq)]
+#[derive(Clone, Copy)]
 pub enum NetFault {
     /// The bytes are no JSON.
     N1,

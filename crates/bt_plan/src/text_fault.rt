@@ -3,7 +3,7 @@
 use bt_text::LineFault;
 
 /// What is wrong with a line of a text.
-#[derive(Clone, Copy, Debug, PartialEq, Eq)]
+#[derive(Clone, Copy)]
 pub enum TextCode {
     /// A line of a matrix leaves the grammar, is missing, or is one too many.
     X1,

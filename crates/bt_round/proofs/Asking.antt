@@ -97,6 +97,11 @@ own_before start old new number asked reply gains =
     append_cancel_right (calls_by number gains.before) (calls_by number old) (last ∷ [])
     (sym parts ∙ ap (calls_by number) (sym gains.ends) ∙ gains.own)
 
+-- and with the call it has seen one entry of its own more
+pub own_gained : (start : Books) (old new : List (line.Entry Call Reply)) (number : ℕ) (asked : Call) (reply : Reply) → Gains book_steps start old (entry_of number asked reply) new
+    → own_in number new ≡ own_in number old ++ made number asked reply ∷ []
+own_gained start old new number asked reply gains = ap (map journal_entry) gains.own ∙ map-append journal_entry (calls_by number old) (entry_of number asked reply ∷ [])
+
 -- so the entry of a call is one that was answered
 pub answered_by_step : AreAnswered → (net : Net) (caller : Calling) (new : List (line.Entry Call Reply)) (asked : Call) (entry : Entry) → caller.start.net ≡ net
     → Follows caller.start.net caller.start.state.changes → entry.call ≡ asked

@@ -1,5 +1,5 @@
 -- What follows from what a call ensures where it succeeds.
-use Rattle.std.proofs.Common.{◌≡◌, Result, Ok, Err, IfOk, IsOk, OnOk, subst}
+use Rattle.std.proofs.Common.{◌≡◌, Result, Ok, Err, IsOk, OnOk, subst}
 
 -- what follows from a fact holds where the fact does
 pub on_ok : {T E P Q : Type 0} (result : Result T E) → OnOk result P → (P → Q) → OnOk result Q

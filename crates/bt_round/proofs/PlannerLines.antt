@@ -32,7 +32,7 @@ use Rattle.bt_timeline.specs.Verdicts.{CanName}
 use Rattle.bt_round.specs.Planning.{PlansOnce, planner_line, planner_text}
 use Rattle.bt_round.specs.Callers.{Calling, IsAnswered, IsSameCaller, own_of}
 use Rattle.bt_round.specs.Rounds.{PlannerDone}
-use Rattle.bt_round.specs.Workers.{HasPosted}
+use Rattle.bt_round.specs.Workers.{HasPosted, InstallDone}
 use Rattle.bt_round.proofs.DeskLines.{IsBy, two_pieces}
 use Rattle.bt_round.proofs.Posting.{installed_by, installed_by-append, none_installed, plan_asked, posted_more}
 
@@ -141,6 +141,13 @@ always_printed net Placed line answers = refl
 always_printed net StoreFault line answers = refl
 always_printed net Stopped line answers = refl
 
+-- what is printed of it is its line
+pub install_printed : (net : Net) (entry : Entry) (text written : List ℕ) → AnswersInstall net entry.reply → written ≡ text ++ entry_line net None entry
+    → written ≡ text ++ planner_text net (entry ∷ [])
+install_printed net entry text written answers printed =
+    let line = entry_line net None entry in
+    printed ∙ ap (λ (l : List ℕ). text ++ l) (sym (append-nil (planner_line net entry.reply line) ∙ always_printed net entry.reply line answers))
+
 where_same : (a b : ℕ) (line : List ℕ) → a ≡ b → (if a == b then line else []) ≡ line
 where_same a b line same =
     let passes : (a == b) ≡ true = grind (arith, nat_tests, same) in
@@ -200,16 +207,14 @@ nothing_new net seen edition newest links posted h0 h1 t0 t1 caller asked reply 
     }) (All-cons (IsBy 1) seen [] caller (All-nil (IsBy 1))) (posts_none posted seen asked) kept (printed ∙ ap (λ (l : List ℕ). t0 ++ l) (sym shown))
 
 -- the edition was planned, and its plan asked to be installed
-pub edition_planned : (net : Net) (seen entry : Entry) (edition newest : EditionNo) (links : List Link) (plan : Plan) (p0 p1 : List Plan) (h0 h1 h2 : List Entry) (t0 t1 : List ℕ) → seen.caller ≡ 1
+pub edition_planned : (net : Net) (seen : Entry) (edition newest : EditionNo) (links : List Link) (plan : Plan) (p0 p1 : List Plan) (h0 h1 h2 : List Entry) (t0 t1 : List ℕ) → seen.caller ≡ 1
     → seen.call ≡ call.Snapshot → seen.reply ≡ Demand edition newest links → edition.0 ≢ newest.0 → h1 ≡ h0 ++ seen ∷ [] → plan.edition ≡ edition → IsGoodPlan net links plan
-    → entry.caller ≡ 1 → entry.call ≡ call.Install plan → AnswersInstall net entry.reply → h2 ≡ h1 ++ entry ∷ [] → t1 ≡ t0 ++ entry_line net None entry
-    → p1 ≡ p0 ++ installed_by (entry ∷ []) → PlannerDone net 1 p0 p1 h0 h2 t0 t1
-edition_planned net seen entry edition newest links plan p0 p1 h0 h1 h2 t0 t1 caller asked reply differ kept same good by installs answers more printed posts =
-    let line = entry_line net None entry in
+    → InstallDone net plan p0 p1 h1 h2 t0 t1 → PlannerDone net 1 p0 p1 h0 h2 t0 t1
+edition_planned net seen edition newest links plan p0 p1 h0 h1 h2 t0 t1 caller asked reply differ kept same good done =
+    let entry = done.entry in
     let unseen : planner_line net seen.reply (entry_line net None seen) ≡ [] =
     ap (λ (r : Reply). planner_line net r (entry_line net None seen)) reply ∙ where_not edition.0 newest.0 (entry_line net None seen) differ in
-    let shown : planner_text net (seen ∷ entry ∷ []) ≡ line =
-    ap (λ (l : List ℕ). l ++ planner_text net (entry ∷ [])) unseen ∙ append-nil (planner_line net entry.reply line) ∙ always_printed net entry.reply line answers in
+    let shown : planner_text net (seen ∷ entry ∷ []) ≡ planner_text net (entry ∷ []) = ap (λ (l : List ℕ). l ++ planner_text net (entry ∷ [])) unseen in
     let posted : installed_by (seen ∷ entry ∷ []) ≡ installed_by (entry ∷ []) =
     installed_by-append (seen ∷ []) (entry ∷ []) ∙ ap (λ (l : List Plan). l ++ installed_by (entry ∷ [])) (seen_installs_none seen asked) in
     one_line net p0 p1 (seen ∷ entry ∷ []) h0 h2 t0 t1 (record {
@@ -221,9 +226,10 @@ edition_planned net seen entry edition newest links plan p0 p1 h0 h1 h2 t0 t1 ca
       links = links;
       call = asked;
       reply = reply;
-      planned = (differ, (plan, installs, same, good));
-    }) (All-cons (IsBy 1) seen (entry ∷ []) caller (All-cons (IsBy 1) entry [] by (All-nil (IsBy 1))))
-    (posts ∙ ap (λ (l : List Plan). p0 ++ l) (sym posted)) (two_pieces h0 (seen ∷ []) (entry ∷ []) h1 h2 kept more) (printed ∙ ap (λ (l : List ℕ). t0 ++ l) (sym shown))
+      planned = (differ, (plan, done.call, same, good));
+    }) (All-cons (IsBy 1) seen (entry ∷ []) caller (All-cons (IsBy 1) entry [] done.caller (All-nil (IsBy 1))))
+    (done.posts ∙ ap (λ (l : List Plan). p0 ++ l) (sym posted)) (two_pieces h0 (seen ∷ []) (entry ∷ []) h1 h2 kept done.kept)
+    (done.printed ∙ ap (λ (l : List ℕ). t0 ++ l) (sym shown))
 
 -- no lines yet
 pub planner_begins : (net : Net) (posted : List Plan) (history : List Entry) (text : List ℕ) → PlannerDone net 0 posted posted history history text text

@@ -1,5 +1,5 @@
 -- The workers of a round at their places: seated before their lines, and over after them.
-use Rattle.std.proofs.Common.{◌≡◌, ℕ, ◌+◌, ◌<◌, ◌≤◌, List, [], ◌∷◌, ◌++◌, length, get_or, set, drop, map, All, Ok, OnOk, Some, Result, refl, sym, ap, ◌∙◌, subst, ⊎_elim, append_assoc, arith, length-append}
+use Rattle.std.proofs.Common.{◌≡◌, ℕ, ◌+◌, ◌<◌, ◌≤◌, List, [], ◌∷◌, ◌++◌, length, get_or, set, drop, map, All, Ok, OnOk, Some, Result, sym, ap, ◌∙◌, subst, ⊎_elim, append_assoc, arith, length-append}
 use Rattle.std.proofs.lemmas.Bool.{cases_eq}
 use Rattle.std.proofs.lemmas.List.{append-nil, drop_more, map-append, get_or_append_left, get_or_push, get_or-set_other, get_or-set_same, length-drop}
 use Rattle.atomic_table.specs.Seated.{TableId}
@@ -262,3 +262,14 @@ moved_on {A} {B} {C} f g made one next left all same is =
     ∙ append_assoc (map f made) (f one ∷ []) (map g left)
     ∙ ap (λ (x : C). map f made ++ x ∷ map g left) same
     ∙ is
+
+-- what was made of the first two of a list, with the others
+pub moved_two : {A B C : Type 0} (f : A → C) (g : B → C) (one two : A) (first second : B) (all : List B) → 1 < length all → first ≡ get_or all 0 first → second ≡ get_or all 1 second
+    → f one ≡ g first → f two ≡ g second → map f (one ∷ two ∷ []) ++ map g (drop 2 all) ≡ map g all
+moved_two {A} {B} {C} f g one two first second all long first_is second_is begins goes_on =
+    let parts : first ∷ second ∷ drop 2 all ≡ all =
+    ap (λ (x : B). x ∷ second ∷ drop 2 all) first_is
+    ∙ ap (λ (x : B). get_or all 0 first ∷ x ∷ drop 2 all) second_is
+    ∙ ap (λ (l : List B). get_or all 0 first ∷ l) (sym (drop_more all 1 second long))
+    ∙ sym (drop_more all 0 first (omega (arith, long))) in
+    ap (λ (x : C). x ∷ f two ∷ map g (drop 2 all)) begins ∙ ap (λ (x : C). g first ∷ x ∷ map g (drop 2 all)) goes_on ∙ ap (map g) parts

@@ -8,7 +8,7 @@ use bt_frame::MOST_DESKS;
 use std::marker::Model;
 
 /// The number of a desk: 1 to `MOST_DESKS`.
-#[derive(Clone, Copy, Debug, PartialEq, Eq)]
+#[derive(Clone, Copy)]
 pub struct DeskNo {
     number: u8,
 }

@@ -3,7 +3,7 @@
 use bt_text::LineFault;
 
 /// What is wrong with a line of a script.
-#[derive(Clone, Copy, Debug, PartialEq, Eq)]
+#[derive(Clone, Copy)]
 pub enum ScriptCode {
     /// A line leaves the grammar.
     S1,

@@ -12,7 +12,7 @@ use bt_net::Network;
 use bt_text::fault_at;
 
 /// What a line of a script says.
-#[derive(Clone, Copy, Debug, PartialEq, Eq)]
+#[derive(Clone, Copy)]
 pub enum ScriptLine {
     /// Nothing.
     Remark,

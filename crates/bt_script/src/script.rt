@@ -9,7 +9,7 @@ use std::alloc::Global;
 use std::marker::Model;
 
 /// A line of a desk.
-#[derive(Clone, Copy, Debug, PartialEq, Eq)]
+#[derive(Clone, Copy)]
 pub enum DeskLine {
     /// The desk edits the demand.
     Edit(Edit),
@@ -18,7 +18,7 @@ pub enum DeskLine {
 }
 
 /// The lines of one desk in the order of the script.
-#[derive(Debug, Drop)]
+#[derive(Drop)]
 pub struct DeskLines {
     lines: Vec<DeskLine>,
 }
@@ -70,7 +70,7 @@ impl DeskLines {
 }
 
 /// The numbers of desks, each with its lines. They ascend from 1 to `MOST_DESKS` at most, and each of them has a line.
-#[derive(Debug, Drop)]
+#[derive(Drop)]
 pub struct Desks {
     desks: Vec<(u8, DeskLines)>,
 }
@@ -106,7 +106,7 @@ impl Desks {
 }
 
 /// What is lost on the air.
-#[derive(Clone, Copy, Debug, PartialEq, Eq)]
+#[derive(Clone, Copy)]
 pub enum Losing {
     /// All that waits.
     All,
@@ -115,7 +115,7 @@ pub enum Losing {
 }
 
 /// A line of the air.
-#[derive(Clone, Copy, Debug, PartialEq, Eq)]
+#[derive(Clone, Copy)]
 pub enum AirLine {
     /// The satellite's next superframe begins.
     Tick,
@@ -135,7 +135,7 @@ pub enum AirLine {
 }
 
 /// The lines of the air in the order of the script.
-#[derive(Debug, Drop)]
+#[derive(Drop)]
 pub struct AirLines {
     lines: Vec<AirLine>,
 }
@@ -166,7 +166,7 @@ impl AirLines {
 }
 
 /// A round: its desks, its planner and the centre's worker run at once, each through lines of its own.
-#[derive(Debug, Drop)]
+#[derive(Drop)]
 pub struct Round {
     /// What the desks do.
     pub desks: Desks,
@@ -177,7 +177,7 @@ pub struct Round {
 }
 
 /// A part of a script.
-#[derive(Debug, Drop)]
+#[derive(Drop)]
 pub enum Item {
     /// A round is run.
     Round(Round),
@@ -186,7 +186,7 @@ pub enum Item {
 }
 
 /// The parts of a script in order.
-#[derive(Debug, Drop)]
+#[derive(Drop)]
 pub struct Items {
     items: Vec<Item>,
 }
@@ -217,7 +217,7 @@ impl Items {
 }
 
 /// A script.
-#[derive(Debug, Drop)]
+#[derive(Drop)]
 pub struct Script {
     pub items: Items,
 }

@@ -8,7 +8,7 @@ use bt_net::{are_names, is_name};
 use bt_text::{WordReader, is_word, number_of_digits};
 
 /// Who receives a message; a terminal is still a `Name`.
-#[derive(Clone, Copy, Debug, PartialEq, Eq)]
+#[derive(Clone, Copy)]
 pub enum Receiver<Name> {
     /// The satellite.
     Satellite,
@@ -19,7 +19,7 @@ pub enum Receiver<Name> {
 }
 
 /// What a desk does; a terminal is still a `Name`, and units may be out of range.
-#[derive(Clone, Copy, Debug, PartialEq, Eq)]
+#[derive(Clone, Copy)]
 pub enum DeskShape<Name> {
     /// It wants so many units more for a link.
     Add {
@@ -48,7 +48,7 @@ pub enum DeskShape<Name> {
 }
 
 /// What happens on the air; a terminal is still a `Name`, and the number of a message may be out of range.
-#[derive(Clone, Copy, Debug, PartialEq, Eq)]
+#[derive(Clone, Copy)]
 pub enum AirShape<Name> {
     /// The satellite's next superframe begins.
     Tick,
@@ -76,7 +76,7 @@ pub enum AirShape<Name> {
 }
 
 /// A line whose words have their shapes: a name is still a `Name`, and a number may be out of range.
-#[derive(Clone, Copy, Debug, PartialEq, Eq)]
+#[derive(Clone, Copy)]
 pub enum LineShape<Name> {
     /// Nothing is said.
     Remark,

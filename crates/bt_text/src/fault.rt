@@ -5,7 +5,7 @@ ghost use Rattle.bt_text.specs.declared.fault.LineFault.TheVariants.{OutOfMemory
 use std::alloc::{AllocError, AllocFailed};
 
 /// Why a text was not read. `Code` says what may be wrong with one of its lines.
-#[derive(Clone, Copy, Debug, PartialEq, Eq)]
+#[derive(Clone, Copy)]
 pub enum LineFault<Code> {
     /// The first line with a fault, counted from 1.
     At { code: Code, line: u32 },

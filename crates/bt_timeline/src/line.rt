@@ -9,7 +9,7 @@ use bt_text::number_text;
 use std::alloc::Global;
 
 /// What a word of a line is.
-#[derive(Clone, Copy, Debug)]
+#[derive(Clone, Copy)]
 pub enum Word<'a> {
     /// This text.
     Text(&'a str),

@@ -39,7 +39,7 @@ pub fn round_text(alloc: Global, number: u64, out: &mut Vec<u8>) -> Result<(), O
 }
 
 /// How the edits of a run were answered.
-#[derive(Clone, Copy, Debug, PartialEq, Eq)]
+#[derive(Clone, Copy)]
 pub struct Totals {
     /// Edits that were done.
     pub done: u64,

@@ -91,14 +91,24 @@ fn add_all<R: Threads + Wait + Sync>(
     for_each_chunk_mut(rt, passes, 1, &|_, part| add_as(rt, alloc, line, part));
 }
 
+// The network, or None where memory runs out.
+fn network(alloc: Global) -> Option<Network>
+    ensures terminals { IfSome result (λ net. length net.terminals ≡ 2) }
+{
+    let Ok(net) = Network::read(alloc, NETWORK.as_bytes()) else {
+        return None;
+    };
+    if net.terminal_count() != 2 {
+        return None;
+    }
+    Some(net)
+}
+
 // A new book of the network, or None where memory runs out.
 fn new_book(alloc: Global) -> Option<Book<SureKeeper>>
     ensures terminals { IfSome result (λ book. length book.net.terminals ≡ 2) }
 {
-    let net = Network::read(alloc, NETWORK.as_bytes()).ok()?;
-    if net.terminal_count() != 2 {
-        return None;
-    }
+    let net = network(alloc)?;
     match Book::recover(alloc, &net, SureKeeper::new(Vec::new(alloc))) {
         Ok(book) => Some(book),
         Err(_end) => None,

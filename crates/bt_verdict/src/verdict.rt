@@ -4,7 +4,7 @@ use bt_frame::{BeamNo, Critical, TermNo};
 /// What is wrong first with a schedule or a plan, or that it is good.
 ///
 /// Modes, bursts and beams are named by their places, counted from 0.
-#[derive(Clone, Copy, Debug, PartialEq, Eq)]
+#[derive(Clone, Copy)]
 pub enum Verdict {
     /// Nothing is wrong.
     Good,

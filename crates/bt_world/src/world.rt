@@ -61,13 +61,10 @@ impl World {
         requires opening { IsOpening (opening_of net.now plans.items orders.items) }
         ensures made { IfOk result (λ world. world ≡ record { opening = opening_of net.now plans.items orders.items; events = [] }) }
     {
-        let count = net.terminal_count();
         let mark = greatest_due(orders.as_slice());
-        let net = net.copy(alloc)?;
-        let terminals = new_terminals(alloc, count)?;
-        let placed = Vec::from_slice(alloc, orders.as_slice())?;
-        let log = EventLog::open(alloc, count, plans)?;
+        let log = EventLog::open(alloc, net.terminal_count(), plans)?;
         let needs = log.needs(last_of(orders.as_slice()));
+        let (net, terminals, placed) = copies_of(alloc, net, orders.as_slice())?;
         Ok(World {
             net,
             orders,
@@ -149,6 +146,23 @@ impl World {
     {
         self.log.into_events()
     }
+}
+
+// What a world keeps of its own: a copy of its network, the terminals of that network, which have heard nothing, and a
+// copy of the orders that opened it, for its centre.
+fn copies_of(
+    alloc: Global,
+    net: &Network,
+    orders: &[Order],
+) -> Result<(Network, Vec<Terminal>, Vec<Order>), OutOfMemory>
+    ensures net { IfOk result (λ copies. copies.0 ≡ net.now) }
+    ensures terminals { IfOk result (λ copies. copies.1.items ≡ map new_of (terminals_of (length net.now.terminals))) }
+    ensures placed { IfOk result (λ copies. copies.2.items ≡ orders.now) }
+{
+    let terminals = new_terminals(alloc, net.terminal_count())?;
+    let placed = Vec::from_slice(alloc, orders)?;
+    let net = net.copy(alloc)?;
+    Ok((net, terminals, placed))
 }
 
 // The superframe in which a world of these orders begins: the greatest for which one arms, or 0.

@@ -3,7 +3,7 @@
 
 mod pages;
 
-use bt_base::{DirFiles, FileKeeper, StdSink, SureKeeper};
+use bt_base::{DirFiles, FileKeeper, StdSink};
 use bt_cli::{DONE, OUT_OF_MEMORY, centre_main, print_text};
 use std::alloc::{AllocError, Global};
 use std::env::Env;
@@ -18,16 +18,8 @@ fn main(rt: HostRuntime) -> ExitCode {
             Some(page) => print_text(alloc, page.as_bytes(), DONE, &mut out),
             None => {
                 let mut files = DirFiles::new(&rt);
-                match journal_of(&words) {
-                    Some(journal) => {
-                        let store = FileKeeper::new(&rt, journal);
-                        centre_main(&rt, alloc, &words, &mut files, &mut out, store).status
-                    }
-                    None => {
-                        let store = SureKeeper::new(Vec::new(alloc));
-                        centre_main(&rt, alloc, &words, &mut files, &mut out, store).status
-                    }
-                }
+                let store = FileKeeper::new(&rt, journal_of(&words));
+                centre_main(&rt, alloc, &words, &mut files, &mut out, store).status
             }
         },
         Err(_) => OUT_OF_MEMORY,
@@ -48,12 +40,12 @@ fn words<R: Env + Alloc<A = Global>>(rt: &R, alloc: Global) -> Result<Vec<String
     }
 }
 
-/// The file of the journal that a run or a replay asks for; None where the words ask for neither.
-fn journal_of(words: &[String]) -> Option<&str> {
-    let journal = match words {
-        [command, _, _, journal] if command.as_str() == "run" => journal,
-        [command, _, journal] if command.as_str() == "replay" => journal,
-        _ => return None,
-    };
-    (!journal.is_empty()).then_some(journal.as_str())
+/// The file of the journal that a run or a replay asks for. Any other words have none, which is never opened: the top call
+/// hands the store of such words back untouched.
+fn journal_of(words: &[String]) -> &str {
+    match words {
+        [command, _, _, journal] if command.as_str() == "run" => journal.as_str(),
+        [command, _, journal] if command.as_str() == "replay" => journal.as_str(),
+        _ => "",
+    }
 }

@@ -1,11 +1,39 @@
 -- the passes come in the order of their workers, and the readers in that of the desks
-use Rattle.std.proofs.Common.{◌≡◌, ◌+◌, [], ◌∷◌, ◌++◌, List, Some, length, length-append, map, drop, sym, ap, ◌∙◌, subst, arith}
-use Rattle.std.proofs.lemmas.List.{append-nil, nil_from_length}
+use Rattle.std.proofs.Common.{◌≡◌, ◌+◌, [], ◌∷◌, ◌++◌, List, Some, length, length-append, map, drop, get_or, sym, ap, ◌∙◌, subst, arith}
+use Rattle.std.proofs.lemmas.Grind.{get_or_after_one}
+use Rattle.std.proofs.lemmas.List.{append-nil, drop-drop, nil_from_length}
 use Rattle.std.specs.Vec.Iter.{into_iter_items}
 use Rattle.bt_board.specs.Posted.{Posted}
 use Rattle.bt_round.specs.Seats.{IsOfPlace, reader_in}
-use Rattle.bt_round.proofs.Seating.{behind_is_desk, moved_on, next_of}
+use Rattle.bt_round.proofs.Seating.{behind_is_desk, moved_on, moved_two, next_of}
 use Rattle.bt_round.proofs.seats.take_apart.Goals as goal
+
+pub loop-worker-init : goal.loop-worker-init
+loop-worker-init g c =
+    let all = c.args.workers.items in
+    let first = c.leave_air-first.result.0 in
+    let second = c.leave_plans-second.result.0 in
+    let two : c.push_reserved-2.new.self.items ≡ first ∷ second ∷ [] =
+    c.push_reserved-2.ensures.items ∙ ap (λ (l : List _). l ++ second ∷ []) (c.push_reserved.ensures.items ∙ ap (λ (l : List _). l ++ first ∷ []) c.requires.none.0) in
+    let long : length c.push_reserved-2.new.self.items ≡ 2 = ap length two in
+    let left : c.remove.new.self.items ≡ drop 1 all = c.remove.ensures.by_index.2 in
+    let others : into_iter_items c.into_iter-others.result ≡ drop 2 all =
+    c.into_iter-others.ensures.rest ∙ c.remove-2.ensures.by_index.2 ∙ ap (drop 1) left ∙ drop-drop 1 1 all in
+    let second_is = c.remove-2.ensures.value ∙ ap (λ (l : List _). get_or l 0 c.remove-2.result) left ∙ get_or_after_one all 0 c.remove-2.result in
+    record {
+      some = omega (arith, long);
+      left = others ∙ ap (λ n. drop n all) (sym long);
+      counted = omega (arith, long, c.into_iter-others.ensures.len, c.remove.ensures.len, c.remove-2.ensures.len, c.requires.seats);
+      desks = omega (arith, ap length c.requires.none.1, c.into_iter-others.ensures.len, c.remove.ensures.len, c.remove-2.ensures.len, c.requires.seats);
+      moved = ap (λ (l : List _). map (λ pass. pass.place) l ++ map (λ worker. worker.caller.place) (into_iter_items c.into_iter-others.result)) two
+          ∙ ap (λ (l : List _). map (λ pass. pass.place) (first ∷ second ∷ []) ++ map (λ worker. worker.caller.place) l) others
+          ∙ moved_two (λ pass. pass.place) (λ worker. worker.caller.place) first second c.remove.result c.remove-2.result all (omega (arith, c.requires.seats)) c.remove.ensures.value second_is
+          c.leave_air-first.ensures.pass c.leave_plans-second.ensures.pass;
+      read = ap (λ (l : List Posted). map (λ (reader : Posted). Some reader) l ++ map (λ worker. reader_in worker.job) (into_iter_items c.into_iter-others.result)) c.requires.none.1
+          ∙ ap (λ (l : List _). map (λ worker. reader_in worker.job) l) others;
+      room = omega (arith, c.push_reserved.ensures.capacity, c.push_reserved-2.ensures.capacity, c.requires.room.0);
+      readers_room = c.requires.room.1;
+    }
 
 pub leave_desk-pass-requires : goal.leave_desk-pass-requires
 leave_desk-pass-requires g c =

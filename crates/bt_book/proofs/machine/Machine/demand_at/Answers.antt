@@ -1,14 +1,10 @@
-use Rattle.std.proofs.Common.{◌∙◌}
-use Rattle.bt_book.proofs.OfNetwork.{redone_of_network, redone_small}
+use Rattle.std.proofs.Common.{IfOk, subst}
+use Rattle.bt_frame.specs.declared.limits.TheConstants.{MOST_SUM}
+use Rattle.bt_net.specs.Network.{Net}
+use Rattle.bt_demand.specs.Traffic.{matrix_of, HasSumsTo}
 use Rattle.bt_book.proofs.machine.Machine.demand_at.Goals as goal
 
--- the edits were made again on the network
-pub returns-clause-network : goal.returns-clause-network
-returns-clause-network c =
-    redone_of_network c.in_ok-occupancy.occupancy.net c.args.self.now.net _ _ c.redo.new.occupancy.links c.into_demand.result (c.in_ok-occupancy.ensures.net ∙ c.network.ensures.same)
-    c.into_demand.ensures.same c.into_demand.ensures.demand c.in_ok-redo.ensures
-
+-- the network is the machine's
 pub returns-clause-sums : goal.returns-clause-sums
 returns-clause-sums c =
-    redone_small c.in_ok-occupancy.occupancy.net c.args.self.now.net _ _ c.redo.new.occupancy.links c.into_demand.result (c.in_ok-occupancy.ensures.net ∙ c.network.ensures.same)
-    c.into_demand.ensures.same c.slots-slots.ensures.in_range c.slots-slots.ensures.same c.in_ok-redo.ensures
+    subst (λ (n : Net). IfOk c.demand_of.result (λ demand. HasSumsTo MOST_SUM (matrix_of n demand))) c.network.ensures.same c.demand_of.ensures.sums

@@ -12,14 +12,14 @@ invariant_of-self-2 c =
     let names = subst (λ (r : Records). NamesTerminals r.net c.args.edit) (sym c.self.view_is) c.requires.on in
     let can = subst (λ (r : Records). CanJoin r.net r.state (change.Edit c.args.edit)) (sym c.self.view_is) c.requires.can in
     let line = subst (λ (r : Records). c.args.line ≡ length (line_behind r.net r.state.changes (change.Edit c.args.edit))) (sym c.self.view_is) c.requires.line in
-    kept_edit c.self.inside.occupancy.net c.edit.new.self.net c.self.inside.opening.items c.reserve.new.self.items c.push.new.self.items c.self.inside.history.items
+    kept_edit c.self.inside.occupancy.net c.edit.new.self.net c.self.inside.opening.items c.reserve.new.self.items c.push_reserved.new.self.items c.self.inside.history.items
     c.self.inside.occupancy.links c.edit.new.self.links c.self.inside.count c.self.inside.edits c.self.inside.bytes c.args.line c.self.inside.stopped c.self.inside.plans.items c.self.inside.orders.items c.args.edit
-    c.edit.ensures.net (ap (λ (r : Records). r.history) c.self.view_is ∙ c.requires.history) c.reserve.ensures.items c.in-Ok.ensures.items c.self.invariant
+    c.edit.ensures.net (ap (λ (r : Records). r.history) c.self.view_is ∙ c.requires.history) c.reserve.ensures.items c.push_reserved.ensures.items c.self.invariant
     c.slots-slots.ensures.sound names can line c.in_ok-edit.ensures.ok
 
 -- and so has the state
 pub returns-clause-state : goal.returns-clause-state
 returns-clause-state c =
-    state_opened c.self.inside.opening.items c.reserve.new.self.items c.push.new.self.items c.self.inside.history.items (change.Edit c.args.edit)
-    (ap (λ (r : Records). r.history) c.self.view_is ∙ c.requires.history) c.reserve.ensures.items c.in-Ok.ensures.items
+    state_opened c.self.inside.opening.items c.reserve.new.self.items c.push_reserved.new.self.items c.self.inside.history.items (change.Edit c.args.edit)
+    (ap (λ (r : Records). r.history) c.self.view_is ∙ c.requires.history) c.reserve.ensures.items c.push_reserved.ensures.items
     ∙ with_more _ c.args.self.now (change.Edit c.args.edit) c.self.view_is

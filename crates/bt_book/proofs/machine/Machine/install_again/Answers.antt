@@ -1,4 +1,4 @@
-use Rattle.std.proofs.Common.{◌≡◌, length, ◌∷◌, [], ◌++◌, refl, sym, subst, ◌∙◌, ap}
+use Rattle.std.proofs.Common.{◌≡◌, length, List, ◌∷◌, [], ◌++◌, refl, sym, subst, ◌∙◌, ap}
 use Rattle.std.proofs.lemmas.List.{append-nil}
 use Rattle.bt_demand.specs.declared.plan.Plan.{Plan}
 use Rattle.bt_journal.specs.declared.call.Change.TheVariants as change
@@ -13,16 +13,16 @@ pub invariant_of-self-2 : goal.invariant_of-self-2
 invariant_of-self-2 c =
     let can = subst (λ (r : Records). CanJoin r.net r.state (change.Install c.args.plan)) (sym c.self.view_is) c.requires.can in
     let line = subst (λ (r : Records). c.args.line ≡ length (line_behind r.net r.state.changes (change.Install c.args.plan))) (sym c.self.view_is) c.requires.line in
-    kept_else c.self.inside.occupancy.net c.self.inside.opening.items c.reserve.new.self.items c.push-2.new.self.items c.self.inside.history.items c.self.inside.occupancy.links
-    c.self.inside.count c.self.inside.edits c.self.inside.bytes c.args.line c.self.inside.stopped c.self.inside.plans.items c.push.new.self.items c.self.inside.orders.items c.self.inside.orders.items (change.Install c.args.plan)
-    (ap (λ (r : Records). r.history) c.self.view_is ∙ c.requires.history) c.reserve.ensures.items c.in-Ok.ensures.items refl c.self.invariant
+    kept_else c.self.inside.occupancy.net c.self.inside.opening.items c.reserve_both.new.opening.items c.push_reserved-2.new.self.items c.self.inside.history.items c.self.inside.occupancy.links
+    c.self.inside.count c.self.inside.edits c.self.inside.bytes c.args.line c.self.inside.stopped c.self.inside.plans.items c.push_reserved.new.self.items c.self.inside.orders.items c.self.inside.orders.items (change.Install c.args.plan)
+    (ap (λ (r : Records). r.history) c.self.view_is ∙ c.requires.history) c.reserve_both.ensures.opening c.push_reserved-2.ensures.items refl c.self.invariant
     (subst (λ (r : Records). IsPlanOn r.net c.args.plan) (sym c.self.view_is) c.requires.on) can line
-    (c.in_ok-push.ensures.items ∙ ap (λ (p : Plan). c.self.inside.plans.items ++ p ∷ []) c.in_ok-kept.ensures.same)
+    (c.push_reserved.ensures.items ∙ (ap (λ (all : List Plan). all ++ c.in_ok-copy.copy ∷ []) c.reserve_both.ensures.list ∙ ap (λ (p : Plan). c.self.inside.plans.items ++ p ∷ []) c.in_ok-copy.ensures.same))
     (sym (append-nil c.self.inside.orders.items))
 
 -- and so has the state
 pub returns-clause-state : goal.returns-clause-state
 returns-clause-state c =
-    state_opened c.self.inside.opening.items c.reserve.new.self.items c.push-2.new.self.items c.self.inside.history.items (change.Install c.args.plan)
-    (ap (λ (r : Records). r.history) c.self.view_is ∙ c.requires.history) c.reserve.ensures.items c.in-Ok.ensures.items
+    state_opened c.self.inside.opening.items c.reserve_both.new.opening.items c.push_reserved-2.new.self.items c.self.inside.history.items (change.Install c.args.plan)
+    (ap (λ (r : Records). r.history) c.self.view_is ∙ c.requires.history) c.reserve_both.ensures.opening c.push_reserved-2.ensures.items
     ∙ with_more _ c.args.self.now (change.Install c.args.plan) c.self.view_is

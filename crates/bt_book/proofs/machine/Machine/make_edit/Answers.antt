@@ -9,11 +9,11 @@ use Rattle.bt_book.proofs.Entries.{kept_lost, kept_made, kept_same, lost_step, m
 use Rattle.bt_book.proofs.machine.Machine.make_edit.Goals as goal
 
 -- where memory ran out each link has its slots
-pub invariant_of-self-in_err-keep_edit : goal.invariant_of-self-in_err-keep_edit
-invariant_of-self-in_err-keep_edit g c =
+pub invariant_of-self : goal.invariant_of-self
+invariant_of-self g c =
     let a = c.self.inside in
-    kept_same a.occupancy.net c.keep_edit.new.occupancy.net a.opening.items a.history.items c.reserve.new.self.items a.occupancy.links c.keep_edit.new.occupancy.links
-    a.count a.edits a.bytes a.stopped a.plans.items a.orders.items c.keep_edit.ensures.net c.reserve.ensures.items c.in_err-keep_edit.ensures.err_units c.self.invariant
+    kept_same a.occupancy.net c.keep_edit.new.occupancy.net a.opening.items a.history.items c.keep_edit.new.history.items a.occupancy.links c.keep_edit.new.occupancy.links
+    a.count a.edits a.bytes a.stopped a.plans.items a.orders.items c.keep_edit.ensures.net c.keep_edit.ensures.history c.in_err-keep_edit.ensures.err_units c.self.invariant
 
 -- the changes have the edit, and all is kept beside them
 pub invariant_of-self-then-branch : goal.invariant_of-self-then-branch
@@ -22,16 +22,16 @@ invariant_of-self-then-branch g c =
     let names = subst (λ (r : Records). NamesTerminals r.net c.args.edit) (sym c.self.view_is) c.requires.on in
     let can = subst (λ (r : Records). CanMake r.net r.state (change.Edit c.args.edit)) (sym c.self.view_is) c.requires.can in
     let line = subst (λ (r : Records). length c.args.line.now ≡ length (line_behind r.net r.state.changes (change.Edit c.args.edit))) (sym c.self.view_is) (ap length c.requires.line) in
-    kept_made a.occupancy.net c.keep_edit.new.occupancy.net a.opening.items a.history.items c.reserve.new.self.items c.keep_entry.new.history.items a.occupancy.links c.keep_edit.new.occupancy.links
-    a.count a.edits a.bytes (length c.args.line.now) a.stopped a.plans.items a.orders.items c.args.edit _ c.keep_edit.ensures.net c.reserve.ensures.items c.keep_entry.ensures refl refl
+    kept_made a.occupancy.net c.keep_edit.new.occupancy.net a.opening.items a.history.items c.keep_edit.new.history.items c.keep_entry.new.history.items a.occupancy.links c.keep_edit.new.occupancy.links
+    a.count a.edits a.bytes (length c.args.line.now) a.stopped a.plans.items a.orders.items c.args.edit _ c.keep_edit.ensures.net c.keep_edit.ensures.history c.keep_entry.ensures refl refl
     c.self.invariant c.slots-slots.ensures.sound names can line (c.in_ok-keep_edit.ensures.made c.if-branch.true)
 
 -- the changes are as before, and so are the slots of each link
 pub invariant_of-self-else-branch : goal.invariant_of-self-else-branch
 invariant_of-self-else-branch g c =
     let a = c.self.inside in
-    kept_lost a.occupancy.net c.keep_edit.new.occupancy.net a.opening.items a.history.items c.reserve.new.self.items c.keep_entry-else-branch.new.history.items a.occupancy.links
-    c.keep_edit.new.occupancy.links a.count a.edits a.bytes a.stopped a.plans.items a.plans.items a.orders.items a.orders.items _ c.keep_edit.ensures.net c.reserve.ensures.items
+    kept_lost a.occupancy.net c.keep_edit.new.occupancy.net a.opening.items a.history.items c.keep_edit.new.history.items c.keep_entry-else-branch.new.history.items a.occupancy.links
+    c.keep_edit.new.occupancy.links a.count a.edits a.bytes a.stopped a.plans.items a.plans.items a.orders.items a.orders.items _ c.keep_edit.ensures.net c.keep_edit.ensures.history
     c.keep_entry-else-branch.ensures refl (c.in_ok-keep_edit.ensures.undone c.if-branch.false) refl refl c.self.invariant
 
 -- that is the machine's step
@@ -39,12 +39,12 @@ pub returns-then-branch-clause-step : goal.returns-then-branch-clause-step
 returns-then-branch-clause-step g c =
     let a = c.self.inside in
     let can = subst (λ (r : Records). CanMake r.net r.state (change.Edit c.args.edit)) (sym c.self.view_is) c.requires.can in
-    let after = made_changes a.opening.items _ (change.Edit c.args.edit) a.history.items c.reserve.new.self.items c.keep_entry.new.history.items c.reserve.ensures.items c.keep_entry.ensures refl in
+    let after = made_changes a.opening.items _ (change.Edit c.args.edit) a.history.items c.keep_edit.new.history.items c.keep_entry.new.history.items c.keep_edit.ensures.history c.keep_entry.ensures refl in
     let tells = tells_made a.occupancy.net c.keep_edit.new.occupancy.net _ _ a.occupancy.links c.keep_edit.new.occupancy.links a.count a.edits a.bytes c.args.edit
     c.length-length.result c.keep_edit.ensures.net after c.self.invariant.0 c.self.invariant.1 (c.in_ok-keep_edit.ensures.made c.if-branch.true) c.length-length.ensures.heaviest in
     subst (λ (r : Records). ChangeStep r.net r.state (change.Edit c.args.edit) (Done (record { 0 = a.edits + 1 }) c.length-length.result) (state_after a.opening.items c.keep_entry.new.history.items)) c.self.view_is
-    (made_step a.occupancy.net a.opening.items a.history.items c.reserve.new.self.items c.keep_entry.new.history.items (change.Edit c.args.edit) _
-    c.reserve.ensures.items c.keep_entry.ensures refl refl refl can tells)
+    (made_step a.occupancy.net a.opening.items a.history.items c.keep_edit.new.history.items c.keep_entry.new.history.items (change.Edit c.args.edit) _
+    c.keep_edit.ensures.history c.keep_entry.ensures refl refl refl can tells)
 
 -- and so it is where the store failed
 pub returns-else-branch-clause-step : goal.returns-else-branch-clause-step
@@ -52,8 +52,8 @@ returns-else-branch-clause-step g c =
     let a = c.self.inside in
     let can = subst (λ (r : Records). CanMake r.net r.state (change.Edit c.args.edit)) (sym c.self.view_is) c.requires.can in
     subst (λ (r : Records). ChangeStep r.net r.state (change.Edit c.args.edit) StoreFault (state_after a.opening.items c.keep_entry-else-branch.new.history.items)) c.self.view_is
-    (lost_step a.occupancy.net a.opening.items a.history.items c.reserve.new.self.items c.keep_entry-else-branch.new.history.items (change.Edit c.args.edit) _
-    c.reserve.ensures.items c.keep_entry-else-branch.ensures refl can)
+    (lost_step a.occupancy.net a.opening.items a.history.items c.keep_edit.new.history.items c.keep_entry-else-branch.new.history.items (change.Edit c.args.edit) _
+    c.keep_edit.ensures.history c.keep_entry-else-branch.ensures refl can)
 
 -- which then has a first part of the line
 pub returns-else-branch-clause-store : goal.returns-else-branch-clause-store

@@ -1,4 +1,4 @@
-use Rattle.std.proofs.Common.{◌≡◌, List, [], ◌∷◌, ◌++◌, length, refl, sym, ap, subst, ◌∙◌}
+use Rattle.std.proofs.Common.{◌≡◌, [], ◌∷◌, ◌++◌, length, refl, sym, ap, subst}
 use Rattle.std.proofs.lemmas.List.{append-nil}
 use Rattle.bt_demand.specs.declared.plan.Plan.{Plan}
 use Rattle.bt_journal.specs.declared.call.Change.TheVariants as change
@@ -15,33 +15,33 @@ invariant_of-self-then-branch g c =
     let a = c.self.inside in
     let can = subst (λ (r : Records). CanMake r.net r.state (change.Install c.args.plan)) (sym c.self.view_is) c.requires.can in
     let line = subst (λ (r : Records). length c.args.line.now ≡ length (line_behind r.net r.state.changes (change.Install c.args.plan))) (sym c.self.view_is) (ap length c.requires.line) in
-    kept_other a.occupancy.net a.opening.items a.history.items c.reserve.new.self.items c.keep_entry.new.history.items a.occupancy.links
-    a.count a.edits a.bytes (length c.args.line.now) a.stopped a.plans.items c.push.new.self.items a.orders.items a.orders.items (change.Install c.args.plan) _ c.reserve.ensures.items c.keep_entry.ensures refl refl refl
+    kept_other a.occupancy.net a.opening.items a.history.items c.keep_item.new.history.items c.keep_entry.new.history.items a.occupancy.links
+    a.count a.edits a.bytes (length c.args.line.now) a.stopped a.plans.items c.keep_item.new.list.items a.orders.items a.orders.items (change.Install c.args.plan) _ c.keep_item.ensures.history c.keep_entry.ensures refl refl refl
     c.self.invariant c.slots-slots.ensures.sound (subst (λ (r : Records). IsPlanOn r.net c.args.plan) (sym c.self.view_is) c.requires.on) can line
-    (c.in-Ok.ensures.items ∙ (ap (λ (all : List Plan). all ++ c.in_ok-kept.kept ∷ []) c.reserve-2.ensures.items ∙ ap (λ (p : Plan). a.plans.items ++ p ∷ []) c.in_ok-kept.ensures.same))
+    (subst (λ (p : Plan). c.keep_item.new.list.items ≡ a.plans.items ++ p ∷ []) c.in_ok-copy.ensures.same (c.in_ok-keep_item.ensures.kept c.if-branch.true))
     (sym (append-nil a.orders.items))
 
 -- and so it is where the store failed
 pub invariant_of-self-else-branch : goal.invariant_of-self-else-branch
 invariant_of-self-else-branch g c =
     let a = c.self.inside in
-    kept_lost a.occupancy.net a.occupancy.net a.opening.items a.history.items c.reserve.new.self.items c.keep_entry-else-branch.new.history.items a.occupancy.links
-    a.occupancy.links a.count a.edits a.bytes a.stopped a.plans.items c.reserve-2.new.self.items a.orders.items a.orders.items _ refl c.reserve.ensures.items
-    c.keep_entry-else-branch.ensures refl (λ test. refl) c.reserve-2.ensures.items refl c.self.invariant
+    kept_lost a.occupancy.net a.occupancy.net a.opening.items a.history.items c.keep_item.new.history.items c.keep_entry-else-branch.new.history.items a.occupancy.links
+    a.occupancy.links a.count a.edits a.bytes a.stopped a.plans.items c.keep_item.new.list.items a.orders.items a.orders.items _ refl c.keep_item.ensures.history
+    c.keep_entry-else-branch.ensures refl (λ test. refl) (c.in_ok-keep_item.ensures.lost c.if-branch.false) refl c.self.invariant
 
 -- that is the machine's step
-pub returns-in-Ok-clause-step : goal.returns-in-Ok-clause-step
-returns-in-Ok-clause-step g c =
+pub returns-then-branch-clause-step : goal.returns-then-branch-clause-step
+returns-then-branch-clause-step g c =
     let a = c.self.inside in
     let can = subst (λ (r : Records). CanMake r.net r.state (change.Install c.args.plan)) (sym c.self.view_is) c.requires.can in
     subst (λ (r : Records). ChangeStep r.net r.state (change.Install c.args.plan) (Installed c.args.plan.edition) (state_after a.opening.items c.keep_entry.new.history.items)) c.self.view_is
-    (made_step a.occupancy.net a.opening.items a.history.items c.reserve.new.self.items c.keep_entry.new.history.items (change.Install c.args.plan) _
-    c.reserve.ensures.items c.keep_entry.ensures refl refl refl can refl)
+    (made_step a.occupancy.net a.opening.items a.history.items c.keep_item.new.history.items c.keep_entry.new.history.items (change.Install c.args.plan) _
+    c.keep_item.ensures.history c.keep_entry.ensures refl refl refl can refl)
 
 pub returns-else-branch-clause-step : goal.returns-else-branch-clause-step
 returns-else-branch-clause-step g c =
     let a = c.self.inside in
     let can = subst (λ (r : Records). CanMake r.net r.state (change.Install c.args.plan)) (sym c.self.view_is) c.requires.can in
     subst (λ (r : Records). ChangeStep r.net r.state (change.Install c.args.plan) StoreFault (state_after a.opening.items c.keep_entry-else-branch.new.history.items)) c.self.view_is
-    (lost_step a.occupancy.net a.opening.items a.history.items c.reserve.new.self.items c.keep_entry-else-branch.new.history.items (change.Install c.args.plan) _
-    c.reserve.ensures.items c.keep_entry-else-branch.ensures refl can)
+    (lost_step a.occupancy.net a.opening.items a.history.items c.keep_item.new.history.items c.keep_entry-else-branch.new.history.items (change.Install c.args.plan) _
+    c.keep_item.ensures.history c.keep_entry-else-branch.ensures refl can)

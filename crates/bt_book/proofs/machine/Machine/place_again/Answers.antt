@@ -1,5 +1,6 @@
-use Rattle.std.proofs.Common.{◌≡◌, length, refl, sym, subst, ◌∙◌, ap}
+use Rattle.std.proofs.Common.{◌≡◌, length, List, [], ◌∷◌, ◌++◌, refl, sym, subst, ◌∙◌, ap}
 use Rattle.std.proofs.lemmas.List.{append-nil}
+use Rattle.bt_air.specs.declared.order.Order.{Order}
 use Rattle.bt_journal.specs.declared.call.Change.TheVariants as change
 use Rattle.bt_book.specs.Machine.{line_behind}
 use Rattle.bt_book.specs.Records.{CanJoin, Records}
@@ -11,15 +12,15 @@ pub invariant_of-self-2 : goal.invariant_of-self-2
 invariant_of-self-2 c =
     let can = subst (λ (r : Records). CanJoin r.net r.state (change.Order c.args.order)) (sym c.self.view_is) c.requires.can in
     let line = subst (λ (r : Records). c.args.line ≡ length (line_behind r.net r.state.changes (change.Order c.args.order))) (sym c.self.view_is) c.requires.line in
-    kept_else c.self.inside.occupancy.net c.self.inside.opening.items c.reserve.new.self.items c.push-2.new.self.items c.self.inside.history.items c.self.inside.occupancy.links
-    c.self.inside.count c.self.inside.edits c.self.inside.bytes c.args.line c.self.inside.stopped c.self.inside.plans.items c.self.inside.plans.items c.self.inside.orders.items c.push.new.self.items (change.Order c.args.order)
-    (ap (λ (r : Records). r.history) c.self.view_is ∙ c.requires.history) c.reserve.ensures.items c.in-Ok.ensures.items refl c.self.invariant c.requires.on can line
+    kept_else c.self.inside.occupancy.net c.self.inside.opening.items c.reserve_both.new.opening.items c.push_reserved-2.new.self.items c.self.inside.history.items c.self.inside.occupancy.links
+    c.self.inside.count c.self.inside.edits c.self.inside.bytes c.args.line c.self.inside.stopped c.self.inside.plans.items c.self.inside.plans.items c.self.inside.orders.items c.push_reserved.new.self.items (change.Order c.args.order)
+    (ap (λ (r : Records). r.history) c.self.view_is ∙ c.requires.history) c.reserve_both.ensures.opening c.push_reserved-2.ensures.items refl c.self.invariant c.requires.on can line
     (sym (append-nil c.self.inside.plans.items))
-    c.in_ok-push.ensures.items
+    (c.push_reserved.ensures.items ∙ ap (λ (all : List Order). all ++ c.args.order ∷ []) c.reserve_both.ensures.list)
 
 -- and so has the state
 pub returns-clause-state : goal.returns-clause-state
 returns-clause-state c =
-    state_opened c.self.inside.opening.items c.reserve.new.self.items c.push-2.new.self.items c.self.inside.history.items (change.Order c.args.order)
-    (ap (λ (r : Records). r.history) c.self.view_is ∙ c.requires.history) c.reserve.ensures.items c.in-Ok.ensures.items
+    state_opened c.self.inside.opening.items c.reserve_both.new.opening.items c.push_reserved-2.new.self.items c.self.inside.history.items (change.Order c.args.order)
+    (ap (λ (r : Records). r.history) c.self.view_is ∙ c.requires.history) c.reserve_both.ensures.opening c.push_reserved-2.ensures.items
     ∙ with_more _ c.args.self.now (change.Order c.args.order) c.self.view_is

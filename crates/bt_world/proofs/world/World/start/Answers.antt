@@ -15,17 +15,17 @@ use Rattle.bt_world.proofs.world.World.start.Goals as goal
 
 pub invariant_of-result : goal.invariant_of-result
 invariant_of-result c =
-    let net = c.in_ok-net.ensures.same in
-    let count : c.terminal_count-count.result ≡ length c.in_ok-net.net.terminals = c.terminal_count-count.ensures.count ∙ ap (λ (n : Net). length n.terminals) (sym net) in
-    let sound = subst (λ (n : Net). IsSound n) (sym net) c.terminal_count-count.ensures.sound in
+    let net = c.in_ok-net.ensures.net in
+    let count : c.terminal_count.result ≡ length c.in_ok-net.net.terminals = c.terminal_count.ensures.count ∙ ap (λ (n : Net). length n.terminals) (sym net) in
+    let sound = subst (λ (n : Net). IsSound n) (sym net) c.terminal_count.ensures.sound in
     let opens = subst (λ (n : Net). IsOpening (opening_of n c.args.plans.items c.args.orders.items)) (sym net) c.requires.opening in
     let mark : c.greatest_due-mark.result.0 ≡ greatest_due (reverse c.args.orders.items) = c.greatest_due-mark.ensures ∙ ap (λ (list : List Order). greatest_due (reverse list)) c.as_slice.ensures.value in
-    let last = c.last_of.ensures ∙ ap (λ (list : List Order). last_order (reverse list)) c.as_slice-3.ensures.value in
-    let placed = c.in_ok-placed.ensures.items ∙ c.as_slice-2.ensures.value in
+    let last = c.last_of.ensures ∙ ap (λ (list : List Order). last_order (reverse list)) c.as_slice-2.ensures.value in
+    let placed = c.in_ok-net.ensures.placed ∙ c.as_slice-3.ensures.value in
     started c.in_ok-net.net c.args.plans.items c.args.orders.items c.in_ok-log.log _ sound opens c.in_ok-log.ensures.opening c.in_ok-log.ensures.events c.in_ok-log.ensures.stored
     (c.in_ok-log.ensures.terminals ∙ count) c.new.ensures.items
     (c.new-2.ensures.made ∙ ap (λ (n : ℕ). new_at (record { 0 = n })) mark)
-    (c.in_ok-terminals.ensures ∙ ap (λ (n : ℕ). map new_of (terminals_of n)) count)
+    (c.in_ok-net.ensures.terminals ∙ ap (λ (n : Net). map new_of (terminals_of (length n.terminals))) (sym net))
     (c.from_orders.ensures.state ∙ ap (λ (list : List Order). begins_with (reverse list) c.needs-needs.result) placed
     ∙ ap (λ (set : TermSet). begins_with (reverse c.args.orders.items) set)
     (c.needs-needs.ensures ∙ ap (λ (n : ℕ). needed_by (terminals_of n) (plans_in c.in_ok-log.log) c.last_of.result) (c.in_ok-log.ensures.terminals ∙ count)
