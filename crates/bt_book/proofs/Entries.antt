@@ -243,6 +243,13 @@ kept_same net now opening history reserved old new count edits bytes stopped ins
     (keeps_same net (opening ++ changes_of history) old new units kept.0, kept.1, kept.2, kept.3) in
     rw (net_is, same) here
 
+-- all that is kept, where the lists are as before
+pub kept_again : (net : Net) (opening : List Change) (history reserved : List Entry) (links : List Link) (count edits bytes : ℕ) (stopped : Bool)
+    (installed plans_now : List Plan) (placed orders_now : List Order) → reserved ≡ history → plans_now ≡ installed → orders_now ≡ placed
+    → IsKept net opening history links count edits bytes stopped installed placed → IsKept net opening reserved links count edits bytes stopped plans_now orders_now
+kept_again net opening history reserved links count edits bytes stopped installed plans_now placed orders_now same plans_are orders_are kept =
+    rw (same, plans_are, orders_are) kept
+
 -- after an edit was made
 pub kept_made : (net now : Net) (opening : List Change) (history reserved after : List Entry) (links new : List Link) (count edits bytes line : ℕ) (stopped : Bool)
     (installed : List Plan) (placed : List Order) (edit : Edit) (entry : Entry) → now ≡ net → reserved ≡ history → after ≡ reserved ++ entry ∷ []

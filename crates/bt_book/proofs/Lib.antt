@@ -18,4 +18,5 @@ pub mod OneJournal
 pub mod Spelled
 pub mod Stored
 pub mod NextOpening
+pub mod OnErrors
 mod GoodPlans

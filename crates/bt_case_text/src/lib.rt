@@ -1,23 +1,17 @@
-//! What programs that play cases share: files of cases, their lines, the files in memory, and the answers.
+//! What programs that play cases share beside the sheet: the lines that set up files, the files in memory, numbers, and
+//! bytes and answers as printed lines.
 //!
-//! A program reads a file of cases line by line, on a `Sheet`: it does what a line says, and the sheet compares the
-//! answer with the one that stands below the line, and counts what got another one. `docs/cases.md` has the lines of such
-//! a file. `specs/Tallied.antt` is promise: what is counted. All else promises that each step is safe.
+//! `docs/cases.md` has the lines of a file of cases. The crate stands on `bt_sheet`, whose fault its calls answer, and on
+//! the files in memory of `bt_base`. It promises nothing beyond that each step is safe, and has no `specs/`.
 #![tactic(auto)]
 
 mod answers;
 mod escape;
-mod fault;
 mod files;
 mod links;
-mod sheet;
-mod tally;
 mod words;
 
 pub use answers::{Part, put_lines};
 pub use escape::{hex_byte, take_bytes};
-pub use fault::{CaseFault, Result};
 pub use files::{Shelf, set_files};
-pub use sheet::Sheet;
-pub use tally::Tally;
 pub use words::{byte_of, number_of};

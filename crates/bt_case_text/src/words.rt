@@ -1,5 +1,5 @@
 // Words of a line of cases that are numbers.
-use crate::fault::{CaseFault, Result};
+use bt_sheet::{CaseFault, Result};
 
 /// A number of four bytes.
 pub fn number_of(word: &str) -> Result<u32> {

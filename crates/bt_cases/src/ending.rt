@@ -1,5 +1,6 @@
 // How a command ended.
-use bt_case_text::{Part, Result, put_lines};
+use bt_case_text::{Part, put_lines};
+use bt_sheet::Result;
 use std::alloc::Global;
 
 /// What a command wrote, and its status.

@@ -17,7 +17,7 @@ mod planning;
 mod stage;
 mod texts;
 
-use bt_case_text::{Result, Sheet, Tally};
+use bt_sheet::{Result, Sheet, Tally};
 use stage::Texts;
 use std::alloc::Global;
 use std::sync::Wait;

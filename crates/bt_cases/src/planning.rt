@@ -5,10 +5,11 @@ ghost use Rattle.bt_match.specs.Matching.{HasEqualLineSums};
 
 use crate::cutting::put_cutting;
 use crate::texts::{matrix_from, put_verdict};
-use bt_case_text::{CaseFault, Result, Shelf, byte_of, number_of};
+use bt_case_text::{Shelf, byte_of, number_of};
 use bt_frame::{BeamNo, EditionNo};
 use bt_match::{Partial, Perm, perfect};
 use bt_matrix::{Dense, Traffic};
+use bt_sheet::{CaseFault, Result};
 use std::alloc::Global;
 
 /// Shows steps of planning over texts.

@@ -17,8 +17,8 @@ use Rattle.bt_book.specs.Book.{Books}
 use Rattle.bt_book.specs.Causes.{Follows, IsGoodForItsEdition}
 use Rattle.bt_book.specs.Changes.{installs}
 use Rattle.bt_book.specs.Store.{IsKept, lost_of}
-use Rattle.bt_world.specs.Event.{Opening}
-use Rattle.bt_world.specs.Fits.{IsWorld}
+use Rattle.bt_events.specs.Event.{Opening}
+use Rattle.bt_events.specs.Fits.{IsWorld}
 use Rattle.bt_script.specs.declared.script.Item.{Item}
 use Rattle.bt_script.specs.declared.script.Item.TheVariants as item
 use Rattle.bt_timeline.specs.Timeline.{restart_line}

@@ -9,10 +9,10 @@ use Rattle.bt_journal.specs.declared.call.Change.{Change}
 use Rattle.bt_book.specs.declared.fault.RecoverFault.{RecoverFault}
 use Rattle.bt_book.specs.declared.fault.RecoverFault.TheVariants.{StoreFault}
 use Rattle.bt_book.specs.Recovery.{IsReadable, IsRecoverFault, Recovered, whole}
-use Rattle.bt_world.specs.Air.{AreFlyable, IsAir, IsSafe, modes_in_front}
-use Rattle.bt_world.specs.Event.{Frame, Opening}
-use Rattle.bt_world.specs.Fits.{IsWorld}
-use Rattle.bt_world.specs.World.{log}
+use Rattle.bt_events.specs.Air.{AreFlyable, IsAir, IsSafe, modes_in_front}
+use Rattle.bt_events.specs.Event.{Frame, Opening}
+use Rattle.bt_events.specs.Fits.{IsWorld}
+use Rattle.bt_events.specs.World.{log}
 use Rattle.bt_script.specs.declared.script.Item.{Item}
 use Rattle.bt_script.specs.declared.script.Script.{Script}
 use Rattle.bt_centre.specs.declared.history.History.{History}

@@ -10,11 +10,11 @@ use Rattle.bt_book.specs.Machine.{Legal, State, running, state_after}
 use Rattle.bt_book.specs.Store.{IsKept, lost_of}
 use Rattle.bt_book.proofs.Histories.{state_from-none}
 use Rattle.bt_centre.specs.declared.history.History.{History}
-use Rattle.bt_round.specs.AirLines.{AirState}
+use Rattle.bt_workers.specs.AirLines.{AirState}
 use Rattle.bt_round.specs.Rounds.{BookRan}
 use Rattle.bt_round.proofs.Closing.{ran_nothing}
-use Rattle.bt_world.specs.Event.{Opening}
-use Rattle.bt_world.specs.Fits.{IsWorld}
+use Rattle.bt_events.specs.Event.{Opening}
+use Rattle.bt_events.specs.Fits.{IsWorld}
 use Rattle.bt_centre.specs.Progress.{GoesOn, Hand, IsBegun, IsLeftEarly, IsLeftOf, IsLegalHand, Left, RestartPlayed, histories_in, history_in}
 use Rattle.bt_centre.specs.Run.{AreLegalTimes, AreTimes, BreaksOff, IsLegalHistory, lost_in}
 use Rattle.bt_centre.proofs.Times.{lost_count, lost_more, next_time, rose_on, rose_still, times_more}

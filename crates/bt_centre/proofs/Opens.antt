@@ -21,9 +21,9 @@ use Rattle.bt_journal.specs.declared.call.Change.TheVariants as change
 use Rattle.bt_book.specs.Causes.{CanCome, FollowFrom, Follows, IsInTurn}
 use Rattle.bt_book.specs.Changes.{edition_ordered, empty_plan, is_installed, last_command, newest, order_in, orders, plan_in, plans}
 use Rattle.bt_change.specs.Centre.{AreNumbered}
-use Rattle.bt_world.specs.Fits.{HasPlan, IsInTime, IsOpening, StartsEmpty, newest_of}
+use Rattle.bt_events.specs.Fits.{HasPlan, IsInTime, IsOpening, StartsEmpty, newest_of}
 use Rattle.bt_world.specs.Life.{opening_of}
-use Rattle.bt_world.specs.World.{first_or, plan_of}
+use Rattle.bt_events.specs.World.{first_or, plan_of}
 
 -- what holds of the plans and the orders of changes, the latest first
 record Opens (changes : List Change) (installed : List Plan) (placed : List Order) : Type 0 where

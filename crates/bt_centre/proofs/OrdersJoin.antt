@@ -8,8 +8,8 @@ use Rattle.std.proofs.lemmas.List.Elements.{filter_map-append}
 use Rattle.bt_net.specs.Network.{Net}
 use Rattle.bt_air.specs.declared.event.Event.{Event}
 use Rattle.bt_air.specs.declared.order.Order.{Order}
-use Rattle.bt_world.specs.Event.{RestartCentre}
-use Rattle.bt_world.specs.World.{orders as placed, wanted, with_wanted}
+use Rattle.bt_events.specs.Event.{RestartCentre}
+use Rattle.bt_events.specs.World.{orders as placed, wanted, with_wanted}
 use Rattle.bt_journal.specs.declared.call.Change.{Change}
 use Rattle.bt_journal.specs.declared.entry.Entry.{Entry}
 use Rattle.bt_journal.specs.Journal.{calls_of, changes_of, is_made}
@@ -19,8 +19,8 @@ use Rattle.bt_book.specs.Store.{IsNextOpening, is_lost, lost_of}
 use Rattle.bt_script.specs.declared.script.Item.{Item}
 use Rattle.bt_script.specs.declared.script.Item.TheVariants as item
 use Rattle.bt_script.specs.declared.script.Round.{Round}
-use Rattle.bt_round.specs.AirLines.{AirState, happened, having, orders_in}
-use Rattle.bt_round.proofs.Running.{past-having}
+use Rattle.bt_workers.specs.AirLines.{AirState, happened, having, orders_in}
+use Rattle.bt_workers.proofs.Running.{past-having}
 use Rattle.bt_centre.specs.declared.history.History.{History}
 use Rattle.bt_centre.specs.Joining.{HasOrders, JoinsAsTold, JoinsNone, JoinsOne, JoinsWanted, EachPartAtEnd, EachPart, EachPartOfRun, PartHasOrders, RestartJoins}
 use Rattle.bt_centre.specs.Output.{Output}

@@ -10,8 +10,8 @@ use Rattle.bt_air.specs.declared.sent.Place.{Place}
 use Rattle.bt_change.specs.Last.{last_order}
 use Rattle.bt_change.specs.Turn.{act_of, wanted_by}
 use Rattle.bt_change.specs.declared.turn.Turn.{Turn as Sight}
-use Rattle.bt_world.specs.Event.{Tick, Ordered, Deliver, Frame, ResetTerminal, Install}
-use Rattle.bt_world.specs.World.{kept, orders as placed, sight, wanted, with_wanted}
+use Rattle.bt_events.specs.Event.{Tick, Ordered, Deliver, Frame, ResetTerminal, Install}
+use Rattle.bt_events.specs.World.{kept, orders as placed, sight, wanted, with_wanted}
 use Rattle.bt_journal.specs.declared.call.Call.{Call}
 use Rattle.bt_journal.specs.declared.call.Call.TheVariants as call
 use Rattle.bt_journal.specs.declared.call.Change.TheVariants as change
@@ -24,8 +24,8 @@ use Rattle.bt_book.specs.Store.{is_lost}
 use Rattle.bt_book.proofs.Histories.{as_list}
 use Rattle.bt_script.specs.declared.script.AirLine.{AirLine}
 use Rattle.bt_script.specs.declared.script.AirLine.TheVariants as line
-use Rattle.bt_round.specs.AirLines.{AirState, PlaysAirLine, PlaysAirLines, PlaysDeliveries, PlaysDelivery, PlaysFrame, PlaysHearing, PlaysOrder, PlaysTick, PlaysTurn, awaiting, happened, having, installing, newest_in, once_answered, orders_in, turning}
-use Rattle.bt_round.proofs.Running.{past-having}
+use Rattle.bt_workers.specs.AirLines.{AirState, PlaysAirLine, PlaysAirLines, PlaysDeliveries, PlaysDelivery, PlaysFrame, PlaysHearing, PlaysOrder, PlaysTick, PlaysTurn, awaiting, happened, having, installing, newest_in, once_answered, orders_in, turning}
+use Rattle.bt_workers.proofs.Running.{past-having}
 use Rattle.bt_centre.proofs.Orderly.{AreOrderly, AreOrderly-first, AreOrderly-second, AsksNone, IsPlacing, MakesNone, MakesNone-parts, no_order, none_behind_lost, not_both, one_order, orders_lost, orders_made, with_append, with_cons, with_quiet}
 
 -- the orders and the one that is wanted stay

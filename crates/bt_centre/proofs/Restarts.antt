@@ -16,8 +16,8 @@ use Rattle.bt_book.specs.Machine.{running}
 use Rattle.bt_book.specs.Recovery.{IsOutside, IsReadable, IsRecoverFault, MaybeCut, Recovered, whole}
 use Rattle.bt_book.specs.Store.{IsKept, IsNextOpening, IsStored, lost_of}
 use Rattle.bt_script.specs.declared.script.Item.TheVariants as item
-use Rattle.bt_world.specs.Fits.{IsWorld}
-use Rattle.bt_round.specs.AirLines.{AirState}
+use Rattle.bt_events.specs.Fits.{IsWorld}
+use Rattle.bt_workers.specs.AirLines.{AirState}
 use Rattle.bt_centre.specs.declared.history.History.{History}
 use Rattle.bt_centre.specs.Progress.{BeganAgain, CentreBegan, Hand, IsLeftAtRestart, IsLeftBehind, IsLeftEarly, ItemFailed, Left, RestartPlayed, histories_in}
 use Rattle.bt_centre.proofs.Going.{ran_none}

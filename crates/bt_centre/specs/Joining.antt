@@ -9,7 +9,7 @@ use Rattle.bt_journal.specs.declared.call.Change.{Change}
 use Rattle.bt_book.specs.Changes.{orders}
 use Rattle.bt_script.specs.declared.script.Item.{Item}
 use Rattle.bt_script.specs.declared.script.Item.TheVariants as item
-use Rattle.bt_round.specs.AirLines.{AirState, orders_in}
+use Rattle.bt_workers.specs.AirLines.{AirState, orders_in}
 use Rattle.bt_centre.specs.declared.history.History.{History}
 use Rattle.bt_centre.specs.Output.{Output}
 use Rattle.bt_centre.specs.Run.{EndsFrom, IsJoining, IsRun, PlaysItems, Stand, at_start, changes_at}

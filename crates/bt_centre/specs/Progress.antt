@@ -15,15 +15,15 @@ use Rattle.bt_book.specs.Changes.{edition, newest, orders}
 use Rattle.bt_book.specs.Machine.{Legal, running, state_after}
 use Rattle.bt_book.specs.Recovery.{IsRecoverFault, MaybeCut}
 use Rattle.bt_book.specs.Store.{IsKept, IsNextOpening, RoseBy, lost_of}
-use Rattle.bt_world.specs.Event.{RestartCentre}
-use Rattle.bt_world.specs.Fits.{IsWorld}
+use Rattle.bt_events.specs.Event.{RestartCentre}
+use Rattle.bt_events.specs.Fits.{IsWorld}
 use Rattle.bt_script.specs.declared.script.Item.{Item}
 use Rattle.bt_script.specs.declared.script.Item.TheVariants as item
 use Rattle.bt_script.specs.declared.script.Round.{Round}
 use Rattle.bt_timeline.specs.Timeline.{restart_line, round_line, start_line}
 use Rattle.bt_centre.specs.declared.history.History.{History}
-use Rattle.bt_round.specs.AirLines.{AirState, having, mark_of}
-use Rattle.bt_round.specs.Desks.{IsNotOlder, Sight}
+use Rattle.bt_workers.specs.AirLines.{AirState, having, mark_of}
+use Rattle.bt_workers.specs.Desks.{IsNotOlder, Sight}
 use Rattle.bt_round.specs.Rounds.{BookRan, RoundDone, newest_at}
 use Rattle.bt_centre.specs.Output.{Output}
 use Rattle.bt_centre.specs.Run.{AreTimes, EndsFrom, JoinsOrder, PlaysItems, Stand, at_start, first_line, lost_in, opening_on}

@@ -2,7 +2,7 @@
 use Rattle.std.specs.Prelude.{◌≡◌, ◌≢◌, ◌⊎◌, ℕ, ◌++◌, codes, decimal, List, [], ◌∷◌}
 use Rattle.bt_book.specs.declared.fault.RecoverFault.{RecoverFault}
 use Rattle.bt_book.specs.declared.fault.RecoverFault.TheVariants.{J1, J2, StoreFault, TooLong, OutOfMemory}
-use Rattle.bt_timeline.specs.Lines.{line_of}
+use Rattle.bt_words.specs.Lines.{line_of}
 use Rattle.bt_centre.specs.Output.{Output, Prints}
 
 -- the words of its line; want of memory has none

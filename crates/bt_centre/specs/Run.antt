@@ -8,11 +8,11 @@ use Rattle.bt_net.specs.Network.{Net}
 use Rattle.bt_air.specs.declared.event.Event.{Event}
 use Rattle.bt_air.specs.declared.order.Order.{Order}
 use Rattle.bt_demand.specs.declared.burst.Burst.{Burst}
-use Rattle.bt_world.specs.Air.{IsAir, IsSafe, modes_in_front}
-use Rattle.bt_world.specs.Event.{Frame, Opening, RestartCentre}
-use Rattle.bt_world.specs.Fits.{IsWorld}
+use Rattle.bt_events.specs.Air.{IsAir, IsSafe, modes_in_front}
+use Rattle.bt_events.specs.Event.{Frame, Opening, RestartCentre}
+use Rattle.bt_events.specs.Fits.{IsWorld}
 use Rattle.bt_world.specs.Life.{opening_of}
-use Rattle.bt_world.specs.World.{log, wanted}
+use Rattle.bt_events.specs.World.{log, wanted}
 use Rattle.bt_journal.specs.declared.call.Change.{Change}
 use Rattle.bt_journal.specs.declared.entry.Entry.{Entry}
 use Rattle.bt_journal.specs.Journal.{calls_of, changes_of}
@@ -29,9 +29,9 @@ use Rattle.bt_script.specs.declared.script.Round.{Round}
 use Rattle.bt_script.specs.declared.script.Script.{Script}
 use Rattle.bt_timeline.specs.Timeline.{start_line, restart_line, round_line}
 use Rattle.bt_centre.specs.declared.history.History.{History}
-use Rattle.bt_round.specs.AirLines.{AirState, PlaysAirLines, happened, having, mark_of, orders_in}
-use Rattle.bt_round.specs.Desks.{Sight, IsNotOlder, asked_by, desks_text, shown_to, shows_of}
-use Rattle.bt_round.specs.Planning.{PlaysPlans, planner_text}
+use Rattle.bt_workers.specs.AirLines.{AirState, PlaysAirLines, happened, having, mark_of, orders_in}
+use Rattle.bt_workers.specs.Desks.{Sight, IsNotOlder, asked_by, desks_text, shown_to, shows_of}
+use Rattle.bt_workers.specs.Planning.{PlaysPlans, planner_text}
 use Rattle.bt_centre.specs.Lines.{total_of}
 use Rattle.bt_centre.specs.Output.{Output, HasFailed}
 use Rattle.bt_centre.specs.RecoverFaults.{PrintsFault}

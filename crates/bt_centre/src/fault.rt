@@ -8,7 +8,8 @@ use crate::status::{FAULTY_JOURNAL, OUT_OF_MEMORY, STORE_FAILED, TOO_LONG};
 use bt_base::Sink;
 use bt_book::RecoverFault;
 use bt_frame::OutOfMemory;
-use bt_timeline::{Word, add_line, restart_text};
+use bt_timeline::restart_text;
+use bt_words::{Word, add_line};
 use std::alloc::Global;
 
 /// Prints the line of a recovery that failed, and gives the status to end with. Want of memory has no line.

@@ -21,7 +21,7 @@ mod station;
 mod status;
 mod total;
 
-pub use bt_round::{Gate, NoGate};
+pub use bt_workers::{Gate, NoGate};
 pub use fault::print_fault;
 pub use history::{Histories, History};
 pub use joining_laws::orders_join_as_told;

@@ -3,7 +3,7 @@ ghost use Rattle.std.specs.Prelude.{◌≡◌, ◌+◌, ◌<◌, ◌≤◌, ◌+
 ghost use Rattle.bt_book.specs.Causes.{Follows};
 ghost use Rattle.bt_script.specs.Named.{IsItemFor, IsRoundFor};
 ghost use Rattle.bt_timeline.specs.Timeline.{round_line};
-ghost use Rattle.bt_round.specs.AirLines.{AirState};
+ghost use Rattle.bt_workers.specs.AirLines.{AirState};
 ghost use Rattle.bt_centre.specs.Progress.{IsLeftEarly, ItemFailed, ItemPlayed, RoundPlayed};
 
 use crate::playing::{Playing, Remains, leave};
@@ -11,9 +11,10 @@ use crate::restart::play_restart;
 use bt_base::Keeper;
 use bt_book::RecoverFault;
 use bt_net::Network;
-use bt_round::{Gate, run_round};
+use bt_round::run_round;
 use bt_script::{Item, Round};
 use bt_timeline::round_text;
+use bt_workers::Gate;
 use std::alloc::Global;
 use std::sync::Wait;
 use std::thread::Threads;

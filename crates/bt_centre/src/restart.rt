@@ -6,7 +6,7 @@ ghost use Rattle.bt_book.specs.Causes.{Follows};
 ghost use Rattle.bt_book.specs.Changes.{edition, newest, orders};
 ghost use Rattle.bt_centre.specs.Progress.{BeganAgain, CentreBegan, IsLeftBehind, ItemFailed, RestartPlayed, TellsJoined};
 ghost use Rattle.bt_centre.specs.Run.{JoinsOrder};
-ghost use Rattle.bt_round.specs.AirLines.{AirState};
+ghost use Rattle.bt_workers.specs.AirLines.{AirState};
 ghost use Rattle.bt_script.specs.declared.script.Item.TheVariants as item;
 
 use crate::History;
@@ -18,8 +18,8 @@ use bt_book::{Book, RecoverFault, stores_tell_next_openings};
 use bt_frame::OutOfMemory;
 use bt_journal::Entries;
 use bt_net::Network;
-use bt_round::CentreWorker;
 use bt_timeline::{restart_text, start_text};
+use bt_workers::CentreWorker;
 use std::alloc::Global;
 use std::sync::Wait;
 use std::thread::Threads;

@@ -1,13 +1,14 @@
 // The station is made, and taken apart.
 ghost use Rattle.std.specs.Prelude.{◌≡◌, IfErr, IfOk};
 ghost use Rattle.bt_book.specs.Book.{Books};
-ghost use Rattle.bt_round.specs.AirLines.{AirState};
+ghost use Rattle.bt_workers.specs.AirLines.{AirState};
 ghost use Rattle.bt_round.specs.Boards.{IsPublished};
 
 use bt_base::Keeper;
 use bt_board::board;
 use bt_book::Book;
-use bt_round::{CentreWorker, DESKS, Station};
+use bt_round::{DESKS, Station};
+use bt_workers::CentreWorker;
 use std::alloc::Global;
 use std::sync::Wait;
 

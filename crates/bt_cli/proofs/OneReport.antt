@@ -15,7 +15,7 @@ use Rattle.bt_verdict.specs.Verdict.{IsVerdict}
 use Rattle.bt_cli.specs.CheckPlan.{JudgesPlan, ChecksPlanText, ChecksDemand}
 use Rattle.bt_cli.specs.Fitting.{overload_words, Fits, NamesOverload, WhereItFits}
 use Rattle.bt_cli.specs.Plans.{PrintsPlan, PlansDemand}
-use Rattle.bt_timeline.specs.Lines.{line_of}
+use Rattle.bt_words.specs.Lines.{line_of}
 use Rattle.bt_timeline.specs.Verdicts.{verdict_words}
 use Rattle.bt_cli.specs.Outcome.{Outcome, Kind, text_alone, IsContent, IsLoaded, Misspells, Loads}
 use Rattle.bt_cli.specs.Kinds.{matrix_file, schedule_file, network_file, demand_file, plan_file}

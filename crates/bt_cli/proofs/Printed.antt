@@ -22,7 +22,7 @@ use Rattle.bt_plan.specs.MatrixText.{size_in, row_in, rows_in, matrix_in, matrix
 use Rattle.bt_plan.specs.ScheduleSpelling.{IsInRange}
 use Rattle.bt_text.proofs.Steps.{bind_ok}
 use Rattle.bt_plan.proofs.Spelled.{ok_is, matrix_of-IsTraffic}
-use Rattle.bt_timeline.specs.Lines.{line_of}
+use Rattle.bt_words.specs.Lines.{line_of}
 use Rattle.bt_cli.specs.Check.{Judges}
 use Rattle.bt_cli.specs.Outcome.{text_alone}
 

@@ -18,7 +18,7 @@ use Rattle.bt_demand.proofs.Matrices.{length-matrix_of}
 use Rattle.bt_verdict.specs.declared.verdict.Verdict.TheVariants.{Good}
 use Rattle.bt_plan.specs.PlanSpelling.{IsPlanInRange}
 use Rattle.bt_plan.specs.ScheduleSpelling.{IsInRange}
-use Rattle.bt_timeline.specs.Lines.{line_of}
+use Rattle.bt_words.specs.Lines.{line_of}
 use Rattle.bt_cli.specs.CheckPlan.{JudgesPlan}
 use Rattle.bt_cli.specs.Fitting.{Fits}
 use Rattle.bt_cli.specs.Outcome.{Outcome, text_alone}

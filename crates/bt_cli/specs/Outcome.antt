@@ -5,7 +5,7 @@
 use Rattle.std.specs.Prelude.{◌≡◌, ℕ, ◌≤◌, ◌⊎◌, List, [], ◌∷◌, length, codes, Option, Result, Err, Ok}
 use Rattle.bt_frame.specs.declared.limits.TheConstants.{MOST_FILE_BYTES}
 use Rattle.bt_base.specs.Told.{Gives, IsLonger, Rose}
-use Rattle.bt_timeline.specs.Lines.{line_of}
+use Rattle.bt_words.specs.Lines.{line_of}
 use Rattle.bt_centre.specs.Output.{Output, Prints}
 
 -- what the work came to: the text to print, and the status to end with

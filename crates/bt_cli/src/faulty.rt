@@ -8,7 +8,7 @@ use crate::report::{Report, Stop};
 use bt_base::Sink;
 use bt_centre::FAULTY_WORDS;
 use bt_frame::OutOfMemory;
-use bt_timeline::Word;
+use bt_words::Word;
 use std::alloc::Global;
 
 /// The report to words that are no command's.

@@ -11,7 +11,7 @@ use bt_demand::{Demand, traffic_of};
 use bt_frame::Critical;
 use bt_matrix::{MOST_SUM, Traffic};
 use bt_net::Network;
-use bt_timeline::Word;
+use bt_words::Word;
 use std::alloc::Global;
 
 /// The demand fits the frame, or the report that names its heaviest line.

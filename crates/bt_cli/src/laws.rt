@@ -10,7 +10,7 @@ ghost use Rattle.bt_plan.specs.MatrixText.{matrix_of};
 ghost use Rattle.bt_plan.specs.PlanText.{plan_of};
 ghost use Rattle.bt_plan.specs.ScheduleSpelling.{schedule_spelling};
 ghost use Rattle.bt_plan.specs.ScheduleText.{schedule_of};
-ghost use Rattle.bt_timeline.specs.Lines.{line_of};
+ghost use Rattle.bt_words.specs.Lines.{line_of};
 ghost use Rattle.bt_cli.specs.Check.{Judges};
 ghost use Rattle.bt_cli.specs.CheckPlan.{JudgesPlan};
 ghost use Rattle.bt_cli.specs.Fitting.{Fits};

@@ -20,7 +20,7 @@ use bt_matrix::{Dense, MOST_SUM};
 use bt_net::Network;
 use bt_plan::{read_demand, read_matrix, read_plan, read_schedule};
 use bt_script::Script;
-use bt_timeline::Word;
+use bt_words::Word;
 use std::alloc::Global;
 
 /// The file's bytes.

@@ -11,7 +11,7 @@ use bt_centre::{FAULTY_TEXT, NO_NETWORK};
 use bt_net::{NetFault, Path};
 use bt_plan::{TextCode, TextFault};
 use bt_script::{ScriptCode, ScriptFault};
-use bt_timeline::Word;
+use bt_words::Word;
 use std::alloc::Global;
 
 /// The report that names a text's first fault.

@@ -5,7 +5,7 @@ use Rattle.bt_net.specs.Network.{Net}
 use Rattle.bt_demand.specs.declared.plan.Plan.{Plan}
 use Rattle.bt_demand.specs.Flyable.{IsFlyable}
 use Rattle.bt_air.specs.declared.order.Order.{Order}
-use Rattle.bt_world.specs.Fits.{no_plan, HasPlan, IsInTime, IsOpening}
+use Rattle.bt_events.specs.Fits.{no_plan, HasPlan, IsInTime, IsOpening}
 use Rattle.bt_world.specs.Life.{opening_of}
 
 -- the empty plan can be flown

@@ -2,9 +2,10 @@
 ghost use Rattle.std.specs.Prelude.{◌≤◌, length, vec_len, IfOk};
 
 use bt_air::{AirFault, Armed, Message, Status, decode, encode, messages_have_one_spelling};
-use bt_case_text::{CaseFault, Result, hex_byte};
+use bt_case_text::hex_byte;
 use bt_demand::Burst;
 use bt_frame::{Command, EditionNo, Mark, Mode, Modes, TermNo};
+use bt_sheet::{CaseFault, Result};
 use std::alloc::Global;
 
 /// Appends what the bytes are read as, and a message's bytes when it is written again.

@@ -17,7 +17,7 @@ mod stage;
 mod terminal;
 mod world;
 
-use bt_case_text::{Result, Sheet, Tally};
+use bt_sheet::{Result, Sheet, Tally};
 use stage::Machines;
 use std::alloc::Global;
 use std::{env, fs, rt};

@@ -2,8 +2,9 @@
 use crate::air::{put_status, put_word};
 use crate::message::message_of;
 use crate::shown::taken_told;
-use bt_case_text::{CaseFault, Result, number_of};
+use bt_case_text::number_of;
 use bt_frame::{LAST_MARK, Mark};
+use bt_sheet::{CaseFault, Result};
 use bt_switch::Satellite;
 use std::alloc::Global;
 

@@ -1,8 +1,8 @@
 // What an event of a world shows, as a printed line.
 use crate::air::{put_bursts, put_word};
 use bt_air::{Act, AirFrame, Answer, Heard, Order, Shown, Taken};
-use bt_case_text::Result;
 use bt_frame::{Command, EditionNo, Mark};
+use bt_sheet::Result;
 
 /// Appends the line of what an event showed.
 pub fn put_shown(shown: &Shown, out: &mut String) -> Result<()> {

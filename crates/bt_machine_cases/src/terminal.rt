@@ -2,8 +2,9 @@
 use crate::air::{put_bursts, put_word};
 use crate::message::message_of;
 use crate::shown::heard_told;
-use bt_case_text::{Result, byte_of, number_of};
+use bt_case_text::{byte_of, number_of};
 use bt_frame::{Mark, TermNo};
+use bt_sheet::Result;
 use bt_term::Terminal;
 use std::alloc::Global;
 

@@ -3,12 +3,12 @@ ghost use Rattle.std.specs.Prelude.{◌≡◌, IfOk};
 ghost use Rattle.std.specs.Bool.{OnTrue};
 ghost use Rattle.bt_demand.specs.Flyable.{IsFlyable};
 ghost use Rattle.bt_timeline.specs.Air.{NamesTerminal};
-ghost use Rattle.bt_world.specs.Fits.{Meets, no_plan};
+ghost use Rattle.bt_events.specs.Fits.{Meets, no_plan};
 ghost use Rattle.bt_world.specs.Life.{past_of};
 
 use crate::shown::put_shown;
 use bt_air::{Event, Place, Sent, Shown};
-use bt_case_text::{CaseFault, Part, Result, byte_of, number_of, put_lines};
+use bt_case_text::{Part, byte_of, number_of, put_lines};
 use bt_demand::{Bursts, Plan, good_plans_are_flyable};
 use bt_frame::{
     BeamNo, Critical, EditionNo, LAST_MARK, MOST_COUNTED, MOST_SLOTS, MOST_TEXT_BYTES, Modes,
@@ -16,6 +16,7 @@ use bt_frame::{
 };
 use bt_net::Network;
 use bt_plan::{read_demand, read_plan};
+use bt_sheet::{CaseFault, Result};
 use bt_timeline::sent_text;
 use bt_verdict::{Verdict, check};
 use bt_world::World;

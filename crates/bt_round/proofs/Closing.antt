@@ -21,8 +21,8 @@ use Rattle.bt_script.specs.declared.script.Round.{Round}
 use Rattle.bt_round.specs.declared.seats.TheConstants.{DESKS, SEATS}
 use Rattle.bt_round.specs.declared.workers.Job.{Job}
 use Rattle.bt_round.specs.declared.workers.Job.TheVariants.{Air, Plans, Desk}
-use Rattle.bt_round.specs.AirLines.{AirState}
-use Rattle.bt_round.specs.Callers.{Calling, IsSameCaller, own_of}
+use Rattle.bt_workers.specs.AirLines.{AirState}
+use Rattle.bt_workers.specs.Callers.{Calling, IsSameCaller, own_of}
 use Rattle.bt_round.specs.Rounds.{BookRan}
 use Rattle.bt_book.specs.Store.{RoseBy, lost_of}
 use Rattle.std.specs.Option.{is_some}

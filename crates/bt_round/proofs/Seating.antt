@@ -26,13 +26,14 @@ use Rattle.bt_script.specs.Named.{IsAirLineFor, IsLineFor, IsRoundFor}
 use Rattle.bt_round.specs.declared.seats.TheConstants.{SEATS}
 use Rattle.bt_round.specs.declared.workers.Job.{Job}
 use Rattle.bt_round.specs.declared.workers.Job.TheVariants.{Air, Plans, Desk}
-use Rattle.bt_round.specs.AirLines.{AirState, PlaysAirLines}
-use Rattle.bt_round.specs.Callers.{Calling, IsSameCaller, number_of, own_in, own_of}
-use Rattle.bt_round.specs.Rounds.{DeskDone, PlannerDone}
+use Rattle.bt_workers.specs.AirLines.{AirState, PlaysAirLines}
+use Rattle.bt_workers.specs.Callers.{Calling, IsSameCaller, number_of, own_in, own_of}
+use Rattle.bt_workers.specs.Done.{DeskDone, PlannerDone}
 use Rattle.bt_round.specs.Seats.{AllAt, IsDoneAt, IsJobAt, IsOfBoard, IsOfPlace, IsOver, IsReady, air_in, lines_of, publisher_in, reader_in}
-use Rattle.bt_round.specs.Worker.{Asks}
-use Rattle.bt_round.specs.Workers.{CanDo, HasPosted, JobDone}
-use Rattle.bt_round.proofs.Asking.{calls_in_log}
+use Rattle.bt_workers.specs.Worker.{Asks}
+use Rattle.bt_round.specs.Workers.{CanDo, JobDone}
+use Rattle.bt_workers.specs.Planned.{HasPosted}
+use Rattle.bt_workers.proofs.Asking.{calls_in_log}
 use Rattle.bt_round.proofs.DeskSeats.{lines_name}
 
 -- one element more at its place

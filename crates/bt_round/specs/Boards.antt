@@ -1,28 +1,10 @@
 -- The board of a round: what its publisher has posted, what the readers of its desks have seen, and what a desk is shown.
-use Rattle.std.specs.Prelude.{◌≡◌, ◌+◌, ◌<◌, ◌≤◌, ◌++◌, List, ◌∷◌, length, All, Contains}
-use mathlib.Core.List.{IsPrefix}
+use Rattle.std.specs.Prelude.{◌≡◌, ◌≤◌, ◌++◌, List, ◌∷◌, length, All, Contains}
 use Rattle.bt_demand.specs.declared.plan.Plan.{Plan}
 use Rattle.bt_journal.specs.declared.call.Change.{Change}
-use Rattle.bt_board.specs.Plans.{next_edition}
 use Rattle.bt_board.specs.Posted.{Posted}
 use Rattle.bt_book.specs.Changes.{installs, newest, plans}
 use Rattle.bt_round.specs.declared.seats.TheConstants.{DESKS}
-
--- one plan is no newer than another
-abbrev pub IsNoNewer : Plan → Plan → Type 0
-IsNoNewer before plan = before.edition.0 ≤ plan.edition.0
-
--- A plan that a reader lent: one of those that it has seen by now, no older than the last that it had seen before, and no newer
--- than the last.
-pub record IsLent (before after : List Plan) (plan : Plan) : Type 0 where
-  pub seen : Contains after plan
-  pub fresh : next_edition before ≤ plan.edition.0 + 1
-  pub last : plan.edition.0 < next_edition after
-
--- What a reader has seen rises: the plans before begin those after.
-pub record Rises (before after : List Plan) : Type 0 where
-  pub begins : IsPrefix before after
-  pub rises : next_edition before ≤ next_edition after
 
 -- The board is that of a book with these changes: what was posted is the plan that was the newest when the board was made, and
 -- then each plan that was installed since; and the reader of each desk has seen just that.

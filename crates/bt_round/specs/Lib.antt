@@ -1,10 +1,4 @@
 pub mod Boards
-pub mod Desks
-pub mod Planning
-pub mod AirLines
-pub mod Waiting
-pub mod Worker
 pub mod Rounds
-pub mod Callers
 pub mod Workers
 pub mod Seats

@@ -1,23 +1,20 @@
 -- What a round does: the lines of its workers, with their entries and their texts.
-use Rattle.std.specs.Prelude.{◌≡◌, ℕ, ◌+◌, ◌<◌, ◌++◌, List, length, map, All, AllPairs}
-use Rattle.std.specs.List.{flat_map}
+use Rattle.std.specs.Prelude.{◌≡◌, ℕ, ◌<◌, ◌++◌, List, length, map, All, AllPairs}
 use Rattle.std.specs.Option.{is_some}
 use Rattle.bt_net.specs.Network.{Net}
-use Rattle.bt_demand.specs.declared.plan.Plan.{Plan}
 use Rattle.bt_journal.specs.declared.call.Change.{Change}
 use Rattle.bt_journal.specs.declared.entry.Entry.{Entry}
-use Rattle.bt_journal.specs.Journal.{calls_of, changes_of}
+use Rattle.bt_journal.specs.Journal.{calls_of}
 use Rattle.bt_book.specs.Causes.{Follows}
 use Rattle.bt_book.specs.Book.{Books}
-use Rattle.bt_book.specs.Changes.{installs, newest}
+use Rattle.bt_book.specs.Changes.{newest}
 use Rattle.bt_book.specs.Machine.{state_after, state_from, Legal}
 use Rattle.bt_book.specs.Store.{RoseBy, lost_of}
-use Rattle.bt_script.specs.declared.script.DeskLine.{DeskLine}
 use Rattle.bt_script.specs.declared.script.Round.{Round}
-use Rattle.bt_round.specs.AirLines.{AirState, PlaysAirLines}
-use Rattle.bt_round.specs.Boards.{IsLent, IsNoNewer, IsShownBetween, Rises}
-use Rattle.bt_round.specs.Desks.{IsNotOlder, Sight, asked_by, asked_by_line, desk_text, desks_text, shown_by_line, shown_to, shows_of}
-use Rattle.bt_round.specs.Planning.{PlaysPlans, planner_text}
+use Rattle.bt_workers.specs.AirLines.{AirState, PlaysAirLines}
+use Rattle.bt_round.specs.Boards.{IsShownBetween}
+use Rattle.bt_workers.specs.Desks.{IsNotOlder, Sight, asked_by, desks_text, shown_to, shows_of}
+use Rattle.bt_workers.specs.Planning.{PlaysPlans, planner_text}
 
 -- a book before and after a round: its history has gained entries, by steps of the machine, and the count of its store's faults rose by as
 -- many changes as the store lost; it tells its bytes as before, or does not
@@ -35,29 +32,6 @@ pub record BookRan (old new : Books) : Type 0 where
 -- the edition of the newest plan of a book
 abbrev pub newest_at : Books → ℕ
 newest_at book = (newest book.state.changes).edition.0
-
--- Lines of a desk were done: its entries stand behind those before, and what is printed of them behind the text. Each show gave
--- a plan that the desk's reader lent, none older than those shown before.
-pub record DeskDone (net : Net) (desk : ℕ) (lines : List DeskLine) (seen over : List Plan) (before after : List Entry) (text written : List ℕ) : Type 0 where
-  pub own : List Entry
-  pub shown : List Plan
-  pub calls : map (λ entry. entry.call) own ≡ flat_map asked_by_line lines
-  pub callers : All (λ (entry : Entry). entry.caller ≡ desk + 1) own
-  pub counted : length shown ≡ length (flat_map shown_by_line lines)
-  pub lent : All (IsLent seen over) shown
-  pub ascend : AllPairs IsNoNewer shown
-  pub begins : Rises seen over
-  pub kept : after ≡ before ++ own
-  pub printed : written ≡ text ++ desk_text net desk lines own shown
-
--- so many lines of the planner were done, and each plan that they installed was posted
-pub record PlannerDone (net : Net) (count : ℕ) (posted over : List Plan) (history after : List Entry) (text written : List ℕ) : Type 0 where
-  pub own : List Entry
-  pub planned : PlaysPlans net count own
-  pub callers : All (λ (entry : Entry). entry.caller ≡ 1) own
-  pub posts : over ≡ posted ++ installs (changes_of own)
-  pub kept : after ≡ history ++ own
-  pub printed : written ≡ text ++ planner_text net own
 
 -- the lines of a round were done: of each desk its edits were asked, of the planner and of the centre's worker what their lines
 -- ask, and all was printed

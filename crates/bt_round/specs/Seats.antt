@@ -19,10 +19,10 @@ use Rattle.bt_script.specs.declared.script.Round.{Round}
 use Rattle.bt_round.specs.declared.seats.TheConstants.{SEATS}
 use Rattle.bt_round.specs.declared.workers.Job.{Job}
 use Rattle.bt_round.specs.declared.workers.Job.TheVariants.{Air, Plans, Desk}
-use Rattle.bt_round.specs.AirLines.{AirState, PlaysAirLines}
-use Rattle.bt_round.specs.Callers.{Calling, own_of}
-use Rattle.bt_round.specs.Rounds.{DeskDone, PlannerDone}
-use Rattle.bt_round.specs.Worker.{Asks}
+use Rattle.bt_workers.specs.AirLines.{AirState, PlaysAirLines}
+use Rattle.bt_workers.specs.Callers.{Calling, own_of}
+use Rattle.bt_workers.specs.Done.{DeskDone, PlannerDone}
+use Rattle.bt_workers.specs.Worker.{Asks}
 
 -- each element, with its place
 abbrev pub AllAt : {X : Type 0} → (ℕ → X → Type 0) → List X → Type 0

@@ -1,45 +1,18 @@
 -- For bodies alone: the workers of a round, what each can do, and what it has done once its lines are over.
-use Rattle.std.specs.Prelude.{◌≡◌, ◌+◌, ◌≤◌, ◌++◌, ◌∷◌, [], ℕ, List, All, OnOk, Result}
+use Rattle.std.specs.Prelude.{◌≡◌, ◌+◌, ℕ, List, All, OnOk, Result}
 use Rattle.bt_frame.specs.declared.numbers.OutOfMemory.{OutOfMemory}
 use Rattle.bt_net.specs.Network.{Net}
-use Rattle.bt_demand.specs.declared.plan.Plan.{Plan}
-use Rattle.bt_board.specs.Plans.{next_edition}
 use Rattle.bt_board.specs.Posted.{Posted}
-use Rattle.bt_journal.specs.declared.call.Call.TheVariants as call
 use Rattle.bt_journal.specs.declared.entry.Entry.{Entry}
-use Rattle.bt_journal.specs.Journal.{changes_of}
-use Rattle.bt_book.specs.Changes.{installs, newest}
 use Rattle.bt_script.specs.Named.{IsAirLineFor, IsLineFor}
 use Rattle.bt_round.specs.declared.workers.Job.{Job}
 use Rattle.bt_round.specs.declared.workers.Job.TheVariants.{Air, Plans, Desk}
 use Rattle.bt_round.specs.declared.workers.Worker.{Worker}
-use Rattle.bt_round.specs.AirLines.{AirState, PlaysAirLines}
-use Rattle.bt_round.specs.Callers.{Calling, IsAnswered, IsSameCaller, number_of, own_of}
-use Rattle.bt_round.specs.Planning.{planner_text}
-use Rattle.bt_round.specs.Rounds.{DeskDone, PlannerDone}
-use Rattle.bt_round.specs.Worker.{Asks}
-
--- The last plan of these, all posted, is no newer than the newest after the changes at the line's start and those that the caller
--- made since: so a plan that the caller installs next can be posted.
-abbrev pub HasPosted : Calling → List Plan → Type 0
-HasPosted caller plans = next_edition plans ≤ (newest (caller.start.state.changes ++ changes_of (own_of caller))).edition.0 + 1
-
--- the planner asked for the last edition, and was answered
-pub record SawLast (net : Net) (seen : Entry) : Type 0 where
-  pub caller : seen.caller ≡ 1
-  pub call : seen.call ≡ call.Snapshot
-  pub asker : Calling
-  pub answered : IsAnswered net asker seen
-
--- The planner asked to install a plan: it has one entry more, what is printed of that stands behind the text, and the plan was
--- posted if it was installed.
-pub record InstallDone (net : Net) (plan : Plan) (posted over : List Plan) (history after : List Entry) (text written : List ℕ) : Type 0 where
-  pub entry : Entry
-  pub caller : entry.caller ≡ 1
-  pub call : entry.call ≡ call.Install plan
-  pub posts : over ≡ posted ++ installs (changes_of (entry ∷ []))
-  pub kept : after ≡ history ++ entry ∷ []
-  pub printed : written ≡ text ++ planner_text net (entry ∷ [])
+use Rattle.bt_workers.specs.AirLines.{AirState, PlaysAirLines}
+use Rattle.bt_workers.specs.Callers.{Calling, IsSameCaller, number_of, own_of}
+use Rattle.bt_workers.specs.Done.{DeskDone, PlannerDone}
+use Rattle.bt_workers.specs.Planned.{HasPosted}
+use Rattle.bt_workers.specs.Worker.{Asks}
 
 -- The caller can do the job: the centre's worker is caller 0, the planner caller 1, and desk `d` is caller `d + 1`; and the lines
 -- name terminals of the network alone.

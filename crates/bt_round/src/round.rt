@@ -15,9 +15,7 @@ ghost use Rattle.bt_round.specs.Rounds.{BookRan, RoundDone};
 ghost use Rattle.bt_round.specs.Seats.{AllAt, HaveWorked, text_at};
 ghost use Rattle.bt_round.specs.Workers.{CanDo, WorkDone};
 
-use crate::Gate;
 use crate::seats::{Crew, SEATS, room_for, seat_all, take_apart};
-use crate::worker::CentreWorker;
 use crate::workers::{Worker, work};
 use bt_base::Keeper;
 use bt_board::{Publisher, Reader};
@@ -26,6 +24,7 @@ use bt_frame::OutOfMemory;
 use bt_line::Line;
 use bt_net::Network;
 use bt_script::{DeskLines, Round};
+use bt_workers::{CentreWorker, Gate};
 use std::alloc::Global;
 use std::sync::Wait;
 use std::thread::{Threads, for_each_chunk_mut};

@@ -3,12 +3,9 @@ ghost use Rattle.std.specs.Prelude.{◌≡◌, ◌<◌, ◌≤◌, [], Some, dro
 ghost use Rattle.bt_book.specs.Causes.{Follows};
 ghost use Rattle.bt_line.specs.Passes.{IsPass, seen_at};
 ghost use Rattle.bt_round.specs.declared.seats.TheConstants.{DESKS, SEATS};
-ghost use Rattle.bt_round.specs.AirLines.{AirState};
+ghost use Rattle.bt_workers.specs.AirLines.{AirState};
 ghost use Rattle.bt_round.specs.Seats.{AllAt, IsJobAt, IsOfPlace, IsReady, air_in, lines_of, publisher_in, reader_in};
 
-use crate::Gate;
-use crate::caller::Caller;
-use crate::worker::CentreWorker;
 use crate::workers::{Job, Worker};
 use bt_base::Keeper;
 use bt_board::{Publisher, Reader};
@@ -17,6 +14,7 @@ use bt_frame::{MOST_DESKS, OutOfMemory};
 use bt_journal::{Call, Reply};
 use bt_line::{Line, Object, Pass};
 use bt_script::{DeskLine, DeskLines, Round};
+use bt_workers::{Caller, CentreWorker, Gate};
 use std::alloc::Global;
 
 /// How many desks a round can have: one of each number from 1 on.

@@ -2,11 +2,6 @@
 ghost use Rattle.std.specs.Prelude.{◌≡◌};
 ghost use Rattle.bt_round.specs.Workers.{CanDo, WorkDone};
 
-use crate::Gate;
-use crate::caller::Caller;
-use crate::desk::run_desk;
-use crate::planner::run_planner;
-use crate::worker::CentreWorker;
 use bt_base::Keeper;
 use bt_board::{Publisher, Reader};
 use bt_book::Book;
@@ -15,6 +10,7 @@ use bt_journal::{Call, Reply};
 use bt_line::Object;
 use bt_net::Network;
 use bt_script::{AirLine, DeskLine};
+use bt_workers::{Caller, CentreWorker, Gate, run_desk, run_planner};
 use std::alloc::Global;
 use std::sync::Wait;
 

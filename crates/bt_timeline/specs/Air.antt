@@ -23,7 +23,7 @@ use Rattle.bt_air.specs.declared.shown.AirFrame.{AirFrame}
 use Rattle.bt_journal.specs.JournalLines.{order_words}
 use Rattle.bt_journal.specs.declared.reply.Reply.{Reply}
 use Rattle.bt_journal.specs.declared.reply.Reply.TheVariants.{BookFull, OutOfTurn, NotInstalled, StoreFault, Stopped}
-use Rattle.bt_timeline.specs.Lines.{line_of, frame_name, armed_name}
+use Rattle.bt_words.specs.Lines.{line_of, frame_name, armed_name}
 use Rattle.bt_timeline.specs.Timeline.{burst_lines, reply_words}
 
 -- the line of a tick: the superframe that begins

@@ -1,6 +1,4 @@
 pub mod Air
-pub mod Lines
 pub mod Timeline
 pub mod Verdicts
-pub mod Written
 pub mod Replayed

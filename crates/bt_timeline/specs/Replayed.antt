@@ -4,7 +4,7 @@ use Rattle.bt_net.specs.Network.{Net}
 use Rattle.bt_net.specs.Terminals.{name_at}
 use Rattle.bt_demand.specs.declared.demand.Link.{Link}
 use Rattle.bt_demand.specs.declared.plan.Plan.{Plan}
-use Rattle.bt_timeline.specs.Lines.{line_of}
+use Rattle.bt_words.specs.Lines.{line_of}
 
 -- `link FROM TO UNITS`
 abbrev pub link_line : Net → Link → List ℕ

@@ -15,7 +15,7 @@ use Rattle.bt_journal.specs.declared.entry.Entry.{Entry}
 use Rattle.bt_journal.specs.declared.reply.Reply.{Reply}
 use Rattle.bt_journal.specs.declared.reply.Reply.TheVariants.{Done, SameTerminal, NotThere, RowFull, ColumnFull, BookFull, NotNewer, NoSuchEdition, NotGood, OutOfTurn, NotInstalled, Demand, Installed, Newest, Placed, StoreFault, Stopped}
 use Rattle.bt_verdict.specs.declared.verdict.Verdict.{Verdict}
-use Rattle.bt_timeline.specs.Lines.{line_of, desk_name}
+use Rattle.bt_words.specs.Lines.{line_of, desk_name}
 use Rattle.bt_timeline.specs.Verdicts.{CanName, verdict_line}
 
 -- the beam is one of the network's

@@ -3,9 +3,9 @@ ghost use Rattle.std.specs.Prelude.{◌≡◌, ◌++◌, OnOk, OnErr};
 ghost use Rattle.bt_net.specs.Terminals.{IsTerminal};
 ghost use Rattle.bt_timeline.specs.Air.{flow_line, last_tick_line, lost_line, over_line, reset_line, tick_line, turn_line};
 
-use crate::line::{Word, add_line};
 use bt_frame::{EditionNo, Mark, OutOfMemory, TermNo};
 use bt_net::Network;
+use bt_words::{Word, add_line};
 use std::alloc::Global;
 
 /// Appends the line of a tick: the superframe that begins.

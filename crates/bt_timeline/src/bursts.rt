@@ -3,15 +3,15 @@ ghost use Rattle.std.specs.Prelude.{◌≡◌, ◌++◌, OnOk, OnErr, IfOk, map}
 ghost use Rattle.bt_demand.specs.Apart.{bursts_from};
 ghost use Rattle.bt_net.specs.Terminals.{name_at};
 ghost use Rattle.bt_timeline.specs.Air.{frame_lines};
-ghost use Rattle.bt_timeline.specs.Lines.{line_of, word_bytes};
+ghost use Rattle.bt_words.specs.Lines.{line_of, word_bytes};
 ghost use Rattle.bt_timeline.specs.Timeline.{burst_line, burst_lines, show_lines};
-ghost use Rattle.bt_timeline.specs.Written.{Extends};
+ghost use Rattle.bt_words.specs.Written.{Extends};
 
-use crate::line::{Word, add_line};
 use bt_air::AirFrame;
 use bt_demand::{Burst, Plan};
 use bt_frame::{OutOfMemory, TermNo};
 use bt_net::Network;
+use bt_words::{Word, add_line};
 use std::alloc::Global;
 
 /// Appends what a desk is shown of a plan: its edition, its length in slots and the number of its modes, and then the
@@ -95,7 +95,7 @@ fn list_text(
 }
 
 /// Appends these lines. Want of memory leaves the first of them.
-#[tactic(auto, using(crate::proofs::Extending::extends_on))]
+#[tactic(auto, using(bt_words::proofs::Extending::extends_on))]
 fn add_list(
     alloc: Global,
     net: &Network,
@@ -112,7 +112,6 @@ fn add_list(
 }
 
 /// Appends the lines of bursts. Want of memory leaves the first of them.
-#[tactic(auto, using(crate::proofs::Extending::extends_on))]
 fn add_bursts(
     alloc: Global,
     net: &Network,

@@ -1,12 +1,12 @@
 // The lines of deliveries.
 ghost use Rattle.std.specs.Prelude.{◌≡◌, ◌++◌, codes, OnOk, OnErr};
 ghost use Rattle.bt_timeline.specs.Air.{IsPlaceOf, answer_name, got_line, heard_name, not_sent_line, place_name, taken_name};
-ghost use Rattle.bt_timeline.specs.Lines.{word_bytes};
+ghost use Rattle.bt_words.specs.Lines.{word_bytes};
 
-use crate::line::{Word, add_line};
 use bt_air::{Answer, Heard, Place, Taken};
 use bt_frame::OutOfMemory;
 use bt_net::Network;
+use bt_words::{Word, add_line};
 use std::alloc::Global;
 
 /// Appends the line of the delivery of the message of that number: who received it, and what the receiver did with it.

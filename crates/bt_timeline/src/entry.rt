@@ -1,17 +1,17 @@
 // The line of an entry of a history.
 ghost use Rattle.std.specs.Prelude.{◌≡◌, ◌++◌, ◌∷◌, [], codes, decimal, OnOk, OnErr, Some};
-ghost use Rattle.bt_timeline.specs.Lines.{line_of, word_bytes};
+ghost use Rattle.bt_words.specs.Lines.{line_of, word_bytes};
 ghost use Rattle.bt_timeline.specs.Timeline.{IsBeam, IsInstall, IsPrinted, caller_name, entry_line, installed_words, name_of_beam, not_good_line};
 ghost use Rattle.bt_timeline.specs.Verdicts.{CanName};
-ghost use Rattle.bt_timeline.specs.Written.{Extends};
+ghost use Rattle.bt_words.specs.Written.{Extends};
 
-use crate::line::{Word, add_line, add_word};
 use crate::reply::reply_text;
 use crate::verdict::verdict_text;
 use bt_frame::{BeamNo, EditionNo, OutOfMemory};
 use bt_journal::{Call, Entry, Reply};
 use bt_net::Network;
 use bt_verdict::Verdict;
+use bt_words::{Word, add_line, add_word};
 use std::alloc::Global;
 
 /// Appends the line of an entry that has one: who called, a desk or the planner where there is none, and what was
@@ -122,7 +122,7 @@ fn not_good_text(
 }
 
 /// Appends that line. Want of memory leaves a first part of it.
-#[tactic(auto, using(crate::proofs::Extending::extends_on))]
+#[tactic(auto, using(bt_words::proofs::Extending::extends_on))]
 fn add_not_good(
     alloc: Global,
     net: &Network,

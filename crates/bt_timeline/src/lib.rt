@@ -1,16 +1,15 @@
 //! The lines that a run, a replay and a check print.
 //!
 //! Each call appends its lines to a text, their newlines included, and leaves the text as it was where memory runs
-//! out. It stands on the network, whose names the lines have, on the entries of histories, on verdicts, and on plans and
-//! the messages of the air. `specs/Lines.antt`, `specs/Timeline.antt`, `specs/Air.antt`, `specs/Replayed.antt` and `specs/Verdicts.antt` are
-//! promises: the lines, each as its words. `specs/Written.antt` is for bodies alone.
+//! out. It stands on lines and their words (`bt_words`), on the network, whose names the lines have, on the entries of
+//! histories, on verdicts, and on plans and the messages of the air. `specs/Timeline.antt`, `specs/Air.antt`,
+//! `specs/Replayed.antt` and `specs/Verdicts.antt` are promises: the lines, each as its words.
 #![tactic(auto)]
 
 mod air;
 mod bursts;
 mod delivery;
 mod entry;
-mod line;
 mod marks;
 mod order;
 mod replayed;
@@ -22,7 +21,6 @@ pub use air::{flow_text, last_tick_text, lost_text, over_text, reset_text, tick_
 pub use bursts::{frame_text, show_text};
 pub use delivery::{got_text, not_sent_text};
 pub use entry::entry_text;
-pub use line::{Word, add_line};
 pub use marks::{Totals, restart_text, round_text, start_text, total_text};
 pub use order::{order_text, unplaced_text};
 pub use replayed::replay_text;

@@ -2,11 +2,11 @@
 ghost use Rattle.std.specs.Prelude.{◌≡◌, ◌++◌, OnOk, OnErr};
 ghost use Rattle.bt_timeline.specs.Air.{IsUnplaced, order_line, unplaced_line};
 
-use crate::line::{Word, add_line};
 use crate::reply::reply_text;
 use bt_air::Order;
 use bt_frame::OutOfMemory;
 use bt_journal::Reply;
+use bt_words::{Word, add_line};
 use std::alloc::Global;
 
 /// Appends the line of an order that the centre wants.

@@ -2,14 +2,14 @@
 ghost use Rattle.std.specs.Prelude.{◌≡◌, ◌++◌, [], ◌∷◌, OnOk, OnErr, codes};
 ghost use Rattle.bt_net.specs.Terminals.{IsTerminal};
 ghost use Rattle.bt_demand.specs.Traffic.{AreOfNetwork};
-ghost use Rattle.bt_timeline.specs.Lines.{line_of};
+ghost use Rattle.bt_words.specs.Lines.{line_of};
 ghost use Rattle.bt_timeline.specs.Replayed.{link_line, link_lines, replay_lines, state_lines};
-ghost use Rattle.bt_timeline.specs.Written.{Extends};
+ghost use Rattle.bt_words.specs.Written.{Extends};
 
-use crate::line::{Word, add_line};
 use bt_demand::{Demand, Link, Plan};
 use bt_frame::{EditionNo, OutOfMemory};
 use bt_net::Network;
+use bt_words::{Word, add_line};
 use std::alloc::Global;
 
 /// Appends the last edition, the newest plan's edition and length in slots, the number of orders, and the links of the
@@ -36,7 +36,6 @@ pub fn replay_text(
 }
 
 /// Appends these lines. Want of memory leaves the first of them.
-#[tactic(auto, using(crate::proofs::Extending::extends_on))]
 fn add_replay(
     alloc: Global,
     net: &Network,
@@ -56,7 +55,7 @@ fn add_replay(
 }
 
 /// Appends the lines of the edition, the plan and the orders. Want of memory leaves the first of them.
-#[tactic(auto, using(crate::proofs::Extending::extends_on))]
+#[tactic(auto, using(bt_words::proofs::Extending::extends_on))]
 fn add_state(
     alloc: Global,
     edition: EditionNo,
@@ -83,7 +82,6 @@ fn add_state(
 }
 
 /// Appends the lines of links. Want of memory leaves the first of them.
-#[tactic(auto, using(crate::proofs::Extending::extends_on))]
 fn add_links(
     alloc: Global,
     net: &Network,

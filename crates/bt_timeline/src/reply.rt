@@ -1,11 +1,11 @@
 // The lines of replies that name no beam, no terminal and no plan.
 ghost use Rattle.std.specs.Prelude.{◌≡◌, ◌++◌, ◌∷◌, [], codes, decimal, OnOk, OnErr};
-ghost use Rattle.bt_timeline.specs.Lines.{line_of, word_bytes};
+ghost use Rattle.bt_words.specs.Lines.{line_of, word_bytes};
 ghost use Rattle.bt_timeline.specs.Timeline.{HasWords, reply_words};
 
-use crate::line::{Word, add_line};
 use bt_frame::OutOfMemory;
 use bt_journal::Reply;
+use bt_words::{Word, add_line};
 use std::alloc::Global;
 
 /// Appends the line of a reply that has words of its own, behind the name of who called.

@@ -1,12 +1,12 @@
 // The line of a message that was sent.
 ghost use Rattle.std.specs.Prelude.{◌≡◌, ◌++◌, ◌∷◌, codes, OnOk, OnErr};
 ghost use Rattle.bt_timeline.specs.Air.{NamesTerminal, armed_or_none, edition_or_none, sent_line, status_words};
-ghost use Rattle.bt_timeline.specs.Lines.{line_of, word_bytes};
+ghost use Rattle.bt_words.specs.Lines.{line_of, word_bytes};
 
-use crate::line::{Word, add_line};
 use bt_air::{Armed, Sent, Status};
 use bt_frame::{EditionNo, OutOfMemory};
 use bt_net::Network;
+use bt_words::{Word, add_line};
 use std::alloc::Global;
 
 /// Appends the line of the message of that number: what it says, without its modes and bursts.

@@ -2,10 +2,10 @@
 ghost use Rattle.std.specs.Prelude.{◌≡◌, ◌++◌, ◌<◌, length, None, Some, OnOk, OnErr};
 ghost use Rattle.bt_timeline.specs.Verdicts.{CanName, lent, verdict_line};
 
-use crate::line::{Word, add_line};
 use bt_frame::{Critical, OutOfMemory, TermNo};
 use bt_net::Network;
 use bt_verdict::Verdict;
+use bt_words::{Word, add_line};
 use std::alloc::Global;
 
 /// Appends the line of a verdict. A verdict that names terminals needs their network.

@@ -16,8 +16,8 @@ use Rattle.bt_air.specs.declared.sent.Place.{Place}
 use Rattle.bt_air.specs.declared.sent.Place.TheVariants.{Satellite, Centre, Terminal}
 use Rattle.bt_air.specs.declared.sent.Sent.{Sent}
 use Rattle.bt_air.specs.declared.sent.Sent.TheVariants as sends
-use Rattle.bt_world.specs.Event.{Opening, Happening, Ticks, Turns, Orders, Hears, Shows, Resets, Restarts, Installs}
-use Rattle.bt_world.specs.World.{accepted, heard, held, held_by, has_burst, is_asking, is_missing, joins, known_now, last_plans, mark, order_again, orders, plan_of, plans, plans_for, sent, sent_by_act, sent_by_hearing, sent_by_order, sent_by_satellite, sent_by_terminal, sent_to_asking, sent_with, terminals, wanted}
+use Rattle.bt_events.specs.Event.{Opening, Happening, Ticks, Turns, Orders, Hears, Shows, Resets, Restarts, Installs}
+use Rattle.bt_events.specs.World.{accepted, heard, held, held_by, has_burst, is_asking, is_missing, joins, known_now, last_plans, mark, order_again, orders, plan_of, plans, plans_for, sent, sent_by_act, sent_by_hearing, sent_by_order, sent_by_satellite, sent_by_terminal, sent_to_asking, sent_with, terminals, wanted}
 use Rattle.bt_world.specs.Address.{IsAddressed}
 
 -- the terminals of a world are those of its network

@@ -17,14 +17,14 @@ use Rattle.bt_air.specs.declared.sent.Taken.{Taken}
 use Rattle.bt_change.specs.Centre.{State as Ground}
 use Rattle.bt_switch.specs.Satellite.{State as Onboard, step_of as take, new_at}
 use Rattle.bt_term.specs.Terminal.{State, step_of}
-use Rattle.bt_world.specs.Answers.{told_by, confirmed_by}
-use Rattle.bt_world.specs.Centre.{centre, once_heard}
-use Rattle.bt_world.specs.Event.{Opening, Happening, Deliver, Hears}
-use Rattle.bt_world.specs.Fits.{AreStored}
-use Rattle.bt_world.specs.Ground.{terminal}
+use Rattle.bt_events.specs.Answers.{told_by, confirmed_by}
+use Rattle.bt_events.specs.Centre.{centre, once_heard}
+use Rattle.bt_events.specs.Event.{Opening, Happening, Deliver, Hears}
+use Rattle.bt_events.specs.Fits.{AreStored}
+use Rattle.bt_events.specs.Ground.{terminal}
 use Rattle.bt_world.specs.Life.{Life, past_of, having_had, MayCome, Kept, IsKept}
-use Rattle.bt_world.specs.Satellite.{satellite, to_satellite}
-use Rattle.bt_world.specs.World.{mark, frames_shown, plans, carried, terminals, sent, sent_with, sent_by_hearing, greatest_due}
+use Rattle.bt_events.specs.Satellite.{satellite, to_satellite}
+use Rattle.bt_events.specs.World.{mark, frames_shown, plans, carried, terminals, sent, sent_with, sent_by_hearing, greatest_due}
 use Rattle.bt_world.proofs.Kept.{kept-after}
 use Rattle.bt_world.proofs.Resets.{if-other}
 use Rattle.std.proofs.lemmas.Bool.Decides.{nat_tests}

@@ -5,8 +5,8 @@ use Rattle.std.proofs.lemmas.List.Elements.{All-cons, All-more}
 use Rattle.bt_frame.specs.declared.numbers.EditionNo.{EditionNo}
 use Rattle.bt_demand.specs.declared.burst.Burst.{Burst}
 use Rattle.bt_demand.specs.declared.plan.Plan.{Plan}
-use Rattle.bt_world.specs.Event.{Event, Tick, Turn, Ordered, Deliver, Frame, ResetTerminal, RestartCentre, Install}
-use Rattle.bt_world.specs.Fits.{IsStored, StartsEmpty, newest_of}
+use Rattle.bt_events.specs.Event.{Event, Tick, Turn, Ordered, Deliver, Frame, ResetTerminal, RestartCentre, Install}
+use Rattle.bt_events.specs.Fits.{IsStored, StartsEmpty, newest_of}
 use Rattle.bt_world.specs.Life.{BringsNoPlan, Logged, Index, IsIndexed, installs, installed_by, plans_in}
 use Rattle.bt_world.specs.Shares.{shares_of}
 use Rattle.bt_world.proofs.Kept.{last-first}
@@ -142,3 +142,15 @@ indexed-installed old new index next plan is newer stored terminals opening even
           ∙ sym (mapped-end one (installs (reverse old.events)) plan)
           ∙ ap (λ (list : List Plan). map one (reverse list)) (sym plans);
     }
+
+-- the same log with other room
+pub indexed-again : (old new : Logged) (index next : Index) → IsIndexed old index → new.terminals ≡ old.terminals → new.opening ≡ old.opening → new.events ≡ old.events
+    → next.editions ≡ index.editions → next.shares ≡ index.shares → next.places ≡ index.places → IsIndexed new next
+indexed-again old new index next is terminals opening events editions shares places = record {
+  starts = rw (opening, events) is.starts;
+  stored = rw (opening, events) is.stored;
+  few = rw terminals is.few;
+  editions = rw (editions, opening, events) is.editions;
+  shares = rw (shares, terminals, opening, events) is.shares;
+  places = rw (places, events) is.places;
+}

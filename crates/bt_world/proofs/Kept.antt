@@ -4,13 +4,13 @@ use Rattle.std.proofs.lemmas.List.{reverse-append, length-append}
 use Rattle.bt_net.specs.Network.{Net}
 use Rattle.bt_air.specs.declared.order.Order.{Order}
 use Rattle.bt_air.specs.declared.sent.Sent.{Sent}
-use Rattle.bt_world.specs.Centre.{centre}
-use Rattle.bt_world.specs.Event.{Event, Happening}
-use Rattle.bt_world.specs.Fits.{IsWorld, AreStored}
-use Rattle.bt_world.specs.Ground.{terminal}
+use Rattle.bt_events.specs.Centre.{centre}
+use Rattle.bt_events.specs.Event.{Event, Happening}
+use Rattle.bt_events.specs.Fits.{IsWorld, AreStored}
+use Rattle.bt_events.specs.Ground.{terminal}
 use Rattle.bt_world.specs.Life.{Life, past_of, having_had, MayCome, Kept, IsKept, Logged, life_of}
-use Rattle.bt_world.specs.Satellite.{satellite}
-use Rattle.bt_world.specs.World.{frames_shown, terminals, sent, sent_with, comes_to, log}
+use Rattle.bt_events.specs.Satellite.{satellite}
+use Rattle.bt_events.specs.World.{frames_shown, terminals, sent, sent_with, comes_to, log}
 
 pub last-first : (events : List Event) (event : Event) → reverse (events ++ event ∷ []) ≡ event ∷ reverse events
 last-first events event = reverse-append events (event ∷ [])

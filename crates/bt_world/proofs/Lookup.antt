@@ -20,11 +20,11 @@ use Rattle.bt_frame.specs.declared.numbers.TermNo.{TermNo}
 use Rattle.bt_demand.specs.Apart.{bursts_from}
 use Rattle.bt_demand.specs.declared.burst.Burst.{Burst}
 use Rattle.bt_term.proofs.Ground.{own}
-use Rattle.bt_world.specs.Event.{Event, Tick, Turn, Ordered, Deliver, Frame, ResetTerminal, RestartCentre, Install}
-use Rattle.bt_world.specs.Fits.{StartsEmpty, newest_of, no_plan}
+use Rattle.bt_events.specs.Event.{Event, Tick, Turn, Ordered, Deliver, Frame, ResetTerminal, RestartCentre, Install}
+use Rattle.bt_events.specs.Fits.{StartsEmpty, newest_of, no_plan}
 use Rattle.bt_world.specs.Life.{Logged, Index, IsIndexed, StandsAt, installs, installed_by, plans_in}
 use Rattle.bt_world.specs.Shares.{shares_of}
-use Rattle.bt_world.specs.World.{bursts_for, first_or, has_burst, plan_of}
+use Rattle.bt_events.specs.World.{bursts_for, first_or, has_burst, plan_of}
 
 -- every plan is of a lower edition than the newest
 below-newest : (plan : Plan) (rest : List Plan) (k : ℕ) (d : Plan) → StartsEmpty (plan ∷ rest) → k < length rest → (get_or rest k d).edition.0 < plan.edition.0

@@ -6,10 +6,10 @@ use Rattle.bt_air.specs.declared.order.Order.{Order}
 use Rattle.bt_air.specs.declared.sent.Sent.{Sent}
 use Rattle.bt_air.specs.Range.{IsInRange}
 use Rattle.bt_net.specs.Network.{Net, IsSound}
-use Rattle.bt_world.specs.Event.{Opening, Event, Tick, Turn, Ordered, Deliver, Frame, ResetTerminal, RestartCentre, Install}
-use Rattle.bt_world.specs.Fits.{AreStored, IsWorld}
+use Rattle.bt_events.specs.Event.{Opening, Event, Tick, Turn, Ordered, Deliver, Frame, ResetTerminal, RestartCentre, Install}
+use Rattle.bt_events.specs.Fits.{AreStored, IsWorld}
 use Rattle.bt_world.specs.Life.{Life, Kept, IsKept, Logged, installs, life_of, past_of, plans_in}
-use Rattle.bt_world.specs.World.{plans, carried, sent, log}
+use Rattle.bt_events.specs.World.{plans, carried, sent, log}
 
 -- the plans of a world are those that opened and those that events installed
 plans-installed : (o : Opening) (events : List Event) → installs events ++ o.plans ≡ plans o (log o events)

@@ -4,7 +4,7 @@ use Rattle.std.specs.List.{range_with_len}
 use Rattle.bt_frame.specs.declared.numbers.TermNo.{TermNo}
 use Rattle.bt_frame.specs.declared.numbers.TermSet.{TermSet}
 use Rattle.bt_change.specs.Terminals.{with_terminal}
-use Rattle.bt_world.specs.Centre.{set_of}
+use Rattle.bt_events.specs.Centre.{set_of}
 
 -- so many terminals, from this number on
 abbrev pub terminals_from : ℕ → ℕ → List TermNo

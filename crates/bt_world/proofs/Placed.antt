@@ -8,12 +8,12 @@ use Rattle.bt_air.specs.declared.order.Order.{Order}
 use Rattle.bt_air.specs.declared.order.Order.TheVariants.{Load, Arm}
 use Rattle.bt_change.specs.Centre.{State, AreNumbered, begins_with, having_placed}
 use Rattle.bt_change.specs.Last.{last_order}
-use Rattle.bt_world.specs.Centre.{IsCentreSaid, beginning, centre, needed_by, once_placed}
-use Rattle.bt_world.specs.Event.{Opening, Event, Ordered, RestartCentre}
-use Rattle.bt_world.specs.Fits.{IsWorld, AreStored}
+use Rattle.bt_events.specs.Centre.{IsCentreSaid, beginning, centre, needed_by, once_placed}
+use Rattle.bt_events.specs.Event.{Opening, Event, Ordered, RestartCentre}
+use Rattle.bt_events.specs.Fits.{IsWorld, AreStored}
 use Rattle.bt_world.specs.Life.{Life, Logged, having_had, past_of, plans_in, MayCome, Kept, IsKept}
-use Rattle.bt_world.specs.World.{has_burst, orders, plan_of, plans, sent_by_order, terminals, wanted, with_wanted, comes_to, log}
-use Rattle.bt_world.proofs.Counted.{IsNumbered, world-counted}
+use Rattle.bt_events.specs.World.{has_burst, orders, plan_of, plans, sent_by_order, terminals, wanted, with_wanted, comes_to, log}
+use Rattle.bt_events.proofs.Counted.{IsNumbered, world-counted}
 use Rattle.bt_world.proofs.Kept.{kept-after}
 use Rattle.bt_world.proofs.Sending.{plans-few}
 

@@ -11,10 +11,10 @@ use Rattle.bt_frame.specs.declared.numbers.TermNo.{TermNo}
 use Rattle.bt_air.specs.declared.sent.Sent.TheVariants as sends
 use Rattle.bt_term.specs.Said.{Agrees}
 use Rattle.bt_term.specs.Terminal.{State, new_of}
-use Rattle.bt_world.specs.Event.{Opening, Happening, ResetTerminal, Resets}
-use Rattle.bt_world.specs.Ground.{terminal}
+use Rattle.bt_events.specs.Event.{Opening, Happening, ResetTerminal, Resets}
+use Rattle.bt_events.specs.Ground.{terminal}
 use Rattle.bt_world.specs.Life.{Life, having_had, past_of, MayCome, Kept, IsKept}
-use Rattle.bt_world.specs.World.{mark, heard, held, terminals, terminals as terminals_in}
+use Rattle.bt_events.specs.World.{mark, heard, held, terminals, terminals as terminals_in}
 use Rattle.bt_world.proofs.Kept.{kept-after}
 
 -- another number passes no test for one

@@ -9,7 +9,7 @@ use Rattle.bt_frame.specs.declared.numbers.TermNo.{TermNo}
 use Rattle.bt_air.specs.declared.sent.Sent.{Sent}
 use Rattle.bt_air.specs.declared.sent.Sent.TheVariants as sends
 use Rattle.bt_world.specs.Life.{terminals_of}
-use Rattle.bt_world.specs.World.{plans_for}
+use Rattle.bt_events.specs.World.{plans_for}
 
 -- one terminal more
 next-one : (p : TermNo → Bool) (edition : EditionNo) (k : ℕ) (test : Bool) → p (numbered k) ≡ test

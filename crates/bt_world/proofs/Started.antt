@@ -10,11 +10,11 @@ use Rattle.bt_change.specs.Centre.{begins_with}
 use Rattle.bt_change.specs.Last.{last_order}
 use Rattle.bt_switch.specs.Satellite.{new_at}
 use Rattle.bt_term.specs.Terminal.{new_of}
-use Rattle.bt_world.specs.Centre.{needed_by}
-use Rattle.bt_world.specs.Event.{Opening, Event, Tick, Turn, Ordered, Deliver, Frame, ResetTerminal, RestartCentre, Install}
-use Rattle.bt_world.specs.Fits.{IsOpening, IsStored}
+use Rattle.bt_events.specs.Centre.{needed_by}
+use Rattle.bt_events.specs.Event.{Opening, Event, Tick, Turn, Ordered, Deliver, Frame, ResetTerminal, RestartCentre, Install}
+use Rattle.bt_events.specs.Fits.{IsOpening, IsStored}
 use Rattle.bt_world.specs.Life.{Life, Logged, Kept, IsKept, installs, life_of, opening_of, past_of, plans_in, terminals_of}
-use Rattle.bt_world.specs.World.{greatest_due, plans, log}
+use Rattle.bt_events.specs.World.{greatest_due, plans, log}
 
 -- the plans of a world are those of its events and of its opening
 installed : (o : Opening) (earlier : List Event) → plans o (log o earlier) ≡ installs earlier ++ o.plans

@@ -6,10 +6,10 @@ use Rattle.bt_switch.specs.Orders.{telling}
 use Rattle.bt_switch.specs.Satellite.{State, new_at, ticked, status_of}
 use Rattle.bt_switch.specs.Run.{Begins, oldest_first}
 use Rattle.bt_switch.proofs.ByEvents.{state_more}
-use Rattle.bt_world.specs.Event.{Opening, Tick, Happening, Ticks}
+use Rattle.bt_events.specs.Event.{Opening, Tick, Happening, Ticks}
 use Rattle.bt_world.specs.Life.{Life, past_of, having_had, MayCome, Kept, IsKept}
-use Rattle.bt_world.specs.Satellite.{satellite, to_satellite}
-use Rattle.bt_world.specs.World.{greatest_due, mark, accepted}
+use Rattle.bt_events.specs.Satellite.{satellite, to_satellite}
+use Rattle.bt_events.specs.World.{greatest_due, mark, accepted}
 use Rattle.bt_world.proofs.Kept.{kept-after}
 
 satellite-ticks : (o : Opening) (past : List Happening) → satellite o (Ticks ∷ past) ≡ ticked (satellite o past)

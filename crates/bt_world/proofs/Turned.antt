@@ -17,12 +17,12 @@ use Rattle.bt_change.specs.Centre.{State, act_at, after_turn, known_to}
 use Rattle.bt_change.specs.Centre.{is_missing as is_missing_to}
 use Rattle.bt_change.specs.Known.{known}
 use Rattle.bt_change.specs.Terminals.{has}
-use Rattle.bt_world.specs.Centre.{IsCentreSaid, centre}
-use Rattle.bt_world.specs.Event.{Opening, Event, Happening, Turn, Turns}
-use Rattle.bt_world.specs.Fits.{IsWorld, AreStored}
+use Rattle.bt_events.specs.Centre.{IsCentreSaid, centre}
+use Rattle.bt_events.specs.Event.{Opening, Event, Happening, Turn, Turns}
+use Rattle.bt_events.specs.Fits.{IsWorld, AreStored}
 use Rattle.bt_world.specs.Life.{Life, having_had, past_of, MayCome, Kept, IsKept, terminals_of}
-use Rattle.bt_world.specs.World.{act, has_burst, is_asking, is_missing, kept, known_now, last_plans, log, mark, order_again, orders, plan_of, plans, plans_for, sent_by_act, sent_to_asking, sent_with, terminals}
-use Rattle.bt_world.proofs.Counted.{world-counted}
+use Rattle.bt_events.specs.World.{act, has_burst, is_asking, is_missing, kept, known_now, last_plans, log, mark, order_again, orders, plan_of, plans, plans_for, sent_by_act, sent_to_asking, sent_with, terminals}
+use Rattle.bt_events.proofs.Counted.{world-counted}
 use Rattle.bt_world.proofs.Kept.{kept-after}
 use Rattle.bt_world.proofs.Placed.{centre-says}
 use Rattle.bt_world.proofs.Sending.{filter-both, plans-few, same-filter}

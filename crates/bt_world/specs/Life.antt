@@ -13,13 +13,13 @@ use Rattle.bt_change.specs.Centre.{State as Centre}
 use Rattle.bt_change.specs.Terminals.{has}
 use Rattle.bt_switch.specs.Satellite.{State as Satellite}
 use Rattle.bt_term.specs.Terminal.{State as Terminal}
-use Rattle.bt_world.specs.Centre.{centre}
-use Rattle.bt_world.specs.Event.{Opening, Event, Install, Happening}
-use Rattle.bt_world.specs.Fits.{Meets, IsWorld, IsStored, AreStored, StartsEmpty}
-use Rattle.bt_world.specs.Ground.{terminal}
-use Rattle.bt_world.specs.Satellite.{satellite}
+use Rattle.bt_events.specs.Centre.{centre}
+use Rattle.bt_events.specs.Event.{Opening, Event, Install, Happening}
+use Rattle.bt_events.specs.Fits.{Meets, IsWorld, IsStored, AreStored, StartsEmpty}
+use Rattle.bt_events.specs.Ground.{terminal}
+use Rattle.bt_events.specs.Satellite.{satellite}
 use Rattle.bt_world.specs.Shares.{shares_of}
-use Rattle.bt_world.specs.World.{frames_shown, has_burst, plan_of, orders, terminals, sent, log}
+use Rattle.bt_events.specs.World.{frames_shown, has_burst, plan_of, orders, terminals, sent, log}
 
 -- an opening, and the events from the first on
 pub record Life : Type 0 where

@@ -12,11 +12,11 @@ use Rattle.bt_air.specs.declared.shown.Shown.TheVariants as shows
 use Rattle.bt_switch.specs.Orders.{telling}
 use Rattle.bt_switch.specs.Satellite.{step_of as take}
 use Rattle.bt_term.specs.Terminal.{step_of as hear}
-use Rattle.bt_world.specs.Air.{IsAir, fore}
-use Rattle.bt_world.specs.Event.{Opening, Event, Tick, Turn, Ordered, Deliver, Frame, ResetTerminal, RestartCentre, Install, Happening}
-use Rattle.bt_world.specs.Ground.{terminal}
-use Rattle.bt_world.specs.Satellite.{satellite}
-use Rattle.bt_world.specs.World.{mark, frames_shown, plans, carried, accepted, wanted, sent, act}
+use Rattle.bt_events.specs.Air.{IsAir, fore}
+use Rattle.bt_events.specs.Event.{Opening, Event, Tick, Turn, Ordered, Deliver, Frame, ResetTerminal, RestartCentre, Install, Happening}
+use Rattle.bt_events.specs.Ground.{terminal}
+use Rattle.bt_events.specs.Satellite.{satellite}
+use Rattle.bt_events.specs.World.{mark, frames_shown, plans, carried, accepted, wanted, sent, act}
 
 -- what the centre answers to a message: it takes note of each Status, Confirm and Lost
 abbrev pub noted_by : Sent → Answer

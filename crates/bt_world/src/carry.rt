@@ -5,7 +5,7 @@ ghost use Rattle.bt_demand.specs.Burst.{AreBursts};
 ghost use Rattle.bt_air.specs.Range.{IsInRange};
 ghost use Rattle.bt_world.specs.Address.{IsAddressed};
 ghost use Rattle.bt_world.specs.Life.{plans_in};
-ghost use Rattle.bt_world.specs.World.{carried, modes_of};
+ghost use Rattle.bt_events.specs.World.{carried, modes_of};
 
 use crate::event_log::EventLog;
 use bt_air::{Message, Sent, decode, encode, messages_have_one_spelling};

@@ -4,10 +4,10 @@ ghost use Rattle.std.specs.Option.{option_copied};
 ghost use Rattle.bt_frame.specs.declared.limits.TheConstants.{MOST_TERMINALS};
 ghost use Rattle.bt_demand.specs.declared.plan.Plan.{Plan};
 ghost use Rattle.bt_air.specs.Range.{IsWord};
-ghost use Rattle.bt_world.specs.Centre.{needed_by};
-ghost use Rattle.bt_world.specs.Fits.{IsStored, StartsEmpty, newest_of};
+ghost use Rattle.bt_events.specs.Centre.{needed_by};
+ghost use Rattle.bt_events.specs.Fits.{IsStored, StartsEmpty, newest_of};
 ghost use Rattle.bt_world.specs.Life.{BringsNoPlan, StandsAt, plans_in, terminals_of};
-ghost use Rattle.bt_world.specs.World.{bursts_for, has_burst, plan_of};
+ghost use Rattle.bt_events.specs.World.{bursts_for, has_burst, plan_of};
 
 use crate::shares::Shares;
 use bt_air::{Event, Order};
@@ -163,6 +163,7 @@ impl EventLog {
         ensures opening { self.new.opening ≡ self.old.opening }
         ensures err { OnErr result (self.new.events ≡ self.old.events) }
     {
+        let edition = edition_of(&plan);
         reserve_each(
             &mut self.events,
             &mut self.editions,
@@ -170,7 +171,6 @@ impl EventLog {
             &mut self.places,
         )?;
         let share = Shares::of(alloc, self.terminals, plan.bursts.as_slice())?;
-        let edition = edition_of(&plan);
         let place = self.events.len();
         self.events.push_reserved(Event::Install { plan });
         self.editions.push_reserved(edition);

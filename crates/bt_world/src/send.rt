@@ -6,7 +6,7 @@ ghost use Rattle.bt_air.specs.declared.order.Order.{Order};
 ghost use Rattle.bt_change.specs.Centre.{is_missing};
 ghost use Rattle.bt_change.specs.Last.{last_order};
 ghost use Rattle.bt_world.specs.Life.{is_answered, plans_in, terminals_of};
-ghost use Rattle.bt_world.specs.World.{has_burst, order_again, plan_of, plans_for, sent_by_order};
+ghost use Rattle.bt_events.specs.World.{has_burst, order_again, plan_of, plans_for, sent_by_order};
 
 use crate::event_log::EventLog;
 use bt_air::{Order, Sent};

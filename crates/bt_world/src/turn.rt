@@ -9,7 +9,7 @@ ghost use Rattle.bt_change.specs.Terminals.{has};
 ghost use Rattle.bt_frame.specs.declared.numbers.TermNo.{TermNo};
 ghost use Rattle.bt_world.specs.Life.{MayCome, having_had, past_of, plans_in, terminals_of};
 ghost use Rattle.bt_world.specs.Shown.{IsShown};
-ghost use Rattle.bt_world.specs.World.{last_plans, sent_by_act, sent_to_asking};
+ghost use Rattle.bt_events.specs.World.{last_plans, sent_by_act, sent_to_asking};
 
 use crate::event_log::EventLog;
 use crate::send::{send_again, send_asking, send_missing};

@@ -1,7 +1,7 @@
 -- what `plan` prints is in range, so that it is read back; and a good plan has the one verdict
 use Rattle.std.proofs.Common.{[], ◌∷◌, codes, ap, ◌∙◌}
 use Rattle.bt_plan.specs.PlanText.{plan_of}
-use Rattle.bt_timeline.specs.Lines.{line_of}
+use Rattle.bt_words.specs.Lines.{line_of}
 use Rattle.bt_cli.specs.Outcome.{Outcome, text_alone}
 use Rattle.bt_cli.proofs.OneReport.{JudgesPlan-same}
 use Rattle.bt_cli.proofs.PrintedPlans.{plan-in_range, good_plan_line}

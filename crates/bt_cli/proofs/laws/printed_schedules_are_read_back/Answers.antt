@@ -1,7 +1,7 @@
 -- what `modes` prints is in range, so that it is read back; and a good schedule has the one verdict
 use Rattle.std.proofs.Common.{[], ◌∷◌, codes, length}
 use Rattle.bt_plan.proofs.Spelled.{matrix_of-IsTraffic}
-use Rattle.bt_timeline.specs.Lines.{line_of}
+use Rattle.bt_words.specs.Lines.{line_of}
 use Rattle.bt_cli.specs.Outcome.{text_alone}
 use Rattle.bt_cli.proofs.OneReport.{Judges-same}
 use Rattle.bt_cli.proofs.Printed.{printed-in_range, good_line}

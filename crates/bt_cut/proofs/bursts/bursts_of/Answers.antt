@@ -1,11 +1,13 @@
 use Rattle.std.proofs.Common.{◌≡◌, ℕ, ◌+◌, ◌*◌, ◌≤◌, List, length, take, get_or, sym, ap, ◌∙◌, subst, arith}
 use Rattle.std.proofs.lemmas.List.{get_or_default, take_all, length-append}
+use Rattle.std.proofs.lemmas.Grind.{moves}
 use Rattle.bt_frame.specs.declared.mode.Mode.{Mode}
 use Rattle.bt_matrix.specs.Good.{slots_of}
 use Rattle.bt_demand.specs.declared.demand.Link.{Link}
 use Rattle.bt_demand.specs.Demand.{IsDemand}
 use Rattle.bt_demand.specs.Traffic.{AreOfNetwork, units_between}
 use Rattle.bt_cut.specs.declared.connection.Connection.{Connection}
+use Rattle.bt_cut.specs.Parts.{AreParts}
 use Rattle.bt_cut.specs.Serving.{ArePieces, HasSlots}
 use Rattle.bt_demand.proofs.FewLinks.{few_links}
 use Rattle.bt_cut.proofs.Links.{enough_left, slots_few, IsTable-given}
@@ -75,6 +77,19 @@ loop-link-preserved c =
       );
     }
 
+-- no bursts where memory ran out
+pub returns-in_err-serve-clause-network : goal.returns-in_err-serve-clause-network
+returns-in_err-serve-clause-network c = grind (arith, moves)
+
+pub returns-in_err-serve-clause-demand : goal.returns-in_err-serve-clause-demand
+returns-in_err-serve-clause-demand c = grind (arith, moves)
+
+pub returns-in_err-serve-clause-few : goal.returns-in_err-serve-clause-few
+returns-in_err-serve-clause-few c = grind (arith, moves)
+
+pub returns-in_err-serve-clause-parts : goal.returns-in_err-serve-clause-parts
+returns-in_err-serve-clause-parts c = grind (arith, moves)
+
 -- no more bursts than units
 pub returns-clause-few : goal.returns-clause-few
 returns-clause-few c =
@@ -82,3 +97,14 @@ returns-clause-few c =
     let demand = subst (λ (ls : List Link). IsDemand ls) (sym c.as_slice-link-items.ensures.same) c.as_slice-link-items.ensures.demand in
     let few = few_links c.args.net.now c.as_slice-link-items.result.now demand of c.beam_count.ensures.sound.terminals.count.1 in
     omega (arith, few, c.loop-link.invariant.few, c.loop-link.bursts.ok.0, c.loop-link.auto.link-index-end)
+
+-- the bursts of all links
+pub returns-clause-parts : goal.returns-clause-parts
+returns-clause-parts c =
+    let net = c.args.net.now in
+    let modes = c.args.modes.now in
+    let links = c.as_slice-link-items.result.now in
+    let bursts = c.loop-link.bursts.items in
+    let all : c.loop-link.link-index ≡ length links = omega (arith, c.loop-link.auto.link-index-end) in
+    let parts = subst (λ (n : ℕ). AreParts net links modes n bursts) all c.loop-link.invariant.parts in
+    subst (λ (ls : List Link). AreParts net ls modes (length ls) bursts) c.as_slice-link-items.ensures.same parts

@@ -1,8 +1,15 @@
--- a word is left behind the entries
+-- an entry more, no word left behind them, or one
 use Rattle.std.proofs.Common.{◌≡◌, ◌-◌, sym, ap, ◌∙◌, arith}
+use Rattle.std.proofs.lemmas.Grind.{common_steps}
 use Rattle.bt_plan.specs.LineNumbers.{numbers_to}
 use Rattle.bt_plan.proofs.LineWords.{behind, numbers_past}
 use Rattle.bt_plan.proofs.matrix_reader.read_entries.Goals as goal
+
+pub loop-preserved : goal.loop-preserved
+loop-preserved c = grind (arith, common_steps)
+
+pub returns-then-is_done : goal.returns-then-is_done
+returns-then-is_done c = grind (arith, common_steps)
 
 pub returns-else-is_done : goal.returns-else-is_done
 returns-else-is_done c =

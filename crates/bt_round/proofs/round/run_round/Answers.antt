@@ -15,7 +15,7 @@ use Rattle.bt_round.specs.declared.seats.TheConstants.{SEATS}
 use Rattle.bt_round.specs.Rounds.{BookRan}
 use Rattle.bt_round.proofs.Boards.{last_edition}
 use Rattle.bt_round.proofs.Closing.{Laws, comes_back, ran_nothing, seen_through}
-use Rattle.bt_round.proofs.OnOk.{on_ok, on_three}
+use Rattle.bt_workers.proofs.OnOk.{on_ok, on_three}
 use Rattle.bt_round.proofs.Rounds.{changes_over, posted_over, round_over, stored_entries}
 use Rattle.bt_round.proofs.round.run_round.Goals as goal
 

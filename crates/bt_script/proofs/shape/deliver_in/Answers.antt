@@ -1,7 +1,14 @@
 -- the number of a message, and its receiver
-use Rattle.std.proofs.Common.{rules}
+use Rattle.std.proofs.Common.{arith, rules}
+use Rattle.std.proofs.lemmas.Grind.{common_steps, moves}
 use Rattle.bt_script.proofs.Shapes.{deliver_read}
 use Rattle.bt_script.proofs.shape.deliver_in.Goals as goal
+
+pub returns-in_err-message : goal.returns-in_err-message
+returns-in_err-message c = grind (arith, moves)
+
+pub returns-in_err-receiver : goal.returns-in_err-receiver
+returns-in_err-receiver c = grind (arith, common_steps)
 
 pub returns : goal.returns
 returns c =

@@ -1,7 +1,7 @@
 use Rattle.std.proofs.Common.{Some, codes}
-use Rattle.bt_timeline.specs.Lines.{word_bytes}
+use Rattle.bt_words.specs.Lines.{word_bytes}
 use Rattle.bt_timeline.specs.Verdicts.{verdict_line}
-use Rattle.bt_timeline.proofs.Extending.{three_behind}
+use Rattle.bt_words.proofs.Extending.{three_behind}
 use Rattle.bt_timeline.proofs.entry.add_not_good.Goals as goal
 
 pub returns-clause-added : goal.returns-clause-added

@@ -2,7 +2,7 @@ use Rattle.std.proofs.Common.{◌∙◌, Vec, vec_len, vec_capacity, sym, ap, ar
 use Rattle.std.specs.Global.{Global}
 use Rattle.bt_air.specs.declared.sent.Sent.{Sent}
 use Rattle.bt_world.specs.Life.{is_answered, plans_in}
-use Rattle.bt_world.specs.World.{plan_of}
+use Rattle.bt_events.specs.World.{plan_of}
 use Rattle.bt_world.proofs.Sending.{sends-one, sends-none}
 use Rattle.bt_world.proofs.send.send_asking.Goals as goal
 use Rattle.bt_world.proofs.send.send_asking.Goals.{then-is_answered, else-is_answered}

@@ -1,6 +1,6 @@
 use Rattle.std.proofs.Common.{◌≡◌, ◌+◌, ◌-◌, ◌≤◌, ◌++◌, filter, vec_len, vec_capacity}
 use Rattle.bt_world.specs.Life.{is_answered, plans_in, terminals_of}
-use Rattle.bt_world.specs.World.{plan_of, plans_for}
+use Rattle.bt_events.specs.World.{plan_of, plans_for}
 use Rattle.bt_world.proofs.send.send_asking.Given as goal
 
 -- what was sent so far, and room for the rest

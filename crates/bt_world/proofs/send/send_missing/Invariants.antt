@@ -1,7 +1,7 @@
 use Rattle.std.proofs.Common.{◌≡◌, ◌+◌, ◌-◌, ◌≤◌, ◌++◌, filter, vec_len, vec_capacity}
 use Rattle.bt_change.specs.Centre.{is_missing}
 use Rattle.bt_world.specs.Life.{terminals_of}
-use Rattle.bt_world.specs.World.{plans_for}
+use Rattle.bt_events.specs.World.{plans_for}
 use Rattle.bt_world.proofs.send.send_missing.Given as goal
 
 -- what was sent so far, and room for the rest

@@ -2,7 +2,7 @@ use Rattle.std.proofs.Common.{◌∙◌, Vec, vec_len, vec_capacity, sym, ap, ar
 use Rattle.std.specs.Global.{Global}
 use Rattle.bt_air.specs.declared.sent.Sent.{Sent}
 use Rattle.bt_world.specs.Life.{plans_in}
-use Rattle.bt_world.specs.World.{has_burst, plan_of}
+use Rattle.bt_events.specs.World.{has_burst, plan_of}
 use Rattle.bt_world.proofs.Sending.{sends-one, sends-none}
 use Rattle.bt_world.proofs.send.send_needed.Goals as goal
 use Rattle.bt_world.proofs.send.send_needed.Goals.{then-has_burst, else-has_burst}

@@ -1,6 +1,6 @@
 use Rattle.std.proofs.Common.{◌≡◌, ◌+◌, ◌-◌, ◌≤◌, ◌++◌, filter, vec_len, vec_capacity}
 use Rattle.bt_world.specs.Life.{plans_in, terminals_of}
-use Rattle.bt_world.specs.World.{has_burst, plan_of, plans_for}
+use Rattle.bt_events.specs.World.{has_burst, plan_of, plans_for}
 use Rattle.bt_world.proofs.send.send_needed.Given as goal
 
 -- what was sent so far, and room for the rest

@@ -2,7 +2,7 @@ use Rattle.std.proofs.Common.{◌++◌, List, sym, ◌∙◌, ap}
 use Rattle.bt_frame.specs.declared.numbers.TermNo.{TermNo}
 use Rattle.bt_change.specs.Terminals.{has}
 use Rattle.bt_world.specs.Life.{plans_in, terminals_of}
-use Rattle.bt_world.specs.World.{has_burst, plan_of, plans_for}
+use Rattle.bt_events.specs.World.{has_burst, plan_of, plans_for}
 use Rattle.bt_world.proofs.Sending.{filter-both}
 use Rattle.bt_world.proofs.turn.send_known.Goals as goal
 

@@ -1,11 +1,15 @@
-use Rattle.std.proofs.Common.{◌≡◌, ℕ, ◌+◌, List, length, refl, sym, ap, subst}
-use Rattle.bt_base.specs.Told.{GainsPrefix}
+use Rattle.std.proofs.Common.{◌≡◌, ℕ, ◌+◌, List, [], ◌∷◌, ◌++◌, ◌∙◌, length, refl, sym, ap, subst}
+use Rattle.bt_base.specs.Told.{GainsPrefix, gained}
+use Rattle.bt_net.specs.Network.{Net}
+use Rattle.bt_journal.specs.declared.call.Call.TheVariants as call
 use Rattle.bt_journal.specs.declared.call.Change.TheVariants as change
+use Rattle.bt_journal.specs.declared.entry.Entry.{Entry}
 use Rattle.bt_journal.specs.declared.reply.Reply.TheVariants.{Done, StoreFault}
 use Rattle.bt_journal.specs.Journal.{NamesTerminals}
 use Rattle.bt_book.specs.Machine.{CanMake, ChangeStep, line_behind, state_after}
-use Rattle.bt_book.specs.Records.{Records}
+use Rattle.bt_book.specs.Records.{Records, Stores}
 use Rattle.bt_book.proofs.Entries.{kept_lost, kept_made, kept_same, lost_step, made_changes, made_step, tells_made}
+use Rattle.bt_book.proofs.OnErrors.{if_not_ok, on_err}
 use Rattle.bt_book.proofs.machine.Machine.make_edit.Goals as goal
 
 -- where memory ran out each link has its slots
@@ -34,34 +38,71 @@ invariant_of-self-else-branch g c =
     c.keep_edit.new.occupancy.links a.count a.edits a.bytes a.stopped a.plans.items a.plans.items a.orders.items a.orders.items _ c.keep_edit.ensures.net c.keep_edit.ensures.history
     c.keep_entry-else-branch.ensures refl (c.in_ok-keep_edit.ensures.undone c.if-branch.false) refl refl c.self.invariant
 
--- that is the machine's step
-pub returns-then-branch-clause-step : goal.returns-then-branch-clause-step
-returns-then-branch-clause-step g c =
+-- where memory runs out nothing changes
+pub returns-in_err-keep_edit : goal.returns-in_err-keep_edit
+returns-in_err-keep_edit g c =
+    let a = c.self.inside in
+    let now = c.args.self.now in
+    let failed = c.from_residual.ensures.0 in
+    let result = c.from_residual.result in
+    let same = ap (λ (n : Net). record { net = n; state = state_after a.opening.items c.keep_edit.new.history.items; history = c.keep_edit.new.history.items }) c.keep_edit.ensures.net
+    ∙ ap (λ (h : List Entry). record { net = a.occupancy.net; state = state_after a.opening.items h; history = h }) c.keep_edit.ensures.history ∙ c.self.view_is in record {
+      step = if_not_ok (λ reply. ChangeStep now.net now.state (change.Edit c.args.edit) reply (state_after a.opening.items c.keep_edit.new.history.items)) result failed;
+      entry = if_not_ok (λ reply. c.keep_edit.new.history.items ≡ now.history ++ record { caller = c.args.caller; call = call.Edit c.args.edit; reply = reply } ∷ []) result failed;
+      store = if_not_ok (λ reply. Stores now.net now.state.changes (change.Edit c.args.edit) reply (g.K.Keeper.told c.args.store.now) (g.K.Keeper.told c.keep_edit.new.store)
+          (g.K.Keeper.fault_count c.args.store.now) (g.K.Keeper.fault_count c.keep_edit.new.store)) result failed;
+      net = c.keep_edit.ensures.net ∙ ap (λ (r : Records). r.net) c.self.view_is;
+      err = on_err result same;
+      err_told = on_err result c.in_err-keep_edit.ensures.err_told;
+      err_faults = on_err result c.in_err-keep_edit.ensures.err_faults;
+    }
+
+-- the machine makes its step, and the store has the line
+pub returns-then-branch : goal.returns-then-branch
+returns-then-branch g c =
     let a = c.self.inside in
     let can = subst (λ (r : Records). CanMake r.net r.state (change.Edit c.args.edit)) (sym c.self.view_is) c.requires.can in
     let after = made_changes a.opening.items _ (change.Edit c.args.edit) a.history.items c.keep_edit.new.history.items c.keep_entry.new.history.items c.keep_edit.ensures.history c.keep_entry.ensures refl in
     let tells = tells_made a.occupancy.net c.keep_edit.new.occupancy.net _ _ a.occupancy.links c.keep_edit.new.occupancy.links a.count a.edits a.bytes c.args.edit
     c.length-length.result c.keep_edit.ensures.net after c.self.invariant.0 c.self.invariant.1 (c.in_ok-keep_edit.ensures.made c.if-branch.true) c.length-length.ensures.heaviest in
-    subst (λ (r : Records). ChangeStep r.net r.state (change.Edit c.args.edit) (Done (record { 0 = a.edits + 1 }) c.length-length.result) (state_after a.opening.items c.keep_entry.new.history.items)) c.self.view_is
-    (made_step a.occupancy.net a.opening.items a.history.items c.keep_edit.new.history.items c.keep_entry.new.history.items (change.Edit c.args.edit) _
-    c.keep_edit.ensures.history c.keep_entry.ensures refl refl refl can tells)
+    let before = c.keep_edit.ensures.history ∙ ap (λ (r : Records). r.history) c.self.view_is in record {
+      step = subst (λ (r : Records). ChangeStep r.net r.state (change.Edit c.args.edit) (Done (record { 0 = a.edits + 1 }) c.length-length.result) (state_after a.opening.items c.keep_entry.new.history.items)) c.self.view_is
+          (made_step a.occupancy.net a.opening.items a.history.items c.keep_edit.new.history.items c.keep_entry.new.history.items (change.Edit c.args.edit) _
+          c.keep_edit.ensures.history c.keep_entry.ensures refl refl refl can tells);
+      entry = c.keep_entry.ensures ∙ ap (λ (h : List Entry). h ++ record { caller = c.args.caller; call = call.Edit c.args.edit; reply = Done (record { 0 = a.edits + 1 }) c.length-length.result } ∷ []) before;
+      store = record {
+        step = (
+          c.in_ok-keep_edit.ensures.told c.if-branch.true ∙ ap (λ (bytes : List ℕ). gained (g.K.Keeper.told c.args.store.now) bytes) c.requires.line,
+          c.in_ok-keep_edit.ensures.later c.if-branch.true,
+        );
+        spelled = c.requires.spelled;
+      };
+      net = c.keep_edit.ensures.net ∙ ap (λ (r : Records). r.net) c.self.view_is;
+      err = tt;
+      err_told = tt;
+      err_faults = tt;
+    }
 
--- and so it is where the store failed
-pub returns-else-branch-clause-step : goal.returns-else-branch-clause-step
-returns-else-branch-clause-step g c =
+-- the store failed, and has a first part of the line
+pub returns-else-branch : goal.returns-else-branch
+returns-else-branch g c =
     let a = c.self.inside in
     let can = subst (λ (r : Records). CanMake r.net r.state (change.Edit c.args.edit)) (sym c.self.view_is) c.requires.can in
-    subst (λ (r : Records). ChangeStep r.net r.state (change.Edit c.args.edit) StoreFault (state_after a.opening.items c.keep_entry-else-branch.new.history.items)) c.self.view_is
-    (lost_step a.occupancy.net a.opening.items a.history.items c.keep_edit.new.history.items c.keep_entry-else-branch.new.history.items (change.Edit c.args.edit) _
-    c.keep_edit.ensures.history c.keep_entry-else-branch.ensures refl can)
-
--- which then has a first part of the line
-pub returns-else-branch-clause-store : goal.returns-else-branch-clause-store
-returns-else-branch-clause-store g c = record {
-  step = (
-    subst (λ (bytes : List ℕ). GainsPrefix (g.K.Keeper.told c.args.store.now) bytes (g.K.Keeper.told c.keep_edit.new.store)) c.requires.line
-        (c.in_ok-keep_edit.ensures.prefix c.if-branch.false),
-    c.in_ok-keep_edit.ensures.rose c.if-branch.false,
-  );
-  spelled = c.requires.spelled;
-}
+    let before = c.keep_edit.ensures.history ∙ ap (λ (r : Records). r.history) c.self.view_is in record {
+      step = subst (λ (r : Records). ChangeStep r.net r.state (change.Edit c.args.edit) StoreFault (state_after a.opening.items c.keep_entry-else-branch.new.history.items)) c.self.view_is
+          (lost_step a.occupancy.net a.opening.items a.history.items c.keep_edit.new.history.items c.keep_entry-else-branch.new.history.items (change.Edit c.args.edit) _
+          c.keep_edit.ensures.history c.keep_entry-else-branch.ensures refl can);
+      entry = c.keep_entry-else-branch.ensures ∙ ap (λ (h : List Entry). h ++ record { caller = c.args.caller; call = call.Edit c.args.edit; reply = StoreFault } ∷ []) before;
+      store = record {
+        step = (
+          subst (λ (bytes : List ℕ). GainsPrefix (g.K.Keeper.told c.args.store.now) bytes (g.K.Keeper.told c.keep_edit.new.store)) c.requires.line
+              (c.in_ok-keep_edit.ensures.prefix c.if-branch.false),
+          c.in_ok-keep_edit.ensures.rose c.if-branch.false,
+        );
+        spelled = c.requires.spelled;
+      };
+      net = c.keep_edit.ensures.net ∙ ap (λ (r : Records). r.net) c.self.view_is;
+      err = tt;
+      err_told = tt;
+      err_faults = tt;
+    }

@@ -1,7 +1,7 @@
 use Rattle.std.proofs.Common.{◌≡◌, ◌-◌, ◌<◌, ◌≤◌, ◌∙◌, length, get_or, sym, ap, subst, rules, arith}
 use Rattle.bt_demand.specs.declared.plan.Plan.{Plan}
-use Rattle.bt_world.specs.Event.{Install}
-use Rattle.bt_world.specs.Fits.{no_plan}
+use Rattle.bt_events.specs.Event.{Install}
+use Rattle.bt_events.specs.Fits.{no_plan}
 use Rattle.bt_world.specs.Life.{Logged, plans_in}
 use Rattle.bt_world.proofs.Lookup.{opened-at, installed-at}
 use Rattle.bt_world.proofs.event_log.EventLog.plan_at.Goals as goal

@@ -5,10 +5,10 @@ use Rattle.bt_air.specs.declared.sent.Heard.{Heard}
 use Rattle.bt_air.specs.declared.shown.Shown.TheVariants as shows
 use Rattle.bt_air.specs.declared.sent.Place.TheVariants.{Terminal}
 use Rattle.bt_air.specs.declared.sent.Sent.{Sent}
-use Rattle.bt_world.specs.Answers.{planned_in}
-use Rattle.bt_world.specs.Event.{Deliver}
+use Rattle.bt_events.specs.Answers.{planned_in}
+use Rattle.bt_events.specs.Event.{Deliver}
 use Rattle.bt_world.specs.Life.{Life, past_of}
-use Rattle.bt_world.specs.World.{plans}
+use Rattle.bt_events.specs.World.{plans}
 use Rattle.bt_world.proofs.Kept.{kept-as, logged-more}
 use Rattle.bt_world.proofs.Delivers.{one-delivered, terminal-at, terminal-step, terminal-kept}
 use Rattle.bt_world.proofs.Framed.{length-terminals}

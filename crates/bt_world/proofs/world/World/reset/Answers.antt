@@ -1,7 +1,7 @@
 use Rattle.std.proofs.Common.{◌≡◌, ◌++◌, ◌∷◌, [], List, length, slice_set, get_or, refl, sym, subst, ap, ◌∙◌, arith}
 use Rattle.bt_air.specs.declared.sent.Sent.{Sent}
 use Rattle.bt_air.specs.declared.sent.Sent.TheVariants as sends
-use Rattle.bt_world.specs.Event.{ResetTerminal}
+use Rattle.bt_events.specs.Event.{ResetTerminal}
 use Rattle.bt_world.specs.Life.{Life, MayCome, having_had, life_of}
 use Rattle.bt_world.proofs.Resets.{reset-kept, terminals-count}
 use Rattle.bt_world.proofs.world.World.reset.Goals as goal

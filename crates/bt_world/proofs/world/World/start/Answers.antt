@@ -1,15 +1,16 @@
-use Rattle.std.proofs.Common.{◌≡◌, ℕ, List, Option, map, length, reverse, refl, sym, ◌∙◌, ap, subst}
+use Rattle.std.proofs.Common.{arith, ◌≡◌, ◌≤◌, [], ℕ, List, Option, map, length, reverse, refl, sym, ◌∙◌, ap, subst}
+use Rattle.std.proofs.lemmas.List.{length-reverse}
 use Rattle.bt_net.specs.Network.{Net, IsSound}
 use Rattle.bt_air.specs.declared.order.Order.{Order}
-use Rattle.bt_change.specs.Centre.{begins_with}
+use Rattle.bt_change.specs.Centre.{AreNumbered, begins_with}
 use Rattle.bt_change.specs.Last.{last_order}
 use Rattle.bt_frame.specs.declared.numbers.TermSet.{TermSet}
 use Rattle.bt_switch.specs.Satellite.{new_at}
 use Rattle.bt_term.specs.Terminal.{new_of}
-use Rattle.bt_world.specs.Centre.{needed_by}
-use Rattle.bt_world.specs.Fits.{IsOpening}
+use Rattle.bt_events.specs.Centre.{needed_by}
+use Rattle.bt_events.specs.Fits.{IsOpening}
 use Rattle.bt_world.specs.Life.{opening_of, plans_in, terminals_of}
-use Rattle.bt_world.specs.World.{greatest_due}
+use Rattle.bt_events.specs.World.{greatest_due}
 use Rattle.bt_world.proofs.Started.{started}
 use Rattle.bt_world.proofs.world.World.start.Goals as goal
 
@@ -31,3 +32,16 @@ invariant_of-result c =
     (c.needs-needs.ensures ∙ ap (λ (n : ℕ). needed_by (terminals_of n) (plans_in c.in_ok-log.log) c.last_of.result) (c.in_ok-log.ensures.terminals ∙ count)
     ∙ ap (λ (order : Option Order). needed_by (terminals_of (length c.in_ok-net.net.terminals)) (plans_in c.in_ok-log.log) order) last))
     refl
+
+pub open-requires : goal.open-requires
+open-requires c = record { few = c.terminal_count.ensures.in_range.1; starts = c.requires.opening.starts }
+
+pub from_orders-requires : goal.from_orders-requires
+from_orders-requires c =
+    let placed = c.in_ok-net.ensures.placed ∙ c.as_slice-3.ensures.value in record {
+      numbered = subst (λ (list : List Order). AreNumbered (reverse list)) (sym placed) c.requires.opening.numbered;
+      few = let long = ap (λ (list : List Order). length list) placed in omega (arith, long, length-reverse c.args.orders.items, c.requires.opening.few);
+    }
+
+pub returns : goal.returns
+returns c = record { made = λ i. record { opening = opening_of (c.in_ok-net.ensures.net i) (c.in_ok-log.ensures.opening i) c.args.orders.items; events = c.in_ok-log.ensures.events i } }

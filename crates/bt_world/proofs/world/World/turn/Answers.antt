@@ -7,9 +7,9 @@ use Rattle.bt_change.specs.Centre.{State, act_at, after_turn}
 use Rattle.bt_change.specs.Centre.{is_missing as is_missing_to}
 use Rattle.bt_change.specs.Terminals.{has}
 use Rattle.bt_switch.specs.Satellite.{State as Onboard}
-use Rattle.bt_world.specs.Event.{Turn}
+use Rattle.bt_events.specs.Event.{Turn}
 use Rattle.bt_world.specs.Life.{Life, MayCome, having_had, life_of, past_of, plans_in, terminals_of}
-use Rattle.bt_world.specs.World.{sent_by_act, sent_to_asking}
+use Rattle.bt_events.specs.World.{sent_by_act, sent_to_asking}
 use Rattle.bt_world.proofs.Placed.{same-plans}
 use Rattle.bt_world.proofs.Started.{plans-logged}
 use Rattle.bt_world.proofs.Turned.{mark-few, turn-kept}

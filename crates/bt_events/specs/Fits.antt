@@ -1,0 +1,89 @@
+-- What must hold of an opening and of each event.
+use Rattle.std.specs.Prelude.{◌≡◌, ◌<◌, ◌≤◌, true, false, List, [], ◌∷◌, length, All, AllPairs, IsSome}
+use Rattle.bt_frame.specs.declared.limits.TheConstants.{LAST_MARK, MOST_COUNTED}
+use Rattle.bt_frame.specs.declared.numbers.EditionNo.{EditionNo}
+use Rattle.bt_frame.specs.declared.schedule.Critical.TheVariants.{Row}
+use Rattle.bt_demand.specs.declared.plan.Plan.{Plan}
+use Rattle.bt_air.specs.declared.order.Order.{Order}
+use Rattle.bt_air.specs.declared.order.Order.TheVariants.{Load, Arm}
+use Rattle.bt_air.specs.declared.sent.Place.{Place}
+use Rattle.bt_air.specs.declared.sent.Place.TheVariants.{Satellite, Centre, Terminal}
+use Rattle.bt_change.specs.Centre.{AreNumbered}
+use Rattle.bt_events.specs.Event.{Opening, Event, Tick, Turn, Ordered, Deliver, Frame, ResetTerminal, RestartCentre, Install, Happening}
+use Rattle.bt_events.specs.World.{mark, frames_shown, plans, plan_of, wanted, orders, sent, log}
+use Rattle.bt_demand.specs.Burst.{IsNotAfter}
+use Rattle.bt_demand.specs.Flyable.{IsFlyable}
+use Rattle.bt_air.specs.Range.{IsWord}
+use Rattle.bt_net.specs.Terminals.{IsTerminal}
+
+-- the empty plan
+abbrev pub no_plan : Plan
+no_plan = record { edition = record { 0 = 0 }; schedule = record { length = 0; critical = Row (record { 0 = 0 }); modes = [] }; bursts = [] }
+
+-- editions ascend from the empty plan, which is the first; the latest stands first
+abbrev pub StartsEmpty : List Plan → Type 0
+StartsEmpty [] = ⊥
+StartsEmpty (plan ∷ []) = plan ≡ no_plan
+StartsEmpty (plan ∷ before ∷ rest) = (before.edition.0 < plan.edition.0) × StartsEmpty (before ∷ rest)
+
+-- the newest edition
+abbrev pub newest_of : List Plan → EditionNo
+newest_of [] = record { 0 = 0 }
+newest_of (plan ∷ earlier) = plan.edition
+
+-- the edition of an order
+abbrev pub edition_ordered : Order → EditionNo
+edition_ordered (Load command edition) = edition
+edition_ordered (Arm command edition due) = edition
+
+-- there is a plan of the edition of the order
+abbrev pub HasPlan : List Plan → Order → Type 0
+HasPlan all order = IsSome (plan_of all (edition_ordered order))
+
+-- no order arms for a superframe past the last mark
+abbrev pub IsInTime : Order → Type 0
+IsInTime (Load command edition) = Unit {0}
+IsInTime (Arm command edition due) = due.0 ≤ LAST_MARK
+
+-- What must hold of an opening: editions ascend from the empty plan, each plan can be flown, and the orders are
+-- numbered, each for an edition that has a plan.
+pub record IsOpening (o : Opening) : Type 0 where
+  pub starts : StartsEmpty o.plans
+  pub fit : All (IsFlyable o.net) o.plans
+  pub numbered : AreNumbered o.orders
+  pub planned : All (HasPlan o.plans) o.orders
+  pub in_time : All IsInTime o.orders
+  pub few : length o.orders ≤ MOST_COUNTED
+
+-- a place of the network
+abbrev pub IsPlace : Opening → Place → Type 0
+IsPlace o Satellite = Unit {0}
+IsPlace o Centre = Unit {0}
+IsPlace o (Terminal terminal) = IsTerminal o.net terminal
+
+-- what must hold of an event of each kind
+abbrev pub Meets : Opening → List Happening → Event → Type 0
+Meets o past Tick = mark o past < LAST_MARK
+Meets o past (Turn newest) = newest ≡ newest_of (plans o past)
+Meets o past Ordered = IsSome (wanted past)
+Meets o past (Deliver number place) = (number < length (sent o past)) × IsPlace o place
+Meets o past Frame = frames_shown past < o.net.frames
+Meets o past (ResetTerminal terminal) = IsTerminal o.net terminal
+Meets o past (RestartCentre true) = IsSome (wanted past)
+Meets o past (RestartCentre false) = Unit {0}
+Meets o past (Install plan) = ((newest_of (plans o past)).0 < plan.edition.0) × IsFlyable o.net plan
+
+-- a world: an opening, and events of which each meets what must hold of it
+abbrev pub IsWorld : Opening → List Event → Type 0
+IsWorld o [] = IsOpening o
+IsWorld o (event ∷ earlier) = Meets o (log o earlier) event × IsWorld o earlier
+
+-- the edition fits four bytes and the bursts stand in order, as in each plan that a program holds
+pub record IsStored (plan : Plan) : Type 0 where
+  pub edition : IsWord plan.edition.0
+  pub ordered : AllPairs IsNotAfter plan.bursts
+
+-- no number of a world is too great for its messages: the plans are stored ones, and the orders fit four bytes
+pub record AreStored (o : Opening) (past : List Happening) : Type 0 where
+  pub plans : All IsStored (plans o past)
+  pub orders : IsWord (length (orders o past))

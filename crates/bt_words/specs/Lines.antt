@@ -1,0 +1,35 @@
+-- Printed lines as their words.
+use Rattle.std.specs.Prelude.{ℕ, ◌++◌, List, [], ◌∷◌, codes, decimal, flat_map}
+use Rattle.bt_frame.specs.declared.numbers.Mark.{Mark}
+use Rattle.bt_air.specs.declared.order.Armed.{Armed}
+use Rattle.bt_words.specs.declared.line.Word.{Word}
+use Rattle.bt_words.specs.declared.line.Word.TheVariants as word
+
+-- the words with a space before each of them
+abbrev pub spaced_out : List (List ℕ) → List ℕ
+spaced_out words = flat_map (λ word. 32 ∷ word) words
+
+-- the words of a line with a space between each two, and a newline behind the last
+abbrev pub line_of : List (List ℕ) → List ℕ
+line_of [] = 10 ∷ []
+line_of (first ∷ rest) = first ++ spaced_out rest ++ 10 ∷ []
+
+-- the desk of that number
+abbrev pub desk_name : ℕ → List ℕ
+desk_name desk = codes "desk" ++ 32 ∷ decimal desk
+
+-- the frame of that number, from 0, of a superframe
+abbrev pub frame_name : Mark → ℕ → List ℕ
+frame_name mark number = decimal mark.0 ++ 46 ∷ decimal number
+
+-- the change for which the satellite is armed
+abbrev pub armed_name : Armed → List ℕ
+armed_name change = codes "armed " ++ decimal change.edition.0 ++ codes " due " ++ decimal change.due.0
+
+-- what a word of the code spells
+abbrev pub word_bytes : Word → List ℕ
+word_bytes (word.Text text) = text.now
+word_bytes (word.Number number) = decimal number
+word_bytes (word.Desk desk) = desk_name desk
+word_bytes (word.Frame mark number) = frame_name mark number
+word_bytes (word.Armed change) = armed_name change

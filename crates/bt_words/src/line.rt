@@ -1,0 +1,119 @@
+// One line, word by word.
+ghost use Rattle.std.specs.Prelude.{◌≡◌, ◌++◌, ◌∷◌, decimal, map, OnOk, OnErr};
+ghost use Rattle.bt_words.specs.Lines.{armed_name, frame_name, line_of, spaced_out, word_bytes};
+ghost use Rattle.bt_words.specs.Written.{Extends};
+
+use bt_air::Armed;
+use bt_frame::{Mark, OutOfMemory};
+use bt_text::number_text;
+use std::alloc::Global;
+
+/// What a word of a line is.
+#[derive(Clone, Copy)]
+pub enum Word<'a> {
+    /// This text.
+    Text(&'a str),
+    /// A number in decimal digits.
+    Number(u64),
+    /// `desk` and the number of a desk.
+    Desk(u8),
+    /// A superframe and the number of a frame of it, from 0, with a point between them.
+    Frame(Mark, u32),
+    /// `armed`, the edition of the change for which the satellite is armed, `due` and its superframe.
+    Armed(Armed),
+}
+
+impl Word<'_> {
+    /// A small number in decimal digits.
+    pub fn number(number: u32) -> Word<'static>
+        ensures spelled { word_bytes result ≡ decimal number }
+    {
+        Word::Number(u64::from(number))
+    }
+}
+
+/// Appends a line of these words, a space between each two and a newline behind the last.
+pub fn add_line(alloc: Global, words: &[Word<'_>], out: &mut Vec<u8>) -> Result<(), OutOfMemory>
+    ensures added { OnOk result (out.new.items ≡ out.old.items ++ line_of (map word_bytes words.now)) }
+    ensures unchanged { OnErr result (out.new.items ≡ out.old.items) }
+{
+    let before = out.len();
+    let added = add_words(alloc, words, out);
+    if added.is_err() {
+        out.truncate(before);
+    }
+    added
+}
+
+/// Appends the words and the newline. Want of memory leaves a first part of them.
+fn add_words(alloc: Global, words: &[Word<'_>], out: &mut Vec<u8>) -> Result<(), OutOfMemory>
+    ensures added { OnOk result (out.new.items ≡ out.old.items ++ line_of (map word_bytes words.now)) }
+    ensures kept { Extends out.old.items out.new.items }
+{
+    if let Some((first, rest)) = words.split_first() {
+        add_word(alloc, first, out)?;
+        add_further(alloc, rest, out)?;
+    }
+    out.push(b'\n')?;
+    Ok(())
+}
+
+/// Appends the words, a space before each of them. Want of memory leaves a first part of them.
+fn add_further(alloc: Global, words: &[Word<'_>], out: &mut Vec<u8>) -> Result<(), OutOfMemory>
+    ensures added { OnOk result (out.new.items ≡ out.old.items ++ spaced_out (map word_bytes words.now)) }
+    ensures kept { Extends out.old.items out.new.items }
+{
+    for word in words {
+        add_next(alloc, word, out)?;
+    }
+    Ok(())
+}
+
+/// Appends a space and a word. Want of memory leaves a first part of them.
+fn add_next(alloc: Global, word: &Word<'_>, out: &mut Vec<u8>) -> Result<(), OutOfMemory>
+    ensures added { OnOk result (out.new.items ≡ out.old.items ++ 32 ∷ word_bytes word.now) }
+    ensures kept { Extends out.old.items out.new.items }
+{
+    out.push(b' ')?;
+    add_word(alloc, word, out)
+}
+
+/// Appends a word. Want of memory leaves a first part of it.
+pub fn add_word(alloc: Global, word: &Word<'_>, out: &mut Vec<u8>) -> Result<(), OutOfMemory>
+    ensures added { OnOk result (out.new.items ≡ out.old.items ++ word_bytes word.now) }
+    ensures kept { Extends out.old.items out.new.items }
+{
+    match *word {
+        Word::Text(text) => Ok(out.extend_from_slice(text.as_bytes())?),
+        Word::Number(number) => number_text(alloc, number, out),
+        Word::Desk(desk) => {
+            out.extend_from_slice(b"desk ")?;
+            number_text(alloc, u64::from(desk), out)
+        }
+        Word::Frame(mark, number) => add_frame(alloc, mark, number, out),
+        Word::Armed(change) => add_armed(alloc, change, out),
+    }
+}
+
+/// Appends a superframe, a point and the number of a frame. Want of memory leaves a first part of them.
+#[tactic(auto, using(crate::proofs::Extending::extends_on))]
+fn add_frame(alloc: Global, mark: Mark, number: u32, out: &mut Vec<u8>) -> Result<(), OutOfMemory>
+    ensures added { OnOk result (out.new.items ≡ out.old.items ++ frame_name mark number) }
+    ensures kept { Extends out.old.items out.new.items }
+{
+    number_text(alloc, u64::from(mark.0), out)?;
+    out.push(b'.')?;
+    number_text(alloc, u64::from(number), out)
+}
+
+/// Appends a change that is to come. Want of memory leaves a first part of it.
+#[tactic(auto, using(crate::proofs::Extending::extends_on))]
+fn add_armed(alloc: Global, change: Armed, out: &mut Vec<u8>) -> Result<(), OutOfMemory>
+    ensures added { OnOk result (out.new.items ≡ out.old.items ++ armed_name change) }
+    ensures kept { Extends out.old.items out.new.items }
+{
+    out.extend_from_slice(b"armed ")?;
+    number_text(alloc, u64::from(change.edition.0), out)?;
+    out.extend_from_slice(b" due ")?;
+    number_text(alloc, u64::from(change.due.0), out)
+}

@@ -1,0 +1,17 @@
+pub mod OnOk
+pub mod Asking
+pub mod Installed
+pub mod Lent
+pub mod DeskLines
+pub mod Posting
+pub mod PlannerLines
+pub mod FromNumber
+pub mod Terminals
+pub mod Sending
+pub mod Running
+pub mod Marks
+pub mod Flowing
+pub mod Wanted
+pub mod Turning
+pub mod Flies
+pub mod PlayedLines

@@ -1,0 +1,39 @@
+-- The superframe of a world is never past the last.
+use Rattle.std.proofs.Common.{◌≡◌, ◌+◌, ◌≤◌, List, [], ◌∷◌, All, reverse, sym, ap, ◌∙◌, arith}
+use Rattle.std.proofs.lemmas.List.Elements.{All-head, All-tail}
+use Rattle.bt_air.specs.declared.order.Order.{Order}
+use Rattle.bt_air.specs.declared.order.Order.TheVariants.{Load, Arm}
+use Rattle.bt_events.specs.Event.{Opening, Event, Tick, Turn, Ordered, Deliver, Frame, ResetTerminal, RestartCentre, Install, Happening}
+use Rattle.bt_frame.specs.declared.limits.TheConstants.{LAST_MARK}
+use Rattle.bt_events.specs.Fits.{IsInTime, IsWorld}
+use Rattle.bt_events.specs.World.{greatest_due, log, mark}
+use Rattle.bt_workers.specs.AirLines.{AirState, having, mark_of}
+use Rattle.bt_workers.specs.Worker.{IsRunning}
+use Rattle.bt_workers.proofs.Running.{past-having}
+
+due-small : (orders : List Order) → All IsInTime orders → greatest_due orders ≤ 4000000000
+due-small [] all = omega arith
+due-small (Load command edition ∷ earlier) all = due-small earlier (All-tail IsInTime (Load command edition) earlier all)
+due-small (Arm command edition due ∷ earlier) all =
+    omega (arith, due-small earlier (All-tail IsInTime (Arm command edition due) earlier all), All-head IsInTime (Arm command edition due) earlier all)
+
+pub mark-small : (o : Opening) (events : List Event) → IsWorld o events → mark o (log o events) ≤ 4000000000
+mark-small o [] world = due-small o.orders world.in_time
+mark-small o (Tick ∷ earlier) world = omega (arith, world.0)
+mark-small o (Turn newest ∷ earlier) world = mark-small o earlier world.1
+mark-small o (Ordered ∷ earlier) world = mark-small o earlier world.1
+mark-small o (Deliver number place ∷ earlier) world = mark-small o earlier world.1
+mark-small o (Frame ∷ earlier) world = mark-small o earlier world.1
+mark-small o (ResetTerminal terminal ∷ earlier) world = mark-small o earlier world.1
+mark-small o (RestartCentre kept ∷ earlier) world = mark-small o earlier world.1
+mark-small o (Install plan ∷ earlier) world = mark-small o earlier world.1
+
+-- past the last superframe is at it
+pub last-mark : (air inside : AirState) → inside ≡ air → IsRunning inside → LAST_MARK ≤ (mark_of inside).0 → (mark_of air).0 ≡ LAST_MARK
+last-mark air inside same running late =
+    let small : (mark_of inside).0 ≤ 4000000000 = mark-small inside.life.opening (reverse inside.life.events) running.world in
+    ap (λ (a : AirState). (mark_of a).0) (sym same) ∙ (omega (arith, small, late))
+
+-- a tick begins the next superframe
+pub mark-ticked : (air : AirState) → mark_of (having air Tick) ≡ record { 0 = (mark_of air).0 + 1 }
+mark-ticked air = ap (λ (past : List Happening). record { 0 = mark air.life.opening past }) (past-having air.life Tick)

@@ -1,0 +1,9 @@
+use Rattle.bt_world.specs.Life.{past_of}
+use Rattle.bt_events.specs.World.{sent}
+use Rattle.bt_workers.proofs.FromNumber.{lines-more}
+use Rattle.bt_workers.proofs.worker.sent_lines.Goals as goal
+
+pub loop-number-preserved : goal.loop-number-preserved
+loop-number-preserved c =
+    lines-more c.args.net.now c.args.first c.loop-number.number (sent c.args.world.now.opening (past_of c.args.world.now)) c.sent.result.now
+    c.args.text.now.items c.loop-number.text.items c.sent_text.new.out.items c.loop-number.auto.number c.sent.ensures.sent c.loop-number.invariant c.in_ok-sent_text.ensures.added

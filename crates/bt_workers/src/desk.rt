@@ -1,0 +1,76 @@
+// A desk in a round: its edits are asked, and its shows are shown.
+ghost use Rattle.std.specs.Prelude.{◌≡◌, ◌+◌, ◌∷◌, [], All, OnOk};
+ghost use Rattle.bt_script.specs.Named.{IsLineFor};
+ghost use Rattle.bt_workers.specs.Callers.{Calling, IsSameCaller, number_of, own_of};
+ghost use Rattle.bt_workers.specs.Done.{DeskDone};
+
+use crate::caller::Caller;
+use crate::gate::Gate;
+use bt_base::Keeper;
+use bt_board::Reader;
+use bt_book::replies_name_beams_of_the_network;
+use bt_frame::OutOfMemory;
+use bt_journal::Call;
+use bt_net::Network;
+use bt_script::DeskLine;
+use bt_timeline::{entry_text, show_text};
+use std::alloc::Global;
+use std::sync::Wait;
+
+/// Does the lines of a desk in order, and appends what is printed of them. A show looks at the board, and
+/// gives the plan that the desk's reader then lends.
+pub fn run_desk<R: Wait, G: Gate, K: Keeper>(
+    rt: &R,
+    alloc: Global,
+    net: &Network,
+    caller: &mut Caller<'_, G, K>,
+    desk: u8,
+    lines: &[DeskLine],
+    reader: &mut Reader,
+    text: &mut Vec<u8>,
+) -> Result<(), OutOfMemory>
+    requires network { caller.old.start.net ≡ net.now }
+    requires number { number_of caller.old ≡ desk + 1 }
+    requires terminals { All (IsLineFor net.now) lines.now }
+    ensures same { IsSameCaller caller.old caller.new }
+    ensures board { reader.new.board ≡ reader.old.board }
+    ensures done { OnOk result (DeskDone net.now desk lines.now reader.old.plans reader.new.plans (own_of caller.old) (own_of caller.new) text.old.items text.new.items) }
+{
+    for line in lines {
+        run_line(rt, alloc, net, caller, desk, line, reader, text)?;
+    }
+    Ok(())
+}
+
+/// Does a line of a desk, and appends what is printed of it.
+fn run_line<R: Wait, G: Gate, K: Keeper>(
+    rt: &R,
+    alloc: Global,
+    net: &Network,
+    caller: &mut Caller<'_, G, K>,
+    desk: u8,
+    line: &DeskLine,
+    reader: &mut Reader,
+    text: &mut Vec<u8>,
+) -> Result<(), OutOfMemory>
+    requires network { caller.old.start.net ≡ net.now }
+    requires number { number_of caller.old ≡ desk + 1 }
+    requires terminals { IsLineFor net.now line.now }
+    ensures same { IsSameCaller caller.old caller.new }
+    ensures board { reader.new.board ≡ reader.old.board }
+    ensures done { OnOk result (DeskDone net.now desk (line.now ∷ []) reader.old.plans reader.new.plans (own_of caller.old) (own_of caller.new) text.old.items text.new.items) }
+{
+    // This is there for what holds of each network: its terminals are in beams.
+    let _beams = net.beam_count();
+    replies_name_beams_of_the_network();
+    match line {
+        DeskLine::Edit(edit) => {
+            let entry = caller.ask(rt, alloc, net, Call::Edit(*edit))?;
+            entry_text(alloc, net, Some(desk), &entry, text)
+        }
+        DeskLine::Show(terminal) => {
+            reader.look()?;
+            show_text(alloc, net, desk, reader.newest(), *terminal, text)
+        }
+    }
+}

@@ -1,5 +1,0 @@
-use Rattle.bt_world.proofs.Banks.{banks-hold}
-use Rattle.bt_world.proofs.laws.banks_hold_plans.Goals as goal
-
-pub returns : goal.returns
-returns c = record { banks = banks-hold }

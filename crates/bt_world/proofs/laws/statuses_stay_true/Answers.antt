@@ -1,5 +1,0 @@
-use Rattle.bt_world.proofs.Standing.{statuses-tell}
-use Rattle.bt_world.proofs.laws.statuses_stay_true.Goals as goal
-
-pub returns : goal.returns
-returns c = record { front = λ o events. statuses-tell o events }

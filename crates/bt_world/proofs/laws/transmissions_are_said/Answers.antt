@@ -1,5 +1,0 @@
-use Rattle.bt_world.proofs.Sends.{transmits-said}
-use Rattle.bt_world.proofs.laws.transmissions_are_said.Goals as goal
-
-pub returns : goal.returns
-returns c = record { bursts = transmits-said }
