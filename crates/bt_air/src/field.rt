@@ -1,5 +1,5 @@
 // The fields of messages, each with its range.
-ghost use Rattle.std.specs.Prelude.{◌≡◌, ◌≤◌};
+ghost use Rattle.std.specs.Prelude.{◌≤◌};
 ghost use Rattle.bt_air.specs.Field.{Takes, command_in, last_command_in, edition_in, mark_in, due_in, terminal_in, flag_in, beams_in, mode_count_in, duration_in, downlink_in, burst_count_in, start_in, burst_length_in};
 
 use crate::AirFault;

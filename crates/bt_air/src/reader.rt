@@ -1,5 +1,5 @@
 // Reading a message from its bytes.
-ghost use Rattle.std.specs.Prelude.{◌≡◌, ◌≤◌, length, None, vec_len, IfOk};
+ghost use Rattle.std.specs.Prelude.{◌≡◌, ◌≤◌, length, None};
 ghost use Rattle.bt_frame.specs.declared.limits.TheConstants.{MOST_TEXT_BYTES};
 ghost use Rattle.bt_air.specs.Field.{Takes, edition_in, downlink_in};
 ghost use Rattle.bt_air.specs.MessageText.{arm_in, armed_in, burst_in, bursts_in, confirm_in, fields_in, is_less_than, load_in, lost_in, message_in, message_of, mode_in, modes_in, optional_in, plan_for_in, reference_in, several_in, status_in};

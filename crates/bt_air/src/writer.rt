@@ -1,6 +1,5 @@
 // Writing a message as its bytes.
-ghost use Rattle.std.specs.Prelude.{◌≡◌, ◌≤◌, ◌++◌, ◌∷◌, [], IfOk, OnOk, length};
-ghost use Rattle.std.specs.List.{flat_map};
+ghost use Rattle.std.specs.Prelude.{◌≡◌, ◌≤◌, ◌++◌, [], IfOk, OnOk, length};
 ghost use Rattle.bt_frame.specs.declared.limits.TheConstants.{LAST_SLOT, MOST_BEAMS, MOST_MESSAGE_BYTES, MOST_SLOTS};
 ghost use Rattle.bt_air.specs.Range.{AreBurstsOf, AreModes, IsInRange};
 ghost use Rattle.bt_air.specs.Spelling.{armed_bytes, beams_of, burst_bytes, bursts_bytes, message_bytes, mode_bytes, modes_bytes, optional, short, word};

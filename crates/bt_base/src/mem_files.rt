@@ -1,6 +1,6 @@
 // Files in memory, some of whose reads fail.
 ghost use Rattle.std.specs.Prelude.{◌≡◌, ◌≤◌, ◌⊎◌, ◌↔◌, IsSome, IsNone, IfOk, IsErrOf, vec_len};
-ghost use Rattle.bt_base.specs.Told.{Gives, IsLonger, HasCause};
+ghost use Rattle.bt_outside.specs.Told.{Gives, IsLonger, HasCause};
 ghost use Rattle.bt_base.specs.Calls.{fail_at, Counts};
 ghost use Rattle.bt_base.specs.Held.{named, contents_of};
 

@@ -1,6 +1,6 @@
 // A store in memory, some of whose calls fail.
 ghost use Rattle.std.specs.Prelude.{◌≡◌, ◌≤◌, ◌⊎◌, ◌++◌, take, Some, OnOk, IfOk, IsSome, IsSomeAnd, IsNone, IsErrOf, vec_len};
-ghost use Rattle.bt_base.specs.Told.{Gives, IsLonger, HasBytes, gained, GainsPrefix, shortened, HasCause};
+ghost use Rattle.bt_outside.specs.Told.{Gives, IsLonger, HasBytes, gained, GainsPrefix, shortened, HasCause};
 ghost use Rattle.bt_base.specs.Calls.{fail_at, Counts};
 
 use crate::fail::Calls;

@@ -1,6 +1,6 @@
 // A sink in memory, some of whose writes fail.
 ghost use Rattle.std.specs.Prelude.{◌≡◌, [], ◌++◌, take, Some, OnOk, OnErr, IsSomeAnd, IsNone, IsErrOf};
-ghost use Rattle.bt_base.specs.Told.{gained, GainsPrefix, HasCause};
+ghost use Rattle.bt_outside.specs.Told.{gained, GainsPrefix, HasCause};
 ghost use Rattle.bt_base.specs.Calls.{fail_at, Counts};
 
 use crate::fail::Calls;

@@ -1,6 +1,6 @@
 // Files in memory whose reads do not fail.
 ghost use Rattle.std.specs.Prelude.{◌≡◌, ◌≤◌, [], Some, IfOk, IsErrOf, unwrap_or, vec_len};
-ghost use Rattle.bt_base.specs.Told.{Gives, IsLonger, HasCause};
+ghost use Rattle.bt_outside.specs.Told.{Gives, IsLonger, HasCause};
 ghost use Rattle.bt_base.specs.Held.{named, contents_of};
 
 use crate::named::{NamedFile, contents, copy_within};

@@ -1,6 +1,6 @@
 // A store in memory whose calls do not fail.
 ghost use Rattle.std.specs.Prelude.{◌≡◌, ◌≤◌, ◌⊎◌, ℕ, Some, OnOk, IfOk, IsErrOf, vec_len};
-ghost use Rattle.bt_base.specs.Told.{Gives, IsLonger, HasBytes, gained, GainsPrefix, shortened, HasCause};
+ghost use Rattle.bt_outside.specs.Told.{Gives, IsLonger, HasBytes, gained, GainsPrefix, shortened, HasCause};
 
 use crate::{KeepFault, Keeper};
 use bt_frame::MOST_JOURNAL_BYTES;

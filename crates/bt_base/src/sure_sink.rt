@@ -1,6 +1,6 @@
 // A sink in memory whose writes do not fail.
 ghost use Rattle.std.specs.Prelude.{◌≡◌, [], Some, OnOk, IsErrOf};
-ghost use Rattle.bt_base.specs.Told.{gained, GainsPrefix, HasCause};
+ghost use Rattle.bt_outside.specs.Told.{gained, GainsPrefix, HasCause};
 
 use crate::{Sink, SinkFault};
 use std::alloc::Global;

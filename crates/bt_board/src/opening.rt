@@ -1,5 +1,5 @@
 // The opening of a board.
-ghost use Rattle.std.specs.Prelude.{◌≡◌, ◌+◌, ◌<◌, ◌≤◌, ◌^◌, Some, IfOk, IfErr, MatchResult, [], ◌∷◌, ◌++◌, drop, length, All};
+ghost use Rattle.std.specs.Prelude.{◌≡◌, ◌<◌, ◌≤◌, IfOk, [], ◌∷◌, drop, length, All};
 ghost use Rattle.bt_frame.specs.declared.limits.TheConstants.{MOST_READERS};
 ghost use Rattle.left_right.specs.Sides.{view};
 ghost use Rattle.bt_board.specs.Log.{head_of};

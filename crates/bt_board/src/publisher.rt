@@ -1,6 +1,5 @@
 // The publisher.
-ghost use Rattle.std.specs.Prelude.{◌≡◌, ◌⊎◌, ◌+◌, ◌<◌, ◌≤◌, ◌^◌, Some, IfOk, MatchResult, [], ◌∷◌, ◌++◌, drop, fold};
-ghost use Rattle.std.specs.Arc.{arc_value};
+ghost use Rattle.std.specs.Prelude.{◌≡◌, ◌⊎◌, ◌+◌, ◌<◌, ◌≤◌, Some, MatchResult, [], ◌∷◌, ◌++◌, drop, fold};
 ghost use Rattle.left_right.specs.Sides.{view};
 ghost use mathlib.Core.List.{IsPrefix};
 ghost use Rattle.bt_board.specs.Plans.{next_edition, last_of, Ascends};

@@ -1,5 +1,5 @@
 -- The lines of the link that gains, with their slots after an edit.
-use Rattle.std.proofs.Common.{◌≡◌, ℕ, ◌+◌, ◌-◌, ◌<◌, ◌≤◌, ◌==◌, ◌&&◌, if◌then◌else◌, List, length, ap, ◌∙◌, subst, arith}
+use Rattle.std.proofs.Common.{◌≡◌, ℕ, ◌+◌, ◌-◌, ◌<◌, ◌≤◌, ◌==◌, if◌then◌else◌, List, length, ap, ◌∙◌, subst, arith}
 use Rattle.bt_frame.specs.declared.numbers.BeamNo.{BeamNo}
 use Rattle.bt_frame.specs.declared.numbers.TermNo.{TermNo}
 use Rattle.bt_net.specs.Network.{Net}
@@ -11,13 +11,10 @@ use Rattle.bt_net.specs.Terminals.{IsInBeam}
 use Rattle.bt_journal.specs.declared.call.Edit.TheVariants.{Add, Move}
 use Rattle.bt_journal.specs.declared.call.Change.{Change}
 use Rattle.bt_book.specs.declared.lines.Lines.{Lines}
-use Rattle.bt_book.specs.Changes.{held_after}
-use Rattle.bt_book.specs.Records.{Records, KeepsUp, AreLinesAfter, AddsUp}
-use Rattle.bt_book.proofs.After.{lines-Add, lines-Move, slots_after-AddsUp}
-
--- the slots of a link are those after the changes
-pub held_after-units_of : (changes : List Change) (links : List Link) (from to : TermNo) → AddsUp changes links → units_of links from to ≡ held_after changes from to
-held_after-units_of changes links from to adds = slots_after-AddsUp changes links adds (λ a b. a.0 == from.0 && b.0 == to.0)
+use Rattle.bt_history.specs.Changes.{held_after}
+use Rattle.bt_history.specs.Records.{Records, KeepsUp, AddsUp}
+use Rattle.bt_book.specs.Lines.{AreLinesAfter}
+use Rattle.bt_history.proofs.After.{lines-Add, lines-Move, held_after-units_of}
 
 -- the lines after a link gained
 are_lines-Add : (net : Net) (changes : List Change) (links : List Link) (from to : TermNo) (units : ℕ) (up down : BeamNo) (in_row in_column : ℕ)

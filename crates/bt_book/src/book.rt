@@ -2,12 +2,12 @@
 ghost use Rattle.std.specs.Prelude.{◌≡◌, ◌<◌, ◌≤◌, ◌++◌, ◌∷◌, [], length, slice_index_or, option_map, IfOk, IfErr, IfSome, IsErrAnd, MatchResult, OnErr, List, ℕ, ◌⊎◌};
 ghost use Rattle.std.specs.List.{HoldsAt};
 ghost use Rattle.bt_frame.specs.declared.limits.TheConstants.{MOST_JOURNAL_BYTES};
-ghost use Rattle.bt_book.specs.Changes.{edition, empty_plan, newest, orders, plans, IsDemandAfter, IsDemandAt};
-ghost use Rattle.bt_book.specs.Causes.{Follows, IsChangeOn};
-ghost use Rattle.bt_book.specs.Machine.{line_behind, running, ChangeStep, IsOfNetwork, Step};
-ghost use Rattle.bt_book.specs.Records.{call_of};
-ghost use Rattle.bt_book.specs.Store.{IsStored, StoreStep, asked_line, lost_of};
-ghost use Rattle.bt_book.specs.Recovery.{IsFirstNoLine, IsFirstStray, IsOutside, IsReadable, IsRecoverFault, Recovered, whole};
+ghost use Rattle.bt_history.specs.Changes.{edition, empty_plan, newest, orders, plans, IsDemandAfter, IsDemandAt};
+ghost use Rattle.bt_history.specs.Causes.{Follows, IsChangeOn};
+ghost use Rattle.bt_history.specs.Machine.{line_behind, running, ChangeStep, IsOfNetwork, Step};
+ghost use Rattle.bt_history.specs.Records.{call_of};
+ghost use Rattle.bt_history.specs.Store.{IsStored, StoreStep, asked_line, lost_of};
+ghost use Rattle.bt_history.specs.Recovery.{IsFirstNoLine, IsFirstStray, IsOutside, IsReadable, IsRecoverFault, Recovered, whole};
 ghost use Rattle.bt_journal.specs.declared.call.Change.{Change};
 ghost use Rattle.bt_journal.specs.JournalLines.{Keeps};
 
@@ -31,8 +31,8 @@ pub struct Book<K: Keeper> {
 }
 
 impl<K: Keeper> Model for Book<K> {
-    ghost use Rattle.bt_book.specs.Book.{Books};
-    ghost use Rattle.bt_book.specs.Records.{Holds};
+    ghost use Rattle.bt_history.specs.Book.{Books};
+    ghost use Rattle.bt_history.specs.Records.{Holds};
 
     ghost Value = { Books };
 

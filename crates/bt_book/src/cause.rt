@@ -1,9 +1,10 @@
 // The first cause for which a change is refused, and that of an edit. Nothing changes while it is looked for.
 ghost use Rattle.std.specs.Prelude.{◌≡◌, ◌==◌, ◌≤◌, if◌then◌else◌, IfOk};
 ghost use Rattle.bt_journal.specs.Journal.{NamesTerminals};
-ghost use Rattle.bt_book.specs.Changes.{held_after};
-ghost use Rattle.bt_book.specs.Causes.{IsChangeOn};
-ghost use Rattle.bt_book.specs.Records.{AreLinesAfter, IsFirstCause, IsFirstEditCause, IsShortOf};
+ghost use Rattle.bt_history.specs.Changes.{held_after};
+ghost use Rattle.bt_history.specs.Causes.{IsChangeOn};
+ghost use Rattle.bt_history.specs.Records.{IsFirstCause, IsFirstEditCause, IsShortOf};
+ghost use Rattle.bt_book.specs.Lines.{AreLinesAfter};
 
 use crate::lines::{Lines, full_line};
 use crate::machine::Machine;

@@ -3,10 +3,10 @@ ghost use Rattle.std.specs.Prelude.{◌≡◌, ◌+◌, ◌≤◌, ◌++◌, ◌
 ghost use Rattle.bt_frame.specs.declared.limits.TheConstants.{MOST_UNITS};
 ghost use Rattle.bt_journal.specs.Journal.{is_fault, is_made};
 ghost use Rattle.bt_journal.specs.JournalLines.{IsChangeInRange, edits_in, units_in};
-ghost use Rattle.bt_book.specs.Changes.{edition};
-ghost use Rattle.bt_book.specs.Causes.{IsChangeOn, IsGood};
-ghost use Rattle.bt_book.specs.Machine.{ChangeStep};
-ghost use Rattle.bt_book.specs.Records.{IsBookFull, Stores, call_of};
+ghost use Rattle.bt_history.specs.Changes.{edition};
+ghost use Rattle.bt_history.specs.Causes.{IsChangeOn, IsGood};
+ghost use Rattle.bt_history.specs.Machine.{ChangeStep};
+ghost use Rattle.bt_history.specs.Records.{IsBookFull, Stores, call_of};
 
 use crate::machine::Machine;
 use crate::place::parts_of;

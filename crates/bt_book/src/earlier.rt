@@ -3,9 +3,9 @@ ghost use Rattle.std.specs.Prelude.{◌≡◌, ◌<◌, ◌≤◌, ◌++◌, [],
 ghost use Rattle.bt_frame.specs.declared.limits.TheConstants.{MOST_SUM};
 ghost use Rattle.bt_demand.specs.Traffic.{matrix_of, AreOfNetwork, HasSumsTo};
 ghost use Rattle.bt_journal.specs.Journal.{changes_of};
-ghost use Rattle.bt_book.specs.Changes.{edition, IsDemandAt};
-ghost use Rattle.bt_book.specs.Causes.{Follows};
-ghost use Rattle.bt_book.specs.Records.{CanRedo, IsEditMade, IsEditOf, IsRedone, RedoesOne};
+ghost use Rattle.bt_history.specs.Changes.{edition, IsDemandAt};
+ghost use Rattle.bt_history.specs.Causes.{Follows};
+ghost use Rattle.bt_history.specs.Records.{CanRedo, IsEditMade, IsEditOf, IsRedone, RedoesOne};
 
 use crate::machine::Machine;
 use bt_demand::Demand;

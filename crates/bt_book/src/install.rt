@@ -1,9 +1,9 @@
 // A plan can be installed where it is newer than all that are, and good for the demand of its edition.
 ghost use Rattle.std.specs.Prelude.{◌≤◌, IfOk};
 ghost use Rattle.bt_journal.specs.declared.call.Change.TheVariants as change;
-ghost use Rattle.bt_book.specs.Changes.{edition};
-ghost use Rattle.bt_book.specs.Causes.{GetsVerdict, IsPlanOn};
-ghost use Rattle.bt_book.specs.Records.{IsFirstCause};
+ghost use Rattle.bt_history.specs.Changes.{edition};
+ghost use Rattle.bt_history.specs.Causes.{GetsVerdict, IsPlanOn};
+ghost use Rattle.bt_history.specs.Records.{IsFirstCause};
 
 use crate::machine::Machine;
 use bt_demand::Plan;

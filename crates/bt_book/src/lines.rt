@@ -1,5 +1,5 @@
 // The lines of the traffic matrix that an edit makes longer.
-ghost use Rattle.bt_book.specs.Records.{IsFullLine};
+ghost use Rattle.bt_book.specs.Lines.{IsFullLine};
 
 use bt_frame::BeamNo;
 use bt_journal::Reply;

@@ -1,12 +1,12 @@
 // The machine: the changes made so far, and what is kept beside them so that an edit looks at no earlier one.
-ghost use Rattle.std.specs.Prelude.{◌≡◌, ◌<◌, ◌≤◌, ℕ, [], length, IfOk, slice_index_or};
+ghost use Rattle.std.specs.Prelude.{◌≡◌, ◌<◌, ◌≤◌, [], length, IfOk, slice_index_or};
 ghost use Rattle.std.specs.List.{HoldsAt};
 ghost use Rattle.bt_frame.specs.declared.limits.TheConstants.{MOST_JOURNAL_BYTES};
 ghost use Rattle.bt_frame.specs.declared.limits.TheConstants.{MOST_SUM};
 ghost use Rattle.bt_net.specs.Network.{IsSound};
 ghost use Rattle.bt_demand.specs.Traffic.{matrix_of, AreOfNetwork, HasSumsTo};
-ghost use Rattle.bt_book.specs.Changes.{edition, empty_plan, newest, orders, plans, IsDemandAfter};
-ghost use Rattle.bt_book.specs.Machine.{running};
+ghost use Rattle.bt_history.specs.Changes.{edition, empty_plan, newest, orders, plans, IsDemandAfter};
+ghost use Rattle.bt_history.specs.Machine.{running};
 
 use bt_air::Order;
 use bt_demand::{Bursts, Demand, Plan};
@@ -36,8 +36,8 @@ pub(crate) struct Machine {
 impl Model for Machine {
     ghost use Rattle.std.specs.Prelude.{◌≡◌, ◌++◌};
     ghost use Rattle.bt_journal.specs.Journal.{changes_of};
-    ghost use Rattle.bt_book.specs.Machine.{state_after};
-    ghost use Rattle.bt_book.specs.Records.{Records, KeepsUp, Counts, Lists, has_fault};
+    ghost use Rattle.bt_history.specs.Machine.{state_after};
+    ghost use Rattle.bt_history.specs.Records.{Records, KeepsUp, Counts, Lists, has_fault};
 
     ghost Value = { Records };
 

@@ -1,14 +1,14 @@
 // A change is made and its line kept, or neither: all room is taken before the store is asked, and nothing can fail behind it.
 ghost use Rattle.std.specs.Prelude.{◌≡◌, ◌<◌, ◌≤◌, ◌++◌, ◌∷◌, [], true, false, IfOk, OnErr, OnOk, vec_capacity, vec_len};
-ghost use Rattle.bt_base.specs.Told.{gained, GainsPrefix, Rose};
+ghost use Rattle.bt_outside.specs.Told.{gained, GainsPrefix, Rose};
 ghost use Rattle.bt_frame.specs.declared.limits.TheConstants.{MOST_SLOTS};
 ghost use Rattle.bt_demand.specs.Traffic.{matrix_of, HasSumsTo};
 ghost use Rattle.bt_journal.specs.Journal.{NamesTerminals};
 ghost use Rattle.bt_journal.specs.declared.call.Change.TheVariants as change;
 ghost use Rattle.bt_occupancy.specs.Occupancy.{HasEnds, HoldsTaken, EditsLinks};
-ghost use Rattle.bt_book.specs.Causes.{CanCome, IsChangeOn, IsPlanOn};
-ghost use Rattle.bt_book.specs.Machine.{ChangeStep, CanMake, line_behind};
-ghost use Rattle.bt_book.specs.Records.{IsSpelled, SameUnits, Stores, call_of};
+ghost use Rattle.bt_history.specs.Causes.{CanCome, IsChangeOn, IsPlanOn};
+ghost use Rattle.bt_history.specs.Machine.{ChangeStep, CanMake, line_behind};
+ghost use Rattle.bt_history.specs.Records.{IsSpelled, SameUnits, Stores, call_of};
 
 use crate::machine::Machine;
 use bt_air::Order;

@@ -1,7 +1,7 @@
 // The book as an object of a turn lock: its calls are steps.
-ghost use Rattle.std.specs.Prelude.{◌≡◌, map};
-ghost use Rattle.bt_book.specs.Book.{BookStep, lock_entry, test_stays};
-ghost use Rattle.bt_book.specs.Machine.{IsOfNetwork};
+ghost use Rattle.std.specs.Prelude.{map};
+ghost use Rattle.bt_history.specs.Book.{BookStep, lock_entry, test_stays};
+ghost use Rattle.bt_history.specs.Machine.{IsOfNetwork};
 
 use crate::Book;
 use bt_base::Keeper;

@@ -2,8 +2,8 @@
 ghost use Rattle.std.specs.Prelude.{◌≡◌};
 ghost use Rattle.bt_air.specs.Orders.{command_of};
 ghost use Rattle.bt_journal.specs.declared.call.Change.TheVariants as change;
-ghost use Rattle.bt_book.specs.Changes.{edition_ordered, is_installed, last_command};
-ghost use Rattle.bt_book.specs.Records.{IsFirstCause};
+ghost use Rattle.bt_history.specs.Changes.{edition_ordered, is_installed, last_command};
+ghost use Rattle.bt_history.specs.Records.{IsFirstCause};
 
 use crate::machine::Machine;
 use bt_air::Order;

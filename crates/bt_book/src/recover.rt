@@ -1,9 +1,9 @@
 // A machine is recovered from a store of records.
 ghost use Rattle.std.specs.Prelude.{◌≡◌, ◌≤◌, [], length, take, IfOk, IfErr, IfSome, IsErrOf, OnErr, OnOk, option_map};
-ghost use Rattle.bt_base.specs.Told.{Gives, HasCause};
-ghost use Rattle.bt_book.specs.Causes.{Follows};
-ghost use Rattle.bt_book.specs.Machine.{running};
-ghost use Rattle.bt_book.specs.Recovery.{AreInRange, IsReadable, IsRecoverFault, MaybeCut, Recovered, whole};
+ghost use Rattle.bt_outside.specs.Told.{Gives, HasCause};
+ghost use Rattle.bt_history.specs.Causes.{Follows};
+ghost use Rattle.bt_history.specs.Machine.{running};
+ghost use Rattle.bt_history.specs.Recovery.{AreInRange, IsReadable, IsRecoverFault, MaybeCut, Recovered, whole};
 
 use crate::RecoverFault;
 use crate::machine::Machine;

@@ -1,10 +1,10 @@
 // The lines of a journal, whose changes are made again one after the other.
 ghost use Rattle.std.specs.Prelude.{◌≡◌, ◌↔◌, ◌+◌, ◌<◌, ◌≤◌, ◌++◌, ◌∷◌, [], length, take, IfOk, IfErr, IsTrue, OnOk, OnErr, vec_capacity, vec_len};
 ghost use Rattle.bt_frame.specs.declared.limits.TheConstants.{MOST_JOURNAL_BYTES};
-ghost use Rattle.bt_book.specs.Causes.{IsChangeOn};
-ghost use Rattle.bt_book.specs.Machine.{bytes_of, line_behind, running};
-ghost use Rattle.bt_book.specs.Records.{CanJoin, IsLineFault, IsTextFault, TakesLine};
-ghost use Rattle.bt_book.specs.Recovery.{IsNext, IsNumbered, Recovered, whole};
+ghost use Rattle.bt_history.specs.Causes.{IsChangeOn};
+ghost use Rattle.bt_history.specs.Machine.{bytes_of, line_behind, running};
+ghost use Rattle.bt_history.specs.Records.{CanJoin, IsLineFault, IsTextFault, TakesLine};
+ghost use Rattle.bt_history.specs.Recovery.{IsNext, IsNumbered, Recovered, whole};
 
 use crate::RecoverFault;
 use crate::machine::Machine;

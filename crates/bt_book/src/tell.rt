@@ -1,8 +1,8 @@
 // The calls that only ask: they are always answered, and change nothing.
 ghost use Rattle.std.specs.Prelude.{◌≡◌, ◌++◌, ◌∷◌, [], IfOk, OnErr};
 ghost use Rattle.bt_journal.specs.declared.reply.Reply.TheVariants.{Newest};
-ghost use Rattle.bt_book.specs.Changes.{newest};
-ghost use Rattle.bt_book.specs.Machine.{IsSnapshot, newer_than};
+ghost use Rattle.bt_history.specs.Changes.{newest};
+ghost use Rattle.bt_history.specs.Machine.{IsSnapshot, newer_than};
 
 use crate::machine::Machine;
 use bt_demand::Plan;

@@ -6,15 +6,13 @@ use bt_sheet::{CaseFault, Result};
 
 /// Appends the bytes of a line, and the newline unless a backslash ends the line.
 pub fn take_text(line: &str, bytes: &mut Vec<u8>) -> Result<()> {
-    let (line, is_ended) = match line.strip_suffix('\\') {
-        Some(line) => (line, false),
-        None => (line, true),
-    };
-    take_bytes(line, bytes)?;
-    if is_ended {
-        bytes.push(b'\n')?;
+    match line.strip_suffix('\\') {
+        Some(line) => take_bytes(line, bytes),
+        None => {
+            take_bytes(line, bytes)?;
+            Ok(bytes.push(b'\n')?)
+        }
     }
-    Ok(())
 }
 
 /// Appends the bytes of a text without a backslash at its end.
@@ -34,8 +32,7 @@ fn take_escaped(part: &str, bytes: &mut Vec<u8>) -> Result<()> {
     match part.as_bytes() {
         [b'x', high, low, rest @ ..] => {
             bytes.push(hex_byte(*high, *low)?)?;
-            bytes.extend_from_slice(rest)?;
-            Ok(())
+            Ok(bytes.extend_from_slice(rest)?)
         }
         _ => Err(CaseFault("a backslash without x and two digits")),
     }
@@ -68,10 +65,9 @@ pub fn put_line(line: &[u8], end: &str, out: &mut String) -> Result<()> {
 }
 
 fn put_byte(byte: u8, out: &mut String) -> Result<()> {
-    if (b' '..=b'~').contains(&byte) && byte != b'\\' {
-        out.push(char::from(byte))?;
-    } else {
-        write!(out, "\\x{byte:02x}")?;
-    }
-    Ok(())
+    let put = match byte {
+        b' '..=b'[' | b']'..=b'~' => out.push(char::from(byte)),
+        _ => write!(out, "\\x{byte:02x}"),
+    };
+    Ok(put?)
 }

@@ -8,16 +8,35 @@ use std::alloc::Global;
 
 /// Sets up files; false where the words are another line.
 pub fn set_files(alloc: Global, shelf: &mut Shelf, words: &[&str]) -> Result<bool> {
-    match words {
-        ["clear"] => shelf.clear(),
-        ["clear", name] => shelf.clear_named(name),
-        ["file", name] => shelf.begin(alloc, name, Vec::new(alloc))?,
-        ["second", name] => shelf.begin_again(alloc, name)?,
-        ["links", terminals, units] => {
-            shelf.link(alloc, number_of(terminals)?, number_of(units)?)?;
+    match *words {
+        ["clear"] => {
+            shelf.clear();
+            Ok(true)
         }
-        _ => return Ok(false),
+        [what, name] => set_file(alloc, shelf, what, name),
+        ["links", terminals, units] => set_links(alloc, shelf, terminals, units),
+        _ => Ok(false),
     }
+}
+
+/// Sets up the links between so many terminals; true, as for each line that is taken.
+fn set_links(alloc: Global, shelf: &mut Shelf, terminals: &str, units: &str) -> Result<bool> {
+    shelf.link(alloc, number_of(terminals)?, number_of(units)?)?;
+    Ok(true)
+}
+
+/// Sets up the files of a name; false where the word is of another line.
+fn set_file(alloc: Global, shelf: &mut Shelf, what: &str, name: &str) -> Result<bool> {
+    let set = match what {
+        "clear" => {
+            shelf.clear_named(name);
+            Ok(())
+        }
+        "file" => shelf.begin(alloc, name, Vec::new(alloc)),
+        "second" => shelf.begin_again(alloc, name),
+        _ => return Ok(false),
+    };
+    set?;
     Ok(true)
 }
 
@@ -50,15 +69,12 @@ impl Shelf {
         if self.contents(name).is_some() {
             return Err(CaseFault("a second file of that name"));
         }
-        self.files.push((String::from_str(alloc, name)?, contents))?;
-        Ok(())
+        self.add(alloc, name, contents)
     }
 
     /// A file of whatever name.
     pub fn begin_again(&mut self, alloc: Global, name: &str) -> Result<()> {
-        self.files
-            .push((String::from_str(alloc, name)?, Vec::new(alloc)))?;
-        Ok(())
+        self.add(alloc, name, Vec::new(alloc))
     }
 
     /// One line more of the file that was begun last, so often.
@@ -85,17 +101,16 @@ impl Shelf {
 
     /// A copy with the first bytes alone of one file.
     pub fn cut(&self, alloc: Global, name: &str, length: usize) -> Result<Shelf> {
-        let mut files = Vec::new(alloc);
+        let mut shelf = Shelf::new(alloc);
         for (other, contents) in &self.files {
             let kept = if other.as_str() == name {
                 length
             } else {
                 contents.len()
             };
-            let bytes = contents.get(..kept).ok_or(CaseFault("a shorter file"))?;
-            files.push((other.clone()?, bytes.to_vec(alloc)?))?;
+            shelf.add_first(alloc, other.as_str(), contents, kept)?;
         }
-        Ok(Shelf { files })
+        Ok(shelf)
     }
 
     /// The files as the program meets them, where some reads fail.
@@ -106,6 +121,20 @@ impl Shelf {
     /// The files as the program meets them, where none fails.
     pub fn sure(&self) -> Result<SureFiles> {
         Ok(SureFiles::new(self.files.clone()?))
+    }
+
+    /// One file more, of the first bytes of these.
+    fn add_first(&mut self, alloc: Global, name: &str, bytes: &[u8], kept: usize) -> Result<()> {
+        match bytes.get(..kept) {
+            Some(bytes) => self.add(alloc, name, bytes.to_vec(alloc)?),
+            None => Err(CaseFault("a shorter file")),
+        }
+    }
+
+    /// One file more.
+    fn add(&mut self, alloc: Global, name: &str, contents: Vec<u8>) -> Result<()> {
+        let name = String::from_str(alloc, name)?;
+        Ok(self.files.push((name, contents))?)
     }
 
     fn contents(&self, name: &str) -> Option<&[u8]> {

@@ -7,10 +7,15 @@ pub fn put_links(alloc: Global, terminals: u32, units: u32, bytes: &mut Vec<u8>)
     for from in 0..terminals {
         for to in 0..terminals {
             if from != to {
-                let line = format!(in alloc; "link t{from} t{to} {units}\n")?;
-                bytes.extend_from_slice(line.as_bytes())?;
+                put_link(alloc, [from, to], units, bytes)?;
             }
         }
     }
     Ok(())
+}
+
+fn put_link(alloc: Global, ends: [u32; 2], units: u32, bytes: &mut Vec<u8>) -> Result<()> {
+    let [from, to] = ends;
+    let line = format!(in alloc; "link t{from} t{to} {units}\n")?;
+    Ok(bytes.extend_from_slice(line.as_bytes())?)
 }

@@ -11,12 +11,21 @@ pub struct Ending {
 }
 
 impl Ending {
-    /// A copy of what was written, and the status.
-    pub fn of(alloc: Global, written: &[u8], status: u8) -> Result<Ending> {
+    /// A copy of what was written, and the status of a command that was run.
+    pub fn of(alloc: Global, written: &[u8], status: Result<u8>) -> Result<Ending> {
+        let status = status?;
         Ok(Ending {
             written: written.to_vec(alloc)?,
             status,
         })
+    }
+
+    /// These of the lines of a command that was run, and the status.
+    pub fn shown(ending: Result<Ending>, alloc: Global, part: Part) -> Result<String> {
+        let ending = ending?;
+        let mut shown = String::new(alloc);
+        ending.put(alloc, part, &mut shown)?;
+        Ok(shown)
     }
 
     /// Appends these of its lines and the status.

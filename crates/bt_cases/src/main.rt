@@ -1,24 +1,20 @@
-//! Plays the cases of texts and commands in the files that the words name, and prints how many there were.
+//! Plays the cases in the files that the words name, and prints how many there were.
 //!
 //! A case is a line of such a file that is answered; the lines below it that begin with `>` or `=` are the answer that
 //! it must get. Where one gets another answer, it is printed with that answer, and the program fails. `docs/cases.md`
 //! has the lines of such a file.
 //!
-//! The crate stands on what the cases reach, from the top call down to the readers. It promises nothing beyond that each
-//! step is safe, and has no `specs/`.
+//! The crate stands on the top call and on the outside in memory; the lines of texts are those of `bt_text_cases`, and
+//! the lines of messages and machines those of `bt_machine_cases`. It promises nothing beyond that each step is safe, and has no `specs/`.
 #![tactic(auto)]
 
-mod cutting;
-mod demand;
 mod ending;
 mod outside;
 mod pieces;
-mod planning;
 mod stage;
-mod texts;
 
 use bt_sheet::{Result, Sheet, Tally};
-use stage::Texts;
+use stage::Stage;
 use std::alloc::Global;
 use std::sync::Wait;
 use std::thread::Threads;
@@ -59,7 +55,7 @@ fn play<R: Alloc + rt::Files + Threads + Wait + Sync>(
     tally: &mut Tally,
 ) -> Result<()> {
     let text = fs::read_to_string(rt, name)?;
-    let mut stage = Texts::new(alloc);
+    let mut stage = Stage::new(alloc);
     play_lines(rt, alloc, text.as_str(), &mut stage, sheet, tally)
 }
 
@@ -68,7 +64,7 @@ fn play_lines<R: Threads + Wait + Sync>(
     rt: &R,
     alloc: Global,
     text: &str,
-    stage: &mut Texts,
+    stage: &mut Stage,
     sheet: &mut Sheet,
     tally: &mut Tally,
 ) -> Result<()> {

@@ -59,7 +59,7 @@ pub fn set_meeting(alloc: Global, next: &mut Meeting, words: &[&str]) -> Result<
 }
 
 fn set_fail(next: &mut Meeting, words: &[&str]) -> Result<bool> {
-    match words {
+    match *words {
         ["fail", "read", call] => add_fail(&mut next.reads, call, "0"),
         ["fail", what, call, kept] => set_kept_fail(next, what, call, kept),
         _ => Ok(false),
@@ -95,7 +95,7 @@ fn set_flag(next: &mut Meeting, words: &[&str]) -> bool {
 }
 
 fn set_part(alloc: Global, next: &mut Meeting, words: &[&str]) -> Result<bool> {
-    match words {
+    match *words {
         ["first", count] => next.part = Part::First(number_of(count)? as usize),
         ["last", count] => next.part = Part::Last(number_of(count)? as usize),
         [what, name] => return set_name(alloc, next, what, name),
@@ -106,10 +106,14 @@ fn set_part(alloc: Global, next: &mut Meeting, words: &[&str]) -> Result<bool> {
 
 fn set_name(alloc: Global, next: &mut Meeting, what: &str, name: &str) -> Result<bool> {
     match what {
-        "into" => next.into = Some(String::from_str(alloc, name)?),
-        "beginnings" => next.beginnings = Some(String::from_str(alloc, name)?),
-        _ => return Ok(false),
+        "into" => set_to(alloc, &mut next.into, name),
+        "beginnings" => set_to(alloc, &mut next.beginnings, name),
+        _ => Ok(false),
     }
+}
+
+fn set_to(alloc: Global, set: &mut Option<String>, name: &str) -> Result<bool> {
+    *set = Some(String::from_str(alloc, name)?);
     Ok(true)
 }
 
@@ -141,14 +145,37 @@ impl Outside {
         words: &[&str],
         out: &mut String,
     ) -> Result<()> {
-        if let Some(name) = self.next.beginnings.take() {
-            self.run_beginnings(rt, alloc, shelf, name.as_str(), words, out)?;
-        } else {
-            let ending = self.end_of(rt, alloc, shelf, words)?;
-            self.put(alloc, shelf, ending, out)?;
-        }
+        let run = match self.next.beginnings.take() {
+            Some(name) => self.run_beginnings(rt, alloc, shelf, name.as_str(), words, out),
+            None => self.run_whole(rt, alloc, shelf, words, out),
+        };
+        self.forget_next(alloc);
+        run
+    }
+
+    /// The next command meets nothing that fails.
+    fn forget_next(&mut self, alloc: Global) {
         self.next = Meeting::plain(alloc);
-        Ok(())
+    }
+
+    /// The store has these bytes, and the next command goes on with it; true, as for each line that is taken.
+    pub fn set_store(&mut self, alloc: Global, bytes: &[u8]) -> Result<bool> {
+        self.store = bytes.to_vec(alloc)?;
+        self.next.goes_on = true;
+        Ok(true)
+    }
+
+    /// Runs a command with the files as they are, and appends what it writes and its status.
+    fn run_whole<R: Threads + Wait + Sync>(
+        &mut self,
+        rt: &R,
+        alloc: Global,
+        shelf: &mut Shelf,
+        words: &[&str],
+        out: &mut String,
+    ) -> Result<()> {
+        let ending = self.end_of(rt, alloc, shelf, words)?;
+        self.put(alloc, shelf, ending, out)
     }
 
     /// Appends how a command ended, its text unless that becomes a file.
@@ -179,18 +206,28 @@ impl Outside {
         words: &[&str],
         out: &mut String,
     ) -> Result<()> {
+        let whole = shelf.text(name)?.len();
         let mut before = String::new(alloc);
-        for length in 0..shelf.text(name)?.len() {
-            let cut = shelf.cut(alloc, name, length)?;
-            let ending = self.end_of(rt, alloc, &cut, words)?;
-            let mut answer = String::new(alloc);
-            ending.put(alloc, self.next.part, &mut answer)?;
-            if answer != before {
-                out.push_str(answer.as_str())?;
-                before = answer;
-            }
+        for length in 0..whole {
+            let answer = self.answer_of(rt, alloc, shelf, name, length, words);
+            put_other(answer, &mut before, out)?;
         }
         Ok(())
+    }
+
+    /// What a command writes with a beginning of a file, and its status, as they are shown.
+    fn answer_of<R: Threads + Wait + Sync>(
+        &mut self,
+        rt: &R,
+        alloc: Global,
+        shelf: &Shelf,
+        name: &str,
+        length: usize,
+        words: &[&str],
+    ) -> Result<String> {
+        let cut = shelf.cut(alloc, name, length)?;
+        let ending = self.end_of(rt, alloc, &cut, words);
+        Ending::shown(ending, alloc, self.next.part)
     }
 
     /// What a command writes, and its status.
@@ -221,7 +258,7 @@ impl Outside {
     ) -> Result<Ending> {
         let mut files = shelf.sure()?;
         let mut sink = SureSink::new(alloc);
-        let status = self.status_of(rt, alloc, &mut files, &mut sink, words)?;
+        let status = self.status_of(rt, alloc, &mut files, &mut sink, words);
         Ending::of(alloc, sink.written(), status)
     }
 
@@ -246,7 +283,7 @@ impl Outside {
         words: &[&str],
     ) -> Result<Ending> {
         let mut sink = MemSink::new(alloc, self.next.writes.clone()?);
-        let status = self.status_of(rt, alloc, files, &mut sink, words)?;
+        let status = self.status_of(rt, alloc, files, &mut sink, words);
         Ending::of(alloc, sink.written(), status)
     }
 
@@ -258,9 +295,9 @@ impl Outside {
         sink: &mut O,
         words: &[&str],
     ) -> Result<u8> {
-        match words {
+        match *words {
             _ if !self.next.is_alone => self.status_from_top(rt, alloc, files, sink, words),
-            ["replay", net, journal] => self.replay_alone(alloc, files, sink, [net, journal]),
+            ["replay", net, journal] => self.replay_alone(alloc, files, sink, net, journal),
             _ => status_alone(alloc, files, sink, words),
         }
     }
@@ -292,8 +329,8 @@ impl Outside {
     ) -> Result<u8> {
         let store = SureKeeper::new(self.store.clone()?);
         let ended = centre_main(rt, alloc, words, files, sink, store);
-        self.keep_left(alloc, ended.store.kept(), ended.histories.as_slice())?;
-        Ok(ended.status)
+        let histories = ended.histories.as_slice();
+        self.keep_left(alloc, ended.store.kept(), histories, ended.status)
     }
 
     fn status_with_met<R: Threads + Wait + Sync, F: Files, O: Sink>(
@@ -306,8 +343,8 @@ impl Outside {
     ) -> Result<u8> {
         let store = self.met_store()?;
         let ended = centre_main(rt, alloc, words, files, sink, store);
-        self.keep_left(alloc, ended.store.kept(), ended.histories.as_slice())?;
-        Ok(ended.status)
+        let histories = ended.histories.as_slice();
+        self.keep_left(alloc, ended.store.kept(), histories, ended.status)
     }
 
     /// The store as the next command meets it.
@@ -317,10 +354,22 @@ impl Outside {
         Ok(MemKeeper::new(kept, fails))
     }
 
-    /// Keeps the store's bytes, and what is told of the histories.
-    fn keep_left(&mut self, alloc: Global, kept: &[u8], histories: &[History]) -> Result<()> {
+    /// Keeps the store's bytes and what is told of the histories, and gives the status.
+    fn keep_left(
+        &mut self,
+        alloc: Global,
+        kept: &[u8],
+        histories: &[History],
+        status: u8,
+    ) -> Result<u8> {
+        self.keep_histories(histories)?;
+        self.keep_store(alloc, kept, status)
+    }
+
+    /// Keeps the store's bytes, and gives the status.
+    fn keep_store(&mut self, alloc: Global, kept: &[u8], status: u8) -> Result<u8> {
         self.store = kept.to_vec(alloc)?;
-        self.keep_histories(histories)
+        Ok(status)
     }
 
     /// The status of the call that replays the store.
@@ -329,13 +378,13 @@ impl Outside {
         alloc: Global,
         files: &mut F,
         sink: &mut O,
-        names: [&str; 2],
+        net: &str,
+        journal: &str,
     ) -> Result<u8> {
+        let words = words_of(alloc, "replay", net, journal)?;
         let store = self.met_store()?;
-        let words = words_of(alloc, "replay", names)?;
         let (status, left) = replay_command(alloc, &words, files, sink, store);
-        self.store = left.kept().to_vec(alloc)?;
-        Ok(status)
+        self.keep_store(alloc, left.kept(), status)
     }
 
     /// Keeps of each history how many changes stood before it, and how many entries it has.
@@ -357,6 +406,16 @@ impl Outside {
     }
 }
 
+/// Appends an answer unless it is as the one before, whose place it takes.
+fn put_other(answer: Result<String>, before: &mut String, out: &mut String) -> Result<()> {
+    let answer = answer?;
+    if answer != *before {
+        out.push_str(answer.as_str())?;
+        *before = answer;
+    }
+    Ok(())
+}
+
 /// The status of the call that does the command alone.
 fn status_alone<F: Files, O: Sink>(
     alloc: Global,
@@ -364,10 +423,10 @@ fn status_alone<F: Files, O: Sink>(
     sink: &mut O,
     words: &[&str],
 ) -> Result<u8> {
-    match words {
-        ["check", first, second] => check_alone(alloc, files, sink, [first, second]),
+    match *words {
+        ["check", first, second] => check_alone(alloc, files, sink, first, second),
         ["modes", first] => modes_alone(alloc, files, sink, first),
-        ["plan", first, second] => plan_alone(alloc, files, sink, [first, second]),
+        ["plan", first, second] => plan_alone(alloc, files, sink, first, second),
         _ => Err(CaseFault("no command with a call of its own")),
     }
 }
@@ -376,9 +435,10 @@ fn check_alone<F: Files, O: Sink>(
     alloc: Global,
     files: &mut F,
     sink: &mut O,
-    names: [&str; 2],
+    first: &str,
+    second: &str,
 ) -> Result<u8> {
-    let words = words_of(alloc, "check", names)?;
+    let words = words_of(alloc, "check", first, second)?;
     Ok(check_command(alloc, &words, files, sink))
 }
 
@@ -399,17 +459,17 @@ fn plan_alone<F: Files, O: Sink>(
     alloc: Global,
     files: &mut F,
     sink: &mut O,
-    names: [&str; 2],
+    first: &str,
+    second: &str,
 ) -> Result<u8> {
-    let words = words_of(alloc, "plan", names)?;
+    let words = words_of(alloc, "plan", first, second)?;
     Ok(plan_command(alloc, &words, files, sink))
 }
 
 /// The words of a command with two names.
-fn words_of(alloc: Global, command: &str, names: [&str; 2]) -> Result<Vec<String>>
+fn words_of(alloc: Global, command: &str, first: &str, second: &str) -> Result<Vec<String>>
     ensures { IfOk result (λ words. first_word (map string_bytes words.items) ≡ Some command.now) }
 {
-    let [first, second] = names;
     let words = vec![in alloc;
         String::from_str(alloc, command)?,
         String::from_str(alloc, first)?,

@@ -1,5 +1,5 @@
 // The files, the output and the store in memory, call by call.
-ghost use Rattle.bt_base.specs.Told.{HasBytes};
+ghost use Rattle.bt_outside.specs.Told.{HasBytes};
 
 use crate::outside::Outside;
 use bt_base::{
@@ -21,8 +21,24 @@ pub fn put_reads(
 ) -> Result<()> {
     if outside.next.is_sure {
         outside.next.is_sure = false;
-        return put_reads_of(alloc, &mut shelf.sure()?, words, out);
+        put_sure_reads(alloc, shelf, words, out)
+    } else {
+        put_met_reads(alloc, outside, shelf, words, out)
     }
+}
+
+fn put_sure_reads(alloc: Global, shelf: &Shelf, words: &[&str], out: &mut String) -> Result<()> {
+    let mut files = shelf.sure()?;
+    put_reads_of(alloc, &mut files, words, out)
+}
+
+fn put_met_reads(
+    alloc: Global,
+    outside: &mut Outside,
+    shelf: &Shelf,
+    words: &[&str],
+    out: &mut String,
+) -> Result<()> {
     let mut files = shelf.failing(outside.next.reads.clone()?)?;
     outside.next.reads.clear();
     put_reads_of(alloc, &mut files, words, out)
@@ -35,12 +51,17 @@ fn put_reads_of<F: Files>(
     out: &mut String,
 ) -> Result<()> {
     for pair in words.chunks(2) {
-        let [name, limit] = pair else {
-            return Err(CaseFault("a name without the most bytes"));
-        };
-        put_read(alloc, files, name, number_of(limit)?, out)?;
+        put_pair(alloc, files, pair, out)?;
     }
     Ok(())
+}
+
+/// Reads a file with the most bytes that it may have, and appends the answer and the number of faults so far.
+fn put_pair<F: Files>(alloc: Global, files: &mut F, pair: &[&str], out: &mut String) -> Result<()> {
+    match *pair {
+        [name, limit] => put_read(alloc, files, name, number_of(limit)?, out),
+        _ => Err(CaseFault("a name without the most bytes")),
+    }
 }
 
 fn put_read<F: Files>(
@@ -50,13 +71,25 @@ fn put_read<F: Files>(
     limit: u32,
     out: &mut String,
 ) -> Result<()> {
-    match files.read(alloc, name, u64::from(limit)) {
-        Ok(bytes) => put_lines(alloc, &bytes, Part::All, out)?,
-        Err(FileFault::Failed) => out.push_str(">failed\n")?,
-        Err(FileFault::TooLong) => out.push_str(">too long\n")?,
-        Err(FileFault::OutOfMemory) => return Err(CaseFault("out of memory")),
-    }
+    put_answer(alloc, files.read(alloc, name, u64::from(limit)), out)?;
     write!(out, "= {}\n", files.faults())?;
+    Ok(())
+}
+
+fn put_answer(alloc: Global, read: Result<Vec<u8>, FileFault>, out: &mut String) -> Result<()> {
+    match read {
+        Ok(bytes) => put_lines(alloc, &bytes, Part::All, out),
+        Err(fault) => put_fault(fault, out),
+    }
+}
+
+fn put_fault(fault: FileFault, out: &mut String) -> Result<()> {
+    let line = match fault {
+        FileFault::Failed => ">failed\n",
+        FileFault::TooLong => ">too long\n",
+        FileFault::OutOfMemory => return Err(CaseFault("out of memory")),
+    };
+    out.push_str(line)?;
     Ok(())
 }
 
@@ -80,11 +113,15 @@ pub fn put_writes(
 fn put_sure_writes(alloc: Global, words: &[&str], out: &mut String) -> Result<()> {
     let mut sink = SureSink::new(alloc);
     for piece in words {
-        let is_written = write_to(alloc, &mut sink, piece)?;
-        put_lines(alloc, sink.written(), Part::All, out)?;
-        put_answer(is_written, sink.faults(), out)?;
+        put_sure_write(alloc, &mut sink, piece, out)?;
     }
     Ok(())
+}
+
+/// Writes a piece, and appends what was written so far, the answer, and the number of faults so far.
+fn put_sure_write(alloc: Global, sink: &mut SureSink, piece: &str, out: &mut String) -> Result<()> {
+    let is_written = write_to(alloc, sink, piece)?;
+    put_call(alloc, sink.written(), is_written, sink.faults(), out)
 }
 
 fn put_failing_writes(
@@ -103,8 +140,7 @@ fn put_failing_writes(
 /// Writes a piece, and appends what was written so far, the answer, and the number of faults so far.
 fn put_write(alloc: Global, sink: &mut MemSink, piece: &str, out: &mut String) -> Result<()> {
     let is_written = write_to(alloc, sink, piece)?;
-    put_lines(alloc, sink.written(), Part::All, out)?;
-    put_answer(is_written, sink.faults(), out)
+    put_call(alloc, sink.written(), is_written, sink.faults(), out)
 }
 
 /// Did the call write the piece?
@@ -116,8 +152,15 @@ fn write_to<S: Sink>(alloc: Global, sink: &mut S, piece: &str) -> Result<bool> {
     }
 }
 
-/// Appends whether a call did what it was asked for, and the number of faults so far.
-fn put_answer(is_done: bool, faults: u64, out: &mut String) -> Result<()> {
+/// Appends the bytes so far, whether a call did what it was asked for, and the number of faults so far.
+fn put_call(
+    alloc: Global,
+    bytes: &[u8],
+    is_done: bool,
+    faults: u64,
+    out: &mut String,
+) -> Result<()> {
+    put_lines(alloc, bytes, Part::All, out)?;
     let answer = if is_done { "ok" } else { "failed" };
     write!(out, "= {answer} {faults}\n")?;
     Ok(())
@@ -142,8 +185,7 @@ pub fn put_keeps(
 /// Makes a call on the store, and appends what is kept, the answer, and the number of faults so far.
 fn put_keep(alloc: Global, store: &mut MemKeeper, word: &str, out: &mut String) -> Result<()> {
     let is_done = call_on(alloc, store, word)?;
-    put_lines(alloc, store.kept(), Part::All, out)?;
-    put_answer(is_done, store.faults(), out)
+    put_call(alloc, store.kept(), is_done, store.faults(), out)
 }
 
 /// Did the call that the word says do what it was asked for?
@@ -169,31 +211,43 @@ fn cut_at(alloc: Global, store: &mut MemKeeper, length: u32) -> Result<bool> {
 /// The store gains the bytes.
 pub fn append(alloc: Global, outside: &mut Outside, bytes: &[u8]) -> Result<()> {
     let mut store = SureKeeper::new(outside.store.clone()?);
-    if !append_to(alloc, &mut store, bytes)? {
+    outside.store = after_append(alloc, &mut store, bytes)?;
+    Ok(())
+}
+
+/// What a store has that gained the bytes.
+fn after_append(alloc: Global, store: &mut SureKeeper, bytes: &[u8]) -> Result<Vec<u8>> {
+    if !append_to(alloc, store, bytes)? {
         return Err(CaseFault("not appended"));
     }
-    outside.store = store.kept().to_vec(alloc)?;
-    Ok(())
+    Ok(store.kept().to_vec(alloc)?)
 }
 
 /// The store keeps so many bytes, which it has.
 pub fn cut(alloc: Global, outside: &mut Outside, length: u32) -> Result<()> {
     let mut store = SureKeeper::new(outside.store.clone()?);
+    outside.store = after_cut(alloc, &mut store, length)?;
+    Ok(())
+}
+
+/// What a store has that keeps so many bytes, which it has.
+fn after_cut(alloc: Global, store: &mut SureKeeper, length: u32) -> Result<Vec<u8>> {
     if store.kept().len() < length as usize {
         return Err(CaseFault("a longer store"));
     }
-    if !cut_to(alloc, &mut store, u64::from(length))? {
+    if !cut_to(alloc, store, u64::from(length))? {
         return Err(CaseFault("not cut"));
     }
-    outside.store = store.kept().to_vec(alloc)?;
-    Ok(())
+    Ok(store.kept().to_vec(alloc)?)
 }
 
 /// Appends the bytes of the store.
 pub fn put_store(alloc: Global, outside: &Outside, out: &mut String) -> Result<()> {
     let mut store = SureKeeper::new(outside.store.clone()?);
-    let bytes = all_of(alloc, &mut store)?.ok_or(CaseFault("not read"))?;
-    put_lines(alloc, &bytes, Part::All, out)
+    match all_of(alloc, &mut store)? {
+        Some(bytes) => put_lines(alloc, &bytes, Part::All, out),
+        None => Err(CaseFault("not read")),
+    }
 }
 
 /// Did the call append the piece?

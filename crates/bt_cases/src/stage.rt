@@ -1,31 +1,31 @@
-// The lines of texts and commands: each goes to the file of what it acts on. `docs/cases.md` says what they mean.
-use crate::demand::{put_gain, put_loss, put_units};
+// The lines of cases: each goes to the file, or to the crate, of what it acts on. `docs/cases.md` says what they mean.
 use crate::outside::{Outside, set_meeting};
 use crate::pieces::{append, cut, put_keeps, put_reads, put_store, put_writes};
-use crate::planning::show_steps;
-use crate::texts::show_text;
 use bt_case_text::{Shelf, number_of, set_files};
-use bt_demand::Demand;
+use bt_machine_cases::Machines;
 use bt_sheet::{CaseFault, Result};
+use bt_text_cases::Texts;
 use std::alloc::Global;
 use std::sync::Wait;
 use std::thread::Threads;
 
 /// What the lines act on.
 #[derive(Drop)]
-pub struct Texts {
+pub struct Stage {
     shelf: Shelf,
     outside: Outside,
-    demand: Demand,
+    texts: Texts,
+    machines: Machines,
 }
 
-impl Texts {
-    /// No files, an empty store, and an empty demand.
-    pub fn new(alloc: Global) -> Texts {
-        Texts {
+impl Stage {
+    /// No files, an empty store, an empty demand, and machines that have met nothing.
+    pub fn new(alloc: Global) -> Stage {
+        Stage {
             shelf: Shelf::new(alloc),
             outside: Outside::new(alloc),
-            demand: Demand::empty(alloc),
+            texts: Texts::new(alloc),
+            machines: Machines::new(alloc),
         }
     }
 
@@ -41,9 +41,27 @@ impl Texts {
             return self.shelf.fill(1, text);
         }
         if let Some(text) = line.strip_prefix("fill ") {
-            let (count, text) = text.split_once(' ').ok_or(CaseFault("no text"))?;
-            return self.shelf.fill(number_of(count)?, text);
+            return self.fill(text);
         }
+        self.take_line(rt, alloc, line, out)
+    }
+
+    /// Fills the file that was begun last with a text, as often as the word before it says.
+    fn fill(&mut self, text: &str) -> Result<()> {
+        match text.split_once(' ') {
+            Some((count, text)) => self.shelf.fill(number_of(count)?, text),
+            None => Err(CaseFault("no text")),
+        }
+    }
+
+    /// Does what a line of words says.
+    fn take_line<R: Threads + Wait + Sync>(
+        &mut self,
+        rt: &R,
+        alloc: Global,
+        line: &str,
+        out: &mut String,
+    ) -> Result<()> {
         let words: Vec<&str> = line.split(' ').collect(alloc)?;
         self.take_words(rt, alloc, &words, out)
     }
@@ -65,27 +83,16 @@ impl Texts {
 
     /// Does what a line says that runs no command.
     fn act(&mut self, alloc: Global, words: &[&str], out: &mut String) -> Result<()> {
-        if self.set(alloc, words)? {
+        if self.set(alloc, words)? || self.show(alloc, words, out)? {
             return Ok(());
         }
-        if self.show_outside(alloc, words, out)? {
-            return Ok(());
-        }
-        if show_text(alloc, &self.shelf, words, out)? {
-            return Ok(());
-        }
-        if self.show_planning(alloc, words, out)? {
-            return Ok(());
-        }
-        Err(CaseFault("no line of cases"))
+        self.machines.act(alloc, &self.shelf, words, out)
     }
 
     /// Sets up files, the store, and what the next command meets.
     fn set(&mut self, alloc: Global, words: &[&str]) -> Result<bool> {
-        if let ["store", name] = words {
-            self.outside.store = self.shelf.text(name)?.to_vec(alloc)?;
-            self.outside.next.goes_on = true;
-            return Ok(true);
+        if let ["store", name] = *words {
+            return self.outside.set_store(alloc, self.shelf.text(name)?);
         }
         if set_files(alloc, &mut self.shelf, words)? {
             return Ok(true);
@@ -93,17 +100,36 @@ impl Texts {
         set_meeting(alloc, &mut self.outside.next, words)
     }
 
+    /// Shows what the line asks for, where it is not of messages and machines.
+    fn show(&mut self, alloc: Global, words: &[&str], out: &mut String) -> Result<bool> {
+        if self.show_outside(alloc, words, out)? {
+            return Ok(true);
+        }
+        self.texts.show(alloc, &self.shelf, words, out)
+    }
+
     /// Shows the outside, call by call, and what a command left.
     fn show_outside(&mut self, alloc: Global, words: &[&str], out: &mut String) -> Result<bool> {
-        match words {
-            ["histories"] => self.outside.put_histories(out)?,
-            ["stored"] => put_store(alloc, &self.outside, out)?,
-            ["append", name] => append(alloc, &mut self.outside, self.shelf.text(name)?)?,
-            ["cut", length] => cut(alloc, &mut self.outside, number_of(length)?)?,
+        let shown = match words {
+            ["histories"] => self.outside.put_histories(out),
+            ["stored"] => put_store(alloc, &self.outside, out),
+            ["append", name] => self.append(alloc, name),
+            ["cut", length] => self.cut(alloc, length),
             [name, words @ ..] => return self.show_calls(alloc, name, words, out),
             [] => return Ok(false),
-        }
+        };
+        shown?;
         Ok(true)
+    }
+
+    /// The store gains the bytes of a file.
+    fn append(&mut self, alloc: Global, name: &str) -> Result<()> {
+        append(alloc, &mut self.outside, self.shelf.text(name)?)
+    }
+
+    /// The store keeps so many bytes.
+    fn cut(&mut self, alloc: Global, length: &str) -> Result<()> {
+        cut(alloc, &mut self.outside, number_of(length)?)
     }
 
     /// Shows calls on objects in memory, one after the other.
@@ -114,27 +140,13 @@ impl Texts {
         words: &[&str],
         out: &mut String,
     ) -> Result<bool> {
-        match name {
-            "reads" => put_reads(alloc, &mut self.outside, &self.shelf, words, out)?,
-            "writes" => put_writes(alloc, &mut self.outside, words, out)?,
-            "keeps" => put_keeps(alloc, &mut self.outside, words, out)?,
+        let shown = match name {
+            "reads" => put_reads(alloc, &mut self.outside, &self.shelf, words, out),
+            "writes" => put_writes(alloc, &mut self.outside, words, out),
+            "keeps" => put_keeps(alloc, &mut self.outside, words, out),
             _ => return Ok(false),
-        }
-        Ok(true)
-    }
-
-    /// Shows steps of planning, and a demand.
-    fn show_planning(&mut self, alloc: Global, words: &[&str], out: &mut String) -> Result<bool> {
-        match words {
-            ["gain", from, to, units] => {
-                put_gain(alloc, &mut self.demand, [from, to, units], out)?;
-            }
-            ["lose", from, to, units] => {
-                put_loss(alloc, &mut self.demand, [from, to, units], out)?;
-            }
-            ["units", from, to] => put_units(&self.demand, from, to, out)?,
-            words => return show_steps(alloc, &self.shelf, words, out),
-        }
+        };
+        shown?;
         Ok(true)
     }
 }

@@ -4,19 +4,19 @@ use Rattle.std.specs.Prelude.{IfSome}
 use Rattle.std.specs.Option.{is_some}
 use Rattle.std.proofs.Math.Seq.{take-append-add}
 use Rattle.std.proofs.lemmas.List.{append-nil, take-append-drop}
-use Rattle.bt_base.specs.declared.sink.SinkFault.{SinkFault}
-use Rattle.bt_base.specs.declared.sink.SinkFault.TheVariants as sink
-use Rattle.bt_base.specs.Told.{GainsPrefix, Rose, gained}
+use Rattle.bt_outside.specs.declared.sink.SinkFault.{SinkFault}
+use Rattle.bt_outside.specs.declared.sink.SinkFault.TheVariants as sink
+use Rattle.bt_outside.specs.Told.{GainsPrefix, Rose, gained}
 use Rattle.bt_net.specs.Network.{Net}
 use Rattle.bt_air.specs.declared.event.Event.{Event}
 use Rattle.bt_journal.specs.declared.call.Change.{Change}
 use Rattle.bt_journal.specs.declared.entry.Entry.{Entry}
-use Rattle.bt_book.specs.declared.fault.RecoverFault.{RecoverFault}
-use Rattle.bt_book.specs.declared.fault.RecoverFault.TheVariants.{OutOfMemory, StoreFault}
-use Rattle.bt_book.specs.Book.{Books}
-use Rattle.bt_book.specs.Causes.{Follows, IsGoodForItsEdition}
-use Rattle.bt_book.specs.Changes.{installs}
-use Rattle.bt_book.specs.Store.{IsKept, lost_of}
+use Rattle.bt_history.specs.declared.fault.RecoverFault.{RecoverFault}
+use Rattle.bt_history.specs.declared.fault.RecoverFault.TheVariants.{OutOfMemory, StoreFault}
+use Rattle.bt_history.specs.Book.{Books}
+use Rattle.bt_history.specs.Causes.{Follows, IsGoodForItsEdition}
+use Rattle.bt_history.specs.Changes.{installs}
+use Rattle.bt_history.specs.Store.{IsKept, lost_of}
 use Rattle.bt_events.specs.Event.{Opening}
 use Rattle.bt_events.specs.Fits.{IsWorld}
 use Rattle.bt_script.specs.declared.script.Item.{Item}

@@ -6,9 +6,9 @@ use Rattle.bt_net.specs.Network.{Net}
 use Rattle.bt_air.specs.declared.event.Event.{Event}
 use Rattle.bt_demand.specs.declared.burst.Burst.{Burst}
 use Rattle.bt_journal.specs.declared.call.Change.{Change}
-use Rattle.bt_book.specs.declared.fault.RecoverFault.{RecoverFault}
-use Rattle.bt_book.specs.declared.fault.RecoverFault.TheVariants.{StoreFault}
-use Rattle.bt_book.specs.Recovery.{IsReadable, IsRecoverFault, Recovered, whole}
+use Rattle.bt_history.specs.declared.fault.RecoverFault.{RecoverFault}
+use Rattle.bt_history.specs.declared.fault.RecoverFault.TheVariants.{StoreFault}
+use Rattle.bt_history.specs.Recovery.{IsReadable, IsRecoverFault, Recovered, whole}
 use Rattle.bt_events.specs.Air.{AreFlyable, IsAir, IsSafe, modes_in_front}
 use Rattle.bt_events.specs.Event.{Frame, Opening}
 use Rattle.bt_events.specs.Fits.{IsWorld}

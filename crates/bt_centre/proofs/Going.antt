@@ -4,11 +4,11 @@ use Rattle.std.specs.Option.{is_some}
 use Rattle.bt_net.specs.Network.{Net}
 use Rattle.bt_journal.specs.declared.call.Change.{Change}
 use Rattle.bt_journal.specs.declared.entry.Entry.{Entry}
-use Rattle.bt_book.specs.Book.{Books}
-use Rattle.bt_book.specs.Causes.{Follows}
-use Rattle.bt_book.specs.Machine.{Legal, State, running, state_after}
-use Rattle.bt_book.specs.Store.{IsKept, lost_of}
-use Rattle.bt_book.proofs.Histories.{state_from-none}
+use Rattle.bt_history.specs.Book.{Books}
+use Rattle.bt_history.specs.Causes.{Follows}
+use Rattle.bt_history.specs.Machine.{Legal, State, running, state_after}
+use Rattle.bt_history.specs.Store.{IsKept, lost_of}
+use Rattle.bt_history.proofs.Histories.{state_from-none}
 use Rattle.bt_centre.specs.declared.history.History.{History}
 use Rattle.bt_workers.specs.AirLines.{AirState}
 use Rattle.bt_round.specs.Rounds.{BookRan}

@@ -2,7 +2,7 @@
 use Rattle.std.proofs.Common.{◌≡◌, ◌≢◌, ℕ, ◌+◌, Bool, true, false, List, length, get_or, refl, sym, ap, ◌∙◌, subst, Option, Some, None}
 use Rattle.bt_air.specs.declared.order.Order.{Order}
 use Rattle.bt_journal.specs.declared.call.Change.{Change}
-use Rattle.bt_book.specs.Changes.{orders}
+use Rattle.bt_history.specs.Changes.{orders}
 use Rattle.bt_events.specs.World.{wanted}
 use Rattle.bt_workers.specs.AirLines.{AirState, happened, orders_in}
 use Rattle.bt_centre.specs.Progress.{TellsJoined}

@@ -18,8 +18,8 @@ use Rattle.bt_air.specs.declared.order.Order.TheVariants as order
 use Rattle.bt_air.specs.Orders.{command_of}
 use Rattle.bt_journal.specs.declared.call.Change.{Change}
 use Rattle.bt_journal.specs.declared.call.Change.TheVariants as change
-use Rattle.bt_book.specs.Causes.{CanCome, FollowFrom, Follows, IsInTurn}
-use Rattle.bt_book.specs.Changes.{edition_ordered, empty_plan, is_installed, last_command, newest, order_in, orders, plan_in, plans}
+use Rattle.bt_history.specs.Causes.{CanCome, FollowFrom, Follows, IsInTurn}
+use Rattle.bt_history.specs.Changes.{edition_ordered, empty_plan, is_installed, last_command, newest, order_in, orders, plan_in, plans}
 use Rattle.bt_change.specs.Centre.{AreNumbered}
 use Rattle.bt_events.specs.Fits.{HasPlan, IsInTime, IsOpening, StartsEmpty, newest_of}
 use Rattle.bt_world.specs.Life.{opening_of}

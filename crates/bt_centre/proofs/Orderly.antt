@@ -14,11 +14,11 @@ use Rattle.bt_journal.specs.declared.entry.Entry.{Entry}
 use Rattle.bt_journal.specs.declared.reply.Reply.{Reply}
 use Rattle.bt_journal.specs.declared.reply.Reply.TheVariants as reply
 use Rattle.bt_journal.specs.Journal.{calls_of, change_asked, changes_of, is_fault, is_made}
-use Rattle.bt_book.specs.Changes.{order_in, orders}
-use Rattle.bt_book.specs.Machine.{AreSteps, CallStep, ChangeStep, State, Step, Tells}
-use Rattle.bt_book.specs.Store.{is_lost, lost_of}
-use Rattle.bt_book.proofs.Histories.{Step-adds, as_list}
-use Rattle.bt_book.proofs.Replies.{no_fault_not_lost, refusal_not_made}
+use Rattle.bt_history.specs.Changes.{order_in, orders}
+use Rattle.bt_history.specs.Machine.{AreSteps, CallStep, ChangeStep, State, Step, Tells}
+use Rattle.bt_history.specs.Store.{is_lost, lost_of}
+use Rattle.bt_history.proofs.Histories.{Step-adds, as_list}
+use Rattle.bt_history.proofs.Replies.{no_fault_not_lost, refusal_not_made}
 use Rattle.bt_script.specs.declared.script.DeskLine.{DeskLine}
 use Rattle.bt_script.specs.declared.script.DeskLine.TheVariants as desk_line
 use Rattle.bt_demand.specs.declared.demand.Link.{Link}

@@ -13,9 +13,9 @@ use Rattle.bt_events.specs.World.{orders as placed, wanted, with_wanted}
 use Rattle.bt_journal.specs.declared.call.Change.{Change}
 use Rattle.bt_journal.specs.declared.entry.Entry.{Entry}
 use Rattle.bt_journal.specs.Journal.{calls_of, changes_of, is_made}
-use Rattle.bt_book.specs.Changes.{order_in, orders}
-use Rattle.bt_book.specs.Machine.{running}
-use Rattle.bt_book.specs.Store.{IsNextOpening, is_lost, lost_of}
+use Rattle.bt_history.specs.Changes.{order_in, orders}
+use Rattle.bt_history.specs.Machine.{running}
+use Rattle.bt_history.specs.Store.{IsNextOpening, is_lost, lost_of}
 use Rattle.bt_script.specs.declared.script.Item.{Item}
 use Rattle.bt_script.specs.declared.script.Item.TheVariants as item
 use Rattle.bt_script.specs.declared.script.Round.{Round}

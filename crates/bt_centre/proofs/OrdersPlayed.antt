@@ -19,9 +19,9 @@ use Rattle.bt_journal.specs.declared.entry.Entry.{Entry}
 use Rattle.bt_journal.specs.declared.reply.Reply.{Reply}
 use Rattle.bt_journal.specs.declared.reply.Reply.TheVariants as reply
 use Rattle.bt_journal.specs.Journal.{change_asked, is_made}
-use Rattle.bt_book.specs.Changes.{orders}
-use Rattle.bt_book.specs.Store.{is_lost}
-use Rattle.bt_book.proofs.Histories.{as_list}
+use Rattle.bt_history.specs.Changes.{orders}
+use Rattle.bt_history.specs.Store.{is_lost}
+use Rattle.bt_history.proofs.Histories.{as_list}
 use Rattle.bt_script.specs.declared.script.AirLine.{AirLine}
 use Rattle.bt_script.specs.declared.script.AirLine.TheVariants as line
 use Rattle.bt_workers.specs.AirLines.{AirState, PlaysAirLine, PlaysAirLines, PlaysDeliveries, PlaysDelivery, PlaysFrame, PlaysHearing, PlaysOrder, PlaysTick, PlaysTurn, awaiting, happened, having, installing, newest_in, once_answered, orders_in, turning}

@@ -6,15 +6,15 @@ use Rattle.std.proofs.Math.Seq.{take-suc}
 use Rattle.std.proofs.lemmas.List.{append-nil}
 use Rattle.std.proofs.lemmas.List.Elements.{All-append, All-nil}
 use Rattle.bt_lists.proofs.Pairs.{AllPairs-append}
-use Rattle.bt_base.specs.Told.{gained}
+use Rattle.bt_outside.specs.Told.{gained}
 use Rattle.bt_net.specs.Network.{Net}
 use Rattle.bt_journal.specs.declared.call.Change.{Change}
 use Rattle.bt_journal.specs.declared.entry.Entry.{Entry}
 use Rattle.bt_journal.specs.Journal.{changes_of}
-use Rattle.bt_book.specs.Book.{Books}
-use Rattle.bt_book.specs.Causes.{Follows}
-use Rattle.bt_book.specs.Changes.{edition, newest, plans}
-use Rattle.bt_book.specs.Machine.{State}
+use Rattle.bt_history.specs.Book.{Books}
+use Rattle.bt_history.specs.Causes.{Follows}
+use Rattle.bt_history.specs.Changes.{edition, newest, plans}
+use Rattle.bt_history.specs.Machine.{State}
 use Rattle.bt_script.specs.declared.script.Item.{Item}
 use Rattle.bt_script.specs.declared.script.Item.TheVariants as item
 use Rattle.bt_script.specs.declared.script.Round.{Round}

@@ -3,18 +3,18 @@ use Rattle.std.proofs.Common.{◌≡◌, ◌≢◌, ℕ, ◌≤◌, List, [], �
 use Rattle.std.specs.Prelude.{IfSome, option_map}
 use Rattle.std.specs.Option.{is_some}
 use Rattle.bt_frame.specs.declared.limits.TheConstants.{MOST_JOURNAL_BYTES}
-use Rattle.bt_base.specs.Told.{IsLonger}
+use Rattle.bt_outside.specs.Told.{IsLonger}
 use Rattle.bt_net.specs.Network.{IsSound, Net}
 use Rattle.bt_air.specs.declared.event.Event.{Event}
 use Rattle.bt_journal.specs.declared.call.Change.{Change}
 use Rattle.bt_journal.specs.declared.entry.Entry.{Entry}
-use Rattle.bt_book.specs.declared.fault.RecoverFault.{RecoverFault}
-use Rattle.bt_book.specs.declared.fault.RecoverFault.TheVariants.{J1, J2, StoreFault, TooLong, OutOfMemory}
-use Rattle.bt_book.specs.Book.{Books}
-use Rattle.bt_book.specs.Causes.{Follows}
-use Rattle.bt_book.specs.Machine.{running}
-use Rattle.bt_book.specs.Recovery.{IsOutside, IsReadable, IsRecoverFault, MaybeCut, Recovered, whole}
-use Rattle.bt_book.specs.Store.{IsKept, IsNextOpening, IsStored, lost_of}
+use Rattle.bt_history.specs.declared.fault.RecoverFault.{RecoverFault}
+use Rattle.bt_history.specs.declared.fault.RecoverFault.TheVariants.{J1, J2, StoreFault, TooLong, OutOfMemory}
+use Rattle.bt_history.specs.Book.{Books}
+use Rattle.bt_history.specs.Causes.{Follows}
+use Rattle.bt_history.specs.Machine.{running}
+use Rattle.bt_history.specs.Recovery.{IsOutside, IsReadable, IsRecoverFault, MaybeCut, Recovered, whole}
+use Rattle.bt_history.specs.Store.{IsKept, IsNextOpening, IsStored, lost_of}
 use Rattle.bt_script.specs.declared.script.Item.TheVariants as item
 use Rattle.bt_events.specs.Fits.{IsWorld}
 use Rattle.bt_workers.specs.AirLines.{AirState}

@@ -9,7 +9,7 @@ use Rattle.bt_net.specs.Network.{Net}
 use Rattle.bt_journal.specs.declared.call.Change.{Change}
 use Rattle.bt_journal.specs.declared.entry.Entry.{Entry}
 use Rattle.bt_journal.specs.Journal.{changes_of}
-use Rattle.bt_book.specs.Store.{IsNextOpening, RoseBy, change_lost, lost_of}
+use Rattle.bt_history.specs.Store.{IsNextOpening, RoseBy, change_lost, lost_of}
 use Rattle.bt_centre.specs.declared.history.History.{History}
 use Rattle.bt_centre.specs.Run.{AreTimes, IsLegalHistory, IsNextTime, entries_of, lost_in}
 

@@ -6,7 +6,7 @@ use Rattle.bt_net.specs.Network.{Net}
 use Rattle.bt_air.specs.declared.event.Event.{Event}
 use Rattle.bt_air.specs.declared.order.Order.{Order}
 use Rattle.bt_journal.specs.declared.call.Change.{Change}
-use Rattle.bt_book.specs.Changes.{orders}
+use Rattle.bt_history.specs.Changes.{orders}
 use Rattle.bt_script.specs.declared.script.Item.{Item}
 use Rattle.bt_script.specs.declared.script.Item.TheVariants as item
 use Rattle.bt_workers.specs.AirLines.{AirState, orders_in}

@@ -1,6 +1,6 @@
 -- What a sink tells before and after a call, and how a text is printed on it.
 use Rattle.std.specs.Prelude.{◌≡◌, ℕ, ◌⊎◌, List, Option}
-use Rattle.bt_base.specs.Told.{gained, GainsPrefix, Rose}
+use Rattle.bt_outside.specs.Told.{gained, GainsPrefix, Rose}
 
 -- the bytes that a sink told at the start and at the end of a call, and how often it had failed
 pub record Output : Type 0 where

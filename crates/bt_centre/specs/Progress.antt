@@ -2,19 +2,19 @@
 use Rattle.std.specs.Prelude.{◌≡◌, ◌≢◌, ◌⊎◌, ℕ, ◌+◌, ◌≤◌, ◌++◌, Bool, true, false, List, [], ◌∷◌, length, reverse, All, AllPairs, Option, IfSome}
 use Rattle.std.specs.List.{HoldsAt}
 use Rattle.std.specs.Option.{is_some}
-use Rattle.bt_base.specs.Told.{gained}
+use Rattle.bt_outside.specs.Told.{gained}
 use Rattle.bt_net.specs.Network.{Net}
 use Rattle.bt_air.specs.declared.event.Event.{Event}
 use Rattle.bt_air.specs.declared.order.Order.{Order}
 use Rattle.bt_journal.specs.declared.call.Change.{Change}
-use Rattle.bt_book.specs.declared.fault.RecoverFault.{RecoverFault}
-use Rattle.bt_book.specs.declared.fault.RecoverFault.TheVariants.{OutOfMemory, StoreFault}
-use Rattle.bt_book.specs.Book.{Books}
-use Rattle.bt_book.specs.Causes.{Follows}
-use Rattle.bt_book.specs.Changes.{edition, newest, orders}
-use Rattle.bt_book.specs.Machine.{Legal, running, state_after}
-use Rattle.bt_book.specs.Recovery.{IsRecoverFault, MaybeCut}
-use Rattle.bt_book.specs.Store.{IsKept, IsNextOpening, RoseBy, lost_of}
+use Rattle.bt_history.specs.declared.fault.RecoverFault.{RecoverFault}
+use Rattle.bt_history.specs.declared.fault.RecoverFault.TheVariants.{OutOfMemory, StoreFault}
+use Rattle.bt_history.specs.Book.{Books}
+use Rattle.bt_history.specs.Causes.{Follows}
+use Rattle.bt_history.specs.Changes.{edition, newest, orders}
+use Rattle.bt_history.specs.Machine.{Legal, running, state_after}
+use Rattle.bt_history.specs.Recovery.{IsRecoverFault, MaybeCut}
+use Rattle.bt_history.specs.Store.{IsKept, IsNextOpening, RoseBy, lost_of}
 use Rattle.bt_events.specs.Event.{RestartCentre}
 use Rattle.bt_events.specs.Fits.{IsWorld}
 use Rattle.bt_script.specs.declared.script.Item.{Item}

@@ -3,7 +3,7 @@
 use Rattle.std.specs.Prelude.{◌≡◌, ◌≢◌, ◌⊎◌, ℕ, ◌+◌, ◌<◌, ◌≤◌, ◌++◌, if◌then◌else◌, Bool, true, false, List, [], ◌∷◌, length, map, reverse, All, AllPairs, Contains, Option, Some, IfSome}
 use Rattle.std.specs.List.{HoldsAt, flat_map, list_any}
 use Rattle.std.specs.Option.{is_some}
-use Rattle.bt_base.specs.Told.{GainsPrefix, gained}
+use Rattle.bt_outside.specs.Told.{GainsPrefix, gained}
 use Rattle.bt_net.specs.Network.{Net}
 use Rattle.bt_air.specs.declared.event.Event.{Event}
 use Rattle.bt_air.specs.declared.order.Order.{Order}
@@ -16,13 +16,13 @@ use Rattle.bt_events.specs.World.{log, wanted}
 use Rattle.bt_journal.specs.declared.call.Change.{Change}
 use Rattle.bt_journal.specs.declared.entry.Entry.{Entry}
 use Rattle.bt_journal.specs.Journal.{calls_of, changes_of}
-use Rattle.bt_book.specs.declared.fault.RecoverFault.{RecoverFault}
-use Rattle.bt_book.specs.declared.fault.RecoverFault.TheVariants.{OutOfMemory, StoreFault}
-use Rattle.bt_book.specs.Causes.{Follows, IsGoodForItsEdition}
-use Rattle.bt_book.specs.Changes.{edition, installs, newest, orders, plans}
-use Rattle.bt_book.specs.Machine.{Legal}
-use Rattle.bt_book.specs.Recovery.{IsReadable, IsRecoverFault, MaybeCut, Recovered}
-use Rattle.bt_book.specs.Store.{IsKept, IsNextOpening, RoseBy, is_lost, lost_of}
+use Rattle.bt_history.specs.declared.fault.RecoverFault.{RecoverFault}
+use Rattle.bt_history.specs.declared.fault.RecoverFault.TheVariants.{OutOfMemory, StoreFault}
+use Rattle.bt_history.specs.Causes.{Follows, IsGoodForItsEdition}
+use Rattle.bt_history.specs.Changes.{edition, installs, newest, orders, plans}
+use Rattle.bt_history.specs.Machine.{Legal}
+use Rattle.bt_history.specs.Recovery.{IsReadable, IsRecoverFault, MaybeCut, Recovered}
+use Rattle.bt_history.specs.Store.{IsKept, IsNextOpening, RoseBy, is_lost, lost_of}
 use Rattle.bt_script.specs.declared.script.Item.{Item}
 use Rattle.bt_script.specs.declared.script.Item.TheVariants as item
 use Rattle.bt_script.specs.declared.script.Round.{Round}

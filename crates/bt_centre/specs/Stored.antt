@@ -1,6 +1,6 @@
 -- What a store tells before and after a call, and what a run leaves in it.
 use Rattle.std.specs.Prelude.{◌≡◌, ℕ, List, Option}
-use Rattle.bt_base.specs.Told.{Rose}
+use Rattle.bt_outside.specs.Told.{Rose}
 
 -- the bytes that a store tells at the start and at the end of a call, and how often it had failed
 pub record Stored : Type 0 where

@@ -1,5 +1,5 @@
 // The histories of a run.
-ghost use Rattle.std.specs.Prelude.{◌≡◌, ◌∷◌, []};
+ghost use Rattle.std.specs.Prelude.{◌≡◌, []};
 
 use bt_journal::Entries;
 use std::alloc::Global;

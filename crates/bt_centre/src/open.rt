@@ -1,9 +1,9 @@
 // A run at its start: the store's changes are recovered, and a world opens with them.
-ghost use Rattle.std.specs.Prelude.{◌≡◌, ◌<◌, ◌≤◌, ◌+◌, [], ℕ, length, option_map, take, IfErr, IfOk, IfSome};
-ghost use Rattle.bt_book.specs.Causes.{Follows};
-ghost use Rattle.bt_book.specs.Changes.{orders, plans};
-ghost use Rattle.bt_book.specs.Machine.{running};
-ghost use Rattle.bt_book.specs.Recovery.{IsReadable, IsRecoverFault, Recovered, whole};
+ghost use Rattle.std.specs.Prelude.{◌≡◌, ◌<◌, ◌≤◌, ◌+◌, [], option_map, IfErr, IfOk, IfSome};
+ghost use Rattle.bt_history.specs.Causes.{Follows};
+ghost use Rattle.bt_history.specs.Changes.{orders, plans};
+ghost use Rattle.bt_history.specs.Machine.{running};
+ghost use Rattle.bt_history.specs.Recovery.{IsReadable, IsRecoverFault, Recovered, whole};
 ghost use Rattle.bt_centre.specs.Progress.{IsBegun};
 ghost use Rattle.bt_centre.specs.Run.{at_start, opening_on};
 ghost use Rattle.bt_round.specs.Boards.{IsPublished};

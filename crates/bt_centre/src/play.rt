@@ -1,9 +1,7 @@
 // Playing a part of a script.
-ghost use Rattle.std.specs.Prelude.{◌≡◌, ◌+◌, ◌<◌, ◌≤◌, ◌++◌, IfErr, IfOk};
-ghost use Rattle.bt_book.specs.Causes.{Follows};
+ghost use Rattle.std.specs.Prelude.{◌≡◌, ◌+◌, ◌<◌, IfErr, IfOk};
+ghost use Rattle.bt_history.specs.Causes.{Follows};
 ghost use Rattle.bt_script.specs.Named.{IsItemFor, IsRoundFor};
-ghost use Rattle.bt_timeline.specs.Timeline.{round_line};
-ghost use Rattle.bt_workers.specs.AirLines.{AirState};
 ghost use Rattle.bt_centre.specs.Progress.{IsLeftEarly, ItemFailed, ItemPlayed, RoundPlayed};
 
 use crate::playing::{Playing, Remains, leave};

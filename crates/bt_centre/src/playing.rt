@@ -1,5 +1,5 @@
 // What a run has in hand, and what is left of it.
-ghost use Rattle.std.specs.Prelude.{◌≡◌, ◌<◌, ◌≤◌, ◌++◌, ◌∷◌, [], ℕ, length, vec_capacity};
+ghost use Rattle.std.specs.Prelude.{◌≡◌, ◌<◌, ℕ, length, vec_capacity};
 ghost use Rattle.bt_centre.specs.Progress.{Hand, IsLeftOf, Left};
 
 use crate::station::book_and_centre;

@@ -1,12 +1,10 @@
 // The centre restarts: the book is recovered from its store, and the order that the centre wanted joins the others where
 // the store tells it.
-ghost use Rattle.std.specs.Prelude.{◌≡◌, ◌<◌, ◌≤◌, ◌+◌, ◌++◌, ◌∷◌, [], length, vec_capacity, IfErr, IfOk, IfSome, OnOk};
-ghost use Rattle.bt_book.specs.Book.{Books};
-ghost use Rattle.bt_book.specs.Causes.{Follows};
-ghost use Rattle.bt_book.specs.Changes.{edition, newest, orders};
+ghost use Rattle.std.specs.Prelude.{◌≡◌, ◌<◌, ◌+◌, length, vec_capacity, IfErr, IfOk};
+ghost use Rattle.bt_history.specs.Causes.{Follows};
+ghost use Rattle.bt_history.specs.Changes.{edition, newest};
 ghost use Rattle.bt_centre.specs.Progress.{BeganAgain, CentreBegan, IsLeftBehind, ItemFailed, RestartPlayed, TellsJoined};
 ghost use Rattle.bt_centre.specs.Run.{JoinsOrder};
-ghost use Rattle.bt_workers.specs.AirLines.{AirState};
 ghost use Rattle.bt_script.specs.declared.script.Item.TheVariants as item;
 
 use crate::History;

@@ -1,8 +1,7 @@
 // The parts of a script are played in order, and each is written when it is over.
-ghost use Rattle.std.specs.Prelude.{◌≡◌, ◌≤◌, ◌++◌, [], All, IfErr, IfOk, IsErrOf, OnOk};
-ghost use Rattle.bt_base.specs.Told.{GainsPrefix, Rose, gained};
+ghost use Rattle.std.specs.Prelude.{◌≡◌, ◌≤◌, All, IfErr, IfOk, IsErrOf, OnOk};
+ghost use Rattle.bt_outside.specs.Told.{GainsPrefix, Rose, gained};
 ghost use Rattle.bt_script.specs.Named.{IsItemFor};
-ghost use Rattle.bt_centre.specs.Output.{Output};
 ghost use Rattle.bt_centre.specs.Progress.{IsBegun, ItemsWritten, PartsEnded, start_of};
 
 use crate::RunEnd;

@@ -1,8 +1,7 @@
 // The run of a script from its start to its last line.
-ghost use Rattle.std.specs.Prelude.{◌≡◌, ◌≤◌, [], All, IsErrOf, OnOk};
-ghost use Rattle.bt_base.specs.Told.{GainsPrefix, Rose, gained};
+ghost use Rattle.std.specs.Prelude.{◌≡◌, ◌≤◌, All, IsErrOf, OnOk};
+ghost use Rattle.bt_outside.specs.Told.{GainsPrefix, Rose, gained};
 ghost use Rattle.bt_script.specs.Named.{IsItemFor};
-ghost use Rattle.bt_centre.specs.Output.{Output};
 ghost use Rattle.bt_centre.specs.Lines.{total_of};
 ghost use Rattle.bt_centre.specs.Progress.{IsBegun, PartsEnded};
 ghost use Rattle.bt_centre.specs.Run.{RunsTo, entries_of, status_after};

@@ -1,7 +1,5 @@
 // The station is made, and taken apart.
 ghost use Rattle.std.specs.Prelude.{◌≡◌, IfErr, IfOk};
-ghost use Rattle.bt_book.specs.Book.{Books};
-ghost use Rattle.bt_workers.specs.AirLines.{AirState};
 ghost use Rattle.bt_round.specs.Boards.{IsPublished};
 
 use bt_base::Keeper;

@@ -1,7 +1,7 @@
 // The last line of a run: how its edits were answered.
 ghost use Rattle.std.specs.Prelude.{◌≡◌, ◌+◌, ◌++◌, ◌&&◌, if◌then◌else◌, length, IfOk, OnOk};
 ghost use Rattle.std.specs.List.{list_any};
-ghost use Rattle.bt_book.specs.Store.{is_lost};
+ghost use Rattle.bt_history.specs.Store.{is_lost};
 ghost use Rattle.bt_journal.specs.Journal.{asks_edit, failed_of, is_fault, is_made, is_refusal, refused_of};
 ghost use Rattle.bt_centre.specs.Lines.{done_of, total_of};
 ghost use Rattle.bt_centre.specs.Run.{entries_of, has_lost};

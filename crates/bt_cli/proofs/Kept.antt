@@ -8,8 +8,8 @@ use Rattle.bt_journal.specs.declared.call.Call.TheVariants as call
 use Rattle.bt_journal.specs.declared.call.Change.{Change}
 use Rattle.bt_journal.specs.declared.entry.Entry.{Entry}
 use Rattle.bt_journal.specs.declared.reply.Reply.{Reply}
-use Rattle.bt_book.specs.Machine.{AreSteps, CallStep, State, running}
-use Rattle.bt_book.specs.Store.{change_lost, is_lost, lost_of}
+use Rattle.bt_history.specs.Machine.{AreSteps, CallStep, State, running}
+use Rattle.bt_history.specs.Store.{change_lost, is_lost, lost_of}
 use Rattle.bt_centre.specs.declared.history.History.{History}
 use Rattle.bt_centre.specs.Run.{AreLegalTimes, AreTimes, IsLegalHistory, entries_of, has_lost, lost_in, status_after}
 

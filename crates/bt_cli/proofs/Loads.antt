@@ -1,6 +1,6 @@
 -- Loads that follow one another: what a later load says of its own start holds from the first one's start on.
 use Rattle.std.proofs.Common.{◌≡◌, ℕ, ◌≤◌, inl, inr, List, Option, Result, Ok, Err, subst, arith}
-use Rattle.bt_base.specs.Told.{Rose}
+use Rattle.bt_outside.specs.Told.{Rose}
 use Rattle.bt_cli.specs.declared.report.Report.{Report}
 use Rattle.bt_cli.specs.declared.report.Stop.{Stop}
 use Rattle.bt_cli.specs.declared.report.Stop.TheVariants.{Early, OutOfMemory}

@@ -1,9 +1,10 @@
 -- A stop that names the first fault of a file's bytes is one that a load may make.
 use Rattle.std.proofs.Common.{ℕ, List, Option, inr}
 use Rattle.bt_net.specs.Network.{Net}
-use Rattle.bt_net.specs.Reading as net_reading
-use Rattle.bt_net.specs.declared.fault.NetFault.{NetFault}
-use Rattle.bt_net.specs.declared.fault.NetFault.TheVariants.{N1, N2, N3, N4, N5, N6, OutOfMemory}
+use Rattle.bt_names.specs.Walk.{Fails}
+use Rattle.bt_net.specs.Reading.{network_in}
+use Rattle.bt_names.specs.declared.fault.NetFault.{NetFault}
+use Rattle.bt_names.specs.declared.fault.NetFault.TheVariants.{N1, N2, N3, N4, N5, N6, OutOfMemory}
 use Rattle.bt_plan.specs.Reading.{Reading}
 use Rattle.bt_text.specs.Reading.{IsFaultOf}
 use Rattle.bt_plan.specs.MatrixText.{matrix_of}
@@ -32,7 +33,7 @@ script_misspelt net told failed name bytes fault stop.OutOfMemory content is nam
 script_misspelt net told failed name bytes (line_fault.At code line) (stop.Early report) content is names = inr (bytes, (code, line), content, is, names)
 script_misspelt net told failed name bytes line_fault.OutOfMemory (stop.Early report) content is names = absurd names
 
-pub network_misspelt : (told : List ℕ → Option (List ℕ)) (failed : Type 0) (name bytes : List ℕ) (fault : NetFault) (why : Stop) → IsContent told name bytes → net_reading.Fails fault (net_reading.network_in bytes) → StopIs (NamesNetworkFault fault) why → StopIs (StopsAtLoad network_file told failed name) why
+pub network_misspelt : (told : List ℕ → Option (List ℕ)) (failed : Type 0) (name bytes : List ℕ) (fault : NetFault) (why : Stop) → IsContent told name bytes → Fails fault (network_in bytes) → StopIs (NamesNetworkFault fault) why → StopIs (StopsAtLoad network_file told failed name) why
 network_misspelt told failed name bytes fault stop.OutOfMemory content is names = tt
 network_misspelt told failed name bytes OutOfMemory (stop.Early report) content is names = absurd names
 network_misspelt told failed name bytes N1 (stop.Early report) content is names = inr (bytes, N1, content, is, names)

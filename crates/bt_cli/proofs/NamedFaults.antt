@@ -1,7 +1,7 @@
 -- A recovery that failed is named by the line that is printed of it.
 use Rattle.std.proofs.Common.{◌≢◌, ℕ, inl, inr, [], refl}
-use Rattle.bt_book.specs.declared.fault.RecoverFault.{RecoverFault}
-use Rattle.bt_book.specs.declared.fault.RecoverFault.TheVariants.{J1, J2, StoreFault, TooLong, OutOfMemory}
+use Rattle.bt_history.specs.declared.fault.RecoverFault.{RecoverFault}
+use Rattle.bt_history.specs.declared.fault.RecoverFault.TheVariants.{J1, J2, StoreFault, TooLong, OutOfMemory}
 use Rattle.bt_centre.specs.Output.{Output}
 use Rattle.bt_centre.specs.RecoverFaults.{PrintsNamed, recover_line, recover_status, recover_words}
 use Rattle.bt_cli.specs.Outcome.{Outcome, PrintsOneOf, Says, text_alone}

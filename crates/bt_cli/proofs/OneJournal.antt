@@ -6,9 +6,9 @@ use Rattle.bt_net.specs.Network.{Net, IsSound}
 use Rattle.bt_demand.specs.declared.demand.Link.{Link}
 use Rattle.bt_demand.specs.Demand.{units_of, IsDemand}
 use Rattle.bt_journal.specs.declared.call.Change.{Change}
-use Rattle.bt_book.specs.declared.fault.RecoverFault.{RecoverFault}
-use Rattle.bt_book.specs.declared.fault.RecoverFault.TheVariants.{J1, J2, StoreFault, TooLong, OutOfMemory}
-use Rattle.bt_book.specs.Recovery.{IsFirstNoLine, IsFirstStray, IsRecoverFault, Recovered}
+use Rattle.bt_history.specs.declared.fault.RecoverFault.{RecoverFault}
+use Rattle.bt_history.specs.declared.fault.RecoverFault.TheVariants.{J1, J2, StoreFault, TooLong, OutOfMemory}
+use Rattle.bt_history.specs.Recovery.{IsFirstNoLine, IsFirstStray, IsRecoverFault, Recovered}
 use Rattle.bt_words.specs.Lines.{line_of}
 use Rattle.bt_centre.specs.Stored.{IsSteady, Stored}
 use Rattle.bt_cli.specs.Outcome.{Outcome, Says, text_alone}

@@ -4,8 +4,8 @@ use Rattle.bt_frame.specs.declared.limits.TheConstants.{MOST_JOURNAL_BYTES}
 use Rattle.bt_net.specs.Network.{Net}
 use Rattle.bt_demand.specs.declared.demand.Link.{Link}
 use Rattle.bt_journal.specs.declared.call.Change.{Change}
-use Rattle.bt_book.specs.Changes.{edition, newest, orders}
-use Rattle.bt_book.specs.Recovery.{Recovered}
+use Rattle.bt_history.specs.Changes.{edition, newest, orders}
+use Rattle.bt_history.specs.Recovery.{Recovered}
 use Rattle.bt_timeline.specs.Replayed.{replay_lines}
 use Rattle.bt_centre.specs.Stored.{IsSteady, Stored}
 use Rattle.bt_cli.specs.Kinds.{network_file}

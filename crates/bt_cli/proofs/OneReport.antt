@@ -1,6 +1,6 @@
 -- Where the files are told and no read failed, what is asked has one report.
 use Rattle.std.proofs.Common.{◌≡◌, ℕ, ◌<◌, ◌≤◌, ◌⊎◌, inl, inr, List, length, Option, Some, None, Result, Ok, Err, sym, ap, ◌∙◌, subst, arith}
-use Rattle.bt_base.specs.Told.{Gives, IsLonger}
+use Rattle.bt_outside.specs.Told.{Gives, IsLonger}
 use Rattle.bt_frame.specs.declared.schedule.Schedule.{Schedule}
 use Rattle.bt_verdict.specs.declared.verdict.Verdict.{Verdict}
 use Rattle.bt_frame.specs.declared.schedule.Critical.{Critical}

@@ -3,16 +3,16 @@
 use Rattle.std.proofs.Common.{◌≡◌, ◌≢◌, ℕ, zero, suc, ◌≤◌, inl, inr, List, [], length, Option, Some, refl, ap, ◌∙◌, subst, arith}
 use Rattle.std.proofs.lemmas.Option.{same_Some}
 use Rattle.bt_frame.specs.declared.limits.TheConstants.{MOST_JOURNAL_BYTES}
-use Rattle.bt_base.specs.Told.{Rose}
+use Rattle.bt_outside.specs.Told.{Rose}
 use Rattle.bt_net.specs.Network.{Net}
 use Rattle.bt_air.specs.declared.event.Event.{Event}
 use Rattle.bt_script.specs.declared.script.Item.{Item}
 use Rattle.bt_script.specs.declared.script.Script.{Script}
 use Rattle.bt_journal.specs.declared.call.Change.{Change}
-use Rattle.bt_book.specs.declared.fault.RecoverFault.{RecoverFault}
-use Rattle.bt_book.specs.declared.fault.RecoverFault.TheVariants.{StoreFault}
-use Rattle.bt_book.specs.Recovery.{IsRecoverFault, Recovered}
-use Rattle.bt_book.specs.Store.{RoseBy}
+use Rattle.bt_history.specs.declared.fault.RecoverFault.{RecoverFault}
+use Rattle.bt_history.specs.declared.fault.RecoverFault.TheVariants.{StoreFault}
+use Rattle.bt_history.specs.Recovery.{IsRecoverFault, Recovered}
+use Rattle.bt_history.specs.Store.{RoseBy}
 use Rattle.bt_centre.specs.declared.history.History.{History}
 use Rattle.bt_centre.specs.RecoverFaults.{PrintsFault, recover_line, recover_status, recover_words}
 use Rattle.bt_centre.specs.Run.{EndsFrom, RunsTo, RunsToRestart, RunsWhole, lost_in}

@@ -1,11 +1,11 @@
 -- A run after the loads of its files.
 use Rattle.std.proofs.Common.{◌≡◌, ◌≢◌, ℕ, ◌≤◌, ◌⊎◌, ◌++◌, Bool, true, false, if◌then◌else◌, inl, inr, refl, ◌∙◌, sym, List, [], Option, subst}
-use Rattle.bt_base.specs.Told.{Rose}
+use Rattle.bt_outside.specs.Told.{Rose}
 use Rattle.bt_net.specs.Network.{Net, IsSound}
 use Rattle.bt_air.specs.declared.event.Event.{Event}
 use Rattle.bt_script.specs.declared.script.Script.{Script}
-use Rattle.bt_book.specs.declared.fault.RecoverFault.{RecoverFault}
-use Rattle.bt_book.specs.declared.fault.RecoverFault.TheVariants.{J1, J2, StoreFault, TooLong, OutOfMemory}
+use Rattle.bt_history.specs.declared.fault.RecoverFault.{RecoverFault}
+use Rattle.bt_history.specs.declared.fault.RecoverFault.TheVariants.{J1, J2, StoreFault, TooLong, OutOfMemory}
 use Rattle.bt_timeline.specs.Timeline.{restart_line}
 use Rattle.bt_centre.specs.declared.history.History.{History}
 use Rattle.bt_centre.specs.Output.{Output}

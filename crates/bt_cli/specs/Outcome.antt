@@ -4,7 +4,7 @@
 -- stands where its step stands.
 use Rattle.std.specs.Prelude.{◌≡◌, ℕ, ◌≤◌, ◌⊎◌, List, [], ◌∷◌, length, codes, Option, Result, Err, Ok}
 use Rattle.bt_frame.specs.declared.limits.TheConstants.{MOST_FILE_BYTES}
-use Rattle.bt_base.specs.Told.{Gives, IsLonger, Rose}
+use Rattle.bt_outside.specs.Told.{Gives, IsLonger, Rose}
 use Rattle.bt_words.specs.Lines.{line_of}
 use Rattle.bt_centre.specs.Output.{Output, Prints}
 

@@ -3,10 +3,10 @@ use Rattle.std.specs.Prelude.{◌≡◌, ℕ, ◌⊎◌, List, [], ◌∷◌, le
 use Rattle.bt_net.specs.Network.{Net, IsSound}
 use Rattle.bt_demand.specs.declared.demand.Link.{Link}
 use Rattle.bt_journal.specs.declared.call.Change.{Change}
-use Rattle.bt_book.specs.declared.fault.RecoverFault.{RecoverFault}
-use Rattle.bt_book.specs.declared.fault.RecoverFault.TheVariants.{OutOfMemory}
-use Rattle.bt_book.specs.Changes.{edition, newest, orders, IsDemandAfter}
-use Rattle.bt_book.specs.Recovery.{IsReadable, IsRecoverFault, Recovered, whole}
+use Rattle.bt_history.specs.declared.fault.RecoverFault.{RecoverFault}
+use Rattle.bt_history.specs.declared.fault.RecoverFault.TheVariants.{OutOfMemory}
+use Rattle.bt_history.specs.Changes.{edition, newest, orders, IsDemandAfter}
+use Rattle.bt_history.specs.Recovery.{IsReadable, IsRecoverFault, Recovered, whole}
 use Rattle.bt_timeline.specs.Replayed.{replay_lines}
 use Rattle.bt_centre.specs.Output.{Output}
 use Rattle.bt_centre.specs.RecoverFaults.{recover_status, recover_words}

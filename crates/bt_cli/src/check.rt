@@ -1,8 +1,8 @@
 // `check MATRIX MODES`.
 ghost use Rattle.std.specs.Prelude.{◌≡◌, map, codes, None};
 ghost use Rattle.std.specs.String.{string_bytes};
-ghost use Rattle.bt_base.specs.Told.{Rose};
-ghost use Rattle.bt_matrix.specs.Traffic.{IsLine, IsTraffic};
+ghost use Rattle.bt_outside.specs.Told.{Rose};
+ghost use Rattle.bt_matrix.specs.Traffic.{IsLine};
 ghost use Rattle.bt_cli.specs.Check.{ChecksModes, ChecksSchedule, Judges, verdict_status};
 ghost use Rattle.bt_cli.specs.Printing.{CameTo};
 ghost use Rattle.bt_timeline.specs.Verdicts.{CanName};

@@ -1,7 +1,7 @@
 // `modes MATRIX`.
 ghost use Rattle.std.specs.Prelude.{◌≡◌, map, codes};
 ghost use Rattle.std.specs.String.{string_bytes};
-ghost use Rattle.bt_base.specs.Told.{Rose};
+ghost use Rattle.bt_outside.specs.Told.{Rose};
 ghost use Rattle.bt_cli.specs.Modes.{PrintsModes, PrintsSchedule};
 ghost use Rattle.bt_cli.specs.Printing.{CameTo};
 ghost use Rattle.bt_cli.specs.Request.{first_word, request_of};

@@ -1,7 +1,7 @@
 // `plan NET TRAFFIC`.
 ghost use Rattle.std.specs.Prelude.{◌≡◌, map, codes};
 ghost use Rattle.std.specs.String.{string_bytes};
-ghost use Rattle.bt_base.specs.Told.{Rose};
+ghost use Rattle.bt_outside.specs.Told.{Rose};
 ghost use Rattle.bt_demand.specs.Traffic.{matrix_of, AreOfNetwork, HasSumsTo};
 ghost use Rattle.bt_cli.specs.Fitting.{Fits, WhereItFits};
 ghost use Rattle.bt_cli.specs.Plans.{Plans, PlansDemand, PrintsPlan};

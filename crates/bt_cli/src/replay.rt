@@ -1,7 +1,7 @@
 // `replay NET JOURNAL`.
 ghost use Rattle.std.specs.Prelude.{◌≡◌, map, codes};
 ghost use Rattle.std.specs.String.{string_bytes};
-ghost use Rattle.bt_book.specs.Causes.{Follows};
+ghost use Rattle.bt_history.specs.Causes.{Follows};
 ghost use Rattle.bt_cli.specs.Printing.{CameTo};
 ghost use Rattle.bt_cli.specs.Replay.{EndsRecovery, EndsReplay, EndsReplayWords, PrintsState};
 ghost use Rattle.bt_cli.specs.Request.{first_word, request_of};

@@ -1,6 +1,6 @@
 // The reports that name the first fault of a file's bytes.
 ghost use Rattle.std.specs.Prelude.{◌≡◌, ◌∷◌, [], codes};
-ghost use Rattle.bt_net.specs.Fault.{path_text};
+ghost use Rattle.bt_names.specs.Fault.{path_text};
 ghost use Rattle.bt_cli.specs.Stops.{NamesNetworkFault, NamesScriptFault, NamesTextFault};
 ghost use Rattle.bt_cli.specs.Report.{StopIs};
 ghost use Rattle.bt_cli.specs.Lines.{code_name, script_code_name};

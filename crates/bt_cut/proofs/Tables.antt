@@ -1,7 +1,7 @@
 -- A table to which a mode is added row by row, and from which links take slots.
-use Rattle.std.proofs.Common.{◌≡◌, ◌≢◌, ℕ, ◌+◌, ◌*◌, ◌<◌, ◌≤◌, List, length, get_or, slice_index, slice_set, refl, sym, ap, ◌∙◌, inl, inr, arith, get_or-set_same, get_or-set_other, eq-eqb}
+use Rattle.std.proofs.Common.{◌≡◌, ℕ, ◌+◌, ◌*◌, ◌<◌, ◌≤◌, List, length, get_or, slice_index, slice_set, refl, sym, ap, ◌∙◌, inl, inr, arith, get_or-set_same, get_or-set_other}
 use Rattle.std.specs.List.{HoldsAt}
-use Rattle.std.proofs.lemmas.Bool.{cases_eq, ne_eqb}
+use Rattle.std.proofs.lemmas.Bool.{cases_eq}
 use Rattle.bt_frame.specs.declared.mode.Mode.{Mode}
 use Rattle.bt_matrix.specs.Good.{IsPermutation, slots_in}
 use Rattle.bt_demand.specs.Plan.{begin_of}

@@ -1,5 +1,5 @@
 // The bursts of a demand, before they are put in order.
-ghost use Rattle.std.specs.Prelude.{◌≡◌, ℕ, ◌<◌, ◌≤◌, length, vec_len, All, IfOk};
+ghost use Rattle.std.specs.Prelude.{ℕ, ◌<◌, ◌≤◌, length, vec_len, All, IfOk};
 ghost use Rattle.bt_frame.specs.declared.limits.TheConstants.{MOST_SLOTS};
 ghost use Rattle.bt_matrix.specs.Good.{IsPermutation, slots_of, total_duration};
 ghost use Rattle.bt_net.specs.Network.{IsSound};

@@ -1,5 +1,5 @@
 // The order of bursts in a plan.
-ghost use Rattle.std.specs.Prelude.{◌≡◌, ℕ, ◌<◌, List, length, All, AllPairs, IfOk};
+ghost use Rattle.std.specs.Prelude.{◌≡◌, ℕ, ◌<◌, length, All, AllPairs, IfOk};
 ghost use Rattle.std.specs.List.Sorted.{IsPermutation};
 ghost use Rattle.bt_demand.specs.Burst.{IsNotAfter};
 ghost use Rattle.bt_cut.specs.Bucket.{bucket_of, all_of, IsBucket};

@@ -1,5 +1,5 @@
 -- What a terminal transmits is what its events say.
-use Rattle.std.proofs.Common.{◌≡◌, ℕ, ◌==◌, ◌&&◌, if◌then◌else◌, Bool, true, false, List, [], ◌∷◌, filter, All, Option, Some, None, slice_get, refl, sym, ◌∙◌, ap, arith, subst, zero, suc}
+use Rattle.std.proofs.Common.{◌≡◌, ℕ, ◌==◌, if◌then◌else◌, Bool, true, false, List, [], ◌∷◌, filter, All, Option, Some, None, slice_get, refl, sym, ◌∙◌, ap, arith, subst, zero, suc}
 use Rattle.std.specs.Prelude.{IsSome}
 use Rattle.std.proofs.lemmas.Bool.{and_parts, eqb-true}
 use Rattle.std.proofs.lemmas.Bool.Decides.{nat_tests}

@@ -8,9 +8,8 @@ use Rattle.std.proofs.lemmas.List.Sorted.{IsPermutation-refl}
 use Rattle.bt_frame.proofs.OneNumber.{same_edition}
 use Rattle.bt_frame.specs.declared.mode.Mode.{Mode}
 use Rattle.bt_frame.specs.declared.numbers.BeamNo.{BeamNo}
-use Rattle.bt_frame.specs.declared.numbers.EditionNo.{EditionNo}
 use Rattle.bt_matrix.specs.Good.{IsPermutation}
-use Rattle.bt_net.specs.Name.{is_name, is_terminal_name}
+use Rattle.bt_names.specs.Name.{is_name, is_terminal_name}
 use Rattle.bt_net.specs.Network.{AreNames, IsSound}
 use Rattle.bt_net.specs.Terminals.{IsTerminal}
 use Rattle.bt_demand.specs.declared.burst.Burst.{Burst}

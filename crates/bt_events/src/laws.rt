@@ -1,5 +1,5 @@
 // What holds of every world, whatever is lost, repeated or late and whoever restarts.
-ghost use Rattle.std.specs.Prelude.{◌≡◌, ◌⊎◌, ℕ, List, [], ◌∷◌, ◌++◌, All, Some};
+ghost use Rattle.std.specs.Prelude.{◌≡◌, ◌⊎◌, List, [], ◌∷◌, ◌++◌, All, Some};
 ghost use Rattle.bt_frame.specs.declared.numbers.TermNo.{TermNo};
 ghost use Rattle.bt_net.specs.Network.{IsSound};
 ghost use Rattle.bt_demand.specs.declared.burst.Burst.{Burst};

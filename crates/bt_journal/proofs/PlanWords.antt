@@ -1,5 +1,5 @@
 -- The lines of a plan's text by their words, and its one line.
-use Rattle.std.proofs.Common.{◌≡◌, ℕ, ◌-◌, true, false, codes, decimal, List, [], ◌∷◌, ◌++◌, length, length-append, take, map, All, Some, Ok, Err, refl, ap, sym, ◌∙◌, arith, rules}
+use Rattle.std.proofs.Common.{◌≡◌, ℕ, ◌-◌, true, false, codes, decimal, List, [], ◌∷◌, ◌++◌, length, length-append, take, map, All, Some, Ok, Err, refl, ap, sym, ◌∙◌, arith}
 use Rattle.std.specs.List.{list_all}
 use Rattle.std.specs.Char.{is_ascii_digit}
 use Rattle.std.proofs.lemmas.List.{map-append, length-map}
@@ -9,14 +9,14 @@ use Rattle.std.proofs.lemmas.List.Elements.{All-head, All-tail, All-cons, All-ni
 use Rattle.std.proofs.lemmas.List.Folds.{list_all-append}
 use Rattle.std.proofs.lemmas.Option.{same_Some}
 use Rattle.bt_text.specs.Text.{words, spaced, ended, lacks}
-use Rattle.bt_text.proofs.TextLines.{words-spaced, spaced-words, lacks-words, lacks-spaced}
+use Rattle.bt_text.proofs.TextLines.{words-spaced, spaced-words, lacks-words}
 use Rattle.bt_text.proofs.TextNumbers.{lacks-decimal, lacks-decimals}
 use Rattle.bt_text.proofs.Fronts.{words-HasFirst}
 use Rattle.bt_frame.specs.declared.mode.Mode.{Mode}
 use Rattle.bt_frame.specs.declared.schedule.Critical.{Critical}
 use Rattle.bt_frame.specs.declared.schedule.Critical.TheVariants.{Row, Column}
 use Rattle.bt_frame.specs.Critical.{IsOfBeams}
-use Rattle.bt_net.specs.Name.{is_name_byte}
+use Rattle.bt_names.specs.Name.{is_name_byte}
 use Rattle.bt_net.specs.Network.{Net, IsSound}
 use Rattle.bt_net.specs.Terminals.{name_at}
 use Rattle.bt_demand.specs.declared.burst.Burst.{Burst}

@@ -1,5 +1,5 @@
 // One turn of a seat: it draws a ticket, waits for it, uses the object and passes the turn on.
-ghost use Rattle.std.specs.Prelude.{◌≡◌, ◌≤◌, ℕ, ◌%◌, ◌^◌, [], ◌∷◌, List, Some, None, MatchResult};
+ghost use Rattle.std.specs.Prelude.{◌≡◌, ◌≤◌, ℕ, [], ◌∷◌, List, Some, None, MatchResult};
 ghost use Rattle.bt_line.specs.declared.object.Entry.{Entry};
 ghost use Rattle.bt_line.specs.declared.turn.TheConstants.{SPINS};
 ghost use Rattle.bt_line.specs.Legal.{entry_of};

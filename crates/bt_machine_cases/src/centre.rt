@@ -1,8 +1,8 @@
 // The lines of a centre.
 ghost use Rattle.std.specs.Prelude.{◌<◌, IfOk};
 
-use crate::air::put_word;
-use crate::message::status_of;
+use crate::lines::{put_number, put_word};
+use crate::message::{numbers_of, status_of};
 use crate::shown::{put_act, put_order};
 use bt_case_text::{byte_of, number_of};
 use bt_change::{Centre, with_terminal};
@@ -12,38 +12,34 @@ use bt_frame::{
 use bt_sheet::{CaseFault, Result};
 use std::alloc::Global;
 
-/// Does what a line of the centre says; false where the words are another line.
+/// Does what a line of the centre says.
 pub fn show_centre(
     alloc: Global,
     centre: &mut Centre,
     words: &[&str],
     out: &mut String,
-) -> Result<bool> {
+) -> Result<()> {
     match words {
-        ["centre"] => *centre = new_centre(alloc),
-        ["note", words @ ..] => note(centre, words)?,
-        ["known", mark] => put_known(centre, mark, out)?,
-        words => return show_orders(alloc, centre, words, out),
+        ["centre"] => {
+            *centre = new_centre(alloc);
+            Ok(())
+        }
+        ["note", words @ ..] => note(centre, words),
+        ["known", mark] => put_known(centre, mark, out),
+        words => show_orders(alloc, centre, words, out),
     }
-    Ok(true)
 }
 
-/// Does what a line says of the centre's turn and its orders; false where the words are another line.
-fn show_orders(
-    alloc: Global,
-    centre: &mut Centre,
-    words: &[&str],
-    out: &mut String,
-) -> Result<bool> {
+/// Does what a line says of the centre's turn and its orders.
+fn show_orders(alloc: Global, centre: &mut Centre, words: &[&str], out: &mut String) -> Result<()> {
     match words {
         ["turn", mark, newest, lead, patience] => {
-            put_turn(centre, [mark, newest, lead, patience], out)?;
+            put_turn(centre, [mark, newest, lead, patience], out)
         }
-        ["ordered", terminals @ ..] => put_ordered(alloc, centre, terminals, out)?,
-        ["waiting", terminal] => put_waiting(centre, terminal, out)?,
-        _ => return Ok(false),
+        ["ordered", terminals @ ..] => put_ordered(alloc, centre, terminals, out),
+        ["waiting", terminal] => put_waiting(centre, terminal, out),
+        _ => Err(CaseFault("no line of cases")),
     }
-    Ok(true)
 }
 
 /// A new centre that has placed no order.
@@ -53,20 +49,36 @@ pub fn new_centre(alloc: Global) -> Centre {
 
 /// Notes a status, a confirmation or a restart.
 fn note(centre: &mut Centre, words: &[&str]) -> Result<()> {
-    match words {
-        ["status", words @ ..] => centre.status(status_of(words)?),
-        ["confirm", mark, terminal, edition] => {
-            note_confirm(centre, mark, terminal, edition)?;
-        }
-        ["lost", terminal] => centre.lost(terminal_of(terminal)?),
-        _ => return Err(CaseFault("nothing to note")),
+    let Some((kind, fields)) = words.split_first() else {
+        return Err(CaseFault("nothing to note"));
+    };
+    match *kind {
+        "status" => note_status(centre, fields),
+        "confirm" => note_confirm(centre, fields),
+        "lost" => note_lost(centre, fields),
+        _ => Err(CaseFault("nothing to note")),
     }
+}
+
+fn note_status(centre: &mut Centre, fields: &[&str]) -> Result<()> {
+    centre.status(status_of(fields)?);
     Ok(())
 }
 
-fn note_confirm(centre: &mut Centre, mark: &str, terminal: &str, edition: &str) -> Result<()> {
+fn note_confirm(centre: &mut Centre, fields: &[&str]) -> Result<()> {
+    let [mark, terminal, edition] = fields else {
+        return Err(CaseFault("nothing to note"));
+    };
     let (mark, edition) = (Mark(number_of(mark)?), EditionNo(number_of(edition)?));
     centre.confirm(mark, terminal_of(terminal)?, edition);
+    Ok(())
+}
+
+fn note_lost(centre: &mut Centre, fields: &[&str]) -> Result<()> {
+    let [terminal] = fields else {
+        return Err(CaseFault("nothing to note"));
+    };
+    centre.lost(terminal_of(terminal)?);
     Ok(())
 }
 
@@ -84,28 +96,22 @@ fn terminal_of(word: &str) -> Result<TermNo>
 /// Appends the edition that the centre knows to be in force in that superframe.
 fn put_known(centre: &Centre, mark: &str, out: &mut String) -> Result<()> {
     match centre.known(Mark(number_of(mark)?)) {
-        Some(edition) => put_edition(edition, out),
+        Some(edition) => put_number(edition.0, out),
         None => put_word("none", out),
     }
 }
 
-fn put_edition(edition: EditionNo, out: &mut String) -> Result<()> {
-    write!(out, ">{}\n", edition.0)?;
-    Ok(())
-}
-
 /// Appends what the centre does in its turn, which has a superframe, the newest edition, the lead and the patience.
 fn put_turn(centre: &mut Centre, turn: [&str; 4], out: &mut String) -> Result<()> {
-    let [mark, newest, lead, patience] = turn;
-    let (mark, newest) = (number_of(mark)?, EditionNo(number_of(newest)?));
-    let (lead, patience) = (number_of(lead)?, number_of(patience)?);
+    let [mark, newest, lead, patience] = numbers_of(turn)?;
     if LAST_MARK < mark || MOST_LEAD < lead {
         return Err(CaseFault("no superframe or no lead"));
     }
     if MOST_PLACED < centre.order_count() {
         return Err(CaseFault("too many orders"));
     }
-    put_act(centre.turn(Mark(mark), newest, lead, patience), out)
+    let act = centre.turn(Mark(mark), EditionNo(newest), lead, patience);
+    put_act(act, out)
 }
 
 /// Appends the order that was wanted and is placed now. These terminals transmit in its edition.
@@ -120,7 +126,7 @@ fn put_ordered(
         return Err(CaseFault("no order is wanted"));
     }
     match centre.ordered(alloc, needs) {
-        Ok(order) => put_order("ordered", order, out),
+        Ok(order) => put_order(">ordered", order, out),
         Err(_full) => Err(CaseFault("out of memory")),
     }
 }
@@ -136,16 +142,11 @@ fn terminals_of(words: &[&str]) -> Result<TermSet> {
 /// Appends whether a terminal has still to confirm, and whether it asks for its bursts.
 fn put_waiting(centre: &Centre, terminal: &str, out: &mut String) -> Result<()> {
     let terminal = terminal_of(terminal)?;
-    let missing = if centre.missing(terminal) {
-        "missing"
-    } else {
-        "not missing"
+    let told = match (centre.missing(terminal), centre.asking(terminal)) {
+        (true, true) => "missing, asking",
+        (true, false) => "missing, not asking",
+        (false, true) => "not missing, asking",
+        (false, false) => "not missing, not asking",
     };
-    let asking = if centre.asking(terminal) {
-        "asking"
-    } else {
-        "not asking"
-    };
-    write!(out, ">{missing}, {asking}\n")?;
-    Ok(())
+    put_word(told, out)
 }

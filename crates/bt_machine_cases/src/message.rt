@@ -6,135 +6,165 @@ use bt_frame::{Columns, Command, EditionNo, Mark, Mode, Modes, TermNo};
 use bt_sheet::{CaseFault, Result};
 use std::alloc::Global;
 
-/// The message that the words say.
+/// The message that the words say: its kind, and its fields.
 pub fn message_of(alloc: Global, words: &[&str]) -> Result<Message> {
-    match words {
-        ["load", command, edition, durations @ ..] => load_of(alloc, command, edition, durations),
-        ["arm", command, edition, due] => arm_of(command, edition, due),
-        ["plan", to, edition, length] => plan_for(alloc, to, edition, length),
-        ["reference", superframe, edition] => reference_of(superframe, edition),
-        words => message_to_centre(words),
-    }
-}
-
-/// The message that the words say, which a centre receives.
-fn message_to_centre(words: &[&str]) -> Result<Message> {
-    match words {
-        ["confirm", from, edition] => confirm_of(from, edition),
-        ["lost", from] => lost_of(from),
-        ["status", words @ ..] => Ok(Message::Status(status_of(words)?)),
+    let Some((kind, fields)) = words.split_first() else {
+        return Err(CaseFault("no message"));
+    };
+    match *kind {
+        "load" => load_of(alloc, fields),
+        "arm" => arm_of(fields),
+        "plan" => plan_for(alloc, fields),
+        "reference" => reference_of(fields),
+        "confirm" => confirm_of(fields),
+        "lost" => lost_of(fields),
+        "status" => Ok(Message::Status(status_of(fields)?)),
         _ => Err(CaseFault("no message")),
     }
 }
 
-fn load_of(alloc: Global, command: &str, edition: &str, durations: &[&str]) -> Result<Message> {
-    let (command, edition) = (command_of(command)?, edition_of(edition)?);
-    let modes = modes_of(alloc, durations)?;
+fn load_of(alloc: Global, fields: &[&str]) -> Result<Message> {
+    let [command, edition, durations @ ..] = fields else {
+        return Err(CaseFault("no message"));
+    };
+    let [command, edition] = pair_of(command, edition)?;
     Ok(Message::Load {
-        command,
-        edition,
-        modes,
+        command: Command(command),
+        edition: EditionNo(edition),
+        modes: modes_of(alloc, durations)?,
     })
 }
 
-fn arm_of(command: &str, edition: &str, due: &str) -> Result<Message> {
-    let (command, edition) = (command_of(command)?, edition_of(edition)?);
-    let due = mark_of(due)?;
+fn arm_of(fields: &[&str]) -> Result<Message> {
+    let [command, edition, due] = fields else {
+        return Err(CaseFault("no message"));
+    };
+    let [command, edition] = pair_of(command, edition)?;
     Ok(Message::Arm {
-        command,
-        edition,
-        due,
+        command: Command(command),
+        edition: EditionNo(edition),
+        due: Mark(number_of(due)?),
     })
 }
 
 /// A plan of one burst, which the terminal itself sends.
-fn plan_for(alloc: Global, to: &str, edition: &str, length: &str) -> Result<Message> {
-    let (to, edition) = (TermNo(byte_of(to)?), edition_of(edition)?);
-    let bursts = burst_of(alloc, to, number_of(length)?)?;
+fn plan_for(alloc: Global, fields: &[&str]) -> Result<Message> {
+    let [to, edition, length] = fields else {
+        return Err(CaseFault("no message"));
+    };
+    let to = TermNo(byte_of(to)?);
+    let [edition, length] = pair_of(edition, length)?;
     Ok(Message::PlanFor {
         to,
-        edition,
-        bursts,
+        edition: EditionNo(edition),
+        bursts: burst_of(alloc, to, length)?,
     })
 }
 
-fn confirm_of(from: &str, edition: &str) -> Result<Message> {
-    let (from, edition) = (TermNo(byte_of(from)?), edition_of(edition)?);
-    Ok(Message::Confirm { from, edition })
+fn confirm_of(fields: &[&str]) -> Result<Message> {
+    let [from, edition] = fields else {
+        return Err(CaseFault("no message"));
+    };
+    Ok(Message::Confirm {
+        from: TermNo(byte_of(from)?),
+        edition: EditionNo(number_of(edition)?),
+    })
 }
 
 /// A reference burst that names an edition, or `none`.
-fn reference_of(superframe: &str, edition: &str) -> Result<Message> {
-    let superframe = mark_of(superframe)?;
-    let in_force = match edition {
-        "none" => None,
-        edition => Some(edition_of(edition)?),
+fn reference_of(fields: &[&str]) -> Result<Message> {
+    let [superframe, edition] = fields else {
+        return Err(CaseFault("no message"));
     };
     Ok(Message::Reference {
-        superframe,
-        in_force,
+        superframe: Mark(number_of(superframe)?),
+        in_force: in_force_of(edition)?,
     })
 }
 
-fn lost_of(from: &str) -> Result<Message> {
-    let from = TermNo(byte_of(from)?);
-    Ok(Message::Lost { from })
+fn in_force_of(edition: &str) -> Result<Option<EditionNo>> {
+    match edition {
+        "none" => Ok(None),
+        edition => Ok(Some(EditionNo(number_of(edition)?))),
+    }
 }
 
-fn command_of(word: &str) -> Result<Command> {
-    Ok(Command(number_of(word)?))
-}
-
-fn edition_of(word: &str) -> Result<EditionNo> {
-    Ok(EditionNo(number_of(word)?))
-}
-
-fn mark_of(word: &str) -> Result<Mark> {
-    Ok(Mark(number_of(word)?))
+fn lost_of(fields: &[&str]) -> Result<Message> {
+    match fields {
+        [from] => Ok(Message::Lost {
+            from: TermNo(byte_of(from)?),
+        }),
+        _ => Err(CaseFault("no message")),
+    }
 }
 
 /// The status that the words say: superframe, foreground, background, `none` or the edition and the superframe of a
 /// change to come, last command.
 pub fn status_of(words: &[&str]) -> Result<Status> {
     match words {
-        [mark, fore, back, "none", last] => status_with([mark, fore, back, last], None),
-        [mark, fore, back, edition, due, last] => {
-            let armed = armed_of(edition, due)?;
-            status_with([mark, fore, back, last], Some(armed))
+        [mark, fore, back, armed @ .., last] => {
+            status_with([mark, fore, back, last], armed_of(armed)?)
         }
         _ => Err(CaseFault("no status")),
     }
 }
 
-fn armed_of(edition: &str, due: &str) -> Result<Armed> {
-    let (edition, due) = (edition_of(edition)?, mark_of(due)?);
-    Ok(Armed { edition, due })
+fn armed_of(words: &[&str]) -> Result<Option<Armed>> {
+    match words {
+        ["none"] => Ok(None),
+        [edition, due] => armed_with(edition, due),
+        _ => Err(CaseFault("no status")),
+    }
+}
+
+fn armed_with(edition: &str, due: &str) -> Result<Option<Armed>> {
+    let [edition, due] = pair_of(edition, due)?;
+    Ok(Some(Armed {
+        edition: EditionNo(edition),
+        due: Mark(due),
+    }))
 }
 
 fn status_with(words: [&str; 4], armed: Option<Armed>) -> Result<Status> {
-    let [mark, fore, back, last] = words;
+    let [mark, fore, back, last] = numbers_of(words)?;
     Ok(Status {
-        mark: mark_of(mark)?,
-        fore: edition_of(fore)?,
-        back: edition_of(back)?,
+        mark: Mark(mark),
+        fore: EditionNo(fore),
+        back: EditionNo(back),
         armed,
-        last: command_of(last)?,
+        last: Command(last),
     })
+}
+
+/// Four numbers.
+pub fn numbers_of(words: [&str; 4]) -> Result<[u32; 4]> {
+    let [first, second, third, fourth] = words;
+    let [first, second] = pair_of(first, second)?;
+    let [third, fourth] = pair_of(third, fourth)?;
+    Ok([first, second, third, fourth])
+}
+
+/// Two numbers.
+fn pair_of(first: &str, second: &str) -> Result<[u32; 2]> {
+    Ok([number_of(first)?, number_of(second)?])
 }
 
 /// Modes of so many slots for a single beam.
 fn modes_of(alloc: Global, durations: &[&str]) -> Result<Modes> {
     let mut modes = Vec::new(alloc);
     for duration in durations {
-        modes.push(Mode {
-            duration: number_of(duration)?,
-            perm: Columns::of(vec![in alloc; 0]?),
-        })?;
+        modes.push(mode_of(alloc, duration)?)?;
     }
     if 16 < modes.len() {
         return Err(CaseFault("too many modes"));
     }
     Ok(Modes::of(modes))
+}
+
+fn mode_of(alloc: Global, duration: &str) -> Result<Mode> {
+    let duration = number_of(duration)?;
+    let perm = Columns::of(vec![in alloc; 0]?);
+    Ok(Mode { duration, perm })
 }
 
 /// One burst of so many slots from the first slot on, to terminal 1.

@@ -1,26 +1,21 @@
 // What an event of a world shows, as a printed line.
-use crate::air::{put_bursts, put_word};
+use crate::air::put_bursts;
+use crate::lines::{put_line, put_numbers, put_word};
 use bt_air::{Act, AirFrame, Answer, Heard, Order, Shown, Taken};
-use bt_frame::{Command, EditionNo, Mark};
 use bt_sheet::Result;
 
 /// Appends the line of what an event showed.
 pub fn put_shown(shown: &Shown, out: &mut String) -> Result<()> {
     match shown {
-        Shown::Ticked(status) => put_tick(status.mark, out),
+        Shown::Ticked(status) => put_line(">tick", &[status.mark.0], out),
         Shown::Turned(act) => put_act(*act, out),
-        Shown::Ordered(order) => put_order("ordered", *order, out),
+        Shown::Ordered(order) => put_order(">ordered", *order, out),
         Shown::Delivered(answer) => put_word(answer_told(*answer), out),
         Shown::Framed(frame) => put_frame(frame, out),
         Shown::Reset => put_word("reset", out),
         Shown::Restarted => put_word("restarted", out),
         Shown::Installed => put_word("installed", out),
     }
-}
-
-fn put_tick(mark: Mark, out: &mut String) -> Result<()> {
-    write!(out, ">tick {}\n", mark.0)?;
-    Ok(())
 }
 
 /// Appends what the centre does in its turn.
@@ -30,35 +25,21 @@ pub fn put_act(act: Act, out: &mut String) -> Result<()> {
         Act::RepeatLoad { load: true } => put_word("repeat load", out),
         Act::RepeatLoad { load: false } => put_word("repeat plans", out),
         Act::RepeatArm => put_word("repeat arm", out),
-        Act::Want(order) => put_order("want", order, out),
+        Act::Want(order) => put_order(">want", order, out),
     }
 }
 
-/// Appends an order behind a word.
+/// Appends an order behind a word, and ends the line.
 pub fn put_order(word: &str, order: Order, out: &mut String) -> Result<()> {
+    put_numbers(word, &[], out)?;
     match order {
-        Order::Load { command, edition } => put_load(word, command, edition, out),
+        Order::Load { command, edition } => put_line(" load", &[command.0, edition.0], out),
         Order::Arm {
             command,
             edition,
             due,
-        } => put_arm(word, (command, edition), due, out),
+        } => put_line(" arm", &[command.0, edition.0, due.0], out),
     }
-}
-
-fn put_load(word: &str, command: Command, edition: EditionNo, out: &mut String) -> Result<()> {
-    write!(out, ">{word} load {} {}\n", command.0, edition.0)?;
-    Ok(())
-}
-
-fn put_arm(
-    word: &str,
-    (command, edition): (Command, EditionNo),
-    due: Mark,
-    out: &mut String,
-) -> Result<()> {
-    write!(out, ">{word} arm {} {} {}\n", command.0, edition.0, due.0)?;
-    Ok(())
 }
 
 fn answer_told(answer: Answer) -> &'static str {

@@ -1,33 +1,37 @@
 // The lines of a terminal.
-use crate::air::{put_bursts, put_word};
+use crate::air::put_bursts;
+use crate::lines::{put_numbers, put_word};
 use crate::message::message_of;
 use crate::shown::heard_told;
 use bt_case_text::{byte_of, number_of};
 use bt_frame::{Mark, TermNo};
-use bt_sheet::Result;
+use bt_sheet::{CaseFault, Result};
 use bt_term::Terminal;
 use std::alloc::Global;
 
-/// Does what a line of a terminal says; false where the words are another line.
+/// Does what a line of a terminal says.
 pub fn show_terminal(
     alloc: Global,
     terminal: &mut Terminal,
     words: &[&str],
     out: &mut String,
-) -> Result<bool> {
+) -> Result<()> {
     match words {
-        ["terminal", number] => *terminal = terminal_of(alloc, number)?,
-        ["hear", mark, words @ ..] => put_heard(alloc, terminal, mark, words, out)?,
-        ["sends", mark] => put_sent(terminal, mark, out)?,
-        ["restart"] => terminal.restart(),
-        _ => return Ok(false),
+        ["terminal", number] => begin(alloc, terminal, number),
+        ["hear", mark, words @ ..] => put_heard(alloc, terminal, mark, words, out),
+        ["sends", mark] => put_sent(terminal, mark, out),
+        ["restart"] => {
+            terminal.restart();
+            Ok(())
+        }
+        _ => Err(CaseFault("no line of cases")),
     }
-    Ok(true)
 }
 
 /// A new terminal of that number.
-fn terminal_of(alloc: Global, number: &str) -> Result<Terminal> {
-    Ok(Terminal::new(alloc, TermNo(byte_of(number)?)))
+fn begin(alloc: Global, terminal: &mut Terminal, number: &str) -> Result<()> {
+    *terminal = Terminal::new(alloc, TermNo(byte_of(number)?));
+    Ok(())
 }
 
 /// Appends the answer to a message that is heard in that superframe.
@@ -46,6 +50,6 @@ fn put_heard(
 /// Appends the bursts that the terminal transmits in that superframe.
 fn put_sent(terminal: &Terminal, mark: &str, out: &mut String) -> Result<()> {
     let mark = Mark(number_of(mark)?);
-    out.push_str(">bursts")?;
+    put_numbers(">bursts", &[], out)?;
     put_bursts(terminal.sends(mark), out)
 }

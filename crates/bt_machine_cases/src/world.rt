@@ -1,9 +1,10 @@
 // The lines of a world: the satellite, the terminals and the centre of a network together, event by event.
 ghost use Rattle.std.specs.Prelude.{◌≡◌, IfOk};
 ghost use Rattle.std.specs.Bool.{OnTrue};
+ghost use Rattle.bt_net.specs.Terminals.{IsTerminal};
 ghost use Rattle.bt_demand.specs.Flyable.{IsFlyable};
 ghost use Rattle.bt_timeline.specs.Air.{NamesTerminal};
-ghost use Rattle.bt_events.specs.Fits.{Meets, no_plan};
+ghost use Rattle.bt_events.specs.Fits.{IsPlace, Meets, no_plan};
 ghost use Rattle.bt_world.specs.Life.{past_of};
 
 use crate::shown::put_shown;
@@ -33,9 +34,7 @@ pub struct Flight {
 impl Flight {
     /// The world of a network before its first event, with the empty plan and no order.
     pub fn start(alloc: Global, net: &[u8]) -> Result<Flight> {
-        let Ok(net) = Network::read(alloc, net) else {
-            return Err(CaseFault("no network"));
-        };
+        let net = network_of(alloc, net)?;
         let world = world_of(alloc, &net)?;
         Ok(Flight { net, world })
     }
@@ -43,9 +42,14 @@ impl Flight {
     /// An event happens. Appends what it shows, and the messages that it sends.
     pub fn put_event(&mut self, alloc: Global, words: &[&str], out: &mut String) -> Result<()> {
         let before = self.world.sent_count();
-        let shown = self.event_of(alloc, words)?;
-        put_shown(&shown, out)?;
+        self.put_happened(alloc, words, out)?;
         self.put_sent(alloc, before, out)
+    }
+
+    /// An event happens. Appends what it shows.
+    fn put_happened(&mut self, alloc: Global, words: &[&str], out: &mut String) -> Result<()> {
+        let shown = self.event_of(alloc, words)?;
+        put_shown(&shown, out)
     }
 
     /// A plan that is good for a demand is installed. Appends what that shows.
@@ -64,14 +68,22 @@ impl Flight {
     /// The event that the words say happens.
     fn event_of(&mut self, alloc: Global, words: &[&str]) -> Result<Shown> {
         match words {
-            ["tick"] => self.tick(alloc),
-            ["turn"] => self.turn(alloc),
-            ["ordered"] => self.order(alloc),
             ["deliver", number, place] => self.deliver(alloc, number, place),
-            ["frame"] => self.frame(alloc),
             ["reset", terminal] => self.reset(alloc, terminal),
             ["restart", "kept"] => self.restart_with(alloc),
-            ["restart"] => self.happen(alloc, Event::RestartCentre { kept: false }),
+            [word] => self.event_named(alloc, word),
+            _ => Err(CaseFault("no event")),
+        }
+    }
+
+    /// The event of that name happens, of which nothing else is said.
+    fn event_named(&mut self, alloc: Global, word: &str) -> Result<Shown> {
+        match word {
+            "tick" => self.tick(alloc),
+            "turn" => self.turn(alloc),
+            "ordered" => self.order(alloc),
+            "frame" => self.frame(alloc),
+            "restart" => self.happen(alloc, Event::RestartCentre { kept: false }),
             _ => Err(CaseFault("no event")),
         }
     }
@@ -119,10 +131,7 @@ impl Flight {
     }
 
     fn reset(&mut self, alloc: Global, terminal: &str) -> Result<Shown> {
-        let terminal = TermNo(byte_of(terminal)?);
-        if self.net.terminal_count() <= u32::from(terminal.0) {
-            return Err(CaseFault("no terminal"));
-        }
+        let terminal = self.terminal_of(terminal)?;
         self.happen(alloc, Event::ResetTerminal { terminal })
     }
 
@@ -131,35 +140,30 @@ impl Flight {
         if self.world.sent_count() <= message {
             return Err(CaseFault("not sent"));
         }
-        match place {
-            "sat" => self.happen(
-                alloc,
-                Event::Deliver {
-                    message,
-                    place: Place::Satellite,
-                },
-            ),
-            "centre" => self.happen(
-                alloc,
-                Event::Deliver {
-                    message,
-                    place: Place::Centre,
-                },
-            ),
-            name => {
-                let terminal = TermNo(byte_of(name)?);
-                if self.net.terminal_count() <= u32::from(terminal.0) {
-                    return Err(CaseFault("no terminal"));
-                }
-                self.happen(
-                    alloc,
-                    Event::Deliver {
-                        message,
-                        place: Place::Terminal(terminal),
-                    },
-                )
-            }
+        let place = self.place_of(place)?;
+        self.happen(alloc, Event::Deliver { message, place })
+    }
+
+    /// The satellite, the centre, or a terminal of the network.
+    fn place_of(&self, word: &str) -> Result<Place>
+        ensures { IfOk result (IsPlace self.now.world.opening) }
+    {
+        match word {
+            "sat" => Ok(Place::Satellite),
+            "centre" => Ok(Place::Centre),
+            word => Ok(Place::Terminal(self.terminal_of(word)?)),
         }
+    }
+
+    /// A terminal of the network.
+    fn terminal_of(&self, word: &str) -> Result<TermNo>
+        ensures { IfOk result (IsTerminal self.now.net) }
+    {
+        let terminal = TermNo(byte_of(word)?);
+        if self.net.terminal_count() <= u32::from(terminal.0) {
+            return Err(CaseFault("no terminal"));
+        }
+        Ok(terminal)
     }
 
     /// An event that may come happens.
@@ -179,16 +183,30 @@ impl Flight {
     /// Appends the messages that were sent, from a number on.
     fn put_sent(&self, alloc: Global, first: u32, out: &mut String) -> Result<()> {
         let mut text = Vec::new(alloc);
+        self.add_sent(alloc, first, &mut text)?;
+        put_lines(alloc, &text, Part::All, out)
+    }
+
+    /// Appends the texts of the messages that were sent, from a number on.
+    fn add_sent(&self, alloc: Global, first: u32, text: &mut Vec<u8>) -> Result<()> {
         for number in first..self.world.sent_count() {
             let sent = self.world.sent(number);
             if !is_named(&self.net, sent) {
                 return Err(CaseFault("no terminal"));
             }
-            if sent_text(alloc, &self.net, number, sent, &mut text).is_err() {
+            if sent_text(alloc, &self.net, number, sent, text).is_err() {
                 return Err(CaseFault("out of memory"));
             }
         }
-        put_lines(alloc, &text, Part::All, out)
+        Ok(())
+    }
+}
+
+/// The network of a text.
+fn network_of(alloc: Global, text: &[u8]) -> Result<Network> {
+    match Network::read(alloc, text) {
+        Ok(net) => Ok(net),
+        Err(_fault) => Err(CaseFault("no network")),
     }
 }
 

@@ -1,6 +1,5 @@
 // A permutation inside the positive entries of a matrix whose line sums are equal and positive.
-ghost use Rattle.std.specs.Prelude.{◌≡◌, ◌<◌, ◌≤◌, length, IsSome, IsOk, IfOk};
-ghost use Rattle.std.specs.Bool.{OnTrue};
+ghost use Rattle.std.specs.Prelude.{◌≡◌, ◌<◌, length, IsSome, IsOk, IfOk};
 ghost use Rattle.bt_matrix.specs.Good.{IsPermutation};
 ghost use Rattle.bt_match.specs.Matching.{column_of, HasEqualLineSums, IsPartial, IsWhole, IsInside, IsInsidePerm};
 ghost use Rattle.bt_match.specs.Search.{IsMatching, StaysMatched, AreHolders};

@@ -1,5 +1,5 @@
 // The switching schedule of the least length.
-ghost use Rattle.std.specs.Prelude.{◌≡◌, ◌<◌, ℕ, length, IfOk};
+ghost use Rattle.std.specs.Prelude.{◌≡◌, ◌<◌, length, IfOk};
 ghost use Rattle.bt_matrix.specs.Good.{IsGood};
 ghost use Rattle.bt_matrix.specs.Traffic.{row_of, IsHeaviest};
 

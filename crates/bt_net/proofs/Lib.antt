@@ -1,4 +1,3 @@
 pub mod Names
 pub mod Json
 pub mod Walk
-pub mod NameBytes

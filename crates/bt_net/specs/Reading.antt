@@ -1,5 +1,5 @@
 -- The walk over a network file: the network that its bytes are, or the first fault in them.
-use Rattle.std.specs.Prelude.{◌≡◌, ℕ, ◌&&◌, List, [], ◌∷◌, ◌++◌, length, Bool, Option, Some, None, option_map, option_and_then, Result, Ok, Err, nat_le, if◌then◌else◌, codes, position, ⊤}
+use Rattle.std.specs.Prelude.{ℕ, ◌&&◌, List, [], ◌∷◌, ◌++◌, length, Option, Some, None, option_map, option_and_then, Result, Ok, Err, nat_le, if◌then◌else◌, codes, position}
 use Rattle.std.specs.List.{list_any}
 use Rattle.std.specs.Option.{ok_or}
 use Rattle.std.specs.Str.{bytes_eq, is_utf8}
@@ -10,23 +10,14 @@ use Rattle.bt_text.specs.Reading.{◌>>=◌}
 use Rattle.bt_frame.specs.declared.limits.TheConstants.{MOST_BEAMS, MOST_TERMINALS, MOST_SLOTS, MOST_FRAMES, LEAST_LEAD, MOST_LEAD, MOST_PATIENCE, LEAST_JOURNAL_BYTES, MOST_JOURNAL_BYTES}
 use Rattle.bt_frame.specs.declared.numbers.BeamNo.{BeamNo}
 use Rattle.bt_frame.specs.Range.{IsWithin}
-use Rattle.bt_net.specs.declared.fault.NetFault.{NetFault}
-use Rattle.bt_net.specs.declared.fault.NetFault.TheVariants.{N1, N2, N3, N4, N5, N6, OutOfMemory}
-use Rattle.bt_net.specs.declared.fault.Path.{Path}
-use Rattle.bt_net.specs.declared.fault.Path.TheVariants as path
+use Rattle.bt_names.specs.declared.fault.NetFault.{NetFault}
+use Rattle.bt_names.specs.declared.fault.NetFault.TheVariants.{N1, N2, N3, N6}
+use Rattle.bt_names.specs.declared.fault.Path.{Path}
+use Rattle.bt_names.specs.declared.fault.Path.TheVariants as path
 use Rattle.bt_net.specs.declared.reading.Numbers.{Numbers}
-use Rattle.bt_net.specs.Name.{is_name, is_terminal_name}
+use Rattle.bt_names.specs.Name.{is_name, is_terminal_name}
+use Rattle.bt_names.specs.Walk.{checked}
 use Rattle.bt_net.specs.Network.{Net, names_of}
-
--- a call ended with this fault: the walk has it, unless memory ran out
-abbrev pub Fails : {A : Type 0} → NetFault → Result A NetFault → Type 0
-Fails OutOfMemory walk = Unit {0}
-Fails fault walk = walk ≡ Err fault
-
--- a call gives what the walk gives, seen by view, unless memory ran out
-abbrev pub Gives : {A B : Type 0} → (A → B) → Result A NetFault → Result B NetFault → Type 0
-Gives view (Ok x) walk = walk ≡ Ok (view x)
-Gives view (Err fault) walk = Fails fault walk
 
 -- the entries of an array, in order
 abbrev pub entries_of : Items → List Data
@@ -57,10 +48,6 @@ number_at place least most key value = do
 unfoldable pub through : {A : Type 0} → (A → Data → Result A NetFault) → A → List Data → Result A NetFault
 through step earlier [] = Ok earlier
 through step earlier (entry ∷ entries) = step earlier entry >>= λ more. through step more entries
-
--- a name is good, and no earlier entry has it
-unfoldable pub checked : Path → Bool → Bool → Result ⊤ NetFault
-checked place is_good is_taken = if is_good then (if is_taken then Err (N5 place) else Ok tt) else Err (N4 place)
 
 -- the beam of that name, by its place among the beams
 abbrev pub numbered : Path → Option ℕ → Result BeamNo NetFault

@@ -1,9 +1,8 @@
 -- The terminals of a network: their names and their beams.
-use Rattle.std.specs.Prelude.{◌≡◌, ℕ, ◌<◌, ◌==◌, ◌&&◌, Bool, false, List, [], length, Option, Some, unwrap_or, option_map, position, slice_get}
+use Rattle.std.specs.Prelude.{◌≡◌, ℕ, ◌<◌, ◌==◌, Bool, false, List, [], length, Option, Some, unwrap_or, option_map, position, slice_get}
 use Rattle.std.specs.Str.{bytes_eq}
 use Rattle.bt_frame.specs.declared.numbers.BeamNo.{BeamNo}
 use Rattle.bt_frame.specs.declared.numbers.TermNo.{TermNo}
-use Rattle.bt_net.specs.Name.{is_name}
 use Rattle.bt_net.specs.Network.{Net, names_of}
 
 -- the terminal is one of the network's
@@ -33,7 +32,3 @@ name_at net terminal = unwrap_or (option_map (λ t. t.0) (slice_get net.terminal
 -- the terminal of that name
 abbrev pub terminal_of : Net → List ℕ → Option TermNo
 terminal_of net name = option_map (λ place. record { 0 = place }) (position (bytes_eq name) (names_of net.terminals))
-
--- both words have the shape of a name
-abbrev pub are_names : List ℕ → List ℕ → Bool
-are_names from to = is_name from && is_name to

@@ -1,22 +1,22 @@
 // The walk over a network file.
-ghost use Rattle.std.specs.Prelude.{◌≡◌, ◌+◌, ◌<◌, ◌≤◌, ◌⊎◌, [], length, map, option_map, OnOk, IfOk, false};
+ghost use Rattle.std.specs.Prelude.{◌≡◌, ◌+◌, ◌<◌, ◌≤◌, ◌⊎◌, [], length, map, option_map, OnOk, IfOk};
 ghost use Rattle.std.specs.Option.{ok_or};
 ghost use Rattle.serde_json.specs.Errors.{IsMemory};
 ghost use Rattle.serde_json.specs.View.{view};
-ghost use Rattle.bt_net.specs.declared.fault.NetFault.TheVariants.{N1};
+ghost use Rattle.bt_names.specs.declared.fault.NetFault.TheVariants.{N1};
+ghost use Rattle.bt_names.specs.Walk.{Gives};
 ghost use Rattle.bt_net.specs.Network.{AreBeams, AreTerminals};
 ghost use Rattle.bt_frame.specs.Range.{IsWithin};
-ghost use Rattle.bt_net.specs.Reading.{Gives, array_at, text_at, entries_at, number_at, journal_of, checked, beam_at, with_beam, through, beams_of, with_terminal, terminals_of, AreInRange, numbers_of, json_of, network_of, network_in};
+ghost use Rattle.bt_net.specs.Reading.{array_at, text_at, entries_at, number_at, journal_of, beam_at, with_beam, through, beams_of, with_terminal, terminals_of, AreInRange, numbers_of, json_of, network_of, network_in};
 
 use crate::Network;
 use crate::beams::Beams;
-use crate::fault::{NetFault, Path};
-use crate::name::{is_name, is_terminal_name};
 use crate::terminals::Terminals;
 use bt_frame::{
     BeamNo, LEAST_JOURNAL_BYTES, LEAST_LEAD, MOST_BEAMS, MOST_FRAMES, MOST_JOURNAL_BYTES,
     MOST_LEAD, MOST_PATIENCE, MOST_SLOTS, MOST_TERMINALS,
 };
+use bt_names::{NetFault, Path, check_name, is_name, is_terminal_name};
 use serde_json::{Error, Value};
 use std::alloc::Global;
 
@@ -84,20 +84,6 @@ fn journal_of(value: &Value) -> Result<u32, NetFault>
         ),
         None => Ok(MOST_JOURNAL_BYTES as u32),
     }
-}
-
-#[tactic(auto, unfolding(crate::specs::Reading::checked))]
-fn check_name(path: Path, is_good: bool, is_taken: bool) -> Result<(), NetFault>
-    ensures walk { Gives (λ x. x) result (checked path is_good is_taken) }
-    ensures new { OnOk result (is_taken ≡ false) }
-{
-    if !is_good {
-        return Err(NetFault::N4 { path });
-    }
-    if is_taken {
-        return Err(NetFault::N5 { path });
-    }
-    Ok(())
 }
 
 #[tactic(auto, unfolding(crate::specs::Reading::with_beam))]

@@ -5,11 +5,8 @@ use Rattle.std.proofs.lemmas.Bool.{eqb-true}
 use Rattle.std.proofs.lemmas.List.{append-nil}
 use Rattle.bt_text.specs.Text.{words, lines, is_word}
 use Rattle.bt_frame.specs.declared.mode.Mode.{Mode}
-use Rattle.bt_plan.specs.declared.text_fault.TextCode.{TextCode}
 use Rattle.bt_plan.specs.declared.text_fault.TextCode.TheVariants.{M1}
-use Rattle.bt_text.specs.declared.fault.LineFault.{LineFault}
-use Rattle.bt_text.specs.declared.fault.LineFault.TheVariants.{At, OutOfMemory}
-use Rattle.bt_text.specs.Reading.{◌>>=◌, or_fault, IsFaultOf}
+use Rattle.bt_text.specs.Reading.{◌>>=◌, or_fault}
 use Rattle.bt_plan.specs.Reading.{Fault, Reading}
 use Rattle.bt_plan.specs.ScheduleText.{mode_in, end_in, modes_in, critical_in, critical_and_modes, length_in, schedule_in, schedule_of}
 use Rattle.bt_text.proofs.Front.{with_front, regroup}

@@ -1,12 +1,11 @@
 -- The lines of a schedule as a writer makes them, one number or one mode after the other.
-use Rattle.std.proofs.Common.{◌≡◌, ℕ, ◌+◌, ◌<◌, codes, decimal, List, [], ◌∷◌, ◌++◌, length, map, take, get_or, sym, ap, ◌∙◌}
+use Rattle.std.proofs.Common.{◌≡◌, ℕ, ◌+◌, ◌<◌, codes, decimal, List, ◌∷◌, ◌++◌, length, map, take, get_or, ap, ◌∙◌}
 use Rattle.std.proofs.lemmas.List.{take_more, map_push}
 use Rattle.bt_text.specs.Text.{spaced, ended}
 use Rattle.bt_frame.specs.declared.mode.Mode.{Mode}
 use Rattle.bt_frame.specs.declared.schedule.Critical.{Critical}
-use Rattle.bt_frame.specs.declared.schedule.Schedule.{Schedule}
 use Rattle.bt_text.proofs.TextLines.{spaced_more}
-use Rattle.bt_plan.specs.ScheduleSpelling.{length_line, critical_line, mode_line, schedule_spelling}
+use Rattle.bt_plan.specs.ScheduleSpelling.{length_line, critical_line, mode_line}
 
 -- a mode's line with the downlinks so far
 abbrev pub mode_begun : ℕ → List ℕ → List ℕ

@@ -10,7 +10,6 @@ use Rattle.bt_text.specs.Text.{words, lines, number_of, capped}
 use Rattle.bt_text.proofs.FirstLine.{lines-HasFirst}
 use Rattle.bt_frame.specs.declared.numbers.BeamNo.{BeamNo}
 use Rattle.bt_frame.specs.declared.numbers.TermNo.{TermNo}
-use Rattle.bt_frame.specs.declared.schedule.Critical.TheVariants.{Row, Column}
 use Rattle.bt_matrix.specs.Traffic.{row_of, entry, row_sum, column_sum, with_entry, IsTraffic}
 use Rattle.bt_matrix.proofs.Lines.{IsTraffic-replicate}
 use Rattle.bt_matrix.proofs.Writes.{length-row, IsTraffic-with_entry}
@@ -21,9 +20,10 @@ use Rattle.bt_plan.specs.declared.text_fault.TextCode.{TextCode}
 use Rattle.bt_text.specs.declared.fault.LineFault.{LineFault}
 use Rattle.bt_text.specs.declared.fault.LineFault.TheVariants.{At, OutOfMemory}
 use Rattle.bt_demand.specs.Demand.{ends_of, IsBefore, IsLink, IsDemand, units_of, Gains}
-use Rattle.bt_net.specs.Terminals.{beam_at, are_names}
+use Rattle.bt_net.specs.Terminals.{beam_at}
+use Rattle.bt_names.specs.Name.{are_names}
 use Rattle.bt_plan.specs.Reading.{Fault, Reading}
-use Rattle.bt_demand.specs.Traffic.{matrix_of, HasSumsTo}
+use Rattle.bt_demand.specs.Traffic.{matrix_of}
 use Rattle.bt_plan.specs.TrafficText.{belongs_before, with_link, row_fits, column_fits, fitting, links_with, line_with, links_in, units_in, link_between, link_with, named_link, AreRead}
 use Rattle.bt_plan.specs.TerminalNames.{ends_in}
 use Rattle.bt_plan.proofs.Capped.{leb-capped, leb-one-capped, capped-small, cond-at_true}

@@ -1,6 +1,6 @@
 // The text of a burst time plan: its edition, its length, its critical line, its modes and its bursts in a line
 // each, and `end`.
-ghost use Rattle.std.specs.Prelude.{◌≡◌, ◌<◌, ◌≤◌, ◌+◌, ◌==◌, ◌^◌, ◌-◌, None, Some, Ok, Err, length, IfOk, IsTrue, AllPairs, if◌then◌else◌};
+ghost use Rattle.std.specs.Prelude.{◌≡◌, ◌<◌, ◌≤◌, ◌+◌, ◌==◌, ◌-◌, None, Some, Ok, Err, length, IfOk, IsTrue, AllPairs, if◌then◌else◌};
 ghost use Rattle.bt_frame.specs.declared.limits.TheConstants.{MOST_TEXT_BYTES};
 ghost use Rattle.bt_text.specs.Text.{words, lines};
 ghost use Rattle.bt_text.specs.declared.fault.LineFault.TheVariants.{At};
@@ -11,7 +11,7 @@ ghost use Rattle.bt_frame.specs.Critical.{IsOfBeams};
 ghost use Rattle.bt_plan.specs.PlanText.{edition_in, burst_with, burst_between, burst_behind, burst_in, in_order, burst_below, bursts_in, is_mode, modes_and_bursts, critical_behind, length_behind, plan_of};
 ghost use Rattle.bt_verdict.specs.PlanVerdict.{AreBetweenTerminals};
 ghost use Rattle.bt_plan.specs.ScheduleText.{mode_in};
-ghost use Rattle.bt_net.specs.Terminals.{are_names};
+ghost use Rattle.bt_names.specs.Name.{are_names};
 
 use crate::names::ends_of;
 use crate::schedule_reader::{read_critical, read_length, read_mode};

@@ -1,5 +1,5 @@
 // The text of a switching schedule: its length, its critical line, its modes in a line each, and `end`.
-ghost use Rattle.std.specs.Prelude.{◌≡◌, ◌≤◌, ◌<◌, ◌-◌, ◌^◌, ◌==◌, length, Some, Ok, Err, IfOk, if◌then◌else◌};
+ghost use Rattle.std.specs.Prelude.{◌≡◌, ◌≤◌, ◌<◌, ◌-◌, ◌==◌, length, Some, Ok, Err, IfOk, if◌then◌else◌};
 ghost use Rattle.bt_frame.specs.declared.limits.TheConstants.{MOST_BEAMS, MOST_TEXT_BYTES};
 ghost use Rattle.bt_text.specs.Text.{words, lines};
 ghost use Rattle.bt_plan.specs.declared.text_fault.TextCode.TheVariants.{M1};

@@ -1,5 +1,5 @@
 // Writing a switching schedule as its text.
-ghost use Rattle.std.specs.Prelude.{◌≡◌, ◌≤◌, ◌++◌, ◌∷◌, [], IfOk, OnOk, decimal, map, length};
+ghost use Rattle.std.specs.Prelude.{◌≡◌, ◌++◌, ◌∷◌, [], IfOk, OnOk, decimal, map, length};
 ghost use Rattle.bt_text.specs.Text.{ended};
 ghost use Rattle.bt_plan.specs.ScheduleSpelling.{critical_line, length_line, mode_line, schedule_spelling};
 

@@ -14,9 +14,9 @@ use Rattle.bt_journal.specs.declared.call.Change.{Change}
 use Rattle.bt_journal.specs.declared.entry.Entry.{Entry}
 use Rattle.bt_journal.specs.declared.reply.Reply.{Reply}
 use Rattle.bt_journal.specs.Journal.{calls_of}
-use Rattle.bt_book.specs.Book.{Books, book_steps, journal_entry, lock_entry}
-use Rattle.bt_book.specs.Causes.{Follows}
-use Rattle.bt_book.specs.Machine.{Legal, state_after, state_from}
+use Rattle.bt_history.specs.Book.{Books, book_steps, journal_entry, lock_entry}
+use Rattle.bt_history.specs.Causes.{Follows}
+use Rattle.bt_history.specs.Machine.{Legal, state_after, state_from}
 use Rattle.bt_script.specs.declared.script.Round.{Round}
 use Rattle.bt_round.specs.declared.seats.TheConstants.{DESKS, SEATS}
 use Rattle.bt_round.specs.declared.workers.Job.{Job}
@@ -24,11 +24,11 @@ use Rattle.bt_round.specs.declared.workers.Job.TheVariants.{Air, Plans, Desk}
 use Rattle.bt_workers.specs.AirLines.{AirState}
 use Rattle.bt_workers.specs.Callers.{Calling, IsSameCaller, own_of}
 use Rattle.bt_round.specs.Rounds.{BookRan}
-use Rattle.bt_book.specs.Store.{RoseBy, lost_of}
+use Rattle.bt_history.specs.Store.{RoseBy, lost_of}
 use Rattle.std.specs.Option.{is_some}
 use Rattle.bt_round.specs.Seats.{AllAt, AllDone, HaveSeen, IsDoneAt, IsOfBoard, IsOfPlace, IsOver, IsReady, air_in, publisher_in, reader_in, text_at}
 use Rattle.bt_round.specs.Workers.{JobDone}
-use Rattle.bt_book.proofs.Histories.{state_from-none}
+use Rattle.bt_history.proofs.Histories.{state_from-none}
 use Rattle.bt_round.proofs.Rounds.{stored_entries}
 use Rattle.bt_round.proofs.Seating.{centre_done, is_of_place, none_in_all, over_after, own_in_all, publisher_done, reader_done}
 

@@ -12,11 +12,11 @@ use Rattle.bt_journal.specs.declared.call.Change.{Change}
 use Rattle.bt_journal.specs.declared.entry.Entry.{Entry}
 use Rattle.bt_journal.specs.declared.reply.Reply.{Reply}
 use Rattle.bt_journal.specs.Journal.{calls_of, changes_of}
-use Rattle.bt_book.specs.Book.{Books, journal_entry, lock_entry}
-use Rattle.bt_book.specs.Machine.{State, state_from}
-use Rattle.bt_book.specs.Causes.{Follows}
+use Rattle.bt_history.specs.Book.{Books, journal_entry, lock_entry}
+use Rattle.bt_history.specs.Machine.{State, state_from}
+use Rattle.bt_history.specs.Causes.{Follows}
 use Rattle.bt_board.specs.Posted.{Posted}
-use Rattle.bt_book.specs.Changes.{installs, newest}
+use Rattle.bt_history.specs.Changes.{installs, newest}
 use Rattle.bt_script.specs.declared.script.DeskLine.{DeskLine}
 use Rattle.bt_script.specs.declared.script.Round.{Round}
 use Rattle.bt_script.specs.Desks.{AreDesks}

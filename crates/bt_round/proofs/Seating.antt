@@ -17,8 +17,8 @@ use Rattle.bt_journal.specs.declared.call.Change.{Change}
 use Rattle.bt_journal.specs.declared.entry.Entry.{Entry}
 use Rattle.bt_journal.specs.declared.reply.Reply.{Reply}
 use Rattle.bt_journal.specs.Journal.{calls_of, changes_of}
-use Rattle.bt_book.specs.Book.{Books, journal_entry}
-use Rattle.bt_book.specs.Changes.{newest}
+use Rattle.bt_history.specs.Book.{Books, journal_entry}
+use Rattle.bt_history.specs.Changes.{newest}
 use Rattle.bt_script.specs.declared.script.AirLine.{AirLine}
 use Rattle.bt_script.specs.declared.script.DeskLine.{DeskLine}
 use Rattle.bt_script.specs.declared.script.Round.{Round}
@@ -27,7 +27,7 @@ use Rattle.bt_round.specs.declared.seats.TheConstants.{SEATS}
 use Rattle.bt_round.specs.declared.workers.Job.{Job}
 use Rattle.bt_round.specs.declared.workers.Job.TheVariants.{Air, Plans, Desk}
 use Rattle.bt_workers.specs.AirLines.{AirState, PlaysAirLines}
-use Rattle.bt_workers.specs.Callers.{Calling, IsSameCaller, number_of, own_in, own_of}
+use Rattle.bt_workers.specs.Callers.{Calling, IsSameCaller, caller_number, own_in, own_of}
 use Rattle.bt_workers.specs.Done.{DeskDone, PlannerDone}
 use Rattle.bt_round.specs.Seats.{AllAt, IsDoneAt, IsJobAt, IsOfBoard, IsOfPlace, IsOver, IsReady, air_in, lines_of, publisher_in, reader_in}
 use Rattle.bt_workers.specs.Worker.{Asks}
@@ -106,7 +106,7 @@ seated table start round posted air place pass caller job text is_pass unseen is
 }
 
 -- the caller at a place can do the job of that place
-can_do : (net : Net) (round : Round) (posted : Posted) (air : AirState) (place : ℕ) (caller : Calling) (job : Job) → number_of caller ≡ place → air.life.opening.net ≡ net → IsRoundFor net round
+can_do : (net : Net) (round : Round) (posted : Posted) (air : AirState) (place : ℕ) (caller : Calling) (job : Job) → caller_number caller ≡ place → air.life.opening.net ≡ net → IsRoundFor net round
     → HasPosted caller posted.plans → IsJobAt round posted air place job → CanDo net caller job
 can_do net round posted air place caller (Air lines centre) at same named has (zero, lines_are, centre_is) =
     (at ∙ zero, subst (All (IsAirLineFor net)) (sym lines_are) named.air, ap (λ (a : AirState). a.life.opening.net) centre_is ∙ same)
@@ -119,7 +119,7 @@ can_do net round posted air place caller (Desk desk lines reader) at same named 
 begins_posted : (start : Books) (plans : List Plan) (caller : Calling) → caller.start ≡ start → seen_at caller.place ≡ []
     → next_edition plans ≤ (newest start.state.changes).edition.0 + 1 → HasPosted caller plans
 begins_posted start plans caller same unseen last =
-    let none : own_of caller ≡ [] = ap (λ (l : List (line.Entry Call Reply)). own_in (number_of caller) l) unseen in
+    let none : own_of caller ≡ [] = ap (λ (l : List (line.Entry Call Reply)). own_in (caller_number caller) l) unseen in
     let changes : caller.start.state.changes ++ changes_of (own_of caller) ≡ start.state.changes =
     ap (λ (e : List Entry). caller.start.state.changes ++ changes_of e) none ∙ append-nil caller.start.state.changes ∙ ap (λ (b : Books). b.state.changes) same in
     subst (λ (c : List Change). next_edition plans ≤ (newest c).edition.0 + 1) (sym changes) last
@@ -171,7 +171,7 @@ pub over_after : (net : Net) (table : TableId) (start : Books) (round : Round) (
     (ended : Result Unit OutOfMemory) (text written : List ℕ) → IsReady table start round posted air place old job text → IsSameCaller old new
     → JobDone net job after ended (own_of old) (own_of new) text written → IsOver net table start round posted air place new after ended written
 over_after net table start round posted air place old new job after ended text written so same done =
-    let none : own_of old ≡ [] = ap (λ (l : List (line.Entry Call Reply)). own_in (number_of old) l) so.unseen in
+    let none : own_of old ≡ [] = ap (λ (l : List (line.Entry Call Reply)). own_in (caller_number old) l) so.unseen in
     let begun : JobDone net job after ended [] (own_of new) text written = subst (λ (b : List Entry). JobDone net job after ended b (own_of new) text written) none done in
     record {
       pass = still_pass table start SEATS place old.place new.place so.pass same.place;
@@ -240,7 +240,7 @@ reader_done net round posted reader air place (Desk desk lines over) ended own t
     let same : over ≡ reader = cc in ap (λ (p : Posted). p.board) (sym same) ∙ done.2
 
 -- each caller has all of its entries
-pub own_in_all : (log : List (line.Entry Call Reply)) (place : ℕ) (caller : Calling) → number_of caller ≡ place → HasSeen log place (seen_at caller.place)
+pub own_in_all : (log : List (line.Entry Call Reply)) (place : ℕ) (caller : Calling) → caller_number caller ≡ place → HasSeen log place (seen_at caller.place)
     → own_of caller ≡ calls_of (map journal_entry log) place
 own_in_all log place caller at seen =
     ap (λ (n : ℕ). own_in n (seen_at caller.place)) at ∙ ap (map journal_entry) (sym seen.own) ∙ sym (calls_in_log log place)

@@ -3,7 +3,7 @@ use Rattle.std.specs.Prelude.{◌≡◌, ◌≤◌, ◌++◌, List, ◌∷◌, l
 use Rattle.bt_demand.specs.declared.plan.Plan.{Plan}
 use Rattle.bt_journal.specs.declared.call.Change.{Change}
 use Rattle.bt_board.specs.Posted.{Posted}
-use Rattle.bt_book.specs.Changes.{installs, newest, plans}
+use Rattle.bt_history.specs.Changes.{installs, newest, plans}
 use Rattle.bt_round.specs.declared.seats.TheConstants.{DESKS}
 
 -- The board is that of a book with these changes: what was posted is the plan that was the newest when the board was made, and

@@ -5,11 +5,11 @@ use Rattle.bt_net.specs.Network.{Net}
 use Rattle.bt_journal.specs.declared.call.Change.{Change}
 use Rattle.bt_journal.specs.declared.entry.Entry.{Entry}
 use Rattle.bt_journal.specs.Journal.{calls_of}
-use Rattle.bt_book.specs.Causes.{Follows}
-use Rattle.bt_book.specs.Book.{Books}
-use Rattle.bt_book.specs.Changes.{newest}
-use Rattle.bt_book.specs.Machine.{state_after, state_from, Legal}
-use Rattle.bt_book.specs.Store.{RoseBy, lost_of}
+use Rattle.bt_history.specs.Causes.{Follows}
+use Rattle.bt_history.specs.Book.{Books}
+use Rattle.bt_history.specs.Changes.{newest}
+use Rattle.bt_history.specs.Machine.{state_after, state_from, Legal}
+use Rattle.bt_history.specs.Store.{RoseBy, lost_of}
 use Rattle.bt_script.specs.declared.script.Round.{Round}
 use Rattle.bt_workers.specs.AirLines.{AirState, PlaysAirLines}
 use Rattle.bt_round.specs.Boards.{IsShownBetween}

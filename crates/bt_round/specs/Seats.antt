@@ -13,7 +13,7 @@ use Rattle.bt_journal.specs.declared.call.Call.{Call}
 use Rattle.bt_journal.specs.declared.entry.Entry.{Entry}
 use Rattle.bt_journal.specs.declared.reply.Reply.{Reply}
 use Rattle.bt_journal.specs.Journal.{calls_of}
-use Rattle.bt_book.specs.Book.{Books, journal_entry}
+use Rattle.bt_history.specs.Book.{Books, journal_entry}
 use Rattle.bt_script.specs.declared.script.DeskLine.{DeskLine}
 use Rattle.bt_script.specs.declared.script.Round.{Round}
 use Rattle.bt_round.specs.declared.seats.TheConstants.{SEATS}

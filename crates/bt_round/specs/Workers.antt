@@ -9,7 +9,7 @@ use Rattle.bt_round.specs.declared.workers.Job.{Job}
 use Rattle.bt_round.specs.declared.workers.Job.TheVariants.{Air, Plans, Desk}
 use Rattle.bt_round.specs.declared.workers.Worker.{Worker}
 use Rattle.bt_workers.specs.AirLines.{AirState, PlaysAirLines}
-use Rattle.bt_workers.specs.Callers.{Calling, IsSameCaller, number_of, own_of}
+use Rattle.bt_workers.specs.Callers.{Calling, IsSameCaller, caller_number, own_of}
 use Rattle.bt_workers.specs.Done.{DeskDone, PlannerDone}
 use Rattle.bt_workers.specs.Planned.{HasPosted}
 use Rattle.bt_workers.specs.Worker.{Asks}
@@ -17,9 +17,9 @@ use Rattle.bt_workers.specs.Worker.{Asks}
 -- The caller can do the job: the centre's worker is caller 0, the planner caller 1, and desk `d` is caller `d + 1`; and the lines
 -- name terminals of the network alone.
 abbrev pub CanDo : Net → Calling → Job → Type 0
-CanDo net caller (Air lines centre) = (number_of caller ≡ 0) × All (IsAirLineFor net) lines.now × (centre.life.opening.net ≡ net)
-CanDo net caller (Plans count publisher) = (number_of caller ≡ 1) × HasPosted caller publisher.plans
-CanDo net caller (Desk desk lines reader) = (number_of caller ≡ desk + 1) × All (IsLineFor net) lines.now
+CanDo net caller (Air lines centre) = (caller_number caller ≡ 0) × All (IsAirLineFor net) lines.now × (centre.life.opening.net ≡ net)
+CanDo net caller (Plans count publisher) = (caller_number caller ≡ 1) × HasPosted caller publisher.plans
+CanDo net caller (Desk desk lines reader) = (caller_number caller ≡ desk + 1) × All (IsLineFor net) lines.now
 
 -- The lines of a job were done, where memory did not run out: the caller's own entries and its text before and after. The
 -- centre's worker has its air as it is then, the planner its publisher and a desk its reader, both of the same board; all else of

@@ -1,6 +1,6 @@
 // The workers of a round get their places, and leave them again.
 ghost use Rattle.std.specs.Prelude.{◌≡◌, ◌<◌, ◌≤◌, [], Some, drop, length, map, slice_index_or, vec_capacity, vec_len, All, IfOk};
-ghost use Rattle.bt_book.specs.Causes.{Follows};
+ghost use Rattle.bt_history.specs.Causes.{Follows};
 ghost use Rattle.bt_line.specs.Passes.{IsPass, seen_at};
 ghost use Rattle.bt_round.specs.declared.seats.TheConstants.{DESKS, SEATS};
 ghost use Rattle.bt_workers.specs.AirLines.{AirState};

@@ -8,7 +8,7 @@ use Rattle.bt_text.specs.declared.fault.LineFault.TheVariants.{At, OutOfMemory}
 use Rattle.bt_script.specs.declared.line.ScriptLine.{ScriptLine}
 use Rattle.bt_text.specs.Reading.{◌>>=◌, IsFaultOf}
 use Rattle.bt_script.specs.Reading.{Reading}
-use Rattle.bt_script.specs.ScriptText.{is_open_behind, limited_line, last_in, lines_in, added}
+use Rattle.bt_script.specs.ScriptText.{is_open_behind, limited_line, lines_in, added}
 use Rattle.bt_text.proofs.Front.{with_front, regroup}
 use Rattle.bt_text.proofs.FirstLine.{lines-HasFirst}
 

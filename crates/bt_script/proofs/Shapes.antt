@@ -3,10 +3,10 @@ use Rattle.std.proofs.Common.{◌≡◌, ℕ, ◌==◌, true, false, List, [], �
 use Rattle.bt_text.specs.Text.{number_of_digits}
 use Rattle.bt_text.specs.WordReader.{first_word}
 use Rattle.bt_text.proofs.Fronts.{front_word, no_word}
-use Rattle.bt_net.specs.Terminals.{are_names}
+use Rattle.bt_names.specs.Name.{are_names}
 use Rattle.bt_script.specs.declared.shape.AirShape.TheVariants.{Deliver}
 use Rattle.bt_script.specs.declared.shape.LineShape.TheVariants.{Desk}
-use Rattle.bt_script.specs.LineShape.{link_in, desk_shape, desk_in, receiver_of, deliver_in, several_shape, words_shape}
+use Rattle.bt_script.specs.LineShape.{link_in, links_in, desk_shape, desk_in, receiver_of, deliver_in, several_shape, words_shape}
 
 -- three words, and none behind them
 pub three_words : (from to units : List ℕ) (ws w1 w2 w3 : List (List ℕ)) → Some from ≡ first_word ws → w1 ≡ drop 1 ws → Some to ≡ first_word w1 → w2 ≡ drop 1 w1
@@ -21,6 +21,11 @@ no_units from to units ws whole names none = ap link_in whole ∙ rw (← names,
 -- two words, and those behind them
 pub two_words : (a b : List ℕ) (ws w1 w2 : List (List ℕ)) → Some a ≡ first_word ws → w1 ≡ drop 1 ws → Some b ≡ first_word w1 → w2 ≡ drop 1 w1 → ws ≡ a ∷ b ∷ w2
 two_words a b ws w1 w2 first is second last = front_word a ws w1 first is ∙ ap (λ x. a ∷ x) (front_word b w1 w2 second last)
+
+-- what the words of two links say, behind the ends of the first
+pub links_read : (from to : List ℕ) (ws w1 w2 : List (List ℕ)) → Some from ≡ first_word ws → w1 ≡ drop 1 ws → Some to ≡ first_word w1 → w2 ≡ drop 1 w1
+    → true ≡ are_names from to → links_in ws ≡ option_map (λ new. ((from, to), new)) (link_in w2)
+links_read from to ws w1 w2 first is second last names = ap links_in (two_words from to ws w1 w2 first is second last) ∙ rw (← names) refl
 
 -- what the words behind `desk` say, once its number is read
 pub desk_read : (desk kind : List ℕ) (number : ℕ) (ws w1 w2 : List (List ℕ)) → Some desk ≡ first_word ws → w1 ≡ drop 1 ws → Some kind ≡ first_word w1 → w2 ≡ drop 1 w1

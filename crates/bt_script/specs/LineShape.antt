@@ -2,8 +2,8 @@
 use Rattle.std.specs.Prelude.{ℕ, ◌==◌, if◌then◌else◌, codes, length, List, [], ◌∷◌, Option, Some, None, option_map, option_and_then}
 use Rattle.bt_frame.specs.declared.limits.TheConstants.{MOST_DIGITS}
 use Rattle.bt_text.specs.Text.{words, is_word, number_of_digits}
-use Rattle.bt_net.specs.Name.{is_name}
-use Rattle.bt_net.specs.Terminals.{are_names}
+use Rattle.bt_names.specs.Name.{is_name}
+use Rattle.bt_names.specs.Name.{are_names}
 use Rattle.bt_script.specs.declared.shape.Receiver.{Receiver}
 use Rattle.bt_script.specs.declared.shape.Receiver.TheVariants.{Satellite, Centre, Terminal}
 use Rattle.bt_script.specs.declared.shape.DeskShape.{DeskShape}

@@ -99,8 +99,11 @@ fn lines_by_worker(alloc: Global, said: &[ScriptLine]) -> Result<RoundLines, Out
     ensures plans { IfOk result (λ lines. lines.plans ≡ count_by is_plan (round_lines said.now)) }
     ensures air { IfOk result (λ lines. lines.air.items ≡ flat_map air_lines (round_lines said.now)) }
 {
+    let Ok(desks) = empty_table(alloc) else {
+        return Err(OutOfMemory);
+    };
     let mut lines = RoundLines {
-        desks: empty_table(alloc)?,
+        desks,
         plans: 0,
         air: Vec::new(alloc),
     };

@@ -37,9 +37,15 @@ pub fn read_line(
 ) -> Result<ScriptLine, ScriptFault>
     ensures reading { Gives (λ line. line) result (line_in net.now at is_open line.now) }
 {
-    let shape = shape_of(line).ok_or(fault_at(ScriptCode::S1, at))?;
-    let named = with_terminals(net, shape).ok_or(fault_at(ScriptCode::S2, at))?;
-    let said = in_range(named).ok_or(fault_at(ScriptCode::S3, at))?;
+    let Some(shape) = shape_of(line) else {
+        return Err(fault_at(ScriptCode::S1, at));
+    };
+    let Some(named) = with_terminals(net, shape) else {
+        return Err(fault_at(ScriptCode::S2, at));
+    };
+    let Some(said) = in_range(named) else {
+        return Err(fault_at(ScriptCode::S3, at));
+    };
     if !may_stand(is_open, &said) {
         return Err(fault_at(ScriptCode::S4, at));
     }

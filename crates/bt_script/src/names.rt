@@ -16,12 +16,16 @@ pub fn with_terminals(net: &Network, shape: LineShape<&[u8]>) -> Option<LineShap
         LineShape::Round => Some(LineShape::Round),
         LineShape::Restart => Some(LineShape::Restart),
         LineShape::Desk { desk, line } => {
-            let line = desk_terminals(net, line)?;
+            let Some(line) = desk_terminals(net, line) else {
+                return None;
+            };
             Some(LineShape::Desk { desk, line })
         }
         LineShape::Plan => Some(LineShape::Plan),
         LineShape::Air(line) => {
-            let line = air_terminals(net, line)?;
+            let Some(line) = air_terminals(net, line) else {
+                return None;
+            };
             Some(LineShape::Air(line))
         }
     }
@@ -33,11 +37,15 @@ fn desk_terminals(net: &Network, line: DeskShape<&[u8]>) -> Option<DeskShape<Ter
 {
     match line {
         DeskShape::Add { from, to, units } => {
-            let (from, to) = link_of(net, from, to)?;
+            let Some((from, to)) = link_of(net, from, to) else {
+                return None;
+            };
             Some(DeskShape::Add { from, to, units })
         }
         DeskShape::Drop { from, to, units } => {
-            let (from, to) = link_of(net, from, to)?;
+            let Some((from, to)) = link_of(net, from, to) else {
+                return None;
+            };
             Some(DeskShape::Drop { from, to, units })
         }
         DeskShape::Move {
@@ -47,8 +55,12 @@ fn desk_terminals(net: &Network, line: DeskShape<&[u8]>) -> Option<DeskShape<Ter
             new_to,
             units,
         } => {
-            let (from, to) = link_of(net, from, to)?;
-            let (new_from, new_to) = link_of(net, new_from, new_to)?;
+            let Some((from, to)) = link_of(net, from, to) else {
+                return None;
+            };
+            let Some((new_from, new_to)) = link_of(net, new_from, new_to) else {
+                return None;
+            };
             Some(DeskShape::Move {
                 from,
                 to,
@@ -58,7 +70,9 @@ fn desk_terminals(net: &Network, line: DeskShape<&[u8]>) -> Option<DeskShape<Ter
             })
         }
         DeskShape::Show { terminal } => {
-            let terminal = net.terminal_named(terminal)?;
+            let Some(terminal) = net.terminal_named(terminal) else {
+                return None;
+            };
             Some(DeskShape::Show { terminal })
         }
     }
@@ -68,8 +82,12 @@ fn desk_terminals(net: &Network, line: DeskShape<&[u8]>) -> Option<DeskShape<Ter
 fn link_of(net: &Network, from: &[u8], to: &[u8]) -> Option<(TermNo, TermNo)>
     ensures { result ≡ link_of net.now from.now to.now }
 {
-    let from = net.terminal_named(from)?;
-    let to = net.terminal_named(to)?;
+    let Some(from) = net.terminal_named(from) else {
+        return None;
+    };
+    let Some(to) = net.terminal_named(to) else {
+        return None;
+    };
     Some((from, to))
 }
 
@@ -83,16 +101,22 @@ fn air_terminals(net: &Network, line: AirShape<&[u8]>) -> Option<AirShape<TermNo
         AirShape::Flow => Some(AirShape::Flow),
         AirShape::LoseAll => Some(AirShape::LoseAll),
         AirShape::Lose { receiver } => {
-            let receiver = receiver_terminal(net, receiver)?;
+            let Some(receiver) = receiver_terminal(net, receiver) else {
+                return None;
+            };
             Some(AirShape::Lose { receiver })
         }
         AirShape::Deliver { message, receiver } => {
-            let receiver = receiver_terminal(net, receiver)?;
+            let Some(receiver) = receiver_terminal(net, receiver) else {
+                return None;
+            };
             Some(AirShape::Deliver { message, receiver })
         }
         AirShape::Frame => Some(AirShape::Frame),
         AirShape::Reset { terminal } => {
-            let terminal = net.terminal_named(terminal)?;
+            let Some(terminal) = net.terminal_named(terminal) else {
+                return None;
+            };
             Some(AirShape::Reset { terminal })
         }
     }
@@ -106,7 +130,9 @@ fn receiver_terminal(net: &Network, receiver: Receiver<&[u8]>) -> Option<Receive
         Receiver::Satellite => Some(Receiver::Satellite),
         Receiver::Centre => Some(Receiver::Centre),
         Receiver::Terminal(name) => {
-            let terminal = net.terminal_named(name)?;
+            let Some(terminal) = net.terminal_named(name) else {
+                return None;
+            };
             Some(Receiver::Terminal(terminal))
         }
     }

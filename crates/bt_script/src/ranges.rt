@@ -21,13 +21,19 @@ pub fn in_range(named: LineShape<TermNo>) -> Option<ScriptLine>
         LineShape::Round => Some(ScriptLine::Round),
         LineShape::Restart => Some(ScriptLine::Restart),
         LineShape::Desk { desk, line } => {
-            let desk = DeskNo::new(desk)?;
-            let line = desk_in_range(line)?;
+            let Some(desk) = DeskNo::new(desk) else {
+                return None;
+            };
+            let Some(line) = desk_in_range(line) else {
+                return None;
+            };
             Some(ScriptLine::Desk { desk, line })
         }
         LineShape::Plan => Some(ScriptLine::Plan),
         LineShape::Air(line) => {
-            let line = air_in_range(line)?;
+            let Some(line) = air_in_range(line) else {
+                return None;
+            };
             Some(ScriptLine::Air(line))
         }
     }
@@ -39,11 +45,15 @@ fn desk_in_range(line: DeskShape<TermNo>) -> Option<DeskLine>
 {
     match line {
         DeskShape::Add { from, to, units } => {
-            let units = units_of(units)?;
+            let Some(units) = units_of(units) else {
+                return None;
+            };
             Some(DeskLine::Edit(Edit::Add { from, to, units }))
         }
         DeskShape::Drop { from, to, units } => {
-            let units = units_of(units)?;
+            let Some(units) = units_of(units) else {
+                return None;
+            };
             Some(DeskLine::Edit(Edit::Drop { from, to, units }))
         }
         DeskShape::Move {
@@ -53,7 +63,9 @@ fn desk_in_range(line: DeskShape<TermNo>) -> Option<DeskLine>
             new_to,
             units,
         } => {
-            let units = units_of(units)?;
+            let Some(units) = units_of(units) else {
+                return None;
+            };
             Some(DeskLine::Edit(Edit::Move {
                 from,
                 to,
@@ -87,7 +99,9 @@ fn air_in_range(line: AirShape<TermNo>) -> Option<AirLine>
         AirShape::LoseAll => Some(AirLine::Lose(Losing::All)),
         AirShape::Lose { receiver } => Some(AirLine::Lose(Losing::At(place_of(receiver)))),
         AirShape::Deliver { message, receiver } => {
-            let message = message_of(message)?;
+            let Some(message) = message_of(message) else {
+                return None;
+            };
             Some(AirLine::Deliver(message, place_of(receiver)))
         }
         AirShape::Frame => Some(AirLine::Frame),

@@ -20,7 +20,6 @@ impl Script {
     ///
     /// Its lines name terminals of the network alone, the desks of a round ascend by number, and it has no more lines
     /// than a text may have.
-    #[tactic(auto, using(crate::proofs::Naming::items_named, crate::proofs::Order::items_in_order, crate::proofs::Counting::items_short))]
     pub fn read(alloc: Global, net: &Network, bytes: &[u8]) -> Result<Script, ScriptFault>
         requires short { length bytes.now ≤ MOST_TEXT_BYTES }
         ensures reading { Gives (λ script. script) result (script_of net.now bytes.now) }

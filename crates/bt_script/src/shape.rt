@@ -6,9 +6,9 @@ ghost use Rattle.bt_script.specs.LineShape.{receiver_name, desk_names, air_names
 use bt_frame::MOST_DIGITS;
 use bt_net::{are_names, is_name};
 use bt_text::{WordReader, is_word, number_of_digits};
+use std::alloc::AllocError;
 
 /// Who receives a message; a terminal is still a `Name`.
-#[derive(Clone, Copy)]
 pub enum Receiver<Name> {
     /// The satellite.
     Satellite,
@@ -18,8 +18,15 @@ pub enum Receiver<Name> {
     Terminal(Name),
 }
 
+impl<Name: Copy> Copy for Receiver<Name> {}
+
+impl<Name: Copy> Clone for Receiver<Name> {
+    fn clone(&self) -> Result<Self, AllocError> {
+        Ok(*self)
+    }
+}
+
 /// What a desk does; a terminal is still a `Name`, and units may be out of range.
-#[derive(Clone, Copy)]
 pub enum DeskShape<Name> {
     /// It wants so many units more for a link.
     Add {
@@ -47,8 +54,15 @@ pub enum DeskShape<Name> {
     },
 }
 
+impl<Name: Copy> Copy for DeskShape<Name> {}
+
+impl<Name: Copy> Clone for DeskShape<Name> {
+    fn clone(&self) -> Result<Self, AllocError> {
+        Ok(*self)
+    }
+}
+
 /// What happens on the air; a terminal is still a `Name`, and the number of a message may be out of range.
-#[derive(Clone, Copy)]
 pub enum AirShape<Name> {
     /// The satellite's next superframe begins.
     Tick,
@@ -75,8 +89,15 @@ pub enum AirShape<Name> {
     },
 }
 
+impl<Name: Copy> Copy for AirShape<Name> {}
+
+impl<Name: Copy> Clone for AirShape<Name> {
+    fn clone(&self) -> Result<Self, AllocError> {
+        Ok(*self)
+    }
+}
+
 /// A line whose words have their shapes: a name is still a `Name`, and a number may be out of range.
-#[derive(Clone, Copy)]
 pub enum LineShape<Name> {
     /// Nothing is said.
     Remark,
@@ -90,6 +111,14 @@ pub enum LineShape<Name> {
     Plan,
     /// The line of the air.
     Air(AirShape<Name>),
+}
+
+impl<Name: Copy> Copy for LineShape<Name> {}
+
+impl<Name: Copy> Clone for LineShape<Name> {
+    fn clone(&self) -> Result<Self, AllocError> {
+        Ok(*self)
+    }
 }
 
 /// The shape of a line, or None where it has none.
@@ -107,7 +136,9 @@ pub fn shape_of(line: &[u8]) -> Option<LineShape<&[u8]>>
 fn words_shape<'a>(mut words: WordReader<'a>) -> Option<LineShape<&'a [u8]>>
     ensures { option_map (each_name (λ name. name.now)) result ≡ words_shape words.entry }
 {
-    let head = words.next()?;
+    let Some(head) = words.next() else {
+        return None;
+    };
     if words.is_done() {
         lone_shape(head)
     } else {
@@ -145,13 +176,19 @@ fn several_shape<'a>(head: &[u8], words: WordReader<'a>) -> Option<LineShape<&'a
     if is_word(head, b"desk") {
         desk_in(words)
     } else if is_word(head, b"lose") {
-        let line = lose_in(words)?;
+        let Some(line) = lose_in(words) else {
+            return None;
+        };
         Some(LineShape::Air(line))
     } else if is_word(head, b"deliver") {
-        let line = deliver_in(words)?;
+        let Some(line) = deliver_in(words) else {
+            return None;
+        };
         Some(LineShape::Air(line))
     } else if is_word(head, b"reset") {
-        let terminal = name_in(words)?;
+        let Some(terminal) = name_in(words) else {
+            return None;
+        };
         Some(LineShape::Air(AirShape::Reset { terminal }))
     } else {
         None
@@ -162,10 +199,18 @@ fn several_shape<'a>(head: &[u8], words: WordReader<'a>) -> Option<LineShape<&'a
 fn desk_in<'a>(mut words: WordReader<'a>) -> Option<LineShape<&'a [u8]>>
     ensures { option_map (each_name (λ name. name.now)) result ≡ desk_in words.entry }
 {
-    let desk = words.next()?;
-    let kind = words.next()?;
-    let desk = number_of(desk)?;
-    let line = desk_shape(kind, words)?;
+    let Some(desk) = words.next() else {
+        return None;
+    };
+    let Some(kind) = words.next() else {
+        return None;
+    };
+    let Some(desk) = number_of(desk) else {
+        return None;
+    };
+    let Some(line) = desk_shape(kind, words) else {
+        return None;
+    };
     Some(LineShape::Desk { desk, line })
 }
 
@@ -181,13 +226,19 @@ fn desk_shape<'a>(kind: &[u8], words: WordReader<'a>) -> Option<DeskShape<&'a [u
     ensures { option_map (desk_names (λ name. name.now)) result ≡ desk_shape kind.now words.entry }
 {
     if is_word(kind, b"add") {
-        let ((from, to), units) = link_in(words)?;
+        let Some(((from, to), units)) = link_in(words) else {
+            return None;
+        };
         Some(DeskShape::Add { from, to, units })
     } else if is_word(kind, b"drop") {
-        let ((from, to), units) = link_in(words)?;
+        let Some(((from, to), units)) = link_in(words) else {
+            return None;
+        };
         Some(DeskShape::Drop { from, to, units })
     } else if is_word(kind, b"move") {
-        let ((from, to), ((new_from, new_to), units)) = links_in(words)?;
+        let Some(((from, to), ((new_from, new_to), units))) = links_in(words) else {
+            return None;
+        };
         Some(DeskShape::Move {
             from,
             to,
@@ -196,7 +247,9 @@ fn desk_shape<'a>(kind: &[u8], words: WordReader<'a>) -> Option<DeskShape<&'a [u
             units,
         })
     } else if is_word(kind, b"show") {
-        let terminal = name_in(words)?;
+        let Some(terminal) = name_in(words) else {
+            return None;
+        };
         Some(DeskShape::Show { terminal })
     } else {
         None
@@ -210,13 +263,21 @@ type LinkWords<'a> = ((&'a [u8], &'a [u8]), u64);
 fn link_in<'a>(mut words: WordReader<'a>) -> Option<LinkWords<'a>>
     ensures { option_map (λ link. ((link.0.0.now, link.0.1.now), link.1)) result ≡ link_in words.entry }
 {
-    let from = words.next()?;
-    let to = words.next()?;
-    let units = words.next()?;
+    let Some(from) = words.next() else {
+        return None;
+    };
+    let Some(to) = words.next() else {
+        return None;
+    };
+    let Some(units) = words.next() else {
+        return None;
+    };
     if !words.is_done() || !are_names(from, to) {
         return None;
     }
-    let units = number_of(units)?;
+    let Some(units) = number_of(units) else {
+        return None;
+    };
     Some(((from, to), units))
 }
 
@@ -225,12 +286,18 @@ fn links_in<'a>(mut words: WordReader<'a>) -> Option<((&'a [u8], &'a [u8]), Link
     ensures { option_map (λ both. ((both.0.0.now, both.0.1.now), ((both.1.0.0.now, both.1.0.1.now), both.1.1))) result
         ≡ links_in words.entry }
 {
-    let from = words.next()?;
-    let to = words.next()?;
+    let Some(from) = words.next() else {
+        return None;
+    };
+    let Some(to) = words.next() else {
+        return None;
+    };
     if !are_names(from, to) {
         return None;
     }
-    let link = link_in(words)?;
+    let Some(link) = link_in(words) else {
+        return None;
+    };
     Some(((from, to), link))
 }
 
@@ -238,7 +305,9 @@ fn links_in<'a>(mut words: WordReader<'a>) -> Option<((&'a [u8], &'a [u8]), Link
 fn name_in<'a>(mut words: WordReader<'a>) -> Option<&'a [u8]>
     ensures { option_map (λ name. name.now) result ≡ name_in words.entry }
 {
-    let name = words.next()?;
+    let Some(name) = words.next() else {
+        return None;
+    };
     if !words.is_done() || !is_name(name) {
         return None;
     }
@@ -264,14 +333,18 @@ fn receiver_of(word: &[u8]) -> Option<Receiver<&[u8]>>
 fn lose_in<'a>(mut words: WordReader<'a>) -> Option<AirShape<&'a [u8]>>
     ensures { option_map (air_names (λ name. name.now)) result ≡ lose_in words.entry }
 {
-    let word = words.next()?;
+    let Some(word) = words.next() else {
+        return None;
+    };
     if !words.is_done() {
         return None;
     }
     if is_word(word, b"all") {
         return Some(AirShape::LoseAll);
     }
-    let receiver = receiver_of(word)?;
+    let Some(receiver) = receiver_of(word) else {
+        return None;
+    };
     Some(AirShape::Lose { receiver })
 }
 
@@ -279,12 +352,20 @@ fn lose_in<'a>(mut words: WordReader<'a>) -> Option<AirShape<&'a [u8]>>
 fn deliver_in<'a>(mut words: WordReader<'a>) -> Option<AirShape<&'a [u8]>>
     ensures { option_map (air_names (λ name. name.now)) result ≡ deliver_in words.entry }
 {
-    let number = words.next()?;
-    let word = words.next()?;
+    let Some(number) = words.next() else {
+        return None;
+    };
+    let Some(word) = words.next() else {
+        return None;
+    };
     if !words.is_done() {
         return None;
     }
-    let message = number_of(number)?;
-    let receiver = receiver_of(word)?;
+    let Some(message) = number_of(number) else {
+        return None;
+    };
+    let Some(receiver) = receiver_of(word) else {
+        return None;
+    };
     Some(AirShape::Deliver { message, receiver })
 }

@@ -1,7 +1,7 @@
 // A file of cases: which of its lines are cases, and which of these got another answer than stands below them.
 ghost use Rattle.std.specs.Prelude.{◌≡◌, ◌≤◌, ◌⊎◌, ◌++◌, ◌∷◌, [], true, false, IfOk, OnOk};
 ghost use Rattle.std.specs.String.{string_bytes};
-ghost use Rattle.bt_base.specs.Told.{Rose};
+ghost use Rattle.bt_outside.specs.Told.{Rose};
 
 use crate::fault::{CaseFault, Result};
 use crate::tally::Tally;

@@ -1,7 +1,7 @@
 // How many cases were played.
 ghost use Rattle.std.specs.Prelude.{◌≡◌, ◌<◌, ◌≤◌, OnOk};
 ghost use Rattle.bt_base.specs.Calls.{raised};
-ghost use Rattle.bt_base.specs.Told.{Rose};
+ghost use Rattle.bt_outside.specs.Told.{Rose};
 
 use crate::fault::{CaseFault, Result};
 use std::alloc::Global;

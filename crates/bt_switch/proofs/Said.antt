@@ -1,13 +1,12 @@
 -- What the orders say of a satellite that stands as they do.
-use Rattle.std.proofs.Common.{◌≡◌, inl, inr, ℕ, ◌<◌, ◌≤◌, nat_le, true, false, List, [], ◌∷◌, reverse, None, refl, sym, ◌∙◌, arith, subst}
+use Rattle.std.proofs.Common.{◌≡◌, inl, inr, ◌<◌, nat_le, false, List, reverse, None, sym, ◌∙◌, arith, subst}
 use Rattle.std.proofs.lemmas.Bool.Decides.{nat_tests}
 use Rattle.bt_frame.specs.declared.numbers.Mark.{Mark}
 use Rattle.bt_air.specs.declared.order.Order.{Order}
-use Rattle.bt_air.specs.declared.order.Order.TheVariants.{Load, Arm}
 use Rattle.bt_switch.specs.Satellite.{State, new_at}
 use Rattle.bt_switch.specs.Run.{SatelliteEvent, accepted, state_after}
-use Rattle.bt_air.specs.Orders.{last_arm, to_come, fore_at}
-use Rattle.bt_switch.specs.Orders.{edition_of, StandsFor}
+use Rattle.bt_air.specs.Orders.{last_arm, to_come}
+use Rattle.bt_switch.specs.Orders.{StandsFor}
 use Rattle.bt_switch.proofs.Past.{past-to_come, past-fore_at}
 use Rattle.bt_switch.proofs.Standing.{IsIdle, Waits, Stands, after_stands}
 

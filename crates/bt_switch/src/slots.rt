@@ -1,5 +1,5 @@
 // The mode that the switch takes in a slot.
-ghost use Rattle.std.specs.Prelude.{◌≡◌, ◌≤◌, ◌↔◌, IfSome, IsNone};
+ghost use Rattle.std.specs.Prelude.{◌≤◌, ◌↔◌, IfSome, IsNone};
 ghost use Rattle.bt_matrix.specs.Good.{total_duration};
 ghost use Rattle.bt_switch.specs.Slots.{HasSlot};
 

@@ -7,7 +7,6 @@ use Rattle.bt_net.specs.Network.{Net}
 use Rattle.bt_net.specs.Terminals.{IsTerminal, name_at}
 use Rattle.bt_air.specs.declared.order.Armed.{Armed}
 use Rattle.bt_air.specs.declared.order.Order.{Order}
-use Rattle.bt_air.specs.declared.order.Order.TheVariants as order
 use Rattle.bt_air.specs.declared.order.Status.{Status}
 use Rattle.bt_air.specs.declared.sent.Answer.{Answer}
 use Rattle.bt_air.specs.declared.sent.Answer.TheVariants as answer

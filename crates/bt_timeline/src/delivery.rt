@@ -1,5 +1,5 @@
 // The lines of deliveries.
-ghost use Rattle.std.specs.Prelude.{◌≡◌, ◌++◌, codes, OnOk, OnErr};
+ghost use Rattle.std.specs.Prelude.{◌≡◌, ◌++◌, OnOk, OnErr};
 ghost use Rattle.bt_timeline.specs.Air.{IsPlaceOf, answer_name, got_line, heard_name, not_sent_line, place_name, taken_name};
 ghost use Rattle.bt_words.specs.Lines.{word_bytes};
 

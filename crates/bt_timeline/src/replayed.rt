@@ -1,8 +1,7 @@
 // What a journal comes to.
-ghost use Rattle.std.specs.Prelude.{◌≡◌, ◌++◌, [], ◌∷◌, OnOk, OnErr, codes};
+ghost use Rattle.std.specs.Prelude.{◌≡◌, ◌++◌, OnOk, OnErr};
 ghost use Rattle.bt_net.specs.Terminals.{IsTerminal};
 ghost use Rattle.bt_demand.specs.Traffic.{AreOfNetwork};
-ghost use Rattle.bt_words.specs.Lines.{line_of};
 ghost use Rattle.bt_timeline.specs.Replayed.{link_line, link_lines, replay_lines, state_lines};
 ghost use Rattle.bt_words.specs.Written.{Extends};
 

@@ -1,7 +1,6 @@
 // The object of the tests: it adds numbers.
-ghost use Rattle.std.specs.Prelude.{◌≡◌, ◌+◌, ◌≤◌, ◌%◌, ◌^◌, ◌++◌, ◌∷◌, [], IfOk, OnErr, length};
+ghost use Rattle.std.specs.Prelude.{◌≡◌, ◌≤◌, ◌^◌, [], length};
 ghost use Rattle.bt_trials.specs.Sums.{Adds};
-ghost use Rattle.bt_line.specs.Legal.{entry_of};
 
 use bt_frame::OutOfMemory;
 use bt_line::{Entry, Object};

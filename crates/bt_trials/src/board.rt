@@ -1,5 +1,5 @@
 // What only a run shows: memory that is there suffices, and threads post and look at once.
-ghost use Rattle.std.specs.Prelude.{◌≡◌, IfOk};
+ghost use Rattle.std.specs.Prelude.{◌≡◌};
 
 use bt_board::{Publisher, Reader, board};
 use bt_demand::{Bursts, Plan};

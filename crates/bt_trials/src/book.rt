@@ -2,7 +2,7 @@
 ghost use Rattle.std.specs.Prelude.{◌≡◌, ◌<◌, ℕ, length, slice_index_or, IfSome};
 ghost use Rattle.bt_net.specs.Network.{Net};
 ghost use Rattle.bt_journal.specs.Journal.{NamesTerminals};
-ghost use Rattle.bt_book.specs.Machine.{IsOfNetwork};
+ghost use Rattle.bt_history.specs.Machine.{IsOfNetwork};
 ghost use Rattle.bt_line.specs.Passes.{IsOfLine, IsSamePass};
 
 use bt_base::{Keeper, SureKeeper};

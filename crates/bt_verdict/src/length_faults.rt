@@ -1,6 +1,6 @@
 // Is a schedule as long as the heaviest line of a matrix, and no longer? The matrix is at hand, or it is that of a
 // demand, of which the line sums are enough.
-ghost use Rattle.std.specs.Prelude.{◌≡◌, ◌≤◌, ℕ, List, length, MatchOption};
+ghost use Rattle.std.specs.Prelude.{◌≡◌, ℕ, List, length, MatchOption};
 ghost use Rattle.bt_frame.specs.declared.limits.TheConstants.{MOST_BEAMS};
 ghost use Rattle.bt_matrix.specs.Dense.{KeepsSums};
 ghost use Rattle.bt_matrix.specs.Good.{IsLeast};

@@ -1,5 +1,5 @@
 // Is a burst time plan good for a demand, and what is wrong with it first?
-ghost use Rattle.std.specs.Prelude.{◌≡◌, length, MatchOption};
+ghost use Rattle.std.specs.Prelude.{length, MatchOption};
 ghost use Rattle.bt_frame.specs.Critical.{IsOfBeams};
 ghost use Rattle.bt_demand.specs.Demand.{IsDemand};
 ghost use Rattle.bt_demand.specs.Apart.{AreBetweenTerminals};

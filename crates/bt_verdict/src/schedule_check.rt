@@ -1,5 +1,4 @@
 // Is a switching schedule good for a matrix, and what is wrong with it first?
-ghost use Rattle.std.specs.Prelude.{◌≡◌};
 ghost use Rattle.bt_matrix.specs.Traffic.{IsLine};
 ghost use Rattle.bt_verdict.specs.Verdict.{IsVerdict};
 

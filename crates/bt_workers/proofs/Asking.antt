@@ -12,10 +12,10 @@ use Rattle.bt_journal.specs.declared.call.Call.{Call}
 use Rattle.bt_journal.specs.declared.entry.Entry.{Entry}
 use Rattle.bt_journal.specs.declared.reply.Reply.{Reply}
 use Rattle.bt_journal.specs.Journal.{calls_of}
-use Rattle.bt_book.specs.Book.{Books, book_steps, journal_entry}
-use Rattle.bt_book.specs.Causes.{Follows}
-use Rattle.bt_book.specs.Machine as machine
-use Rattle.bt_workers.specs.Callers.{Calling, IsAnswered, IsCalling, IsSameCaller, number_of, own_in}
+use Rattle.bt_history.specs.Book.{Books, book_steps, journal_entry}
+use Rattle.bt_history.specs.Causes.{Follows}
+use Rattle.bt_history.specs.Machine as machine
+use Rattle.bt_workers.specs.Callers.{Calling, IsAnswered, IsCalling, IsSameCaller, caller_number, own_in}
 
 -- nobody is another than before
 pub same_as_now : (caller : Calling) → IsSameCaller caller caller
@@ -105,10 +105,10 @@ own_gained start old new number asked reply gains = ap (map journal_entry) gains
 -- so the entry of a call is one that was answered
 pub answered_by_step : AreAnswered → (net : Net) (caller : Calling) (new : List (line.Entry Call Reply)) (asked : Call) (entry : Entry) → caller.start.net ≡ net
     → Follows caller.start.net caller.start.state.changes → entry.call ≡ asked
-    → Gains book_steps caller.start (seen_at caller.place) (entry_of (number_of caller) asked entry.reply) new → IsAnswered net caller entry
+    → Gains book_steps caller.start (seen_at caller.place) (entry_of (caller_number caller) asked entry.reply) new → IsAnswered net caller entry
 answered_by_step law net caller new asked entry same so is gains =
     let start = caller.start in
-    let number = number_of caller in
+    let number = caller_number caller in
     let last = entry_of number asked entry.reply in
     let legal : Legal book_steps start (gains.before ++ last ∷ []) gains.legal.0 =
     subst (λ (log : List (line.Entry Call Reply)). Legal book_steps start log gains.legal.0) gains.ends gains.legal.1 in

@@ -11,8 +11,8 @@ use Rattle.bt_demand.specs.Plan.{IsGoodPlan}
 use Rattle.bt_demand.specs.Traffic.{AreOfNetwork, HasSumsTo, matrix_of}
 use Rattle.bt_journal.specs.declared.call.Change.{Change}
 use Rattle.bt_journal.specs.declared.call.Change.TheVariants as change
-use Rattle.bt_book.specs.Causes.{FollowFrom, Follows, IsChangeOn, IsGood}
-use Rattle.bt_book.specs.Changes.{IsDemandAfter, empty_plan, newest, plan_in, plans}
+use Rattle.bt_history.specs.Causes.{FollowFrom, Follows, IsChangeOn, IsGood}
+use Rattle.bt_history.specs.Changes.{IsDemandAfter, empty_plan, newest, plan_in, plans}
 
 -- the laws of the demand after changes, and of good plans
 pub record DemandLaws : Type 0 where

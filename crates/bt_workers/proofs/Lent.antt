@@ -7,7 +7,7 @@ use Rattle.bt_demand.specs.declared.plan.Plan.{Plan}
 use Rattle.bt_journal.specs.declared.call.Change.{Change}
 use Rattle.bt_board.specs.Plans.{last_after, last_of, next_edition, next_of}
 use Rattle.bt_lists.proofs.Prefixes.{prefix_self, prefix_trans}
-use Rattle.bt_book.specs.Changes.{installs, plan_in}
+use Rattle.bt_history.specs.Changes.{installs, plan_in}
 use Rattle.bt_workers.specs.Lent.{IsLent, IsNoNewer, Rises}
 
 last_one : (before : Option Plan) (list : List Plan) (plan : Plan) → last_after before list ≡ Some plan → ((list ≡ []) × (before ≡ Some plan)) ⊎ Contains list plan

@@ -24,9 +24,9 @@ use Rattle.bt_journal.specs.declared.call.Change.TheVariants as change
 use Rattle.bt_journal.specs.declared.entry.Entry.{Entry}
 use Rattle.bt_journal.specs.declared.reply.Reply.{Reply}
 use Rattle.bt_journal.specs.declared.reply.Reply.TheVariants.{Done, SameTerminal, NotThere, RowFull, ColumnFull, BookFull, NotNewer, NoSuchEdition, NotGood, OutOfTurn, NotInstalled, Demand, Installed, Newest, Placed, StoreFault, Stopped}
-use Rattle.bt_book.specs.Causes.{IsCause, IsPlanOn}
-use Rattle.bt_book.specs.Changes.{IsDemandAfter}
-use Rattle.bt_book.specs.Machine.{State, Step, ChangeStep, NamesBeams, Tells}
+use Rattle.bt_history.specs.Causes.{IsCause, IsPlanOn}
+use Rattle.bt_history.specs.Changes.{IsDemandAfter}
+use Rattle.bt_history.specs.Machine.{State, Step, ChangeStep, NamesBeams, Tells}
 use Rattle.bt_timeline.specs.Timeline.{AnswersInstall, entry_line}
 use Rattle.bt_timeline.specs.Verdicts.{CanName}
 use Rattle.bt_workers.specs.Planning.{PlansOnce, planner_line, planner_text}

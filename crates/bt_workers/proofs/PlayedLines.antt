@@ -4,13 +4,8 @@ use Rattle.std.proofs.lemmas.Result.{on_ok_weaker}
 use Rattle.std.proofs.lemmas.List.{append-nil, take_more}
 use Rattle.std.proofs.lemmas.List.Elements.{All-append, All-nil}
 use Rattle.bt_net.specs.Network.{Net}
-use Rattle.bt_air.specs.declared.sent.Place.{Place}
-use Rattle.bt_air.specs.declared.sent.Place.TheVariants as place
 use Rattle.bt_journal.specs.declared.entry.Entry.{Entry}
 use Rattle.bt_script.specs.declared.script.AirLine.{AirLine}
-use Rattle.bt_script.specs.Named.{IsPlaceFor}
-use Rattle.bt_events.specs.Event.{Opening}
-use Rattle.bt_events.specs.Fits.{IsPlace}
 use Rattle.bt_workers.specs.AirLines.{AirState, PlaysAirLine, PlaysAirLines}
 use Rattle.bt_workers.specs.Worker.{Asks, Plays}
 

@@ -18,16 +18,16 @@ use Rattle.bt_journal.specs.declared.entry.Entry.{Entry}
 use Rattle.bt_journal.specs.declared.reply.Reply.{Reply}
 use Rattle.bt_journal.specs.declared.reply.Reply.TheVariants.{Done, Installed, Placed}
 use Rattle.bt_journal.specs.Journal.{calls_of, change_asked, change_made, changes_of, is_made, is_refusal}
-use Rattle.bt_book.specs.Book.{Books}
-use Rattle.bt_book.specs.Causes.{Follows}
-use Rattle.bt_book.specs.Changes.{installs, newest, plans}
-use Rattle.bt_book.specs.Machine.{CallStep, ChangeStep, State}
+use Rattle.bt_history.specs.Book.{Books}
+use Rattle.bt_history.specs.Causes.{Follows}
+use Rattle.bt_history.specs.Changes.{installs, newest, plans}
+use Rattle.bt_history.specs.Machine.{CallStep, ChangeStep, State}
 use Rattle.bt_script.specs.declared.script.AirLine.{AirLine}
 use Rattle.bt_script.specs.declared.script.AirLine.TheVariants as line
 use Rattle.bt_script.specs.declared.script.DeskLine.{DeskLine}
 use Rattle.bt_script.specs.declared.script.DeskLine.TheVariants as desk_line
 use Rattle.bt_workers.specs.AirLines.{AirState, PlaysAirLine, PlaysAirLines, PlaysOrder}
-use Rattle.bt_workers.specs.Callers.{Calling, IsAnswered, IsSameCaller, number_of, own_of}
+use Rattle.bt_workers.specs.Callers.{Calling, IsAnswered, IsSameCaller, caller_number, own_of}
 use Rattle.bt_workers.specs.Desks.{asked_by_line}
 use Rattle.bt_workers.specs.Planned.{HasPosted}
 use Rattle.bt_workers.proofs.Lent.{installs-append}
@@ -108,7 +108,7 @@ may_post net caller posted entry so has =
     let start = caller.start.state.changes in
     let reached : so.old.changes ≡ start ++ changes_of so.since = ap (λ (s : State). s.changes) so.reached in
     let follow : Follows net (start ++ changes_of so.since) = subst (Follows net) reached so.follows in
-    let up = own_is_no_newer net start so.since (number_of caller) follow in
+    let up = own_is_no_newer net start so.since (caller_number caller) follow in
     let own = ap (λ (e : List Entry). (newest (start ++ changes_of e)).edition.0) so.own in
     let past = step_is_past net so.old so.new entry.call entry.reply (is_made entry.reply) refl so.step.answered in
     λ k d within. omega (arith, past k d within, has, up, own, ap (λ (c : List Change). (newest c).edition.0) reached)

@@ -6,8 +6,8 @@ use Rattle.bt_frame.specs.declared.numbers.EditionNo.{EditionNo}
 use Rattle.bt_net.specs.Network.{Net}
 use Rattle.bt_demand.specs.declared.plan.Plan.{Plan}
 use Rattle.bt_air.specs.declared.order.Order.{Order}
-use Rattle.bt_book.specs.Changes.{newest}
-use Rattle.bt_book.specs.Machine.{Step, newer_than}
+use Rattle.bt_history.specs.Changes.{newest}
+use Rattle.bt_history.specs.Machine.{Step, newer_than}
 use Rattle.bt_journal.specs.declared.call.Call.{Call}
 use Rattle.bt_journal.specs.declared.call.Call.TheVariants as call
 use Rattle.bt_journal.specs.declared.entry.Entry.{Entry}

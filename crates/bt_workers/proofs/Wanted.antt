@@ -7,8 +7,8 @@ use Rattle.bt_air.specs.declared.order.Order.TheVariants.{Load, Arm}
 use Rattle.bt_air.specs.declared.order.Status.{Status}
 use Rattle.bt_air.specs.declared.sent.Act.{Act}
 use Rattle.bt_air.specs.declared.sent.Act.TheVariants.{Quiet, RepeatLoad, RepeatArm, Want}
-use Rattle.bt_book.specs.Causes.{CanCome, IsCause}
-use Rattle.bt_book.specs.Machine.{ChangeStep, State, Step, Tells}
+use Rattle.bt_history.specs.Causes.{CanCome, IsCause}
+use Rattle.bt_history.specs.Machine.{ChangeStep, State, Step, Tells}
 use Rattle.bt_journal.specs.declared.call.Call.{Call}
 use Rattle.bt_journal.specs.declared.call.Call.TheVariants as call
 use Rattle.bt_journal.specs.declared.call.Change.{Change}

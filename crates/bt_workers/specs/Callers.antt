@@ -9,9 +9,9 @@ use Rattle.bt_journal.specs.declared.call.Call.{Call}
 use Rattle.bt_journal.specs.declared.entry.Entry.{Entry}
 use Rattle.bt_journal.specs.declared.reply.Reply.{Reply}
 use Rattle.bt_journal.specs.Journal.{calls_of}
-use Rattle.bt_book.specs.Book.{Books, book_steps, journal_entry}
-use Rattle.bt_book.specs.Causes.{Follows}
-use Rattle.bt_book.specs.Machine.{State, Step, state_from}
+use Rattle.bt_history.specs.Book.{Books, book_steps, journal_entry}
+use Rattle.bt_history.specs.Causes.{Follows}
+use Rattle.bt_history.specs.Machine.{State, Step, state_from}
 
 -- a caller: the table of its line, the book at the line's start, and its place in the line
 pub record Calling : Type 0 where
@@ -20,8 +20,8 @@ pub record Calling : Type 0 where
   pub place : Place Books Call Reply
 
 -- the number of the caller
-abbrev pub number_of : Calling → ℕ
-number_of caller = caller.place.me.0.number
+abbrev pub caller_number : Calling → ℕ
+caller_number caller = caller.place.me.0.number
 
 -- the entries of one caller in the history of a line, in order
 abbrev pub own_in : ℕ → List (line.Entry Call Reply) → List Entry
@@ -29,7 +29,7 @@ own_in number log = map journal_entry (calls_by number log)
 
 -- the caller's own entries in what it has seen
 abbrev pub own_of : Calling → List Entry
-own_of caller = own_in (number_of caller) (seen_at caller.place)
+own_of caller = own_in (caller_number caller) (seen_at caller.place)
 
 -- The caller is one of its line. What it has seen is legal from the book at the line's start on, whose changes follow.
 pub record IsCalling (caller : Calling) : Type 0 where
@@ -50,6 +50,6 @@ pub record IsAnswered (net : Net) (caller : Calling) (entry : Entry) : Type 0 wh
   pub new : State
   pub since : List Entry
   pub reached : old ≡ state_from caller.start.state since
-  pub own : calls_of since (number_of caller) ≡ own_of caller
+  pub own : calls_of since (caller_number caller) ≡ own_of caller
   pub follows : Follows net old.changes
   pub step : Step net old entry.call entry.reply new

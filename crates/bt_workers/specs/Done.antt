@@ -5,7 +5,7 @@ use Rattle.bt_net.specs.Network.{Net}
 use Rattle.bt_demand.specs.declared.plan.Plan.{Plan}
 use Rattle.bt_journal.specs.declared.entry.Entry.{Entry}
 use Rattle.bt_journal.specs.Journal.{changes_of}
-use Rattle.bt_book.specs.Changes.{installs}
+use Rattle.bt_history.specs.Changes.{installs}
 use Rattle.bt_script.specs.declared.script.DeskLine.{DeskLine}
 use Rattle.bt_workers.specs.Lent.{IsLent, IsNoNewer, Rises}
 use Rattle.bt_workers.specs.Desks.{asked_by_line, desk_text, shown_by_line}

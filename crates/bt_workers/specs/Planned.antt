@@ -1,4 +1,4 @@
--- For bodies alone: the steps of a line of the planner.
+-- The steps of a line of the planner. All but `HasPosted` is for bodies alone.
 use Rattle.std.specs.Prelude.{◌≡◌, ◌+◌, ◌≤◌, ◌++◌, ◌∷◌, [], ℕ, List}
 use Rattle.bt_net.specs.Network.{Net}
 use Rattle.bt_demand.specs.declared.plan.Plan.{Plan}
@@ -6,7 +6,7 @@ use Rattle.bt_board.specs.Plans.{next_edition}
 use Rattle.bt_journal.specs.declared.call.Call.TheVariants as call
 use Rattle.bt_journal.specs.declared.entry.Entry.{Entry}
 use Rattle.bt_journal.specs.Journal.{changes_of}
-use Rattle.bt_book.specs.Changes.{installs, newest}
+use Rattle.bt_history.specs.Changes.{installs, newest}
 use Rattle.bt_workers.specs.Callers.{Calling, IsAnswered, own_of}
 use Rattle.bt_workers.specs.Planning.{planner_text}
 

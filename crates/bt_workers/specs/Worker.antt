@@ -1,4 +1,4 @@
--- For bodies alone: what holds of the centre's worker between its lines, and what each step of a line adds.
+-- What holds of the centre's worker between its lines, and what each step of a line adds. All but `Asks` is for bodies alone.
 use Rattle.std.specs.Prelude.{◌≡◌, ◌⊎◌, ℕ, ◌<◌, ◌++◌, List, [], length, map, reverse, drop, take, All}
 use Rattle.std.specs.List.{range_with_len}
 use Rattle.bt_frame.specs.declared.numbers.TermNo.{TermNo}

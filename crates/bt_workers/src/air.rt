@@ -1,7 +1,7 @@
 // The lines of the air that are over with one event, and the loss of what waits.
 ghost use Rattle.std.specs.Prelude.{◌≡◌, OnOk};
 ghost use Rattle.bt_net.specs.Terminals.{IsTerminal};
-ghost use Rattle.bt_workers.specs.AirLines.{AirState, PlaysFrame, PlaysLoss, PlaysReset, PlaysTick};
+ghost use Rattle.bt_workers.specs.AirLines.{PlaysFrame, PlaysLoss, PlaysReset, PlaysTick};
 ghost use Rattle.bt_workers.specs.Worker.{Plays};
 
 use crate::worker::CentreWorker;

@@ -2,10 +2,10 @@
 ghost use Rattle.std.specs.Prelude.{◌≡◌, ◌++◌, ◌∷◌, [], IfOk, OnErr};
 ghost use Rattle.bt_line.specs.Legal.{Legal};
 ghost use Rattle.bt_line.specs.Passes.{IsOfLine, seen_at};
-ghost use Rattle.bt_book.specs.Causes.{Follows};
-ghost use Rattle.bt_book.specs.Book.{Books, book_steps};
-ghost use Rattle.bt_book.specs.Machine.{IsOfNetwork};
-ghost use Rattle.bt_workers.specs.Callers.{Calling, IsAnswered, IsSameCaller, number_of, own_of};
+ghost use Rattle.bt_history.specs.Causes.{Follows};
+ghost use Rattle.bt_history.specs.Book.{Books, book_steps};
+ghost use Rattle.bt_history.specs.Machine.{IsOfNetwork};
+ghost use Rattle.bt_workers.specs.Callers.{Calling, IsAnswered, IsSameCaller, caller_number, own_of};
 
 use crate::gate::Gate;
 use bt_base::Keeper;
@@ -82,7 +82,7 @@ impl<'a, G: Gate, K: Keeper> Caller<'a, G, K> {
         requires network { self.old.start.net ≡ net.now }
         requires terminals { IsOfNetwork net.now call }
         ensures same { IsSameCaller self.old self.new }
-        ensures caller { IfOk result (λ entry. entry.caller ≡ number_of self.old) }
+        ensures caller { IfOk result (λ entry. entry.caller ≡ caller_number self.old) }
         ensures call { IfOk result (λ entry. entry.call ≡ call) }
         ensures answered { IfOk result (λ entry. IsAnswered net.now self.old entry) }
         ensures kept { IfOk result (λ entry. own_of self.new ≡ own_of self.old ++ entry ∷ []) }

@@ -1,7 +1,7 @@
 // A desk in a round: its edits are asked, and its shows are shown.
 ghost use Rattle.std.specs.Prelude.{◌≡◌, ◌+◌, ◌∷◌, [], All, OnOk};
 ghost use Rattle.bt_script.specs.Named.{IsLineFor};
-ghost use Rattle.bt_workers.specs.Callers.{Calling, IsSameCaller, number_of, own_of};
+ghost use Rattle.bt_workers.specs.Callers.{IsSameCaller, caller_number, own_of};
 ghost use Rattle.bt_workers.specs.Done.{DeskDone};
 
 use crate::caller::Caller;
@@ -30,7 +30,7 @@ pub fn run_desk<R: Wait, G: Gate, K: Keeper>(
     text: &mut Vec<u8>,
 ) -> Result<(), OutOfMemory>
     requires network { caller.old.start.net ≡ net.now }
-    requires number { number_of caller.old ≡ desk + 1 }
+    requires number { caller_number caller.old ≡ desk + 1 }
     requires terminals { All (IsLineFor net.now) lines.now }
     ensures same { IsSameCaller caller.old caller.new }
     ensures board { reader.new.board ≡ reader.old.board }
@@ -54,7 +54,7 @@ fn run_line<R: Wait, G: Gate, K: Keeper>(
     text: &mut Vec<u8>,
 ) -> Result<(), OutOfMemory>
     requires network { caller.old.start.net ≡ net.now }
-    requires number { number_of caller.old ≡ desk + 1 }
+    requires number { caller_number caller.old ≡ desk + 1 }
     requires terminals { IsLineFor net.now line.now }
     ensures same { IsSameCaller caller.old caller.new }
     ensures board { reader.new.board ≡ reader.old.board }

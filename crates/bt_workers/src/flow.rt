@@ -1,8 +1,8 @@
 // Deliveries: one out of turn, and all that wait.
-ghost use Rattle.std.specs.Prelude.{◌≡◌, ◌<◌, ◌≤◌, ◌++◌, length, drop, slice_get, OnOk, Some, ℕ};
+ghost use Rattle.std.specs.Prelude.{◌≡◌, ◌<◌, ◌≤◌, length, OnOk, Some};
 ghost use Rattle.bt_air.specs.declared.sent.Place.{Place};
 ghost use Rattle.bt_events.specs.Fits.{IsPlace};
-ghost use Rattle.bt_workers.specs.AirLines.{AirState, PlaysDelivery, PlaysFlow, PlaysHearing, PlaysNext, sent_count};
+ghost use Rattle.bt_workers.specs.AirLines.{PlaysDelivery, PlaysFlow, PlaysHearing, sent_count};
 ghost use Rattle.bt_workers.specs.Worker.{ComeFirst, Plays, PlaysFirst};
 
 use crate::worker::CentreWorker;

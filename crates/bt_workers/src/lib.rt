@@ -4,8 +4,9 @@
 //! does its lines one after the other, and appends what is printed of them to a text; the planner posts what it
 //! installed, and a desk has a reader of the board.
 //! These are promises: `specs/Done.antt`, what the lines of a desk and of the planner come to, with `Lent`, `Desks` and
-//! `Planning`; and `specs/AirLines.antt` with `Waiting`, what those of the air come to. `Callers`, `Worker` and `Planned`
-//! are for bodies alone.
+//! `Planning`; `specs/AirLines.antt` with `Waiting`, what those of the air come to; and of `Callers`, `Worker` and
+//! `Planned` what the public calls name: the number of a caller and its own entries, that a caller is the same, what is
+//! asked, and what was posted. The rest of these three is for bodies alone.
 #![tactic(auto)]
 
 mod air;

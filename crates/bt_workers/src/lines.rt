@@ -1,8 +1,8 @@
 // The lines of the air in a round, one after the other.
 ghost use Rattle.std.specs.Prelude.{◌≡◌, All, OnOk};
 ghost use Rattle.bt_script.specs.Named.{IsAirLineFor};
-ghost use Rattle.bt_workers.specs.AirLines.{AirState, PlaysAirLine, PlaysAirLines};
-ghost use Rattle.bt_workers.specs.Callers.{Calling, IsSameCaller, number_of, own_of};
+ghost use Rattle.bt_workers.specs.AirLines.{PlaysAirLine, PlaysAirLines};
+ghost use Rattle.bt_workers.specs.Callers.{IsSameCaller, caller_number, own_of};
 ghost use Rattle.bt_workers.specs.Worker.{Asks};
 
 use crate::caller::Caller;
@@ -30,7 +30,7 @@ impl CentreWorker {
     ) -> Result<(), OutOfMemory>
         requires network { self.old.life.opening.net ≡ net.now }
         requires caller_network { caller.old.start.net ≡ net.now }
-        requires number { number_of caller.old ≡ 0 }
+        requires number { caller_number caller.old ≡ 0 }
         requires lines { All (IsAirLineFor net.now) lines.now }
         ensures played { OnOk result (Asks (PlaysAirLines net.now self.old lines.now) self.new (own_of caller.old) (own_of caller.new) text.old.items text.new.items) }
         ensures opening { self.new.life.opening ≡ self.old.life.opening }
@@ -54,7 +54,7 @@ impl CentreWorker {
     ) -> Result<(), OutOfMemory>
         requires network { self.old.life.opening.net ≡ net.now }
         requires caller_network { caller.old.start.net ≡ net.now }
-        requires number { number_of caller.old ≡ 0 }
+        requires number { caller_number caller.old ≡ 0 }
         requires line { IsAirLineFor net.now line }
         ensures played { OnOk result (Asks (PlaysAirLine net.now self.old line) self.new (own_of caller.old) (own_of caller.new) text.old.items text.new.items) }
         ensures opening { self.new.life.opening ≡ self.old.life.opening }

@@ -3,9 +3,9 @@ ghost use Rattle.std.specs.Prelude.{◌≡◌, ◌≤◌, ◌++◌, ◌∷◌, [
 ghost use Rattle.bt_board.specs.Plans.{next_edition};
 ghost use Rattle.bt_journal.specs.declared.entry.Entry.{Entry};
 ghost use Rattle.bt_journal.specs.Journal.{changes_of};
-ghost use Rattle.bt_book.specs.Causes.{IsPlanOn};
-ghost use Rattle.bt_book.specs.Changes.{installs};
-ghost use Rattle.bt_workers.specs.Callers.{Calling, IsSameCaller, number_of, own_of};
+ghost use Rattle.bt_history.specs.Causes.{IsPlanOn};
+ghost use Rattle.bt_history.specs.Changes.{installs};
+ghost use Rattle.bt_workers.specs.Callers.{IsSameCaller, caller_number, own_of};
 ghost use Rattle.bt_workers.specs.Done.{PlannerDone};
 ghost use Rattle.bt_workers.specs.Planned.{HasPosted, InstallDone, SawLast};
 
@@ -34,7 +34,7 @@ pub fn run_planner<R: Wait, G: Gate, K: Keeper>(
     text: &mut Vec<u8>,
 ) -> Result<(), OutOfMemory>
     requires network { caller.old.start.net ≡ net.now }
-    requires number { number_of caller.old ≡ 1 }
+    requires number { caller_number caller.old ≡ 1 }
     requires posted { HasPosted caller.old publisher.old.plans }
     ensures same { IsSameCaller caller.old caller.new }
     ensures board { publisher.new.board ≡ publisher.old.board }
@@ -59,7 +59,7 @@ fn plan_once<R: Wait, G: Gate, K: Keeper>(
     text: &mut Vec<u8>,
 ) -> Result<(), OutOfMemory>
     requires network { caller.old.start.net ≡ net.now }
-    requires number { number_of caller.old ≡ 1 }
+    requires number { caller_number caller.old ≡ 1 }
     requires posted { HasPosted caller.old publisher.old.plans }
     ensures same { IsSameCaller caller.old caller.new }
     ensures board { publisher.new.board ≡ publisher.old.board }
@@ -82,7 +82,7 @@ fn plan_seen<R: Wait, G: Gate, K: Keeper>(
     text: &mut Vec<u8>,
 ) -> Result<(), OutOfMemory>
     requires network { caller.old.start.net ≡ net.now }
-    requires number { number_of caller.old ≡ 1 }
+    requires number { caller_number caller.old ≡ 1 }
     requires posted { HasPosted caller.old publisher.old.plans }
     requires seen { SawLast net.now seen.now }
     ensures same { IsSameCaller caller.old caller.new }
@@ -120,7 +120,7 @@ fn install_plan<R: Wait, G: Gate, K: Keeper>(
     text: &mut Vec<u8>,
 ) -> Result<(), OutOfMemory>
     requires network { caller.old.start.net ≡ net.now }
-    requires number { number_of caller.old ≡ 1 }
+    requires number { caller_number caller.old ≡ 1 }
     requires posted { HasPosted caller.old publisher.old.plans }
     requires terminals { IsPlanOn net.now plan }
     ensures same { IsSameCaller caller.old caller.new }

@@ -4,8 +4,8 @@ ghost use Rattle.bt_demand.specs.Flyable.{IsFlyable};
 ghost use Rattle.bt_timeline.specs.Air.{order_line, turn_line};
 ghost use Rattle.bt_events.specs.Event.{Ordered};
 ghost use Rattle.bt_events.specs.World.{wanted};
-ghost use Rattle.bt_workers.specs.AirLines.{AirState, PlaysOrder, PlaysTurn, answer_text, happened, having, installing, mark_of, newest_in, once_answered, sends_text, turning};
-ghost use Rattle.bt_workers.specs.Callers.{Calling, IsSameCaller, number_of, own_of};
+ghost use Rattle.bt_workers.specs.AirLines.{PlaysOrder, PlaysTurn, answer_text, happened, having, installing, mark_of, newest_in, once_answered, sends_text, turning};
+ghost use Rattle.bt_workers.specs.Callers.{IsSameCaller, caller_number, own_of};
 ghost use Rattle.bt_workers.specs.Worker.{AnswersOrder, Asks};
 
 use crate::caller::Caller;
@@ -35,7 +35,7 @@ impl CentreWorker {
     ) -> Result<(), OutOfMemory>
         requires network { self.old.life.opening.net ≡ net.now }
         requires caller_network { caller.old.start.net ≡ net.now }
-        requires number { number_of caller.old ≡ 0 }
+        requires number { caller_number caller.old ≡ 0 }
         ensures played { OnOk result (Asks (PlaysTurn net.now self.old) self.new (own_of caller.old) (own_of caller.new) text.old.items text.new.items) }
         ensures opening { self.new.life.opening ≡ self.old.life.opening }
         ensures same { IsSameCaller caller.old caller.new }
@@ -103,7 +103,7 @@ impl CentreWorker {
     ) -> Result<(), OutOfMemory>
         requires network { self.old.life.opening.net ≡ net.now }
         requires caller_network { caller.old.start.net ≡ net.now }
-        requires number { number_of caller.old ≡ 0 }
+        requires number { caller_number caller.old ≡ 0 }
         ensures played { OnOk result (Asks (PlaysOrder net.now self.old (wanted (happened self.old))) self.new (own_of caller.old) (own_of caller.new) text.old.items text.new.items) }
         ensures opening { self.new.life.opening ≡ self.old.life.opening }
         ensures same { IsSameCaller caller.old caller.new }

@@ -1,5 +1,5 @@
 // The centre's worker: the world is its own, and all events happen through it.
-ghost use Rattle.std.specs.Prelude.{◌≡◌, ◌≤◌, ◌++◌, [], drop, length, reverse, All, IfOk, OnErr, OnOk};
+ghost use Rattle.std.specs.Prelude.{◌≡◌, ◌≤◌, ◌++◌, [], drop, length, reverse, All, IfOk, OnOk};
 ghost use Rattle.bt_timeline.specs.Air.{NamesTerminal};
 ghost use Rattle.bt_events.specs.Event as event;
 ghost use Rattle.bt_events.specs.Fits.{IsWorld, Meets};

@@ -1,5 +1,5 @@
 -- A message is delivered, as a world keeps it.
-use Rattle.std.proofs.Common.{◌≡◌, ℕ, zero, suc, ◌<◌, ◌≤◌, if◌then◌else◌, Bool, true, false, List, [], ◌∷◌, ◌++◌, length, map, get_or, slice_set, slice_get, Option, Some, IfSome, refl, sym, ◌∙◌, ap, subst, lit≤, arith, ◌≢◌, ◌==◌, eq-eqb}
+use Rattle.std.proofs.Common.{◌≡◌, ℕ, zero, suc, ◌<◌, ◌≤◌, if◌then◌else◌, Bool, true, false, List, [], ◌∷◌, ◌++◌, length, map, get_or, slice_set, slice_get, Option, Some, IfSome, refl, sym, ◌∙◌, ap, subst, lit≤, arith, eq-eqb}
 use Rattle.std.proofs.lemmas.List.{append-nil}
 use Rattle.std.proofs.lemmas.Simd.{map-map}
 use Rattle.std.specs.List.{range_with_len}
@@ -27,7 +27,6 @@ use Rattle.bt_events.specs.Satellite.{satellite, to_satellite}
 use Rattle.bt_events.specs.World.{mark, frames_shown, plans, carried, terminals, sent, sent_with, sent_by_hearing, greatest_due}
 use Rattle.bt_world.proofs.Kept.{kept-after}
 use Rattle.bt_world.proofs.Resets.{if-other}
-use Rattle.std.proofs.lemmas.Bool.Decides.{nat_tests}
 use Rattle.bt_switch.specs.Run.{Hears as Takes, oldest_first}
 use Rattle.bt_switch.proofs.ByEvents.{state_more}
 

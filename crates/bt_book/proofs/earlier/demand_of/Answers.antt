@@ -1,4 +1,4 @@
-use Rattle.bt_book.proofs.OfNetwork.{redone_of_network, redone_small}
+use Rattle.bt_history.proofs.OfNetwork.{redone_of_network, redone_small}
 use Rattle.bt_book.proofs.earlier.demand_of.Goals as goal
 
 -- the edits were made again on the network

@@ -1,6 +1,6 @@
 use Rattle.std.proofs.Common.{arith, ◌∙◌, refl, rules}
 use Rattle.bt_journal.specs.Journal.{changes_of}
-use Rattle.bt_book.proofs.Redone.{Redoes-start, can_redo, Redoes-one, opening_next, opening_past, history_next, history_past}
+use Rattle.bt_history.proofs.Redone.{Redoes-start, can_redo, Redoes-one, opening_next, opening_past, history_next, history_past}
 use Rattle.bt_book.proofs.earlier.redo.Goals.{in-Some+in_ok-left, in-Some-edit_made+in_ok-left-2, in_default, in_default-edit_made}
 use Rattle.bt_book.proofs.earlier.redo.Goals as goal
 

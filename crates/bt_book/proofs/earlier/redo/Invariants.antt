@@ -1,6 +1,6 @@
 use Rattle.std.proofs.Common.{◌≡◌, ◌++◌, drop}
 use Rattle.bt_journal.specs.Journal.{changes_of}
-use Rattle.bt_book.specs.Records.{Redoes}
+use Rattle.bt_history.specs.Records.{Redoes}
 use Rattle.bt_book.proofs.earlier.redo.Given as goal
 
 -- the edits of the opening so far were made again

@@ -1,5 +1,5 @@
 use Rattle.std.proofs.Common.{rules, [], ◌∷◌, ◌++◌, ◌∙◌, refl, ap}
-use Rattle.bt_book.proofs.OnErrors.{if_not_ok, not_ok, on_err}
+use Rattle.bt_lists.proofs.Results.{if_not_ok, not_ok, on_err}
 use Rattle.bt_book.proofs.make.keep_item.Goals as goal
 
 -- where memory runs out all is as before

@@ -1,5 +1,5 @@
 use Rattle.std.proofs.Common.{refl}
-use Rattle.bt_book.proofs.OnErrors.{if_not_ok, not_ok, on_err}
+use Rattle.bt_lists.proofs.Results.{if_not_ok, not_ok, on_err}
 use Rattle.bt_book.proofs.make.keep_line.Goals as goal
 
 -- where there is no room the store is not asked

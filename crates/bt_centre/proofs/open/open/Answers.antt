@@ -1,7 +1,7 @@
 -- the changes are those that the store told
 use Rattle.std.proofs.Common.{subst, sym, IfSome}
-use Rattle.bt_book.specs.Book.{Books}
-use Rattle.bt_book.specs.Recovery.{Recovered}
+use Rattle.bt_history.specs.Book.{Books}
+use Rattle.bt_history.specs.Recovery.{Recovered}
 use Rattle.bt_centre.proofs.open.open.Goals as goal
 
 pub returns-in-Ok-begin-clause-changes : goal.returns-in-Ok-begin-clause-changes

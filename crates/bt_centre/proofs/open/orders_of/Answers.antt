@@ -1,6 +1,6 @@
 -- one order more
 use Rattle.std.proofs.Common.{arith}
-use Rattle.bt_book.specs.Changes.{orders}
+use Rattle.bt_history.specs.Changes.{orders}
 use Rattle.bt_centre.proofs.Opens.{next_taken}
 use Rattle.bt_centre.proofs.open.orders_of.Goals as goal
 

@@ -1,5 +1,5 @@
 use Rattle.std.proofs.Common.{◌≡◌, take}
-use Rattle.bt_book.specs.Changes.{orders}
+use Rattle.bt_history.specs.Changes.{orders}
 use Rattle.bt_centre.proofs.open.orders_of.Given as goal
 
 -- the orders so far

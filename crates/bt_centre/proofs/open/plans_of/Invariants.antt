@@ -1,5 +1,5 @@
 use Rattle.std.proofs.Common.{◌≡◌, take}
-use Rattle.bt_book.specs.Changes.{plans}
+use Rattle.bt_history.specs.Changes.{plans}
 use Rattle.bt_centre.proofs.open.plans_of.Given as goal
 
 -- the plans so far

@@ -1,7 +1,7 @@
 -- the centre restarted, or memory ran out, or the recovery failed
 use Rattle.std.proofs.Common.{◌≡◌, List, refl, sym, ap, ◌∙◌, subst, inl, arith}
-use Rattle.bt_book.specs.Book.{Books}
-use Rattle.bt_book.specs.Causes.{Follows}
+use Rattle.bt_history.specs.Book.{Books}
+use Rattle.bt_history.specs.Causes.{Follows}
 use Rattle.bt_workers.specs.AirLines.{AirState}
 use Rattle.bt_script.specs.declared.script.Item.TheVariants as item
 use Rattle.bt_centre.specs.declared.history.History.{History}

@@ -1,7 +1,7 @@
 -- the parts were played and written, or the run stopped
 use Rattle.std.proofs.Common.{List, ℕ, rules, arith, subst}
 use Rattle.std.proofs.lemmas.List.{take_all}
-use Rattle.bt_base.specs.Told.{GainsPrefix}
+use Rattle.bt_outside.specs.Told.{GainsPrefix}
 use Rattle.bt_script.specs.declared.script.Item.{Item}
 use Rattle.bt_centre.specs.Progress.{ItemsWritten}
 use Rattle.bt_centre.proofs.Ended.{err_is, not_begun, not_played, not_shown, same_end}

@@ -1,6 +1,6 @@
 -- the last line was written, or not
 use Rattle.std.proofs.Common.{◌≡◌, List, ◌∙◌, ap, subst}
-use Rattle.bt_base.specs.Told.{GainsPrefix, gained}
+use Rattle.bt_outside.specs.Told.{GainsPrefix, gained}
 use Rattle.bt_script.specs.declared.script.Item.{Item}
 use Rattle.bt_centre.specs.declared.history.History.{History}
 use Rattle.bt_centre.specs.Lines.{total_of}

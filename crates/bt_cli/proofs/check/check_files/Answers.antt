@@ -1,5 +1,5 @@
 -- the second load is told of its own start, which is after the first load
-use Rattle.bt_base.specs.Told.{Rose}
+use Rattle.bt_outside.specs.Told.{Rose}
 use Rattle.bt_cli.specs.Kinds.{matrix_file, schedule_file}
 use Rattle.std.proofs.Common.{length}
 use Rattle.bt_cli.specs.Check.{ChecksSchedule, Judges}

@@ -1,6 +1,6 @@
 -- the matrix's size is the number of its rows
 use Rattle.std.proofs.Common.{ℕ, rules, subst}
-use Rattle.bt_base.specs.Told.{Rose}
+use Rattle.bt_outside.specs.Told.{Rose}
 use Rattle.bt_cli.specs.Kinds.{schedule_file}
 use Rattle.bt_cli.specs.Check.{Judges}
 use Rattle.bt_cli.specs.Outcome.{Loads}

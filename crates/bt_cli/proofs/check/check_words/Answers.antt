@@ -1,7 +1,7 @@
 -- the first word is this command's, and the words are not
 use Rattle.std.proofs.Common.{map}
 use Rattle.std.specs.String.{string_bytes}
-use Rattle.bt_base.specs.Told.{Rose}
+use Rattle.bt_outside.specs.Told.{Rose}
 use Rattle.bt_cli.specs.Request.{request_of, first_word}
 use Rattle.bt_cli.proofs.Others.{reports_faulty, faulty_check}
 use Rattle.bt_cli.proofs.check.check_words.Goals as goal

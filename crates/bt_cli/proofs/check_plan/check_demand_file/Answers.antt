@@ -1,5 +1,5 @@
 -- the plan is loaded after the demand
-use Rattle.bt_base.specs.Told.{Rose}
+use Rattle.bt_outside.specs.Told.{Rose}
 use Rattle.bt_cli.specs.CheckPlan.{ChecksPlanText}
 use Rattle.bt_cli.specs.Fitting.{WhereItFits}
 use Rattle.bt_cli.specs.Kinds.{demand_file}

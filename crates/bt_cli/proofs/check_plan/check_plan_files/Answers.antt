@@ -1,5 +1,5 @@
 -- the demand and the plan are loaded after the network
-use Rattle.bt_base.specs.Told.{Rose}
+use Rattle.bt_outside.specs.Told.{Rose}
 use Rattle.bt_cli.specs.CheckPlan.{ChecksDemand}
 use Rattle.bt_cli.specs.Kinds.{network_file}
 use Rattle.bt_cli.proofs.Loads.{CameTo-among, CameTo-loaded, demand_sooner}

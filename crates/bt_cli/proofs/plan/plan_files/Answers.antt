@@ -1,5 +1,5 @@
 -- the demand is loaded after the network
-use Rattle.bt_base.specs.Told.{Rose}
+use Rattle.bt_outside.specs.Told.{Rose}
 use Rattle.bt_cli.specs.Fitting.{WhereItFits}
 use Rattle.bt_cli.specs.Kinds.{demand_file, network_file}
 use Rattle.bt_cli.specs.Plans.{PlansDemand, PrintsPlan}

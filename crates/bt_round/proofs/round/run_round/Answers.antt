@@ -7,10 +7,10 @@ use Rattle.bt_journal.specs.declared.call.Change.{Change}
 use Rattle.bt_journal.specs.declared.reply.Reply.{Reply}
 use Rattle.bt_journal.specs.Journal.{changes_of}
 use Rattle.bt_net.specs.Network.{Net}
-use Rattle.bt_book.specs.Book.{Books, journal_entry}
-use Rattle.bt_book.specs.Causes.{Follows}
-use Rattle.bt_book.specs.Changes.{newest}
-use Rattle.bt_book.specs.Machine.{state_from}
+use Rattle.bt_history.specs.Book.{Books, journal_entry}
+use Rattle.bt_history.specs.Causes.{Follows}
+use Rattle.bt_history.specs.Changes.{newest}
+use Rattle.bt_history.specs.Machine.{state_from}
 use Rattle.bt_round.specs.declared.seats.TheConstants.{SEATS}
 use Rattle.bt_round.specs.Rounds.{BookRan}
 use Rattle.bt_round.proofs.Boards.{last_edition}

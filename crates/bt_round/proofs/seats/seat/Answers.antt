@@ -4,7 +4,7 @@ use Rattle.bt_line.specs.declared.object.Entry as line
 use Rattle.bt_line.specs.Legal.{Legal}
 use Rattle.bt_journal.specs.declared.call.Call.{Call}
 use Rattle.bt_journal.specs.declared.reply.Reply.{Reply}
-use Rattle.bt_book.specs.Book.{book_steps}
+use Rattle.bt_history.specs.Book.{book_steps}
 use Rattle.bt_round.proofs.seats.seat.Goals as goal
 
 pub new-requires-clause-legal : goal.new-requires-clause-legal

@@ -6,15 +6,15 @@ use Rattle.bt_script.proofs.shape.desk_in.Goals as goal
 pub returns : goal.returns
 returns c =
     rw (
-      desk_read c.in_ok-desk.desk.now c.in_ok-kind.kind.now c.in_ok-desk-2.desk c.args.words c.next.new.self c.next-2.new.self
-          c.in_ok-desk.ensures.word c.in_ok-desk.ensures.rest c.in_ok-kind.ensures.word c.in_ok-kind.ensures.rest c.in_ok-desk-2.ensures,
-      ← c.in_ok-line.ensures,
+      desk_read c.in-Some.desk.now c.in-Some-next.kind.now c.in-Some-number_of.desk c.args.words c.next.new.self c.next-2.new.self
+          c.in-Some.ensures.word c.in-Some.ensures.rest c.in-Some-next.ensures.word c.in-Some-next.ensures.rest c.in-Some-number_of.ensures,
+      ← c.in-Some-desk_shape.ensures,
     ) (search rules)
 
-pub returns-in_err-line : goal.returns-in_err-line
-returns-in_err-line c =
+pub returns-in_default-desk_shape : goal.returns-in_default-desk_shape
+returns-in_default-desk_shape c =
     rw (
-      desk_read c.in_ok-desk.desk.now c.in_ok-kind.kind.now c.in_ok-desk-2.desk c.args.words c.next.new.self c.next-2.new.self
-          c.in_ok-desk.ensures.word c.in_ok-desk.ensures.rest c.in_ok-kind.ensures.word c.in_ok-kind.ensures.rest c.in_ok-desk-2.ensures,
-      ← c.in_err-line.ensures,
+      desk_read c.in-Some.desk.now c.in-Some-next.kind.now c.in-Some-number_of.desk c.args.words c.next.new.self c.next-2.new.self
+          c.in-Some.ensures.word c.in-Some.ensures.rest c.in-Some-next.ensures.word c.in-Some-next.ensures.rest c.in-Some-number_of.ensures,
+      ← c.in_default-desk_shape.ensures,
     ) (search rules)

@@ -1,7 +1,7 @@
 use Rattle.std.proofs.Common.{sym, subst}
-use Rattle.bt_book.specs.Book.{Books}
-use Rattle.bt_book.specs.Causes.{IsChangeOn}
-use Rattle.bt_book.proofs.Stored.{holds_step}
+use Rattle.bt_history.specs.Book.{Books}
+use Rattle.bt_history.specs.Causes.{IsChangeOn}
+use Rattle.bt_history.proofs.Stored.{holds_step}
 use Rattle.bt_book.proofs.book.Book.change.Goals as goal
 
 -- what the store tells is kept by the step

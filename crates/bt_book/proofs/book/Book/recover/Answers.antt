@@ -1,5 +1,5 @@
-use Rattle.bt_book.specs.Recovery.{IsNoLine, IsStray}
-use Rattle.bt_book.proofs.OneJournal.{are_lines, exact_changes, exact_right, fault_changes, fault_no_line, fault_stray, no_line_Wrongs, stray_Wrongs}
+use Rattle.bt_history.specs.Recovery.{IsNoLine, IsStray}
+use Rattle.bt_history.proofs.OneJournal.{are_lines, exact_changes, exact_right, fault_changes, fault_no_line, fault_stray, no_line_Wrongs, stray_Wrongs}
 use Rattle.bt_book.proofs.book.Book.recover.Goals as goal
 
 -- the changes that are told are these, and no line is wrong

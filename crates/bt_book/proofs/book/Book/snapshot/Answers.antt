@@ -1,6 +1,6 @@
 use Rattle.std.proofs.Common.{ap, refl}
-use Rattle.bt_book.specs.Store.{is_lost}
-use Rattle.bt_book.proofs.Stored.{holds_same, lost_stays}
+use Rattle.bt_history.specs.Store.{is_lost}
+use Rattle.bt_history.proofs.Stored.{holds_same, lost_stays}
 use Rattle.bt_book.proofs.book.Book.snapshot.Goals as goal
 
 -- nothing is lost by a call that only asks

@@ -1,7 +1,7 @@
 use Rattle.std.proofs.Common.{◌≡◌, true, ap, ◌∙◌}
 use Rattle.bt_journal.specs.Journal.{is_fault}
-use Rattle.bt_book.specs.Records.{Records}
-use Rattle.bt_book.proofs.Entries.{keeps_answered, state_answered}
+use Rattle.bt_history.specs.Records.{Records}
+use Rattle.bt_history.proofs.Entries.{keeps_answered, state_answered}
 use Rattle.bt_book.proofs.machine.Machine.answer.Goals as goal
 
 -- all that is kept stands

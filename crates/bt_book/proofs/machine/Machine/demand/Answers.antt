@@ -1,6 +1,6 @@
 use Rattle.std.proofs.Common.{ap}
-use Rattle.bt_book.specs.Records.{Records}
-use Rattle.bt_book.proofs.OfNetwork.{kept_of_network, kept_small}
+use Rattle.bt_history.specs.Records.{Records}
+use Rattle.bt_history.proofs.OfNetwork.{kept_of_network, kept_small}
 use Rattle.bt_book.proofs.machine.Machine.demand.Goals as goal
 
 -- the edits named terminals of the network

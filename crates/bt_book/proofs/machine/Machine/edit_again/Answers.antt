@@ -1,9 +1,9 @@
 use Rattle.std.proofs.Common.{◌≡◌, length, ◌∙◌, ap, sym, subst}
 use Rattle.bt_journal.specs.declared.call.Change.TheVariants as change
 use Rattle.bt_journal.specs.Journal.{NamesTerminals}
-use Rattle.bt_book.specs.Machine.{line_behind}
-use Rattle.bt_book.specs.Records.{CanJoin, Records}
-use Rattle.bt_book.proofs.Opened.{kept_edit, state_opened, with_more}
+use Rattle.bt_history.specs.Machine.{line_behind}
+use Rattle.bt_history.specs.Records.{CanJoin, Records}
+use Rattle.bt_history.proofs.Opened.{kept_edit, state_opened, with_more}
 use Rattle.bt_book.proofs.machine.Machine.edit_again.Goals as goal
 
 -- the changes at the opening have the edit, and all is kept beside them

@@ -1,5 +1,5 @@
-use Rattle.bt_book.specs.Recovery.{IsNumbered}
-use Rattle.bt_book.proofs.Strays.{next_if}
+use Rattle.bt_history.specs.Recovery.{IsNumbered}
+use Rattle.bt_history.proofs.Strays.{next_if}
 use Rattle.bt_book.proofs.machine.Machine.is_next.Goals as goal
 
 -- no cause was found, or the change is not good

@@ -1,15 +1,15 @@
 use Rattle.std.proofs.Common.{◌≡◌, ℕ, ◌+◌, List, [], ◌∷◌, ◌++◌, ◌∙◌, length, refl, sym, ap, subst}
-use Rattle.bt_base.specs.Told.{GainsPrefix, gained}
+use Rattle.bt_outside.specs.Told.{GainsPrefix, gained}
 use Rattle.bt_net.specs.Network.{Net}
 use Rattle.bt_journal.specs.declared.call.Call.TheVariants as call
 use Rattle.bt_journal.specs.declared.call.Change.TheVariants as change
 use Rattle.bt_journal.specs.declared.entry.Entry.{Entry}
 use Rattle.bt_journal.specs.declared.reply.Reply.TheVariants.{Done, StoreFault}
 use Rattle.bt_journal.specs.Journal.{NamesTerminals}
-use Rattle.bt_book.specs.Machine.{CanMake, ChangeStep, line_behind, state_after}
-use Rattle.bt_book.specs.Records.{Records, Stores}
-use Rattle.bt_book.proofs.Entries.{kept_lost, kept_made, kept_same, lost_step, made_changes, made_step, tells_made}
-use Rattle.bt_book.proofs.OnErrors.{if_not_ok, on_err}
+use Rattle.bt_history.specs.Machine.{CanMake, ChangeStep, line_behind, state_after}
+use Rattle.bt_history.specs.Records.{Records, Stores}
+use Rattle.bt_history.proofs.Entries.{kept_lost, kept_made, kept_same, lost_step, made_changes, made_step, tells_made}
+use Rattle.bt_lists.proofs.Results.{if_not_ok, on_err}
 use Rattle.bt_book.proofs.machine.Machine.make_edit.Goals as goal
 
 -- where memory ran out each link has its slots

@@ -1,16 +1,16 @@
 use Rattle.std.proofs.Common.{◌≡◌, ℕ, List, [], ◌∷◌, ◌++◌, ◌∙◌, length, refl, sym, ap, subst}
 use Rattle.std.proofs.lemmas.List.{append-nil}
-use Rattle.bt_base.specs.Told.{GainsPrefix, gained}
+use Rattle.bt_outside.specs.Told.{GainsPrefix, gained}
 use Rattle.bt_demand.specs.declared.plan.Plan.{Plan}
 use Rattle.bt_journal.specs.declared.call.Call.TheVariants as call
 use Rattle.bt_journal.specs.declared.call.Change.TheVariants as change
 use Rattle.bt_journal.specs.declared.entry.Entry.{Entry}
 use Rattle.bt_journal.specs.declared.reply.Reply.TheVariants.{Installed, StoreFault}
-use Rattle.bt_book.specs.Causes.{IsPlanOn}
-use Rattle.bt_book.specs.Machine.{CanMake, ChangeStep, line_behind, state_after}
-use Rattle.bt_book.specs.Records.{Records, Stores}
-use Rattle.bt_book.proofs.Entries.{kept_again, kept_lost, kept_other, lost_step, made_step}
-use Rattle.bt_book.proofs.OnErrors.{if_not_ok, on_err}
+use Rattle.bt_history.specs.Causes.{IsPlanOn}
+use Rattle.bt_history.specs.Machine.{CanMake, ChangeStep, line_behind, state_after}
+use Rattle.bt_history.specs.Records.{Records, Stores}
+use Rattle.bt_history.proofs.Entries.{kept_again, kept_lost, kept_other, lost_step, made_step}
+use Rattle.bt_lists.proofs.Results.{if_not_ok, on_err}
 use Rattle.bt_book.proofs.machine.Machine.make_install.Goals as goal
 
 -- all is as before where memory ran out

@@ -2,9 +2,9 @@ use Rattle.std.proofs.Common.{◌≡◌, length, refl, sym, ap, subst}
 use Rattle.std.proofs.lemmas.List.{append-nil}
 use Rattle.bt_journal.specs.declared.call.Change.TheVariants as change
 use Rattle.bt_journal.specs.declared.reply.Reply.TheVariants.{Placed, StoreFault}
-use Rattle.bt_book.specs.Machine.{CanMake, ChangeStep, line_behind, state_after}
-use Rattle.bt_book.specs.Records.{Records}
-use Rattle.bt_book.proofs.Entries.{kept_lost, kept_other, lost_step, made_step}
+use Rattle.bt_history.specs.Machine.{CanMake, ChangeStep, line_behind, state_after}
+use Rattle.bt_history.specs.Records.{Records}
+use Rattle.bt_history.proofs.Entries.{kept_lost, kept_other, lost_step, made_step}
 use Rattle.bt_book.proofs.machine.Machine.make_order.Goals as goal
 
 -- all is kept beside the changes

@@ -1,4 +1,4 @@
-use Rattle.bt_book.proofs.Spelled.{install_in_range}
+use Rattle.bt_history.proofs.Spelled.{install_in_range}
 use Rattle.bt_book.proofs.machine.Machine.number_of.Goals as goal
 
 -- a plan that is good for its edition has small numbers

@@ -1,4 +1,4 @@
-use Rattle.bt_book.proofs.Start.{IsKept-open}
+use Rattle.bt_history.proofs.Start.{IsKept-open}
 use Rattle.bt_book.proofs.machine.Machine.open.Goals as goal
 
 -- nothing was made yet

@@ -1,5 +1,5 @@
 use Rattle.std.proofs.Common.{length, ap, arith}
-use Rattle.bt_book.proofs.Entries.{few_orders}
+use Rattle.bt_history.proofs.Entries.{few_orders}
 use Rattle.bt_book.proofs.machine.Machine.order_count.Goals as goal
 
 -- there are no more than changes

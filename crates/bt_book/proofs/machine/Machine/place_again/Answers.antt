@@ -2,9 +2,9 @@ use Rattle.std.proofs.Common.{◌≡◌, length, List, [], ◌∷◌, ◌++◌, 
 use Rattle.std.proofs.lemmas.List.{append-nil}
 use Rattle.bt_air.specs.declared.order.Order.{Order}
 use Rattle.bt_journal.specs.declared.call.Change.TheVariants as change
-use Rattle.bt_book.specs.Machine.{line_behind}
-use Rattle.bt_book.specs.Records.{CanJoin, Records}
-use Rattle.bt_book.proofs.Opened.{kept_else, state_opened, with_more}
+use Rattle.bt_history.specs.Machine.{line_behind}
+use Rattle.bt_history.specs.Records.{CanJoin, Records}
+use Rattle.bt_history.proofs.Opened.{kept_else, state_opened, with_more}
 use Rattle.bt_book.proofs.machine.Machine.place_again.Goals as goal
 
 -- the changes at the opening have the order, and all is kept beside them

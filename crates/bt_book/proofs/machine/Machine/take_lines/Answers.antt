@@ -1,6 +1,6 @@
 use Rattle.std.proofs.Common.{◌+◌, length, take, refl}
 use Rattle.std.proofs.lemmas.Result.{err_from_is_err_and}
-use Rattle.bt_book.proofs.Replayed.{Stands-line, Stands-fault, short_so_far, length-line_read}
+use Rattle.bt_history.proofs.Replayed.{Stands-line, Stands-fault, short_so_far, length-line_read}
 use Rattle.bt_book.proofs.machine.Machine.take_lines.Goals as goal
 
 -- the line is read with its newline

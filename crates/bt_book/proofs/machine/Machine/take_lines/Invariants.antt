@@ -1,6 +1,6 @@
 -- the changes of the lines so far were made again
 use Rattle.std.proofs.Common.{length}
-use Rattle.bt_book.proofs.Replayed.{Stands}
+use Rattle.bt_history.proofs.Replayed.{Stands}
 use Rattle.bt_book.proofs.machine.Machine.take_lines.Given as goal
 
 abbrev pub invariant-loop-line : goal.invariant-loop-line

@@ -1,6 +1,6 @@
 use Rattle.std.proofs.Common.{[], ◌∷◌, ◌++◌, refl, sym, ap, ◌∙◌, subst}
 use Rattle.bt_journal.specs.declared.call.Call.{Call}
-use Rattle.bt_book.specs.Book.{book_steps}
+use Rattle.bt_history.specs.Book.{book_steps}
 use Rattle.bt_line.specs.Legal.{entry_of}
 use Rattle.bt_line.specs.Passes.{Gains, seen_at}
 use Rattle.bt_workers.specs.Callers.{Calling, IsAnswered, IsSameCaller, own_in, own_of}

@@ -3,7 +3,7 @@ use Rattle.std.proofs.lemmas.Result.{on_ok_weaker}
 use Rattle.bt_demand.specs.Flyable.{IsFlyable}
 use Rattle.bt_journal.specs.declared.call.Call.TheVariants as call
 use Rattle.bt_frame.specs.declared.numbers.EditionNo.{EditionNo}
-use Rattle.bt_book.specs.Changes.{newest}
+use Rattle.bt_history.specs.Changes.{newest}
 use Rattle.bt_workers.specs.Callers.{own_of}
 use Rattle.bt_workers.proofs.Asking.{still_same}
 use Rattle.bt_workers.proofs.Flies.{newest-flies}

@@ -1,5 +1,0 @@
-use Rattle.bt_book.proofs.GoodPlans.{plans_good}
-use Rattle.bt_book.proofs.laws.installed_plans_are_good.Goals as goal
-
-pub returns : goal.returns
-returns c = record { good = plans_good }

@@ -1,5 +1,0 @@
-use Rattle.bt_book.proofs.Histories.{Legal-follows}
-use Rattle.bt_book.proofs.laws.legal_changes_follow.Goals as goal
-
-pub returns : goal.returns
-returns c = record { follows = Legal-follows }

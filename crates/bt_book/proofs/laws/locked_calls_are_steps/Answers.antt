@@ -1,5 +1,0 @@
-use Rattle.bt_book.proofs.TurnLock.{answered}
-use Rattle.bt_book.proofs.laws.locked_calls_are_steps.Goals as goal
-
-pub returns : goal.returns
-returns c = record { step = answered }

@@ -1,0 +1,20 @@
+pub mod Replies
+pub mod Start
+pub mod After
+pub mod Done
+pub mod OneMore
+pub mod Histories
+pub mod Entries
+pub mod Redone
+pub mod OfNetwork
+pub mod Flying
+pub mod TurnLock
+pub mod Demands
+pub mod Strays
+pub mod Opened
+pub mod Replayed
+pub mod OneJournal
+pub mod Spelled
+pub mod Stored
+pub mod NextOpening
+mod GoodPlans

@@ -1,0 +1,12 @@
+use Rattle.bt_history.proofs.OneJournal.{are_lines}
+use Rattle.bt_history.proofs.NextOpening.{next_opening}
+use Rattle.bt_history.proofs.store_laws.stores_tell_next_openings.Goals as goal
+
+-- by what is known of the lines of changes
+pub returns-clause-next : goal.returns-clause-next
+returns-clause-next c = λ net told changes lost sound follow stored.
+    let are = are_lines net sound c.lines_end_once.ensures.cut c.lines_tell_changes.ensures.change c.lines_tell_changes.ensures.edition in
+    next_opening net are told changes lost follow stored
+
+pub returns-clause-short : goal.returns-clause-short
+returns-clause-short c = λ net told changes lost stored. stored.readable

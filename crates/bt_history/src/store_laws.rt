@@ -1,0 +1,22 @@
+// What holds of what stores tell, whatever the program does.
+ghost use Rattle.std.specs.Prelude.{ℕ, List, Option, IfSome};
+ghost use Rattle.bt_net.specs.Network.{Net, IsSound};
+ghost use Rattle.bt_journal.specs.declared.call.Change.{Change};
+ghost use Rattle.bt_history.specs.Causes.{Follows};
+ghost use Rattle.bt_history.specs.Recovery.{IsReadable, Recovered};
+ghost use Rattle.bt_history.specs.Store.{IsNextOpening, IsStored};
+
+use bt_journal::{lines_end_once, lines_tell_changes};
+
+/// On a sound network the bytes that a book leaves in its store tell its changes, or these and the one that was lost; and
+/// they are no more than are read.
+pub fn stores_tell_next_openings()
+    ensures next { (net : Net) (told : Option (List ℕ)) (changes lost : List Change) → IsSound net → Follows net changes
+        → IsStored net told changes lost
+        → IfSome told (λ bytes. (next : List Change) × Recovered net bytes next × IsNextOpening changes lost next) }
+    ensures short { (net : Net) (told : Option (List ℕ)) (changes lost : List Change)
+        → IsStored net told changes lost → IsReadable told }
+{
+    lines_end_once();
+    lines_tell_changes();
+}

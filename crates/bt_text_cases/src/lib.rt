@@ -1,0 +1,14 @@
+//! The lines of cases that show texts and the steps of planning, for the program that plays cases. `docs/cases.md` says
+//! what they mean.
+//!
+//! It stands on the readers of texts, on the steps from a matrix to a plan, and on the text of cases. It promises nothing
+//! beyond that each step is safe, and has no `specs/`.
+#![tactic(auto)]
+
+mod cutting;
+mod demand;
+mod planning;
+mod stage;
+mod texts;
+
+pub use stage::Texts;
