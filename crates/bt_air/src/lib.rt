@@ -5,7 +5,8 @@
 //! each kind of message as its fields with the fault of each, in `specs/Field.antt`, the fields with their ranges, in
 //! `specs/Spelling.antt`, the one spelling of each message, in `specs/Range.antt`, which messages have one, in
 //! `specs/Orders.antt`, the orders and what a list of them says, in `specs/Editions.antt`, the edition that is named,
-//! and in `laws.rt`, what holds of messages whatever the program does. `specs/Reading.antt` is for bodies alone.
+//! in `specs/Reading.antt`, that an answer is what the bytes spell or their first fault, and in `laws.rt`, what holds
+//! of messages whatever the program does.
 #![tactic(auto)]
 
 mod event;

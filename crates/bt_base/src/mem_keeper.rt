@@ -107,7 +107,7 @@ impl Keeper for MemKeeper {
     }
 
     fn cut(&mut self, _alloc: Global, length: u64) -> Result<(), KeepFault>
-        requires { HasBytes length (Some self.old.bytes) }
+        requires bytes { HasBytes length (Some self.old.bytes) }
         ensures ok { OnOk result (Some self.new.bytes ≡ shortened (Some self.old.bytes) length) }
         ensures failed { IsErrOf result KeepFault.Failed
             → (Some self.new.bytes ≡ Some self.old.bytes)

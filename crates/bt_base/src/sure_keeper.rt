@@ -75,7 +75,7 @@ impl Keeper for SureKeeper {
     }
 
     fn cut(&mut self, _alloc: Global, length: u64) -> Result<(), KeepFault>
-        requires { HasBytes length (Some self.old) }
+        requires bytes { HasBytes length (Some self.old) }
         ensures ok { OnOk result (Some self.new ≡ shortened (Some self.old) length) }
         ensures failed { IsErrOf result KeepFault.Failed
             → (Some self.new ≡ Some self.old) ⊎ (Some self.new ≡ shortened (Some self.old) length) }

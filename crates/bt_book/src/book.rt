@@ -2,7 +2,8 @@
 ghost use Rattle.std.specs.Prelude.{◌≡◌, ◌<◌, ◌≤◌, ◌++◌, ◌∷◌, [], length, slice_index_or, option_map, IfOk, IfErr, IfSome, IsErrAnd, MatchResult, OnErr, List, ℕ, ◌⊎◌};
 ghost use Rattle.std.specs.List.{HoldsAt};
 ghost use Rattle.bt_frame.specs.declared.limits.TheConstants.{MOST_JOURNAL_BYTES};
-ghost use Rattle.bt_history.specs.Changes.{edition, empty_plan, newest, orders, plans, IsDemandAfter, IsDemandAt};
+ghost use Rattle.bt_demand.specs.Plan.{empty_plan};
+ghost use Rattle.bt_history.specs.Changes.{edition, newest, orders, plans, IsDemandAfter, IsDemandAt};
 ghost use Rattle.bt_history.specs.Causes.{Follows, IsChangeOn};
 ghost use Rattle.bt_history.specs.Machine.{line_behind, running, ChangeStep, IsOfNetwork, Step};
 ghost use Rattle.bt_history.specs.Records.{call_of};
@@ -15,11 +16,11 @@ use crate::RecoverFault;
 use crate::machine::Machine;
 use crate::recover::recover_machine;
 use bt_air::Order;
-use bt_base::Keeper;
 use bt_demand::{Demand, Plan};
 use bt_frame::{EditionNo, OutOfMemory};
 use bt_journal::{Call, Change, Entry, Reply, lines_end_once, lines_tell_changes};
 use bt_net::Network;
+use bt_outside::Keeper;
 use std::alloc::Global;
 use std::marker::Model;
 

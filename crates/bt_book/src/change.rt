@@ -10,9 +10,9 @@ ghost use Rattle.bt_history.specs.Records.{IsBookFull, Stores, call_of};
 
 use crate::machine::Machine;
 use crate::place::parts_of;
-use bt_base::Keeper;
 use bt_frame::{EditionNo, OutOfMemory};
 use bt_journal::{Call, Change, Edit, Entry, Reply, change_text};
+use bt_outside::Keeper;
 use std::alloc::Global;
 
 impl Machine {

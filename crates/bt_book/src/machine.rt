@@ -5,12 +5,13 @@ ghost use Rattle.bt_frame.specs.declared.limits.TheConstants.{MOST_JOURNAL_BYTES
 ghost use Rattle.bt_frame.specs.declared.limits.TheConstants.{MOST_SUM};
 ghost use Rattle.bt_net.specs.Network.{IsSound};
 ghost use Rattle.bt_demand.specs.Traffic.{matrix_of, AreOfNetwork, HasSumsTo};
-ghost use Rattle.bt_history.specs.Changes.{edition, empty_plan, newest, orders, plans, IsDemandAfter};
+ghost use Rattle.bt_demand.specs.Plan.{empty_plan};
+ghost use Rattle.bt_history.specs.Changes.{edition, newest, orders, plans, IsDemandAfter};
 ghost use Rattle.bt_history.specs.Machine.{running};
 
 use bt_air::Order;
-use bt_demand::{Bursts, Demand, Plan};
-use bt_frame::{BeamNo, Critical, EditionNo, Modes, OutOfMemory, Schedule};
+use bt_demand::{Demand, Plan, empty_plan};
+use bt_frame::{EditionNo, OutOfMemory};
 use bt_journal::{Change, Entry};
 use bt_net::Network;
 use bt_occupancy::Occupancy;
@@ -154,20 +155,5 @@ impl Machine {
         // The network and the traffic matrix go with the demand.
         self.occupancy.into_demand();
         self.history
-    }
-}
-
-/// The empty plan, which edition 0 has.
-fn empty_plan(alloc: Global) -> Plan
-    ensures { result ≡ empty_plan }
-{
-    Plan {
-        edition: EditionNo(0),
-        schedule: Schedule {
-            length: 0,
-            critical: Critical::Row(BeamNo(0)),
-            modes: Modes::of(Vec::new(alloc)),
-        },
-        bursts: Bursts::of(Vec::new(alloc)),
     }
 }

@@ -12,11 +12,11 @@ ghost use Rattle.bt_history.specs.Records.{IsSpelled, SameUnits, Stores, call_of
 
 use crate::machine::Machine;
 use bt_air::Order;
-use bt_base::{KeepFault, Keeper};
 use bt_demand::Plan;
 use bt_frame::{EditionNo, OutOfMemory};
 use bt_journal::{Call, Change, Edit, Entry, Reply};
 use bt_occupancy::Occupancy;
+use bt_outside::{KeepFault, Keeper};
 use std::alloc::Global;
 
 impl Machine {

@@ -4,10 +4,10 @@ ghost use Rattle.bt_history.specs.Book.{BookStep, lock_entry, test_stays};
 ghost use Rattle.bt_history.specs.Machine.{IsOfNetwork};
 
 use crate::Book;
-use bt_base::Keeper;
 use bt_frame::OutOfMemory;
 use bt_journal::{Call, Reply};
 use bt_line::Object;
+use bt_outside::Keeper;
 use std::alloc::Global;
 
 impl<K: Keeper> Object for Book<K> {

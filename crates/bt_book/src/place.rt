@@ -1,8 +1,8 @@
 // An order can be placed where it is the next, for an edition that has a plan.
 ghost use Rattle.std.specs.Prelude.{◌≡◌};
-ghost use Rattle.bt_air.specs.Orders.{command_of};
+ghost use Rattle.bt_air.specs.Orders.{command_of, edition_ordered};
 ghost use Rattle.bt_journal.specs.declared.call.Change.TheVariants as change;
-ghost use Rattle.bt_history.specs.Changes.{edition_ordered, is_installed, last_command};
+ghost use Rattle.bt_history.specs.Changes.{is_installed, last_command};
 ghost use Rattle.bt_history.specs.Records.{IsFirstCause};
 
 use crate::machine::Machine;

@@ -7,8 +7,8 @@ ghost use Rattle.bt_history.specs.Recovery.{AreInRange, IsReadable, IsRecoverFau
 
 use crate::RecoverFault;
 use crate::machine::Machine;
-use bt_base::{KeepFault, Keeper};
 use bt_net::Network;
+use bt_outside::{KeepFault, Keeper};
 use std::alloc::Global;
 
 /// Reads the store, makes the changes of all its lines again, and then cuts what stands behind the last newline.

@@ -14,7 +14,7 @@ pub tells_joined : (changes : List Change) (placed : ℕ) (order held : Order) (
 tells_joined changes placed order held true more here same other = record { more = more; last = λ d. sym (here d) ∙ same refl }
 tells_joined changes placed order held false more here same other = λ joined. other refl (here order ∙ joined.last order)
 
-some_same : {a b : Order} → (let x : Option Order = Some a in x) ≡ Some b → a ≡ b
+pub some_same : {a b : Order} → (let x : Option Order = Some a in x) ≡ Some b → a ≡ b
 some_same is = cc
 
 some_none : {a : Order} → (let x : Option Order = Some a in x) ≡ None → ⊥

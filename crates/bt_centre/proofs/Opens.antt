@@ -15,14 +15,16 @@ use Rattle.bt_demand.specs.declared.plan.Plan.{Plan}
 use Rattle.bt_demand.specs.Flyable.{IsFlyable}
 use Rattle.bt_air.specs.declared.order.Order.{Order}
 use Rattle.bt_air.specs.declared.order.Order.TheVariants as order
-use Rattle.bt_air.specs.Orders.{command_of}
+use Rattle.bt_air.specs.Orders.{command_of, edition_ordered}
 use Rattle.bt_journal.specs.declared.call.Change.{Change}
 use Rattle.bt_journal.specs.declared.call.Change.TheVariants as change
 use Rattle.bt_history.specs.Causes.{CanCome, FollowFrom, Follows, IsInTurn}
-use Rattle.bt_history.specs.Changes.{edition_ordered, empty_plan, is_installed, last_command, newest, order_in, orders, plan_in, plans}
+use Rattle.bt_demand.specs.Plan.{empty_plan}
+use Rattle.bt_history.specs.Changes.{is_installed, last_command, newest, order_in, orders, plan_in, plans}
 use Rattle.bt_change.specs.Centre.{AreNumbered}
 use Rattle.bt_events.specs.Fits.{HasPlan, IsInTime, IsOpening, StartsEmpty, newest_of}
 use Rattle.bt_world.specs.Life.{opening_of}
+use Rattle.bt_workers.proofs.Installed.{newest-install}
 use Rattle.bt_events.specs.World.{first_or, plan_of}
 
 -- what holds of the plans and the orders of changes, the latest first
@@ -46,13 +48,6 @@ orders-push changes one = filter_map-append order_in changes (one ∷ [])
 
 newest-same : (changes : List Change) (one : Change) → plans (changes ++ one ∷ []) ≡ plans changes → newest (changes ++ one ∷ []) ≡ newest changes
 newest-same changes one is = ap (λ (l : List Plan). get_or l (length l - 1) empty_plan) is
-
-newest-installed : (changes : List Change) (plan : Plan) → newest (changes ++ change.Install plan ∷ []) ≡ plan
-newest-installed changes plan =
-    let n : length (plans changes ++ plan ∷ []) - 1 ≡ length (plans changes) = omega (arith, length-append (plans changes) (plan ∷ [])) in
-    ap (λ (l : List Plan). get_or l (length l - 1) empty_plan) (plans-push changes (change.Install plan))
-    ∙ ap (λ k. get_or (plans changes ++ plan ∷ []) k empty_plan) n
-    ∙ get_or-append_seam (plans changes) plan [] empty_plan
 
 -- a newer plan joins
 starts-more : (plan : Plan) (all : List Plan) → StartsEmpty all → (newest_of all).0 < plan.edition.0 → StartsEmpty (plan ∷ all)
@@ -143,7 +138,7 @@ opens-more net before (change.Install plan) installed placed follow so =
       plans_are = refl;
       orders_are = refl;
       starts = subst StartsEmpty (sym p) (starts-more plan installed so.starts (omega (arith, follow.1.0, ap (λ (e : EditionNo). e.0) so.last)));
-      last = ap newest_of p ∙ ap (λ (r : Plan). r.edition) (sym (newest-installed before plan));
+      last = ap newest_of p ∙ ap (λ (r : Plan). r.edition) (sym (newest-install before plan));
       numbered = subst AreNumbered q so.numbered;
       planned = subst (λ (l : List Order). All (HasPlan (reverse (plans (before ++ one ∷ [])))) l) q
           (subst (λ (l : List Plan). All (HasPlan l) placed) (sym p) (λ k d within. planned-more plan installed (get_or placed k d) (so.planned k d within)));

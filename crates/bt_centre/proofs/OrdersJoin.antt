@@ -26,11 +26,9 @@ use Rattle.bt_centre.specs.Joining.{HasOrders, JoinsAsTold, JoinsNone, JoinsOne,
 use Rattle.bt_centre.specs.Output.{Output}
 use Rattle.bt_centre.specs.Run.{AreLegalTimes, AreTimes, EndsFrom, IsJoining, IsRun, JoinsOrder, PlaysItem, PlaysItems, PlaysRestart, PlaysRound, Stand, at_start, changes_at, histories_at}
 use Rattle.bt_centre.specs.Stored.{Stored}
+use Rattle.bt_centre.proofs.Joins.{some_same}
 use Rattle.bt_centre.proofs.Orderly.{AreOrderly, AreOrderly-calls, AreOrderly-first, AreOrderly-second, MakesNone-calls, no_order, none_behind_lost, not_both, one_order, orderly_steps, orders_lost, orders_made, round_asks_none, with_append, with_centre}
 use Rattle.bt_centre.proofs.OrdersPlayed.{Keeps, keeps_lines}
-
-some_same : {a b : Order} → (let x : Option Order = Some a in x) ≡ Some b → a ≡ b
-some_same is = cc
 
 -- the orders of more changes stand behind the others
 orders-append : (a b : List Change) → orders (a ++ b) ≡ orders a ++ orders b

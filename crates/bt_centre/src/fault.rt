@@ -5,9 +5,9 @@ ghost use Rattle.bt_centre.specs.RecoverFaults.{PrintsNamed, recover_line, recov
 
 use crate::print::print_text;
 use crate::status::{FAULTY_JOURNAL, OUT_OF_MEMORY, STORE_FAILED, TOO_LONG};
-use bt_base::Sink;
 use bt_book::RecoverFault;
 use bt_frame::OutOfMemory;
+use bt_outside::Sink;
 use bt_timeline::restart_text;
 use bt_words::{Word, add_line};
 use std::alloc::Global;

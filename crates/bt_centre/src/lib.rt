@@ -1,6 +1,6 @@
 //! The run of a script: its rounds on the book of changes, and the lines that are printed of them.
 //!
-//! It stands on the outside (`bt_base`), on the book and its store, on the world, and on the rounds of a script
+//! It stands on the outside (`bt_outside`), on the book and its store, on the world, and on the rounds of a script
 //! (`bt_round`). A run begins with the changes that its store tells, and reads them again at each restart of the centre.
 //! `specs/Run.antt`, `specs/Lines.antt`, `specs/Output.antt`, `specs/Stored.antt` and `specs/RecoverFaults.antt` are
 //! promises: what a run is, and how it ends; `Progress` is for bodies alone. `specs/Joining.antt` is one too: which order

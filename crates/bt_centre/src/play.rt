@@ -6,9 +6,9 @@ ghost use Rattle.bt_centre.specs.Progress.{IsLeftEarly, ItemFailed, ItemPlayed, 
 
 use crate::playing::{Playing, Remains, leave};
 use crate::restart::play_restart;
-use bt_base::Keeper;
 use bt_book::RecoverFault;
 use bt_net::Network;
+use bt_outside::Keeper;
 use bt_round::run_round;
 use bt_script::{Item, Round};
 use bt_timeline::round_text;

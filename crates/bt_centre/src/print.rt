@@ -3,7 +3,7 @@ ghost use Rattle.std.specs.Prelude.{◌≡◌, ◌≤◌};
 ghost use Rattle.bt_centre.specs.Output.{PrintsOrNot};
 
 use crate::status::{OUT_OF_MEMORY, WRITE_FAILED};
-use bt_base::{Sink, SinkFault};
+use bt_outside::{Sink, SinkFault};
 use std::alloc::Global;
 
 /// Prints a text behind what was printed before, and gives the status to end with: this one where it was written whole.

@@ -15,9 +15,9 @@ use crate::status::{DONE, STORE_FAILED};
 use crate::total::{add_total, has_lost};
 use crate::{Histories, History};
 use bt_air::Event;
-use bt_base::{Keeper, Sink, SinkFault};
 use bt_book::installed_plans_are_good;
 use bt_net::Network;
+use bt_outside::{Keeper, Sink, SinkFault};
 use bt_script::Script;
 use bt_workers::Gate;
 use bt_world::frames_are_safe;
@@ -42,8 +42,9 @@ pub struct RunEnd<K> {
 /// Runs a script on its network from the changes that the store tells, and prints what was answered and what happened:
 /// each part of the script when it is over. The store keeps each change that is made.
 ///
-/// In a round its desks, its planner and the centre's worker run at once, each on a thread of its own where one can be
-/// made. The gate is called round each call on the book, by the thread that makes the call.
+/// The workers of a round, which are its desks, its planner and the centre's, go side by side: where more than one has
+/// lines, each is given a thread while threads can be made. Whoever calls the book tells the gate before the call and
+/// after its answer, on the thread of the call.
 pub fn run_script<R: Threads + Wait + Sync, G: Gate + Sync, O: Sink, K: Keeper + Send>(
     rt: &R,
     alloc: Global,

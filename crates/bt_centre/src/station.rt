@@ -2,9 +2,9 @@
 ghost use Rattle.std.specs.Prelude.{◌≡◌, IfErr, IfOk};
 ghost use Rattle.bt_round.specs.Boards.{IsPublished};
 
-use bt_base::Keeper;
 use bt_board::board;
 use bt_book::Book;
+use bt_outside::Keeper;
 use bt_round::{DESKS, Station};
 use bt_workers::CentreWorker;
 use std::alloc::Global;

@@ -5,9 +5,9 @@ ghost use Rattle.bt_cli.specs.Outcome.{PrintsOneOf, Says};
 
 use crate::print::print;
 use crate::report::{Report, Stop};
-use bt_base::Sink;
 use bt_centre::FAULTY_WORDS;
 use bt_frame::OutOfMemory;
+use bt_outside::Sink;
 use bt_words::Word;
 use std::alloc::Global;
 

@@ -12,12 +12,12 @@ ghost use Rattle.bt_cli.specs.Report.{StopIs};
 
 use crate::report::Stop;
 use crate::stops::{network_stop, script_stop, text_stop};
-use bt_base::{FileFault, Files};
 use bt_centre::{READ_FAILED, TOO_LONG};
 use bt_demand::{Demand, Plan};
 use bt_frame::{MOST_FILE_BYTES, Schedule};
 use bt_matrix::{Dense, MOST_SUM};
 use bt_net::Network;
+use bt_outside::{FileFault, Files};
 use bt_plan::{read_demand, read_matrix, read_plan, read_schedule};
 use bt_script::Script;
 use bt_words::Word;

@@ -12,9 +12,9 @@ use crate::faulty::faulty_words;
 use crate::load::load_matrix;
 use crate::print::print;
 use crate::report::{Report, Stop};
-use bt_base::{Files, Sink};
 use bt_centre::DONE;
 use bt_matrix::Dense;
+use bt_outside::{Files, Sink};
 use bt_plan::schedule_text;
 use std::alloc::Global;
 

@@ -15,13 +15,13 @@ use crate::fit::test_fit;
 use crate::load::{load_demand, load_network};
 use crate::print::print;
 use crate::report::{Report, Stop};
-use bt_base::{Files, Sink};
 use bt_centre::DONE;
 use bt_cut::make_plan;
 use bt_demand::Demand;
 use bt_frame::EditionNo;
 use bt_matrix::MOST_SUM;
 use bt_net::Network;
+use bt_outside::{Files, Sink};
 use bt_plan::plan_text;
 use std::alloc::Global;
 

@@ -2,8 +2,8 @@
 ghost use Rattle.bt_cli.specs.Printing.{EndsWith};
 
 use crate::report::{Report, Stop};
-use bt_base::Sink;
 use bt_centre::{OUT_OF_MEMORY, print_text};
+use bt_outside::Sink;
 use std::alloc::Global;
 
 /// Prints what the work came to, and gives the status to end with.

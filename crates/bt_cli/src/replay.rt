@@ -11,10 +11,10 @@ use crate::faulty::print_faulty_words;
 use crate::load::load_network;
 use crate::print::print;
 use crate::report::{Report, Stop};
-use bt_base::{Files, Keeper, Sink};
 use bt_book::{Book, demands_fit_the_frame};
 use bt_centre::{DONE, print_fault};
 use bt_net::Network;
+use bt_outside::{Files, Keeper, Sink};
 use bt_timeline::replay_text;
 use std::alloc::Global;
 

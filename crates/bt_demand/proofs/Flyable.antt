@@ -20,7 +20,7 @@ use Rattle.bt_demand.specs.Apart.{Collide, bursts_from, slots_sent}
 use Rattle.bt_demand.specs.Burst.{IsNotAfter}
 use Rattle.bt_demand.specs.Demand.{units_of}
 use Rattle.bt_demand.specs.Flyable.{IsFlyable, IsSentBy}
-use Rattle.bt_demand.specs.Plan.{IsHeld, IsGoodPlan}
+use Rattle.bt_demand.specs.Plan.{empty_plan, IsHeld, IsGoodPlan}
 use Rattle.bt_demand.specs.Traffic.{AreOfNetwork}
 use Rattle.bt_demand.proofs.BurstTriples.{bursts_apart, occurrences-all_triples, held_within}
 
@@ -136,3 +136,15 @@ few_bursts net plan terminal is =
 -- and they stand in order
 pub in_order : (bursts : List Burst) (terminal : TermNo) → AllPairs IsNotAfter bursts → AllPairs IsNotAfter (bursts_from terminal bursts)
 in_order bursts terminal ordered = AllPairs-filter IsNotAfter (λ (burst : Burst). burst.from.0 == terminal.0) bursts ordered
+
+-- the empty plan can be flown
+pub empty_flies : (net : Net) → IsFlyable net empty_plan
+empty_flies net = record {
+  permutations = λ k d within. absurd (omega arith);
+  durations = λ k d within. absurd (omega arith);
+  filled = refl;
+  short = omega arith;
+  between = λ k d within. absurd (omega arith);
+  apart = λ i j d lt within. absurd (omega arith);
+  held = λ k d within. absurd (omega arith);
+}

@@ -1,10 +1,11 @@
 -- What a burst time plan is, and when none is shorter. The meaning of a plan is a list of triples: a slot of the
 -- frame, the terminal that sends in it and the one that receives.
-use Rattle.std.specs.Prelude.{◌≡◌, ◌⊎◌, ℕ, ◌+◌, ◌<◌, ◌≤◌, ◌==◌, ◌&&◌, if◌then◌else◌, List, length, map, take, sum_by, slice_index, All, AllPairs}
+use Rattle.std.specs.Prelude.{◌≡◌, ◌⊎◌, ℕ, ◌+◌, ◌<◌, ◌≤◌, ◌==◌, ◌&&◌, if◌then◌else◌, List, [], length, map, take, sum_by, slice_index, All, AllPairs}
 use Rattle.std.specs.List.{range_with_len, flat_map, HoldsAt}
 use Rattle.bt_frame.specs.declared.numbers.BeamNo.{BeamNo}
 use Rattle.bt_frame.specs.declared.numbers.TermNo.{TermNo}
 use Rattle.bt_frame.specs.declared.mode.Mode.{Mode}
+use Rattle.bt_frame.specs.declared.schedule.Critical.TheVariants.{Row}
 use Rattle.bt_frame.specs.declared.schedule.Schedule.{Schedule}
 use Rattle.bt_net.specs.Network.{Net}
 use Rattle.bt_matrix.specs.Traffic.{IsLine, line_sum}
@@ -91,3 +92,7 @@ pub record IsShortest (net : Net) (links : List Link) (schedule : Schedule) : Ty
 pub record IsGoodPlan (net : Net) (links : List Link) (plan : Plan) : Type 0 where
   pub carries : IsPlan net links plan
   pub least : IsShortest net links plan.schedule
+
+-- the empty plan, which edition 0 has from the start
+abbrev pub empty_plan : Plan
+empty_plan = record { edition = record { 0 = 0 }; schedule = record { length = 0; critical = Row (record { 0 = 0 }); modes = [] }; bursts = [] }

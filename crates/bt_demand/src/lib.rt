@@ -17,7 +17,7 @@ mod traffic;
 pub use burst::{Burst, Bursts, MOST_BURSTS};
 pub use demand::{Demand, Link};
 pub use demand_laws::{gain_adds_to_one_entry, gain_changes_one_link, links_tell_demands};
-pub use plan::Plan;
+pub use plan::{Plan, empty_plan};
 pub use plan_laws::{
     apart_bursts_spell_apart_triples, flyable_plans_are_small, good_plans_are_flyable,
 };

@@ -25,7 +25,9 @@ use Rattle.bt_events.specs.World.{sight, with_wanted}
 use Rattle.bt_events.specs.World.{greatest_due, mark, plans, first_or, plan_of, modes_of, carried, wanted, orders, kept, accepted, sent, log}
 use Rattle.bt_switch.specs.Run.{oldest_first}
 use Rattle.bt_events.specs.Satellite.{to_satellite, satellite, BanksHold}
-use Rattle.bt_events.specs.Fits.{no_plan, StartsEmpty, newest_of, edition_ordered, HasPlan, IsWorld}
+use Rattle.bt_demand.specs.Plan.{empty_plan}
+use Rattle.bt_air.specs.Orders.{edition_ordered}
+use Rattle.bt_events.specs.Fits.{StartsEmpty, newest_of, HasPlan, IsWorld}
 use Rattle.bt_events.specs.Laws.{IsAmong}
 use Rattle.bt_events.proofs.Standing.{Comes, comes, world-holds}
 use Rattle.bt_events.proofs.Joins.{IsSoundIfAny}
@@ -53,7 +55,7 @@ newest-planned [] starts = absurd starts
 newest-planned (plan ∷ earlier) starts = first-some (plan_of earlier plan.edition) plan _ refl
 
 -- edition 0 has the empty plan
-empty-first : (all : List Plan) → StartsEmpty all → plan_of all (record { 0 = 0 }) ≡ Some no_plan
+empty-first : (all : List Plan) → StartsEmpty all → plan_of all (record { 0 = 0 }) ≡ Some empty_plan
 empty-first [] starts = absurd starts
 empty-first (plan ∷ []) starts = rw starts refl
 empty-first (plan ∷ before ∷ rest) starts =

@@ -104,7 +104,7 @@ joined placed (Some order) now counted = record {
 }
 
 -- no superframe of the orders is past the last mark
-due-in_time : (placed : List Order) → All IsInTime placed → greatest_due placed ≤ 4000000000
+pub due-in_time : (placed : List Order) → All IsInTime placed → greatest_due placed ≤ 4000000000
 due-in_time [] in_time = omega arith
 due-in_time (Load command edition ∷ earlier) in_time = due-in_time earlier (All-tail IsInTime (Load command edition) earlier in_time)
 due-in_time (Arm command edition due ∷ earlier) in_time =

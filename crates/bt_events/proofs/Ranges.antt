@@ -25,7 +25,7 @@ use Rattle.bt_air.specs.declared.sent.Place.{Place}
 use Rattle.bt_air.specs.declared.sent.Place.TheVariants.{Satellite, Centre, Terminal}
 use Rattle.bt_air.specs.declared.sent.Sent.{Sent}
 use Rattle.bt_air.specs.declared.sent.Sent.TheVariants as sends
-use Rattle.bt_air.specs.Orders.{command_of, last_command, last_arm, to_come, fore_at}
+use Rattle.bt_air.specs.Orders.{command_of, last_command, last_arm, to_come, fore_at, edition_ordered}
 use Rattle.bt_air.specs.Range.{IsArmed, IsCommand, IsDue, IsMark, IsStatus, IsTerminalNumber, IsWord, IsInRange, AreModes, AreBurstsOf}
 use Rattle.bt_switch.specs.Satellite.{is_armed}
 use Rattle.bt_switch.specs.Orders.{edition_of, ready_after, back_with, telling}
@@ -35,7 +35,7 @@ use Rattle.bt_change.specs.Known.{is_unseen, known, told_fore, is_later, later_o
 use Rattle.bt_change.specs.Last.{last_order}
 use Rattle.bt_change.specs.Turn.{attempt, act_of, is_before}
 use Rattle.bt_events.specs.Event.{Opening, Event, Tick, Turn, Ordered, Deliver, Frame, ResetTerminal, RestartCentre, Install, Happening, Turns, Hears}
-use Rattle.bt_events.specs.Fits.{edition_ordered, HasPlan, IsInTime, IsStored, AreStored, IsPlace, IsWorld}
+use Rattle.bt_events.specs.Fits.{HasPlan, IsInTime, IsStored, AreStored, IsPlace, IsWorld}
 use Rattle.bt_events.specs.World.{mark, plans, has_burst, plan_of, modes_of, bursts_for, carried, with_wanted, accepted, wanted, orders, kept, noting, known_now, terminals, is_missing, is_asking, plans_for, order_again, last_plans, sent_by_act, sent_to_asking, sent_by_order, sent_by_satellite, sent_by_terminal, sent_with, sent, joining_with, held, held_by, heard, sight, act, comes_to, log}
 use Rattle.bt_events.proofs.Banks.{world-planned}
 use Rattle.bt_events.proofs.Carried.{planned-word, modes-carried, bursts-carried}

@@ -16,14 +16,15 @@ use Rattle.bt_demand.specs.declared.burst.Burst.{Burst}
 use Rattle.bt_demand.specs.Apart.{Collide}
 use Rattle.bt_demand.specs.Burst.{IsNotAfter}
 use Rattle.bt_demand.specs.Flyable.{IsFlyable}
-use Rattle.bt_demand.specs.Plan.{Connects, IsHeld}
+use Rattle.bt_demand.specs.Plan.{Connects, IsHeld, empty_plan}
+use Rattle.bt_demand.proofs.Flyable.{empty_flies}
 use Rattle.bt_air.specs.declared.order.Order.{Order}
 use Rattle.bt_air.specs.declared.sent.Place.{Place}
 use Rattle.bt_air.specs.declared.sent.Place.TheVariants.{Satellite, Centre, Terminal}
 use Rattle.bt_events.specs.Air.{AreFlyable, IsAir}
 use Rattle.bt_events.specs.Event.{Opening, Event, Tick, Turn, Ordered, Deliver, Frame, ResetTerminal, RestartCentre, Install, Happening}
 use Rattle.bt_events.specs.Example.{two_beams, a, b, a_burst, b_burst, a_plan, opened, calm, lossy, reset, late}
-use Rattle.bt_events.specs.Fits.{no_plan, newest_of, HasPlan, IsInTime, IsOpening, IsPlace, IsStored, AreStored, IsWorld}
+use Rattle.bt_events.specs.Fits.{newest_of, HasPlan, IsInTime, IsOpening, IsPlace, IsStored, AreStored, IsWorld}
 use Rattle.bt_events.specs.World.{mark, frames_shown, plans, wanted, orders, sent, log}
 
 -- whether the place is one of the network
@@ -151,17 +152,6 @@ apart-beams meet = elim meet.beam [
   | inr down ↦ let p : 1 ≡ 0 = ap beam-number down in absurd (omega (arith, p))
 ]
 
-pub empty-flies : IsFlyable two_beams no_plan
-empty-flies = record {
-  permutations = λ k d within. absurd (omega arith);
-  durations = λ k d within. absurd (omega arith);
-  filled = refl;
-  short = omega arith;
-  between = λ k d within. absurd (omega arith);
-  apart = λ i j d lt within. absurd (omega arith);
-  held = λ k d within. absurd (omega arith);
-}
-
 pub plan-flies : IsFlyable two_beams a_plan
 plan-flies =
     let Permutes = λ (mode : Mode). IsPermutation 2 mode.perm in
@@ -187,15 +177,15 @@ plan-flies =
 pub opening-opens : IsOpening opened
 opening-opens = record {
   starts = refl;
-  fit = All-cons (IsFlyable two_beams) no_plan [] empty-flies (All-nil (IsFlyable two_beams));
+  fit = All-cons (IsFlyable two_beams) empty_plan [] (empty_flies two_beams) (All-nil (IsFlyable two_beams));
   numbered = tt;
-  planned = All-nil (HasPlan (no_plan ∷ []));
+  planned = All-nil (HasPlan (empty_plan ∷ []));
   in_time = All-nil IsInTime;
   few = omega arith;
 }
 
 -- and they are stored ones
-pub empty-stored : IsStored no_plan
+pub empty-stored : IsStored empty_plan
 empty-stored = record { edition = (omega arith, omega arith); ordered = λ i j d lt within. absurd (omega arith) }
 
 burst-order : IsNotAfter a_burst b_burst
@@ -209,8 +199,8 @@ plan-stored = record {
 }
 
 -- the worlds of the example
-flies : All (IsFlyable two_beams) (no_plan ∷ [])
-flies = All-cons (IsFlyable two_beams) no_plan [] empty-flies (All-nil (IsFlyable two_beams))
+flies : All (IsFlyable two_beams) (empty_plan ∷ [])
+flies = All-cons (IsFlyable two_beams) empty_plan [] (empty_flies two_beams) (All-nil (IsFlyable two_beams))
 
 pub reset-world : IsWorld opened reset
 reset-world = world-by opened reset opening-opens (plan-flies, flies) refl
@@ -224,8 +214,8 @@ late-world = world-by opened late opening-opens (plan-flies, flies) refl
 pub reset-flies : AreFlyable opened reset
 reset-flies = (plan-flies, flies)
 
-both-stored : All IsStored (a_plan ∷ no_plan ∷ [])
-both-stored = All-cons IsStored a_plan (no_plan ∷ []) plan-stored (All-cons IsStored no_plan [] empty-stored (All-nil IsStored))
+both-stored : All IsStored (a_plan ∷ empty_plan ∷ [])
+both-stored = All-cons IsStored a_plan (empty_plan ∷ []) plan-stored (All-cons IsStored empty_plan [] empty-stored (All-nil IsStored))
 
 two-orders : (placed : List Order) → length placed ≡ 2 → length placed ≤ 4294967295
 two-orders placed two = omega (arith, two)

@@ -1,5 +1,5 @@
 -- The centre of a world: its state.
-use Rattle.std.specs.Prelude.{◌≡◌, ℕ, ◌<◌, true, false, List, [], ◌∷◌, filter, length, Option, Some, None}
+use Rattle.std.specs.Prelude.{◌≡◌, ℕ, ◌<◌, true, false, List, [], ◌∷◌, filter, Option, Some, None}
 use Rattle.bt_frame.specs.declared.numbers.EditionNo.{EditionNo}
 use Rattle.bt_frame.specs.declared.numbers.TermNo.{TermNo}
 use Rattle.bt_frame.specs.declared.numbers.TermSet.{TermSet}
@@ -16,6 +16,7 @@ use Rattle.bt_change.specs.Last.{last_order}
 use Rattle.bt_change.specs.Terminals.{has, no_terminal, with_terminal}
 use Rattle.bt_events.specs.Event.{Opening, Happening, Turns, Orders, Hears, Restarts}
 use Rattle.bt_events.specs.World.{mark, plans, plan_of, has_burst, with_wanted, wanted, orders, kept, is_confirmed, is_asking, is_missing, terminals, act}
+use Rattle.bt_net.specs.Terminals.{IsTerminal}
 
 -- the set of these terminals
 abbrev pub set_of : List TermNo → TermSet
@@ -63,7 +64,7 @@ pub record IsCentreSaid (o : Opening) (past : List Happening) (s : State) : Type
   pub orders : s.orders ≡ orders o past
   pub kept : s.kept ≡ kept past
   pub wanted : s.wanted ≡ wanted past
-  pub confirmed : (terminal : TermNo) → terminal.0 < length o.net.terminals → has s.confirmed terminal ≡ is_confirmed o past terminal
-  pub asking : (terminal : TermNo) → terminal.0 < length o.net.terminals → has s.asking terminal ≡ is_asking o past terminal
-  pub missing : (terminal : TermNo) → terminal.0 < length o.net.terminals → is_missing_to s terminal ≡ is_missing o past terminal
+  pub confirmed : (terminal : TermNo) → IsTerminal o.net terminal → has s.confirmed terminal ≡ is_confirmed o past terminal
+  pub asking : (terminal : TermNo) → IsTerminal o.net terminal → has s.asking terminal ≡ is_asking o past terminal
+  pub missing : (terminal : TermNo) → IsTerminal o.net terminal → is_missing_to s terminal ≡ is_missing o past terminal
   pub acts : (newest : EditionNo) → act_at s (record { 0 = mark o past }) newest o.net.lead o.net.patience ≡ act o past newest

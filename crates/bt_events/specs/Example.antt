@@ -12,7 +12,7 @@ use Rattle.bt_air.specs.declared.order.Armed.{Armed}
 use Rattle.bt_air.specs.declared.sent.Place.TheVariants.{Satellite, Centre, Terminal}
 use Rattle.bt_air.specs.declared.sent.Sent.{Sent}
 use Rattle.bt_air.specs.declared.sent.Sent.TheVariants as sends
-use Rattle.bt_events.specs.Fits.{no_plan}
+use Rattle.bt_demand.specs.Plan.{empty_plan}
 use Rattle.bt_events.specs.Event.{Opening, Event, Tick, Turn, Ordered, Deliver, Frame, ResetTerminal, RestartCentre, Install}
 
 -- a network of two beams, with a terminal in each
@@ -49,7 +49,7 @@ a_plan = record { edition = record { 0 = 2 }; schedule = record { length = 3; cr
 
 -- a world that opens with the empty plan
 abbrev pub opened : Opening
-opened = record { net = two_beams; plans = no_plan ∷ []; orders = [] }
+opened = record { net = two_beams; plans = empty_plan ∷ []; orders = [] }
 
 -- up to where the satellite is armed
 abbrev pub armed_calmly : List Event

@@ -2,7 +2,6 @@
 use Rattle.std.specs.Prelude.{◌≡◌, ◌<◌, ◌≤◌, true, false, List, [], ◌∷◌, length, All, AllPairs, IsSome}
 use Rattle.bt_frame.specs.declared.limits.TheConstants.{LAST_MARK, MOST_COUNTED}
 use Rattle.bt_frame.specs.declared.numbers.EditionNo.{EditionNo}
-use Rattle.bt_frame.specs.declared.schedule.Critical.TheVariants.{Row}
 use Rattle.bt_demand.specs.declared.plan.Plan.{Plan}
 use Rattle.bt_air.specs.declared.order.Order.{Order}
 use Rattle.bt_air.specs.declared.order.Order.TheVariants.{Load, Arm}
@@ -13,28 +12,21 @@ use Rattle.bt_events.specs.Event.{Opening, Event, Tick, Turn, Ordered, Deliver, 
 use Rattle.bt_events.specs.World.{mark, frames_shown, plans, plan_of, wanted, orders, sent, log}
 use Rattle.bt_demand.specs.Burst.{IsNotAfter}
 use Rattle.bt_demand.specs.Flyable.{IsFlyable}
+use Rattle.bt_demand.specs.Plan.{empty_plan}
+use Rattle.bt_air.specs.Orders.{edition_ordered}
 use Rattle.bt_air.specs.Range.{IsWord}
 use Rattle.bt_net.specs.Terminals.{IsTerminal}
-
--- the empty plan
-abbrev pub no_plan : Plan
-no_plan = record { edition = record { 0 = 0 }; schedule = record { length = 0; critical = Row (record { 0 = 0 }); modes = [] }; bursts = [] }
 
 -- editions ascend from the empty plan, which is the first; the latest stands first
 abbrev pub StartsEmpty : List Plan → Type 0
 StartsEmpty [] = ⊥
-StartsEmpty (plan ∷ []) = plan ≡ no_plan
+StartsEmpty (plan ∷ []) = plan ≡ empty_plan
 StartsEmpty (plan ∷ before ∷ rest) = (before.edition.0 < plan.edition.0) × StartsEmpty (before ∷ rest)
 
 -- the newest edition
 abbrev pub newest_of : List Plan → EditionNo
 newest_of [] = record { 0 = 0 }
 newest_of (plan ∷ earlier) = plan.edition
-
--- the edition of an order
-abbrev pub edition_ordered : Order → EditionNo
-edition_ordered (Load command edition) = edition
-edition_ordered (Arm command edition due) = edition
 
 -- there is a plan of the edition of the order
 abbrev pub HasPlan : List Plan → Order → Type 0

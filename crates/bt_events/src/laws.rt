@@ -47,9 +47,9 @@ pub fn references_are_right()
     ensures right { (o : Opening) (events : List Event) → All (IsRight (accepted o (log o events))) (sent o (log o events)) }
 {}
 
-/// Every frame is safe where each plan can be flown, as in every world it can, and each terminal that transmits sends
-/// exactly its bursts of the plan in front. In a world the frame is safe through the modes that the satellite has in
-/// front.
+/// Every frame is safe where each plan can be flown, as in every world it can, and a terminal is silent or sends its
+/// bursts of the plan in front, all of them and no others. In a world the frame is safe through the modes that the
+/// satellite has in front.
 pub fn frames_are_safe()
     ensures own { (o : Opening) (events : List Event) (number : TermNo) → (transmits o (log o events) number ≡ [])
         ⊎ (transmits o (log o events) number ≡ bursts_for number (plan_of (plans o (log o events)) (fore o (log o events)))) }
@@ -72,8 +72,8 @@ pub fn satellite_is_said()
     accepted_orders_are_said_by_events();
 }
 
-/// Each bank of the satellite holds the modes of the plan of its edition, so that the connections of a safe frame are
-/// those that the switch makes.
+/// The modes in either bank on board are those that the plan of the bank's edition has. So the switch makes the very
+/// connections by which a frame is safe.
 pub fn banks_hold_plans()
     ensures banks { (o : Opening) (events : List Event) → IsWorld o events → BanksHold (plans o (log o events)) (satellite o (log o events)) }
 {}

@@ -1,7 +1,8 @@
 //! The words of the field: beams, terminals, editions, marks and commands, each a number with a type of its own, the
 //! modes of the on-board switch, and the schedules that they make up.
 //!
-//! `specs/Critical.antt` says which lines a matrix of so many beams has.
+//! It stands on no other crate of the repository. These are promises: `specs/Critical.antt`, which lines a matrix of so
+//! many beams has, and `specs/Range.antt`, when a number lies in a range.
 #![tactic(auto)]
 
 mod limits;

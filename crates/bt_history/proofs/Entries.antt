@@ -22,7 +22,8 @@ use Rattle.bt_journal.specs.declared.reply.Reply.{Reply}
 use Rattle.bt_journal.specs.declared.reply.Reply.TheVariants.{Done, StoreFault}
 use Rattle.bt_journal.specs.Journal.{NamesTerminals, changes_of, change_made, is_made, is_fault}
 use Rattle.bt_occupancy.specs.Occupancy.{EditsLinks}
-use Rattle.bt_history.specs.Changes.{edits_in, edition, empty_plan, plan_in, order_in}
+use Rattle.bt_demand.specs.Plan.{empty_plan}
+use Rattle.bt_history.specs.Changes.{edits_in, edition, plan_in, order_in}
 use Rattle.bt_history.specs.EditCauses.{with_edit, IsGoodEdit}
 use Rattle.bt_history.specs.Causes.{IsGood, IsChangeOn}
 use Rattle.bt_history.specs.Machine.{State, running, halted, state_after, bytes_with, line_behind, CanMake, Tells, ChangeStep}

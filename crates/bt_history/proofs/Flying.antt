@@ -1,14 +1,15 @@
 -- Changes that follow have a demand that fits the frame, and so the plans that they install can be flown.
-use Rattle.std.proofs.Common.{◌+◌, ◌-◌, List, [], ◌∷◌, ◌++◌, length, All, refl, subst, arith}
+use Rattle.std.proofs.Common.{◌+◌, ◌-◌, List, [], ◌∷◌, ◌++◌, length, All, subst, arith}
 use Rattle.std.specs.List.{filter_map}
 use Rattle.std.proofs.lemmas.List.Elements.{All-nil, All-cons}
 use Rattle.bt_net.specs.Network.{Net, IsSound}
 use Rattle.bt_demand.specs.declared.plan.Plan.{Plan}
 use Rattle.bt_demand.specs.Flyable.{IsFlyable}
-use Rattle.bt_demand.proofs.Flyable.{flyable}
+use Rattle.bt_demand.proofs.Flyable.{empty_flies, flyable}
 use Rattle.bt_journal.specs.declared.call.Change.{Change}
 use Rattle.bt_journal.specs.declared.call.Change.TheVariants as change
-use Rattle.bt_history.specs.Changes.{empty_plan, plan_in, plans, newest}
+use Rattle.bt_demand.specs.Plan.{empty_plan}
+use Rattle.bt_history.specs.Changes.{plan_in, plans, newest}
 use Rattle.bt_history.specs.Causes.{IsGoodInstall, FollowFrom, Follows}
 use Rattle.bt_history.proofs.Demands.{keeps_any}
 use Rattle.bt_history.proofs.Histories.{FollowFrom-grows}
@@ -28,17 +29,6 @@ install_flies net before plan sound follow good =
     let least = good.2.checked.least in
     flyable net good.2.links plan (are_of_network net at.before good.2.links at.demand.demand keeps) good.2.checked
     (omega (arith, sound.slots.1, keeps.fits plan.schedule.critical least.on_matrix, least.reached))
-
-empty_flies : (net : Net) → IsFlyable net empty_plan
-empty_flies net = record {
-  permutations = λ k d within. absurd (omega arith);
-  durations = λ k d within. absurd (omega arith);
-  filled = refl;
-  short = omega arith;
-  between = λ k d within. absurd (omega arith);
-  apart = λ i j d lt within. absurd (omega arith);
-  held = λ k d within. absurd (omega arith);
-}
 
 installs_fly : (net : Net) (before changes : List Change) → IsSound net → Follows net before → FollowFrom net before changes → All (IsFlyable net) (filter_map plan_in changes)
 installs_fly net before [] sound follow more = All-nil (IsFlyable net)

@@ -11,7 +11,7 @@ use Rattle.bt_journal.specs.declared.entry.Entry.{Entry}
 use Rattle.bt_demand.specs.declared.demand.Link.{Link}
 use Rattle.bt_demand.specs.declared.plan.Plan.{Plan}
 use Rattle.bt_air.specs.declared.order.Order.{Order}
-use Rattle.bt_history.specs.Changes.{empty_plan}
+use Rattle.bt_demand.specs.Plan.{empty_plan}
 use Rattle.bt_history.specs.Records.{KeepsUp, Counts, Lists}
 use Rattle.bt_history.proofs.Entries.{IsKept}
 

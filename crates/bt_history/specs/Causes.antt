@@ -8,7 +8,7 @@ use Rattle.bt_demand.specs.Apart.{AreBetweenTerminals}
 use Rattle.bt_demand.specs.Plan.{IsGoodPlan}
 use Rattle.bt_air.specs.declared.order.Order.{Order}
 use Rattle.bt_air.specs.declared.order.Order.TheVariants.{Load, Arm}
-use Rattle.bt_air.specs.Orders.{command_of}
+use Rattle.bt_air.specs.Orders.{command_of, edition_ordered}
 use Rattle.bt_air.specs.Range.{IsDue}
 use Rattle.bt_verdict.specs.declared.verdict.Verdict.{Verdict}
 use Rattle.bt_verdict.specs.declared.verdict.Verdict.TheVariants.{Good}
@@ -19,7 +19,7 @@ use Rattle.bt_journal.specs.declared.reply.Reply.{Reply}
 use Rattle.bt_journal.specs.declared.reply.Reply.TheVariants.{SameTerminal, NotThere, RowFull, ColumnFull, NotNewer, NoSuchEdition, NotGood, OutOfTurn, NotInstalled}
 use Rattle.bt_journal.specs.Journal.{NamesTerminals}
 use Rattle.bt_occupancy.specs.Occupancy.{HasEqualEnds, HasEnds}
-use Rattle.bt_history.specs.Changes.{edition, IsDemandAt, newest, is_installed, last_command, edition_ordered}
+use Rattle.bt_history.specs.Changes.{edition, IsDemandAt, newest, is_installed, last_command}
 use Rattle.bt_history.specs.EditCauses.{TakesTooMuch, OverfillsRow, OverfillsColumn, IsThere, FitsRow, IsGoodEdit}
 
 -- the plan is of a greater edition than the newest plan

@@ -4,15 +4,14 @@ use Rattle.std.specs.List.{filter_map, list_any}
 use Rattle.bt_frame.specs.declared.numbers.Command.{Command}
 use Rattle.bt_frame.specs.declared.numbers.EditionNo.{EditionNo}
 use Rattle.bt_frame.specs.declared.numbers.TermNo.{TermNo}
-use Rattle.bt_frame.specs.declared.schedule.Critical.TheVariants.{Row}
 use Rattle.bt_net.specs.Network.{Net}
 use Rattle.bt_net.specs.Terminals.{is_in_beam}
 use Rattle.bt_demand.specs.declared.demand.Link.{Link}
 use Rattle.bt_demand.specs.declared.plan.Plan.{Plan}
 use Rattle.bt_demand.specs.Demand.{units_where, IsDemand}
+use Rattle.bt_demand.specs.Plan.{empty_plan}
 use Rattle.bt_demand.specs.Traffic.{table_of}
 use Rattle.bt_air.specs.declared.order.Order.{Order}
-use Rattle.bt_air.specs.declared.order.Order.TheVariants.{Load, Arm}
 use Rattle.bt_air.specs.Orders.{command_of}
 use Rattle.bt_journal.specs.declared.call.Edit.TheVariants.{Add, Drop, Move}
 use Rattle.bt_journal.specs.declared.call.Change.{Change}
@@ -66,10 +65,6 @@ pub record IsDemandAt (changes : List Change) (number : ℕ) (links : List Link)
   pub counted : edition before ≡ number
   pub demand : IsDemandAfter before links
 
--- the empty plan, which edition 0 has from the start
-abbrev pub empty_plan : Plan
-empty_plan = record { edition = record { 0 = 0 }; schedule = record { length = 0; critical = Row (record { 0 = 0 }); modes = [] }; bursts = [] }
-
 -- the plan that a change installs, if any
 abbrev pub plan_in : Change → Option Plan
 plan_in (change.Install plan) = Some plan
@@ -103,8 +98,3 @@ orders changes = filter_map order_in changes
 -- the command of the last order, 0 where there is none
 abbrev pub last_command : List Change → Command
 last_command changes = unwrap_or (option_map command_of (slice_get (orders changes) (length (orders changes) - 1))) (record { 0 = 0 })
-
--- the edition that an order names
-abbrev pub edition_ordered : Order → EditionNo
-edition_ordered (Load _ edition) = edition
-edition_ordered (Arm _ edition _) = edition

@@ -2,11 +2,11 @@
 use crate::air::put_status;
 use crate::lines::{put_number, put_word};
 use crate::message::message_of;
-use crate::shown::taken_told;
 use bt_case_text::number_of;
 use bt_frame::{LAST_MARK, Mark};
 use bt_sheet::{CaseFault, Result};
 use bt_switch::Satellite;
+use bt_timeline::taken_text;
 use std::alloc::Global;
 
 /// Does what a line of the satellite says.
@@ -40,7 +40,7 @@ fn put_taken(
     out: &mut String,
 ) -> Result<()> {
     let message = message_of(alloc, words)?;
-    put_word(taken_told(satellite.take(message)), out)
+    put_word(taken_text(satellite.take(message)), out)
 }
 
 /// Appends the status with which the next superframe begins.

@@ -1,8 +1,9 @@
 // What an event of a world shows, as a printed line.
 use crate::air::put_bursts;
 use crate::lines::{put_line, put_numbers, put_word};
-use bt_air::{Act, AirFrame, Answer, Heard, Order, Shown, Taken};
+use bt_air::{Act, AirFrame, Order, Shown};
 use bt_sheet::Result;
+use bt_timeline::answer_text;
 
 /// Appends the line of what an event showed.
 pub fn put_shown(shown: &Shown, out: &mut String) -> Result<()> {
@@ -10,7 +11,7 @@ pub fn put_shown(shown: &Shown, out: &mut String) -> Result<()> {
         Shown::Ticked(status) => put_line(">tick", &[status.mark.0], out),
         Shown::Turned(act) => put_act(*act, out),
         Shown::Ordered(order) => put_order(">ordered", *order, out),
-        Shown::Delivered(answer) => put_word(answer_told(*answer), out),
+        Shown::Delivered(answer) => put_word(answer_text(*answer), out),
         Shown::Framed(frame) => put_frame(frame, out),
         Shown::Reset => put_word("reset", out),
         Shown::Restarted => put_word("restarted", out),
@@ -39,40 +40,6 @@ pub fn put_order(word: &str, order: Order, out: &mut String) -> Result<()> {
             edition,
             due,
         } => put_line(" arm", &[command.0, edition.0, due.0], out),
-    }
-}
-
-fn answer_told(answer: Answer) -> &'static str {
-    match answer {
-        Answer::Taken(taken) => taken_told(taken),
-        Answer::Heard(heard) => heard_told(heard),
-        Answer::Noted => "noted",
-        Answer::NotForMe => "notforme",
-    }
-}
-
-/// What the satellite does with a message.
-pub fn taken_told(taken: Taken) -> &'static str {
-    match taken {
-        Taken::Accepted => "accepted",
-        Taken::Stale => "stale",
-        Taken::Busy => "busy",
-        Taken::NotLoaded => "notloaded",
-        Taken::TooLate => "toolate",
-        Taken::NotForMe => "notforme",
-    }
-}
-
-/// What a terminal does with a message.
-pub fn heard_told(heard: Heard) -> &'static str {
-    match heard {
-        Heard::Took => "took",
-        Heard::WrongMark => "wrongmark",
-        Heard::Held => "held",
-        Heard::Stored => "stored",
-        Heard::Older => "older",
-        Heard::InUse => "inuse",
-        Heard::NotForMe => "notforme",
     }
 }
 

@@ -2,11 +2,11 @@
 use crate::air::put_bursts;
 use crate::lines::{put_numbers, put_word};
 use crate::message::message_of;
-use crate::shown::heard_told;
 use bt_case_text::{byte_of, number_of};
 use bt_frame::{Mark, TermNo};
 use bt_sheet::{CaseFault, Result};
 use bt_term::Terminal;
+use bt_timeline::heard_text;
 use std::alloc::Global;
 
 /// Does what a line of a terminal says.
@@ -44,7 +44,7 @@ fn put_heard(
 ) -> Result<()> {
     let message = message_of(alloc, words)?;
     let mark = Mark(number_of(mark)?);
-    put_word(heard_told(terminal.hear(mark, message)), out)
+    put_word(heard_text(terminal.hear(mark, message)), out)
 }
 
 /// Appends the bursts that the terminal transmits in that superframe.

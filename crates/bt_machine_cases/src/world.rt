@@ -4,17 +4,14 @@ ghost use Rattle.std.specs.Bool.{OnTrue};
 ghost use Rattle.bt_net.specs.Terminals.{IsTerminal};
 ghost use Rattle.bt_demand.specs.Flyable.{IsFlyable};
 ghost use Rattle.bt_timeline.specs.Air.{NamesTerminal};
-ghost use Rattle.bt_events.specs.Fits.{IsPlace, Meets, no_plan};
+ghost use Rattle.bt_events.specs.Fits.{IsPlace, Meets};
 ghost use Rattle.bt_world.specs.Life.{past_of};
 
 use crate::shown::put_shown;
 use bt_air::{Event, Place, Sent, Shown};
 use bt_case_text::{Part, byte_of, number_of, put_lines};
-use bt_demand::{Bursts, Plan, good_plans_are_flyable};
-use bt_frame::{
-    BeamNo, Critical, EditionNo, LAST_MARK, MOST_COUNTED, MOST_SLOTS, MOST_TEXT_BYTES, Modes,
-    Schedule, TermNo,
-};
+use bt_demand::{Plan, empty_plan, good_plans_are_flyable};
+use bt_frame::{LAST_MARK, MOST_COUNTED, MOST_SLOTS, MOST_TEXT_BYTES, TermNo};
 use bt_net::Network;
 use bt_plan::{read_demand, read_plan};
 use bt_sheet::{CaseFault, Result};
@@ -254,20 +251,5 @@ fn good_plan_from(alloc: Global, net: &Network, traffic: &[u8], plan: &[u8]) -> 
     match check(net, &demand, &plan) {
         Verdict::Good => Ok(plan),
         _ => Err(CaseFault("no good plan")),
-    }
-}
-
-/// The plan of edition 0.
-fn empty_plan(alloc: Global) -> Plan
-    ensures { result ≡ no_plan }
-{
-    Plan {
-        edition: EditionNo(0),
-        schedule: Schedule {
-            length: 0,
-            critical: Critical::Row(BeamNo(0)),
-            modes: Modes::of(Vec::new(alloc)),
-        },
-        bursts: Bursts::of(Vec::new(alloc)),
     }
 }

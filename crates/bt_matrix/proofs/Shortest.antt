@@ -21,7 +21,7 @@ mode_in_row size up mode = total-once size mode.duration (λ down. slice_index m
     omega arith)
 
 -- and those of a downlink, since no two uplinks are sent there at once
-mode_in_column : (size down : ℕ) (mode : Mode) → IsPermutation size mode.perm → total size (λ up. slots_in up down mode) ≤ mode.duration
+pub mode_in_column : (size down : ℕ) (mode : Mode) → IsPermutation size mode.perm → total size (λ up. slots_in up down mode) ≤ mode.duration
 mode_in_column size down mode is = total-once size mode.duration (λ up. slice_index mode.perm up == down)
     (λ j k less below first second.
     let at_j = eqb-true (slice_index mode.perm j) down first in

@@ -7,6 +7,13 @@ use Rattle.bt_matrix.specs.Traffic.{row_of, entry, row_sum, column_sum, with_ent
 use Rattle.bt_matrix.specs.Dense.{KeepsSums}
 use Rattle.bt_matrix.proofs.Lines.{length-lists, row_of-map, vec_len-row, row_sum-with_entry_same, row_sum-with_entry_other, column_sum-with_entry_same, column_sum-with_entry_other}
 
+-- the entry that was written
+pub entry-with_entry_same : (rows : List (List ℕ)) (up down n : ℕ) → up < length rows → down < length (row_of rows up)
+    → entry (with_entry rows up down n) up down ≡ n
+entry-with_entry_same rows up down n in_rows in_row =
+    ap (λ (row : List ℕ). slice_index row down) (get_or-set_same rows up (slice_set (row_of rows up) down n) [] in_rows)
+    ∙ get_or-set_same (row_of rows up) down n 0 in_row
+
 -- a row is as long as the matrix
 pub length-row : (rows : List (List ℕ)) (up : ℕ) → IsTraffic rows → up < length rows → length (row_of rows up) ≡ length rows
 length-row rows up is within = is.square up [] within

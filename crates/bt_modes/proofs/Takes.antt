@@ -1,12 +1,13 @@
 -- Entries that lost the slots of a mode.
 use Rattle.std.proofs.Common.{below_more, ◌≡◌, ◌≢◌, ◌==◌, ℕ, ◌+◌, ◌<◌, ◌≤◌, min, List, length, slice_index, sym, ◌∙◌, refl, inl, inr, arith, eq-eqb}
-use Rattle.std.proofs.lemmas.Bool.{cases_lt, ne_eqb, eqb-true}
+use Rattle.std.proofs.lemmas.Bool.{cases_lt, ne_eqb}
 use Rattle.bt_frame.specs.declared.mode.Mode.{Mode}
 use Rattle.bt_frame.specs.declared.schedule.Critical.{Critical}
 use Rattle.bt_frame.specs.declared.schedule.Critical.TheVariants.{Row, Column}
 use Rattle.bt_matrix.specs.Good.{IsPermutation, slots_in}
 use Rattle.bt_matrix.specs.Traffic.{row_of, entry, row_sum, column_sum, line_sum, IsLine}
-use Rattle.bt_lists.proofs.Totals.{total, total-same, total-add, total-once, total-only, part-le-total}
+use Rattle.bt_matrix.proofs.Shortest.{mode_in_column}
+use Rattle.bt_lists.proofs.Totals.{total, total-same, total-add, total-only, part-le-total}
 use Rattle.bt_modes.specs.Decomposition.{IsLeastEntry, LosesMode}
 use Rattle.bt_modes.proofs.Sums.{total-tight, IsSquare, row_sum-total, column_sum-total, rows_are_columns}
 use Rattle.bt_modes.proofs.Positive.{positive_entries-less}
@@ -29,14 +30,6 @@ row_of_mode size up mode inside =
     part-le-total size (λ down. slots_in up down mode) at inside in
     omega arith
 
--- and a downlink no more
-column_of_mode : (size down : ℕ) (mode : Mode) → IsPermutation size mode.perm → total size (λ up. slots_in up down mode) ≤ mode.duration
-column_of_mode size down mode permutes =
-    total-once size mode.duration (λ up. slice_index mode.perm up == down)
-    (λ j k less below first second.
-    permutes.distinct j k 0 less (omega (arith, permutes.count))
-    (eqb-true (slice_index mode.perm j) down first ∙ sym (eqb-true (slice_index mode.perm k) down second)))
-
 -- every entry of the square matrix of the first is that of the second and the mode's slots
 record IsSum (size : ℕ) (old new : List (List ℕ)) (mode : Mode) : Type 0 where
   pub was : IsSquare old size
@@ -58,7 +51,7 @@ column_loses_no_more : (size down : ℕ) (old new : List (List ℕ)) (mode : Mod
 column_loses_no_more size down old new mode both permutes inside =
     let parts = total-same size (λ up. entry old up down) (λ up. entry new up down + slots_in up down mode) (λ up within. both.entries up down within inside) in
     let split = total-add size (λ up. entry new up down) (λ up. slots_in up down mode) in
-    omega (arith, parts, split, column_of_mode size down mode permutes, column_sum-total old size down both.was, column_sum-total new size down both.is)
+    omega (arith, parts, split, mode_in_column size down mode permutes, column_sum-total old size down both.was, column_sum-total new size down both.is)
 
 -- nor by less, since all columns fall by as much as all rows
 column_loses : (size down : ℕ) (old new : List (List ℕ)) (mode : Mode) → IsSum size old new mode → IsPermutation size mode.perm → down < size

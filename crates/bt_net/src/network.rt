@@ -100,7 +100,7 @@ impl Network {
 
     /// The beam of a terminal.
     pub fn beam_of(&self, terminal: TermNo) -> BeamNo
-        requires terminal { terminal.0 < length self.now.terminals }
+        requires terminal { IsTerminal self.now terminal }
         ensures beam { option_map (λ t. t.1) (slice_get self.now.terminals terminal.0) ≡ Some result }
         ensures in_range { result.0 < length self.now.beams }
         ensures few { result.0 < MOST_BEAMS }
@@ -110,7 +110,7 @@ impl Network {
 
     /// The name of a terminal.
     pub fn name_of(&self, terminal: TermNo) -> &str
-        requires terminal { terminal.0 < length self.now.terminals }
+        requires terminal { IsTerminal self.now terminal }
         ensures name { option_map (λ t. t.0) (slice_get self.now.terminals terminal.0) ≡ Some result.now }
         ensures good { IsTrue (is_terminal_name result.now) }
     {

@@ -1,5 +1,5 @@
 -- The traffic matrix kept beside a demand, where a link gains or loses.
-use Rattle.std.proofs.Common.{◌≡◌, ℕ, zero, suc, ◌+◌, ◌-◌, ◌<◌, ◌≤◌, ◌&&◌, if◌then◌else◌, List, [], ◌∷◌, length, replicate, slice_index, slice_set, refl, sym, ap, ◌∙◌, subst, arith, get_or-set_same}
+use Rattle.std.proofs.Common.{◌≡◌, ℕ, zero, suc, ◌+◌, ◌-◌, ◌<◌, ◌≤◌, ◌&&◌, if◌then◌else◌, List, [], ◌∷◌, length, replicate, slice_set, refl, sym, ap, ◌∙◌, subst, arith, get_or-set_same}
 use Rattle.std.proofs.lemmas.List.{set-get_or}
 use Rattle.bt_frame.specs.declared.numbers.BeamNo.{BeamNo}
 use Rattle.bt_frame.specs.declared.numbers.TermNo.{TermNo}
@@ -8,6 +8,7 @@ use Rattle.bt_frame.specs.declared.schedule.Critical.{Critical}
 use Rattle.bt_frame.specs.declared.schedule.Critical.TheVariants.{Row, Column}
 use Rattle.bt_net.specs.Network.{Net}
 use Rattle.bt_matrix.specs.Traffic.{row_of, entry, row_sum, column_sum, with_entry, IsHeaviest}
+use Rattle.bt_matrix.proofs.Writes.{entry-with_entry_same}
 use Rattle.bt_demand.specs.declared.demand.Link.{Link}
 use Rattle.bt_demand.specs.Demand.{units_of, Gains}
 use Rattle.bt_demand.specs.Traffic.{units_between, matrix_of, HasSumsTo}
@@ -34,12 +35,6 @@ set_again [] i x y = refl
 set_again (z ∷ zs) zero x y = refl
 set_again (z ∷ zs) (suc i) x y = ap (λ (rest : List _). z ∷ rest) (set_again zs i x y)
 
--- the entry that was written
-entry-with_entry : (rows : List (List ℕ)) (up down n : ℕ) → up < length rows → down < length (row_of rows up) → entry (with_entry rows up down n) up down ≡ n
-entry-with_entry rows up down n in_rows in_row =
-    ap (λ (row : List ℕ). slice_index row down) (get_or-set_same rows up (slice_set (row_of rows up) down n) [] in_rows)
-    ∙ get_or-set_same (row_of rows up) down n 0 in_row
-
 -- a write of what stood there takes back a write
 with_entry-back : (rows : List (List ℕ)) (up down n : ℕ) → up < length rows → with_entry (with_entry rows up down n) up down (entry rows up down) ≡ rows
 with_entry-back rows up down n in_rows =
@@ -59,7 +54,7 @@ loses-by : (matrix less : List (List ℕ)) (up down units : ℕ) → up < length
     → matrix ≡ with_entry less up down (entry less up down + units) → Loses matrix less up down units
 loses-by matrix less up down units in_rows in_row is =
     let n = entry less up down + units in
-    let there : entry matrix up down ≡ n = ap (λ (m : List (List ℕ)). entry m up down) is ∙ entry-with_entry less up down n in_rows in_row in
+    let there : entry matrix up down ≡ n = ap (λ (m : List (List ℕ)). entry m up down) is ∙ entry-with_entry_same less up down n in_rows in_row in
     let left : entry matrix up down - units ≡ entry less up down = omega (arith, there) in
     record {
       held = omega (arith, there);

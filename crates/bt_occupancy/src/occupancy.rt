@@ -4,7 +4,7 @@ ghost use Rattle.bt_frame.specs.declared.schedule.Critical.{Critical};
 ghost use Rattle.bt_matrix.specs.Traffic.{row_sum, column_sum, IsHeaviest};
 ghost use Rattle.bt_demand.specs.Demand.{units_of, Gains, IsDemand};
 ghost use Rattle.bt_demand.specs.Traffic.{matrix_of, HasSumsTo};
-ghost use Rattle.bt_net.specs.Terminals.{IsInBeam};
+ghost use Rattle.bt_net.specs.Terminals.{IsInBeam, IsTerminal};
 ghost use Rattle.bt_net.specs.Network.{IsSound};
 ghost use Rattle.bt_journal.specs.Journal.{NamesTerminals};
 ghost use Rattle.bt_occupancy.specs.Occupancy.{HasEnds, EditsLinks, GainsFirst, LosesThen, HoldsTaken, HoldsGiven};
@@ -101,7 +101,7 @@ impl Occupancy {
 
     /// The beam of a terminal that sends, and the slots of its row.
     pub fn row_of(&self, from: TermNo) -> (BeamNo, u32)
-        requires sends { from.0 < length self.now.net.terminals }
+        requires sends { IsTerminal self.now.net from }
         ensures beam { IsInBeam self.now.net from result.0 }
         ensures in_range { result.0.0 < length self.now.net.beams }
         ensures sum { result.1 ≡ row_sum (matrix_of self.now.net self.now.links) result.0.0 }
@@ -115,7 +115,7 @@ impl Occupancy {
 
     /// The beam of a terminal that receives, and the slots of its column.
     pub fn column_of(&self, to: TermNo) -> (BeamNo, u32)
-        requires receives { to.0 < length self.now.net.terminals }
+        requires receives { IsTerminal self.now.net to }
         ensures beam { IsInBeam self.now.net to result.0 }
         ensures in_range { result.0.0 < length self.now.net.beams }
         ensures sum { result.1 ≡ column_sum (matrix_of self.now.net self.now.links) result.0.0 }
@@ -216,8 +216,8 @@ impl Occupancy {
         to: TermNo,
         units: Units,
     ) -> Result<(), OutOfMemory>
-        requires sends { from.0 < length self.old.net.terminals }
-        requires receives { to.0 < length self.old.net.terminals }
+        requires sends { IsTerminal self.old.net from }
+        requires receives { IsTerminal self.old.net to }
         requires differ { from.0 ≢ to.0 }
         requires small { HasSumsTo MOST_SLOTS (matrix_of self.old.net self.old.links) }
         ensures gains { OnOk result (Gains self.old.links self.new.links from to units) }
@@ -233,8 +233,8 @@ impl Occupancy {
 
     /// A link asks for so many slots less.
     fn lose(&mut self, from: TermNo, to: TermNo, units: Units)
-        requires sends { from.0 < length self.old.net.terminals }
-        requires receives { to.0 < length self.old.net.terminals }
+        requires sends { IsTerminal self.old.net from }
+        requires receives { IsTerminal self.old.net to }
         requires held { units ≤ units_of self.old.links from to }
         ensures loses { Gains self.new.links self.old.links from to units }
         ensures net { self.new.net ≡ self.old.net }

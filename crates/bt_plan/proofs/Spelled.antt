@@ -5,7 +5,9 @@ use Rattle.std.proofs.lemmas.Bool.{and_parts, leb-true, eqb-true}
 use Rattle.std.proofs.lemmas.List.Elements.{All-from_recursion}
 use Rattle.std.proofs.lemmas.List.Sums.{sum_by-cons}
 use Rattle.bt_text.specs.Text.{words, lines, numbers_of}
-use Rattle.bt_matrix.specs.Traffic.{IsTraffic, column_sum}
+use Rattle.bt_frame.specs.declared.schedule.Critical.{Critical}
+use Rattle.bt_frame.specs.declared.schedule.Critical.TheVariants.{Row, Column}
+use Rattle.bt_matrix.specs.Traffic.{IsTraffic, IsLine, row_of, column_sum, line_sum}
 use Rattle.bt_plan.specs.declared.text_fault.TextCode.{TextCode}
 use Rattle.bt_plan.specs.declared.text_fault.TextCode.TheVariants.{X1, X2}
 use Rattle.bt_text.specs.Reading.{◌>>=◌}
@@ -90,14 +92,32 @@ rows-IsTraffic size rows some few are =
       column_sums = λ down lt. omega (arith, column-small size rows down are.each, are.count_is);
     }
 
-matrix_in-IsTraffic : (ls rows : List (List ℕ)) → matrix_in ls ≡ Ok rows → IsTraffic rows
-matrix_in-IsTraffic [] rows e = absurd cc
-matrix_in-IsTraffic (first ∷ []) rows e = absurd cc
-matrix_in-IsTraffic (first ∷ next ∷ rest) rows e =
+-- rows of a size from 1 to 16, as many as entries in each
+record IsSized (rows : List (List ℕ)) : Type 0 where
+  size : ℕ
+  some : 1 ≤ size
+  few : size ≤ 16
+  are : AreRows size size rows
+
+matrix_in-sized : (ls rows : List (List ℕ)) → matrix_in ls ≡ Ok rows → IsSized rows
+matrix_in-sized [] rows e = absurd cc
+matrix_in-sized (first ∷ []) rows e = absurd cc
+matrix_in-sized (first ∷ next ∷ rest) rows e =
     let size = bind_ok (size_in (numbers_of (words first))) (λ size. rows_in size size 2 (next ∷ rest)) rows e in
     let range = size_in-ok (numbers_of (words first)) size.0 size.1 in
-    rows-IsTraffic size.0 rows range.0 range.1 (rows_in-ok size.0 size.0 2 (next ∷ rest) rows size.2)
+    record { size = size.0; some = range.0; few = range.1; are = rows_in-ok size.0 size.0 2 (next ∷ rest) rows size.2 }
 
 -- the rows that a text spells are a traffic matrix
 pub matrix_of-IsTraffic : (text : List ℕ) (rows : List (List ℕ)) → matrix_of text ≡ Ok rows → IsTraffic rows
-matrix_of-IsTraffic text rows e = matrix_in-IsTraffic (lines text) rows e
+matrix_of-IsTraffic text rows e = let sized = matrix_in-sized (lines text) rows e in rows-IsTraffic sized.size rows sized.some sized.few sized.are
+
+line-small : (rows : List (List ℕ)) (line : Critical) → IsSized rows → IsLine rows line → line_sum rows line ≤ 65536
+line-small rows (Row up) sized within =
+    let row = All-from_recursion (IsRow sized.size) rows sized.are.each up.0 [] within in
+    omega (arith, sum-small (row_of rows up.0) row.small, row.len, sized.few)
+line-small rows (Column down) sized within =
+    omega (arith, column-small sized.size rows down.0 sized.are.each, sized.are.count_is, sized.few)
+
+-- and each line of them has at most sixteen times the greatest entry
+pub matrix_of-line_small : (text : List ℕ) (rows : List (List ℕ)) (line : Critical) → matrix_of text ≡ Ok rows → IsLine rows line → line_sum rows line ≤ 65536
+matrix_of-line_small text rows line e within = line-small rows line (matrix_in-sized (lines text) rows e) within

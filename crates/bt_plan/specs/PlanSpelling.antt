@@ -8,7 +8,7 @@ use Rattle.bt_demand.specs.declared.burst.Burst.{Burst}
 use Rattle.bt_demand.specs.declared.plan.Plan.{Plan}
 use Rattle.bt_demand.specs.Burst.{IsNotAfter}
 use Rattle.bt_plan.specs.ScheduleSpelling.{length_line, critical_line, mode_line, IsInRange}
-use Rattle.bt_net.specs.Terminals.{name_at}
+use Rattle.bt_net.specs.Terminals.{name_at, IsTerminal}
 
 -- `plan E`
 abbrev pub edition_line : EditionNo → List ℕ
@@ -31,8 +31,8 @@ pub record IsBurstInRange (net : Net) (burst : Burst) : Type 0 where
   pub start : burst.start ≤ LAST_TEXT_SLOT
   pub some : 1 ≤ burst.length
   pub few : burst.length ≤ MOST_TEXT_SLOTS
-  pub sends : burst.from.0 < length net.terminals
-  pub receives : burst.to.0 < length net.terminals
+  pub sends : IsTerminal net burst.from
+  pub receives : IsTerminal net burst.to
 
 -- a plan that a text can spell for this network
 pub record IsPlanInRange (net : Net) (plan : Plan) : Type 0 where

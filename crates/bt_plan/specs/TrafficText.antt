@@ -1,5 +1,5 @@
 -- The text of a demand: a line for each link, in any order.
-use Rattle.std.specs.Prelude.{◌≡◌, ◌≢◌, ℕ, ◌+◌, ◌<◌, ◌≤◌, ◌==◌, ◌&&◌, ◌||◌, if◌then◌else◌, nat_le, nat_lt, codes, Bool, false, length, unwrap_or, option_map, List, [], ◌∷◌, Ok, Err}
+use Rattle.std.specs.Prelude.{◌≡◌, ◌≢◌, ℕ, ◌+◌, ◌<◌, ◌≤◌, ◌==◌, ◌&&◌, ◌||◌, if◌then◌else◌, nat_le, nat_lt, codes, Bool, false, unwrap_or, option_map, List, [], ◌∷◌, Ok, Err}
 use Rattle.bt_frame.specs.declared.limits.TheConstants.{MOST_UNITS, MOST_SUM}
 use Rattle.bt_text.specs.Text.{words, lines, number_of, is_word}
 use Rattle.bt_frame.specs.declared.numbers.TermNo.{TermNo}
@@ -9,7 +9,7 @@ use Rattle.bt_net.specs.Network.{Net}
 use Rattle.bt_demand.specs.declared.demand.Link.{Link}
 use Rattle.bt_plan.specs.declared.text_fault.TextCode.TheVariants.{T1, T2, T3, T4, T5}
 use Rattle.bt_demand.specs.Demand.{Ends, IsDemand, units_of}
-use Rattle.bt_net.specs.Terminals.{beam_at}
+use Rattle.bt_net.specs.Terminals.{beam_at, IsTerminal}
 use Rattle.bt_names.specs.Name.{are_names}
 use Rattle.bt_plan.specs.Reading.{Reading}
 use Rattle.bt_plan.specs.TerminalNames.{ends_in}
@@ -86,8 +86,8 @@ demand_of net text = links_in net 1 [] (lines text)
 
 -- a link that a line can spell: between two terminals of the network, for at least one slot and at most as many as a line may have
 pub record IsSpelled (net : Net) (link : Link) : Type 0 where
-  pub sends : link.from.0 < length net.terminals
-  pub receives : link.to.0 < length net.terminals
+  pub sends : IsTerminal net link.from
+  pub receives : IsTerminal net link.to
   pub differ : link.from.0 ≢ link.to.0
   pub some : 0 < link.units
   pub few : link.units ≤ MOST_UNITS

@@ -3,7 +3,7 @@ ghost use Rattle.std.specs.Prelude.{◌≡◌, ◌<◌, ◌++◌, ◌∷◌, [],
 ghost use Rattle.bt_text.specs.Text.{ended};
 ghost use Rattle.bt_plan.specs.PlanSpelling.{edition_line, burst_line, plan_spelling};
 ghost use Rattle.bt_verdict.specs.PlanVerdict.{AreBetweenTerminals};
-ghost use Rattle.bt_net.specs.Terminals.{name_at};
+ghost use Rattle.bt_net.specs.Terminals.{name_at, IsTerminal};
 
 use crate::schedule_writer::{write_next, write_schedule};
 use bt_demand::{Burst, Plan};
@@ -58,8 +58,8 @@ fn write_burst(
     burst: Burst,
     text: &mut Vec<u8>,
 ) -> Result<(), OutOfMemory>
-    requires sends { burst.from.0 < length net.now.terminals }
-    requires receives { burst.to.0 < length net.now.terminals }
+    requires sends { IsTerminal net.now burst.from }
+    requires receives { IsTerminal net.now burst.to }
     ensures { OnOk result (text.new.items ≡ text.old.items ++ burst_line net.now burst ++ 10 ∷ []) }
 {
     text.extend_from_slice(b"burst")?;
@@ -73,7 +73,7 @@ fn write_burst(
 
 // Appends the name of a terminal, behind a space.
 fn write_name(net: &Network, terminal: TermNo, text: &mut Vec<u8>) -> Result<(), OutOfMemory>
-    requires { terminal.0 < length net.now.terminals }
+    requires { IsTerminal net.now terminal }
     ensures { OnOk result (text.new.items ≡ text.old.items ++ 32 ∷ name_at net.now terminal) }
 {
     text.push(b' ')?;

@@ -10,7 +10,8 @@ use Rattle.bt_demand.specs.declared.plan.Plan.{Plan}
 use Rattle.bt_journal.specs.declared.call.Change.{Change}
 use Rattle.bt_board.specs.Plans.{last_after, last_of, next_edition, next_of}
 use Rattle.bt_history.specs.Causes.{Follows}
-use Rattle.bt_history.specs.Changes.{empty_plan, installs, newest, plans}
+use Rattle.bt_demand.specs.Plan.{empty_plan}
+use Rattle.bt_history.specs.Changes.{installs, newest, plans}
 use Rattle.bt_workers.specs.Lent.{IsLent}
 use Rattle.bt_round.specs.Boards.{IsShownBetween}
 use Rattle.bt_workers.proofs.Lent.{contained_on}

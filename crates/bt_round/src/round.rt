@@ -17,12 +17,12 @@ ghost use Rattle.bt_round.specs.Workers.{CanDo, WorkDone};
 
 use crate::seats::{Crew, SEATS, room_for, seat_all, take_apart};
 use crate::workers::{Worker, work};
-use bt_base::Keeper;
 use bt_board::{Publisher, Reader};
 use bt_book::{Book, locked_books_are_legal, locked_books_go_on};
 use bt_frame::OutOfMemory;
 use bt_line::Line;
 use bt_net::Network;
+use bt_outside::Keeper;
 use bt_script::{DeskLines, Round};
 use bt_workers::{CentreWorker, Gate};
 use std::alloc::Global;

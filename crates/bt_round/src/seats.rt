@@ -7,12 +7,12 @@ ghost use Rattle.bt_workers.specs.AirLines.{AirState};
 ghost use Rattle.bt_round.specs.Seats.{AllAt, IsJobAt, IsOfPlace, IsReady, air_in, lines_of, publisher_in, reader_in};
 
 use crate::workers::{Job, Worker};
-use bt_base::Keeper;
 use bt_board::{Publisher, Reader};
 use bt_book::Book;
 use bt_frame::{MOST_DESKS, OutOfMemory};
 use bt_journal::{Call, Reply};
 use bt_line::{Line, Object, Pass};
+use bt_outside::Keeper;
 use bt_script::{DeskLine, DeskLines, Round};
 use bt_workers::{Caller, CentreWorker, Gate};
 use std::alloc::Global;

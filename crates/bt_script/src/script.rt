@@ -165,7 +165,7 @@ impl AirLines {
     }
 }
 
-/// A round: its desks, its planner and the centre's worker run at once, each through lines of its own.
+/// A round: the lines of its desks, of its planner and of the centre's worker, who go through them side by side.
 #[derive(Drop)]
 pub struct Round {
     /// What the desks do.

@@ -57,9 +57,9 @@ fn place_word(net: &Network, place: Place) -> Word<'_>
     }
 }
 
-/// What the receiver of a message does with it.
-fn answer_text(answer: Answer) -> &'static str
-    ensures { result.now ≡ answer_name answer }
+/// The printed word of what the receiver of a message does with it.
+pub fn answer_text(answer: Answer) -> &'static str
+    ensures word { result.now ≡ answer_name answer }
 {
     match answer {
         Answer::Taken(taken) => taken_text(taken),
@@ -69,9 +69,9 @@ fn answer_text(answer: Answer) -> &'static str
     }
 }
 
-/// What the satellite does with a message.
-fn taken_text(taken: Taken) -> &'static str
-    ensures { result.now ≡ taken_name taken }
+/// The printed word of what the satellite does with a message.
+pub fn taken_text(taken: Taken) -> &'static str
+    ensures word { result.now ≡ taken_name taken }
 {
     match taken {
         Taken::Accepted => "accepted",
@@ -83,9 +83,9 @@ fn taken_text(taken: Taken) -> &'static str
     }
 }
 
-/// What a terminal does with a message.
-fn heard_text(heard: Heard) -> &'static str
-    ensures { result.now ≡ heard_name heard }
+/// The printed word of what a terminal does with a message.
+pub fn heard_text(heard: Heard) -> &'static str
+    ensures word { result.now ≡ heard_name heard }
 {
     match heard {
         Heard::Took => "took",

@@ -19,7 +19,7 @@ mod verdict;
 
 pub use air::{flow_text, last_tick_text, lost_text, over_text, reset_text, tick_text, turn_text};
 pub use bursts::{frame_text, show_text};
-pub use delivery::{got_text, not_sent_text};
+pub use delivery::{answer_text, got_text, heard_text, not_sent_text, taken_text};
 pub use entry::entry_text;
 pub use marks::{Totals, restart_text, round_text, start_text, total_text};
 pub use order::{order_text, unplaced_text};

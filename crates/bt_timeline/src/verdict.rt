@@ -1,6 +1,7 @@
 // The line of a verdict.
 ghost use Rattle.std.specs.Prelude.{◌≡◌, ◌++◌, ◌<◌, length, None, Some, OnOk, OnErr};
 ghost use Rattle.bt_timeline.specs.Verdicts.{CanName, lent, verdict_line};
+ghost use Rattle.bt_net.specs.Terminals.{IsTerminal};
 
 use bt_frame::{Critical, OutOfMemory, TermNo};
 use bt_net::Network;
@@ -91,8 +92,8 @@ fn link_text(
     slots: (u64, u64),
     out: &mut Vec<u8>,
 ) -> Result<(), OutOfMemory>
-    requires sends { ends.0.0 < length net.now.terminals }
-    requires receives { ends.1.0 < length net.now.terminals }
+    requires sends { IsTerminal net.now ends.0 }
+    requires receives { IsTerminal net.now ends.1 }
     ensures added { OnOk result (out.new.items ≡ out.old.items ++ verdict_line (Some net.now) (Verdict.V7 ends.0 ends.1 slots.0 slots.1)) }
     ensures unchanged { OnErr result (out.new.items ≡ out.old.items) }
 {

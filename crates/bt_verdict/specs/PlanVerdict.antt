@@ -4,6 +4,7 @@ use Rattle.std.specs.List.{HoldsAt}
 use Rattle.bt_frame.specs.declared.numbers.TermNo.{TermNo}
 use Rattle.bt_frame.specs.declared.schedule.Schedule.{Schedule}
 use Rattle.bt_net.specs.Network.{Net}
+use Rattle.bt_net.specs.Terminals.{IsTerminal}
 use Rattle.bt_matrix.specs.Traffic.{IsHeaviest}
 use Rattle.bt_matrix.specs.Good.{IsPermutation, HasDurations, IsFilled, IsLeast, total_duration}
 use Rattle.bt_demand.specs.declared.burst.Burst.{Burst}
@@ -30,8 +31,8 @@ IsServed links bursts from to = slots_sent bursts from to ≡ units_of links fro
 
 -- the first link in order whose bursts have another number of slots than it asks for, with both numbers
 pub record IsFirstUnserved (net : Net) (links : List Link) (bursts : List Burst) (from to : TermNo) (want have : ℕ) : Type 0 where
-  pub sends : from.0 < length net.terminals
-  pub receives : to.0 < length net.terminals
+  pub sends : IsTerminal net from
+  pub receives : IsTerminal net to
   pub wanted : want ≡ units_of links from to
   pub sent : have ≡ slots_sent bursts from to
   pub differ : want ≢ have

@@ -4,6 +4,7 @@ use Rattle.bt_frame.specs.declared.limits.TheConstants.{MOST_TERMINALS}
 use Rattle.bt_frame.specs.declared.numbers.TermNo.{TermNo}
 use Rattle.bt_matrix.specs.Traffic.{entry}
 use Rattle.bt_net.specs.Network.{Net}
+use Rattle.bt_net.specs.Terminals.{IsTerminal}
 use Rattle.bt_demand.specs.declared.burst.Burst.{Burst}
 use Rattle.bt_demand.specs.declared.demand.Link.{Link}
 use Rattle.bt_verdict.specs.PlanVerdict.{IsServed}
@@ -28,4 +29,4 @@ AreUnitsAsked links table = AreSumsAt (λ link. link.from.0) (λ link. link.to.0
 
 -- each link between terminals of the network has the slots that it asks for
 abbrev pub AreServed : Net → List Link → List Burst → Type 0
-AreServed net links bursts = (from to : TermNo) → from.0 < length net.terminals → to.0 < length net.terminals → IsServed links bursts from to
+AreServed net links bursts = (from to : TermNo) → IsTerminal net from → IsTerminal net to → IsServed links bursts from to

@@ -6,6 +6,7 @@ ghost use Rattle.bt_demand.specs.Burst.{AreBursts};
 ghost use Rattle.bt_demand.specs.Apart.{AreBetweenTerminals};
 ghost use Rattle.bt_verdict.specs.Turn.{IsTurn, IsTurnAt};
 ghost use Rattle.bt_verdict.specs.Verdict.{IsFirstWithout};
+ghost use Rattle.bt_net.specs.Terminals.{IsTerminal};
 
 use bt_demand::Burst;
 use bt_frame::Mode;
@@ -62,8 +63,8 @@ fn turn_at(modes: &[Mode], from: Turn, slot: u32) -> Turn
 /// Is the burst not empty, and within that mode, which makes its connection?
 fn is_held(net: &Network, modes: &[Mode], turn: Turn, burst: Burst) -> bool
     requires permutations { All (λ m. IsPermutation (length net.now.beams) m.perm) modes.now }
-    requires sends { burst.from.0 < length net.now.terminals }
-    requires receives { burst.to.0 < length net.now.terminals }
+    requires sends { IsTerminal net.now burst.from }
+    requires receives { IsTerminal net.now burst.to }
     requires at { IsTurnAt modes.now burst.start turn }
     ensures { IsTrue result ↔ IsHeld net.now modes.now burst }
 {
@@ -85,8 +86,8 @@ fn lasts_until(burst: Burst, end: u64) -> bool
 /// Does the mode send the uplink beam of a burst to its downlink beam?
 fn connects(net: &Network, mode: &Mode, burst: Burst) -> bool
     requires wide { length mode.now.perm ≡ length net.now.beams }
-    requires sends { burst.from.0 < length net.now.terminals }
-    requires receives { burst.to.0 < length net.now.terminals }
+    requires sends { IsTerminal net.now burst.from }
+    requires receives { IsTerminal net.now burst.to }
     ensures { IsTrue result ↔ Connects net.now mode.now burst.from burst.to }
 {
     let up = net.beam_of(burst.from);

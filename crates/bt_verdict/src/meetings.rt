@@ -5,6 +5,7 @@ ghost use Rattle.bt_demand.specs.Plan.{ShareABeam};
 ghost use Rattle.bt_demand.specs.Apart.{Collide, AreApart, AreBetweenTerminals};
 ghost use Rattle.bt_verdict.specs.PlanVerdict.{IsFirstMeeting};
 ghost use Rattle.bt_verdict.specs.Meeting.{ShareASlot, IsFirstMet, IsFirstLate};
+ghost use Rattle.bt_net.specs.Terminals.{IsBetweenTerminals, IsTerminal};
 
 use bt_demand::{Burst, MOST_BURSTS};
 use bt_frame::MOST_BEAMS;
@@ -58,8 +59,8 @@ fn first_late(net: &Network, bursts: &[Burst]) -> Option<u32>
 /// The first of these bursts that meets another one.
 fn first_met(net: &Network, bursts: &[Burst], burst: Burst) -> Option<u32>
     requires between { AreBetweenTerminals net.now bursts.now }
-    requires sends { burst.from.0 < length net.now.terminals }
-    requires receives { burst.to.0 < length net.now.terminals }
+    requires sends { IsTerminal net.now burst.from }
+    requires receives { IsTerminal net.now burst.to }
     requires few { length bursts.now ≤ MOST_BURSTS }
     ensures { MatchOption result
         (All (λ a. ¬ (Collide net.now a burst)) bursts.now)
@@ -75,8 +76,8 @@ fn first_met(net: &Network, bursts: &[Burst], burst: Burst) -> Option<u32>
 
 /// Do the bursts share a slot, and a beam there?
 fn collide(net: &Network, a: Burst, b: Burst) -> bool
-    requires first { (a.from.0 < length net.now.terminals) × (a.to.0 < length net.now.terminals) }
-    requires second { (b.from.0 < length net.now.terminals) × (b.to.0 < length net.now.terminals) }
+    requires first { IsBetweenTerminals net.now a.from a.to }
+    requires second { IsBetweenTerminals net.now b.from b.to }
     ensures { IsTrue result ↔ Collide net.now a b }
 {
     share_a_slot(a, b) && share_a_beam(net, a, b)
@@ -92,8 +93,8 @@ fn share_a_slot(a: Burst, b: Burst) -> bool
 
 /// Do both bursts go up in one beam, or come down in one?
 fn share_a_beam(net: &Network, a: Burst, b: Burst) -> bool
-    requires first { (a.from.0 < length net.now.terminals) × (a.to.0 < length net.now.terminals) }
-    requires second { (b.from.0 < length net.now.terminals) × (b.to.0 < length net.now.terminals) }
+    requires first { IsBetweenTerminals net.now a.from a.to }
+    requires second { IsBetweenTerminals net.now b.from b.to }
     ensures { IsTrue result ↔ ShareABeam net.now a.from a.to b.from b.to }
 {
     net.beam_of(a.from) == net.beam_of(b.from) || net.beam_of(a.to) == net.beam_of(b.to)

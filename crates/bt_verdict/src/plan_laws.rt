@@ -4,6 +4,7 @@ ghost use Rattle.bt_frame.specs.declared.numbers.TermNo.{TermNo};
 ghost use Rattle.bt_frame.specs.declared.schedule.Critical.{Critical};
 ghost use Rattle.bt_matrix.specs.Traffic.{line_sum, IsLine};
 ghost use Rattle.bt_net.specs.Network.{Net};
+ghost use Rattle.bt_net.specs.Terminals.{IsTerminal};
 ghost use Rattle.bt_demand.specs.declared.demand.Link.{Link};
 ghost use Rattle.bt_demand.specs.declared.plan.Plan.{Plan};
 ghost use Rattle.bt_verdict.specs.declared.verdict.Verdict.{Verdict};
@@ -27,7 +28,7 @@ pub fn plans_are_good_by_their_parts()
     ensures good { (net : Net) (links : List Link) (plan : Plan)
         → IsDemand links → AreOfNetwork net links → AreBetweenTerminals net plan.bursts
         → HasGoodModes net links plan.schedule → AreApart net plan.bursts → All (IsHeld net plan.schedule.modes) plan.bursts
-        → ((from to : TermNo) → from.0 < length net.terminals → to.0 < length net.terminals → IsServed links plan.bursts from to)
+        → ((from to : TermNo) → IsTerminal net from → IsTerminal net to → IsServed links plan.bursts from to)
         → IsGoodPlan net links plan }
 {}
 

@@ -9,7 +9,8 @@ use Rattle.bt_demand.specs.declared.plan.Plan.{Plan}
 use Rattle.bt_journal.specs.declared.call.Change.{Change}
 use Rattle.bt_journal.specs.declared.call.Change.TheVariants as change
 use Rattle.bt_history.specs.Causes.{FollowFrom, Follows, IsGood}
-use Rattle.bt_history.specs.Changes.{empty_plan, newest, plan_in, plans}
+use Rattle.bt_demand.specs.Plan.{empty_plan}
+use Rattle.bt_history.specs.Changes.{newest, plan_in, plans}
 
 -- the plans of more changes stand behind the others
 pub plans-append : (a b : List Change) → plans (a ++ b) ≡ plans a ++ filter_map plan_in b

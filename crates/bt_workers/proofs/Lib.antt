@@ -13,5 +13,4 @@ pub mod Marks
 pub mod Flowing
 pub mod Wanted
 pub mod Turning
-pub mod Flies
 pub mod PlayedLines

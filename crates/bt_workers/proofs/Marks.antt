@@ -1,24 +1,16 @@
 -- The superframe of a world is never past the last.
-use Rattle.std.proofs.Common.{◌≡◌, ◌+◌, ◌≤◌, List, [], ◌∷◌, All, reverse, sym, ap, ◌∙◌, arith}
-use Rattle.std.proofs.lemmas.List.Elements.{All-head, All-tail}
-use Rattle.bt_air.specs.declared.order.Order.{Order}
-use Rattle.bt_air.specs.declared.order.Order.TheVariants.{Load, Arm}
+use Rattle.std.proofs.Common.{◌≡◌, ◌+◌, ◌≤◌, List, [], ◌∷◌, reverse, sym, ap, ◌∙◌, arith}
 use Rattle.bt_events.specs.Event.{Opening, Event, Tick, Turn, Ordered, Deliver, Frame, ResetTerminal, RestartCentre, Install, Happening}
 use Rattle.bt_frame.specs.declared.limits.TheConstants.{LAST_MARK}
-use Rattle.bt_events.specs.Fits.{IsInTime, IsWorld}
-use Rattle.bt_events.specs.World.{greatest_due, log, mark}
+use Rattle.bt_events.specs.Fits.{IsWorld}
+use Rattle.bt_events.specs.World.{log, mark}
+use Rattle.bt_events.proofs.Counted.{due-in_time}
 use Rattle.bt_workers.specs.AirLines.{AirState, having, mark_of}
 use Rattle.bt_workers.specs.Worker.{IsRunning}
 use Rattle.bt_workers.proofs.Running.{past-having}
 
-due-small : (orders : List Order) → All IsInTime orders → greatest_due orders ≤ 4000000000
-due-small [] all = omega arith
-due-small (Load command edition ∷ earlier) all = due-small earlier (All-tail IsInTime (Load command edition) earlier all)
-due-small (Arm command edition due ∷ earlier) all =
-    omega (arith, due-small earlier (All-tail IsInTime (Arm command edition due) earlier all), All-head IsInTime (Arm command edition due) earlier all)
-
 pub mark-small : (o : Opening) (events : List Event) → IsWorld o events → mark o (log o events) ≤ 4000000000
-mark-small o [] world = due-small o.orders world.in_time
+mark-small o [] world = due-in_time o.orders world.in_time
 mark-small o (Tick ∷ earlier) world = omega (arith, world.0)
 mark-small o (Turn newest ∷ earlier) world = mark-small o earlier world.1
 mark-small o (Ordered ∷ earlier) world = mark-small o earlier world.1

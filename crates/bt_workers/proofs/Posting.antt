@@ -19,7 +19,7 @@ use Rattle.bt_journal.specs.declared.reply.Reply.{Reply}
 use Rattle.bt_journal.specs.declared.reply.Reply.TheVariants.{Done, Installed, Placed}
 use Rattle.bt_journal.specs.Journal.{calls_of, change_asked, change_made, changes_of, is_made, is_refusal}
 use Rattle.bt_history.specs.Book.{Books}
-use Rattle.bt_history.specs.Causes.{Follows}
+use Rattle.bt_history.specs.Causes.{Follows, IsNewer}
 use Rattle.bt_history.specs.Changes.{installs, newest, plans}
 use Rattle.bt_history.specs.Machine.{CallStep, ChangeStep, State}
 use Rattle.bt_script.specs.declared.script.AirLine.{AirLine}
@@ -42,17 +42,13 @@ installed_by entries = installs (changes_of entries)
 pub installed_by-append : (a b : List Entry) → installed_by (a ++ b) ≡ installed_by a ++ installed_by b
 installed_by-append a b = ap installs (changes_of-append a b) ∙ installs-append (changes_of a) (changes_of b)
 
--- the plan is of a greater edition than the newest
-abbrev IsPast : List Change → Plan → Type 0
-IsPast changes plan = (newest changes).edition.0 < plan.edition.0
-
 made_is_no_refusal : (reply : Reply) → is_made reply ≡ true → is_refusal reply ≡ true → ⊥
 made_is_no_refusal (Done _ _) made refused = false≢true refused
 made_is_no_refusal (Installed _) made refused = false≢true refused
 made_is_no_refusal Placed made refused = false≢true refused
 made_is_no_refusal _ made refused = false≢true made
 
-install_is_past : (net : Net) (old new : State) (plan : Plan) (reply : Reply) → is_made reply ≡ true → ChangeStep net old (change.Install plan) reply new → IsPast old.changes plan
+install_is_past : (net : Net) (old new : State) (plan : Plan) (reply : Reply) → is_made reply ≡ true → ChangeStep net old (change.Install plan) reply new → IsNewer old.changes plan
 install_is_past net old new plan reply made (inl halted) = absurd (false≢true (sym (ap is_made halted.told) ∙ made))
 install_is_past net old new plan reply made (inr (inl refused)) = absurd (made_is_no_refusal reply made refused.refuses)
 install_is_past net old new plan reply made (inr (inr (inl full))) = absurd (false≢true (sym (ap is_made full.told) ∙ made))
@@ -61,13 +57,13 @@ install_is_past net old new plan reply made (inr (inr (inr (inr lost)))) = absur
 
 -- what a step installs is of a greater edition than the newest
 step_is_past : (net : Net) (old new : State) (asked : Call) (reply : Reply) (made : Bool) → is_made reply ≡ made → CallStep net old asked reply new
-    → All (IsPast old.changes) (installs (cons_option (if made then change_asked asked else None) []))
-step_is_past net old new asked reply false is step = All-nil (IsPast old.changes)
-step_is_past net old new (call.Install plan) reply true is step = All-cons (IsPast old.changes) plan [] (install_is_past net old new plan reply is step) (All-nil (IsPast old.changes))
-step_is_past net old new (call.Edit edit) reply true is step = All-nil (IsPast old.changes)
-step_is_past net old new (call.Place order) reply true is step = All-nil (IsPast old.changes)
-step_is_past net old new call.Snapshot reply true is step = All-nil (IsPast old.changes)
-step_is_past net old new (call.Newest after) reply true is step = All-nil (IsPast old.changes)
+    → All (IsNewer old.changes) (installs (cons_option (if made then change_asked asked else None) []))
+step_is_past net old new asked reply false is step = All-nil (IsNewer old.changes)
+step_is_past net old new (call.Install plan) reply true is step = All-cons (IsNewer old.changes) plan [] (install_is_past net old new plan reply is step) (All-nil (IsNewer old.changes))
+step_is_past net old new (call.Edit edit) reply true is step = All-nil (IsNewer old.changes)
+step_is_past net old new (call.Place order) reply true is step = All-nil (IsNewer old.changes)
+step_is_past net old new call.Snapshot reply true is step = All-nil (IsNewer old.changes)
+step_is_past net old new (call.Newest after) reply true is step = All-nil (IsNewer old.changes)
 
 one_kept : (test : Bool) (entry : Entry) (rest kept : List Entry) (plan : Plan) → (Contains (installed_by kept) plan → Contains (installed_by rest) plan)
     → Contains (installed_by (if test then entry ∷ kept else kept)) plan → Contains (installed_by (entry ∷ rest)) plan

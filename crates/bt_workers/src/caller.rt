@@ -8,12 +8,12 @@ ghost use Rattle.bt_history.specs.Machine.{IsOfNetwork};
 ghost use Rattle.bt_workers.specs.Callers.{Calling, IsAnswered, IsSameCaller, caller_number, own_of};
 
 use crate::gate::Gate;
-use bt_base::Keeper;
 use bt_book::{Book, locked_calls_are_steps};
 use bt_frame::OutOfMemory;
 use bt_journal::{Call, Entry, Reply};
 use bt_line::{Line, Object, Pass};
 use bt_net::Network;
+use bt_outside::Keeper;
 use std::alloc::Global;
 use std::marker::Model;
 use std::sync::Wait;

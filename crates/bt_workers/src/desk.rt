@@ -6,12 +6,12 @@ ghost use Rattle.bt_workers.specs.Done.{DeskDone};
 
 use crate::caller::Caller;
 use crate::gate::Gate;
-use bt_base::Keeper;
 use bt_board::Reader;
 use bt_book::replies_name_beams_of_the_network;
 use bt_frame::OutOfMemory;
 use bt_journal::Call;
 use bt_net::Network;
+use bt_outside::Keeper;
 use bt_script::DeskLine;
 use bt_timeline::{entry_text, show_text};
 use std::alloc::Global;

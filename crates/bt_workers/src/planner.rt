@@ -11,7 +11,6 @@ ghost use Rattle.bt_workers.specs.Planned.{HasPosted, InstallDone, SawLast};
 
 use crate::caller::Caller;
 use crate::gate::Gate;
-use bt_base::Keeper;
 use bt_board::Publisher;
 use bt_book::{demands_fit_the_frame, replies_name_beams_of_the_network};
 use bt_cut::make_plan;
@@ -19,6 +18,7 @@ use bt_demand::Plan;
 use bt_frame::OutOfMemory;
 use bt_journal::{Call, Entry, Reply};
 use bt_net::Network;
+use bt_outside::Keeper;
 use bt_timeline::entry_text;
 use std::alloc::Global;
 use std::sync::Wait;

@@ -12,12 +12,12 @@ use crate::caller::Caller;
 use crate::gate::Gate;
 use crate::worker::CentreWorker;
 use bt_air::{Event, Order};
-use bt_base::Keeper;
-use bt_book::demands_fit_the_frame;
-use bt_demand::{Plan, good_plans_are_flyable};
+use bt_book::installed_plans_can_be_flown;
+use bt_demand::Plan;
 use bt_frame::OutOfMemory;
 use bt_journal::{Call, Entry, Reply};
 use bt_net::Network;
+use bt_outside::Keeper;
 use bt_timeline::{order_text, turn_text, unplaced_text};
 use std::alloc::Global;
 use std::sync::Wait;
@@ -40,8 +40,7 @@ impl CentreWorker {
         ensures opening { self.new.life.opening ≡ self.old.life.opening }
         ensures same { IsSameCaller caller.old caller.new }
     {
-        demands_fit_the_frame();
-        good_plans_are_flyable();
+        installed_plans_can_be_flown();
         // This is there for what holds of each network: it is sound.
         let _beams = net.beam_count();
         let after = self.newest();

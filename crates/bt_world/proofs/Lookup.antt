@@ -21,7 +21,8 @@ use Rattle.bt_demand.specs.Apart.{bursts_from}
 use Rattle.bt_demand.specs.declared.burst.Burst.{Burst}
 use Rattle.bt_term.proofs.Ground.{own}
 use Rattle.bt_events.specs.Event.{Event, Tick, Turn, Ordered, Deliver, Frame, ResetTerminal, RestartCentre, Install}
-use Rattle.bt_events.specs.Fits.{StartsEmpty, newest_of, no_plan}
+use Rattle.bt_demand.specs.Plan.{empty_plan}
+use Rattle.bt_events.specs.Fits.{StartsEmpty, newest_of}
 use Rattle.bt_world.specs.Life.{Logged, Index, IsIndexed, StandsAt, installs, installed_by, plans_in}
 use Rattle.bt_world.specs.Shares.{shares_of}
 use Rattle.bt_events.specs.World.{bursts_for, first_or, has_burst, plan_of}
@@ -110,19 +111,19 @@ edition-at all k d p within = mapped-at (λ (plan : Plan). plan.edition) (revers
 ranks-rise : (all : List Plan) (n : ℕ) → StartsEmpty all → IsNonDecreasingBy (λ (e : EditionNo). ordering_index (nat_cmp e.0 n)) (editions_of all)
 ranks-rise all n starts i j d le within =
     let short : j < length all = omega (arith, within, long all) in
-    let one = ap (λ (e : EditionNo). e.0) (edition-at all i d no_plan (omega arith)) in
-    let two = ap (λ (e : EditionNo). e.0) (edition-at all j d no_plan short) in
-    rank-rises _ _ n _ _ refl refl (omega (arith, one, two, editions-rise all i j no_plan starts le short))
+    let one = ap (λ (e : EditionNo). e.0) (edition-at all i d empty_plan (omega arith)) in
+    let two = ap (λ (e : EditionNo). e.0) (edition-at all j d empty_plan short) in
+    rank-rises _ _ n _ _ refl refl (omega (arith, one, two, editions-rise all i j empty_plan starts le short))
 
 -- before the place all editions are lower, and from it on they are higher
 abbrev HasGapAt : List Plan → EditionNo → ℕ → Type 0
-HasGapAt all edition place = (k : ℕ) → k < length all → (k < place → (get_or (reverse all) k no_plan).edition.0 < edition.0) × (place ≤ k → edition.0 < (get_or (reverse all) k no_plan).edition.0)
+HasGapAt all edition place = (k : ℕ) → k < length all → (k < place → (get_or (reverse all) k empty_plan).edition.0 < edition.0) × (place ≤ k → edition.0 < (get_or (reverse all) k empty_plan).edition.0)
 
 gap-ranks : (all : List Plan) (edition : EditionNo) (editions : List EditionNo) (place : ℕ) → editions ≡ editions_of all
     → ((k : ℕ) (d : EditionNo) → 0 ≤ k → k < place → nat_cmp (get_or editions k d).0 edition.0 ≡ Less)
     → ((k : ℕ) (d : EditionNo) → place ≤ k → k < length editions → nat_cmp (get_or editions k d).0 edition.0 ≡ Greater) → HasGapAt all edition place
 gap-ranks all edition editions place are less greater k within =
-    let at = ap (λ (e : EditionNo). e.0) (ap (λ (list : List EditionNo). get_or list k edition) are ∙ edition-at all k edition no_plan within) in
+    let at = ap (λ (e : EditionNo). e.0) (ap (λ (list : List EditionNo). get_or list k edition) are ∙ edition-at all k edition empty_plan within) in
     let x = (get_or editions k edition).0 in (
       (λ before. let lower : x < edition.0 = ranked x edition.0 Less (sym (less k edition (omega arith) before)) in omega (arith, at, lower)),
       (λ after. let higher : edition.0 < x = ranked x edition.0 Greater (sym (greater k edition after (omega (arith, ap length are, long all)))) in omega (arith, at, higher)),
@@ -138,9 +139,9 @@ none-there all edition place gap k d within same =
     let m = length all - 1 - k in
     let inside : m < length all = omega (arith, within) in
     let back : length all - 1 - m ≡ k = omega (arith, within) in
-    let at : (get_or (reverse all) m no_plan).edition.0 ≡ edition.0 =
-    ap (λ (p : Plan). p.edition.0) (get_or-reverse all m no_plan inside) ∙ ap (λ (n : ℕ). (get_or all n no_plan).edition.0) back
-    ∙ ap (λ (p : Plan). p.edition.0) (any-other all k no_plan d within) ∙ same in
+    let at : (get_or (reverse all) m empty_plan).edition.0 ≡ edition.0 =
+    ap (λ (p : Plan). p.edition.0) (get_or-reverse all m empty_plan inside) ∙ ap (λ (n : ℕ). (get_or all n empty_plan).edition.0) back
+    ∙ ap (λ (p : Plan). p.edition.0) (any-other all k empty_plan d within) ∙ same in
     neither m place _ _ _ refl (gap m inside) at
 
 -- a search by the edition ends at its plan, or there is none
@@ -233,10 +234,10 @@ installed-at logged index k d x is after within =
 
 -- what the terminals transmit in a plan, by number
 pub shares-at : (all : List Plan) (n : ℕ) (shares : List (List (List Burst))) (edition : EditionNo) (k : ℕ) (d : List (List Burst)) → shares ≡ map (λ (plan : Plan). shares_of n plan.bursts) (reverse all)
-    → StandsAt all edition k → get_or shares k d ≡ shares_of n (get_or (reverse all) k no_plan).bursts
+    → StandsAt all edition k → get_or shares k d ≡ shares_of n (get_or (reverse all) k empty_plan).bursts
 shares-at all n shares edition k d are stands =
     ap (λ (list : List (List (List Burst))). get_or list k d) are
-    ∙ mapped-at (λ (plan : Plan). shares_of n plan.bursts) (reverse all) k d no_plan (omega (arith, stands.within, length-reverse all))
+    ∙ mapped-at (λ (plan : Plan). shares_of n plan.bursts) (reverse all) k d empty_plan (omega (arith, stands.within, length-reverse all))
 
 share-count : (n : ℕ) (bursts : List Burst) → length (shares_of n bursts) ≡ n
 share-count n bursts = length-map-range_with_len (λ (k : ℕ). bursts_from (record { 0 = k }) bursts) 0 n
@@ -244,16 +245,16 @@ share-count n bursts = length-map-range_with_len (λ (k : ℕ). bursts_from (rec
 pub share-within : (all : List Plan) (n : ℕ) (shares : List (List (List Burst))) (edition : EditionNo) (k : ℕ) (d : List (List Burst)) (terminal : TermNo)
     → shares ≡ map (λ (plan : Plan). shares_of n plan.bursts) (reverse all) → StandsAt all edition k → terminal.0 < n → terminal.0 < length (get_or shares k d)
 share-within all n shares edition k d terminal are stands within =
-    omega (arith, within, ap length (shares-at all n shares edition k d are stands), share-count n (get_or (reverse all) k no_plan).bursts)
+    omega (arith, within, ap length (shares-at all n shares edition k d are stands), share-count n (get_or (reverse all) k empty_plan).bursts)
 
-pub share-said : (all : List Plan) (n : ℕ) (share : List (List Burst)) (edition : EditionNo) (k : ℕ) (terminal : TermNo) (list : List Burst) → share ≡ shares_of n (get_or (reverse all) k no_plan).bursts
+pub share-said : (all : List Plan) (n : ℕ) (share : List (List Burst)) (edition : EditionNo) (k : ℕ) (terminal : TermNo) (list : List Burst) → share ≡ shares_of n (get_or (reverse all) k empty_plan).bursts
     → StandsAt all edition k → terminal.0 < n → slice_get share terminal.0 ≡ Some list → list ≡ bursts_for terminal (plan_of all edition)
 share-said all n share edition k terminal list are stands within found =
-    let bursts = (get_or (reverse all) k no_plan).bursts in
+    let bursts = (get_or (reverse all) k empty_plan).bursts in
     sym (get_or_from_slice_get share terminal.0 list [] found)
     ∙ ap (λ (s : List (List Burst)). get_or s terminal.0 []) are
     ∙ get_or-map-range_with_len (λ (m : ℕ). bursts_from (record { 0 = m }) bursts) 0 n terminal.0 terminal.0 [] within (omega arith)
-    ∙ ap (λ (p : Option Plan). bursts_for terminal p) (sym (stands.is no_plan))
+    ∙ ap (λ (p : Option Plan). bursts_for terminal p) (sym (stands.is empty_plan))
 
 some-of : (test : Bool) (burst : Burst) (others : Bool) (kept : List Burst) → others ≡ not (length kept == 0) → (test || others) ≡ not (length (cond test (burst ∷ kept) kept) == 0)
 some-of true burst others kept e = grind (arith, nat_tests)

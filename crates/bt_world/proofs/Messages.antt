@@ -1,32 +1,20 @@
 -- The message of a number, with what it carries.
 use Rattle.std.proofs.Common.{◌≡◌, ℕ, ◌<◌, List, [], ◌∷◌, ◌++◌, length, get_or, slice_get, reverse, All, Some, refl, sym, ap, ◌∙◌, subst}
 use Rattle.std.proofs.lemmas.Option.{slice_get_read}
-use Rattle.bt_demand.specs.declared.plan.Plan.{Plan}
 use Rattle.bt_air.specs.declared.order.Order.{Order}
 use Rattle.bt_air.specs.declared.sent.Sent.{Sent}
 use Rattle.bt_air.specs.Range.{IsInRange}
 use Rattle.bt_net.specs.Network.{Net, IsSound}
-use Rattle.bt_events.specs.Event.{Opening, Event, Tick, Turn, Ordered, Deliver, Frame, ResetTerminal, RestartCentre, Install}
+use Rattle.bt_events.specs.Event.{Opening, Event}
 use Rattle.bt_events.specs.Fits.{AreStored, IsWorld}
-use Rattle.bt_world.specs.Life.{Life, Kept, IsKept, Logged, installs, life_of, past_of, plans_in}
+use Rattle.bt_world.specs.Life.{Life, Kept, IsKept, Logged, life_of, past_of, plans_in}
 use Rattle.bt_events.specs.World.{plans, carried, sent, log}
-
--- the plans of a world are those that opened and those that events installed
-plans-installed : (o : Opening) (events : List Event) → installs events ++ o.plans ≡ plans o (log o events)
-plans-installed o [] = refl
-plans-installed o (Tick ∷ earlier) = plans-installed o earlier
-plans-installed o (Turn newest ∷ earlier) = plans-installed o earlier
-plans-installed o (Ordered ∷ earlier) = plans-installed o earlier
-plans-installed o (Deliver number place ∷ earlier) = plans-installed o earlier
-plans-installed o (Frame ∷ earlier) = plans-installed o earlier
-plans-installed o (ResetTerminal terminal ∷ earlier) = plans-installed o earlier
-plans-installed o (RestartCentre kept ∷ earlier) = plans-installed o earlier
-plans-installed o (Install plan ∷ earlier) = ap (λ (list : List Plan). plan ∷ list) (plans-installed o earlier)
+use Rattle.bt_world.proofs.Started.{installed}
 
 -- a log has the plans of the life that it tells
 pub logged-plans : (net : Net) (placed : List Order) (logged : Logged) (life : Life) → life_of net placed logged ≡ life → plans_in logged ≡ plans life.opening (past_of life)
 logged-plans net placed logged life same =
-    plans-installed (life_of net placed logged).opening (reverse logged.events) ∙ ap (λ (l : Life). plans l.opening (past_of l)) same
+    sym (installed (life_of net placed logged).opening (reverse logged.events)) ∙ ap (λ (l : Life). plans l.opening (past_of l)) same
 
 -- what holds of each message that was sent holds of that of a number
 pub of-number : (P : Sent → Type 0) (life : Life) (kept : Kept) (number : ℕ) (one : Sent) → IsKept life kept → one ≡ get_or kept.sent number one

@@ -17,7 +17,7 @@ use Rattle.bt_world.specs.Life.{Life, Logged, Kept, IsKept, installs, life_of, o
 use Rattle.bt_events.specs.World.{greatest_due, plans, log}
 
 -- the plans of a world are those of its events and of its opening
-installed : (o : Opening) (earlier : List Event) → plans o (log o earlier) ≡ installs earlier ++ o.plans
+pub installed : (o : Opening) (earlier : List Event) → plans o (log o earlier) ≡ installs earlier ++ o.plans
 installed o [] = refl
 installed o (Tick ∷ earlier) = installed o earlier
 installed o (Turn newest ∷ earlier) = installed o earlier

@@ -1,10 +1,12 @@
 //! The program: it makes the real files, the output and the store, and hands its words to the top call.
+//!
+//! It stands on the real adapters (`bt_outside`) and on the top call (`bt_cli`).
 #![tactic(auto)]
 
 mod pages;
 
-use bt_base::{DirFiles, FileKeeper, StdSink};
 use bt_cli::{DONE, OUT_OF_MEMORY, centre_main, print_text};
+use bt_outside::{DirFiles, FileKeeper, StdSink};
 use std::alloc::{AllocError, Global};
 use std::env::Env;
 use std::process::ExitCode;

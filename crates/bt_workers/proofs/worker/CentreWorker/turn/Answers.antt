@@ -6,7 +6,6 @@ use Rattle.bt_frame.specs.declared.numbers.EditionNo.{EditionNo}
 use Rattle.bt_history.specs.Changes.{newest}
 use Rattle.bt_workers.specs.Callers.{own_of}
 use Rattle.bt_workers.proofs.Asking.{still_same}
-use Rattle.bt_workers.proofs.Flies.{newest-flies}
 use Rattle.bt_workers.proofs.Turning.{lent-newer, newer-holds, turn-done}
 use Rattle.bt_workers.proofs.worker.CentreWorker.turn.Goals as goal
 
@@ -16,11 +15,7 @@ install-requires-clause-flyable g c =
     let answered = c.in_ok-reply.ensures.answered in
     newer-holds (IsFlyable net) c.newest-after.result (newest answered.old.changes) c.in-Newest.newer
     (lent-newer net c.in_ok-reply.field-0 c.newest-after.result c.in-Newest.newer answered c.in_ok-reply.ensures.call c.in-Newest.is)
-    (newest-flies (record {
-      network = c.demands_fit_the_frame.ensures.network;
-      fits = c.demands_fit_the_frame.ensures.fits;
-      flyable = c.good_plans_are_flyable.ensures.flyable;
-    }) net answered.old.changes c.beam_count-beams.ensures.sound answered.follows)
+    (c.installed_plans_can_be_flown.ensures.newest net answered.old.changes c.beam_count-beams.ensures.sound answered.follows)
 
 pub returns-clause-played : goal.returns-clause-played
 returns-clause-played g c =
