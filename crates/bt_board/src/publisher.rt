@@ -4,12 +4,12 @@ ghost use Rattle.left_right.specs.Sides.{view};
 ghost use mathlib.Core.List.{IsPrefix};
 ghost use Rattle.bt_board.specs.Plans.{next_edition, last_of, Ascends};
 ghost use Rattle.bt_board.specs.Log.{head_of};
-ghost use Rattle.bt_board.specs.Rule.{Knows};
+ghost use Rattle.bt_board.specs.Rule.{saw};
 ghost use Rattle.bt_board.specs.Posted.{posted};
 
 use crate::plan_log::{Add, Nothing, PlanLog};
 use crate::reader::Reader;
-use crate::rule::{Posts, SameLog};
+use crate::rule::{OneList, Posts};
 use crate::shown::Shown;
 use crate::view::View;
 use bt_demand::Plan;
@@ -21,7 +21,7 @@ use std::marker::Model;
 use std::sync::{Arc, Wait};
 
 /// The publisher's place at the board.
-pub type BoardWriter = Writer<Shown, Shown, View, SameLog>;
+pub type BoardWriter = Writer<Shown, Shown, View, OneList>;
 
 /// Adds a plan to the log. Nobody else does, which no proof shows: it would wait for ever.
 pub(crate) fn add<R: Wait>(
@@ -36,6 +36,7 @@ pub(crate) fn add<R: Wait>(
     requires newer { expected ≤ plan.now.edition.0 }
     ensures book { seen.new.book ≡ seen.old.book }
     ensures added { seen.new.log ≡ seen.old.log ++ plan.now ∷ [] }
+    ensures ascends { Ascends seen.new.log }
 {
     let mut offer: Offer<Plan, u64, PlanLog, Nothing> = seen.plain::<Nothing, Plan, Add>(plan);
     let mut pen = seen.no_pen();
@@ -47,12 +48,13 @@ pub(crate) fn add<R: Wait>(
     }
 }
 
-/// Publishes what is pending, over and over until it is done.
+/// Publishes what is pending, over and over until it is done: its list goes on from the one shown.
 pub(crate) fn publish<R: Wait>(rt: &R, writer: BoardWriter) -> BoardWriter
-    requires { (fold (λ _ next. next.seen) writer.desk.shown.value.seen (drop writer.behind writer.log.items)).book ≡ writer.desk.shown.value.seen.book }
+    requires same { (fold (λ _ next. next.seen) writer.desk.shown.value.seen (drop writer.behind writer.log.items)).book ≡ writer.desk.shown.value.seen.book }
+    requires onward { IsPrefix writer.desk.shown.value.seen.log (fold (λ _ next. next.seen) writer.desk.shown.value.seen (drop writer.behind writer.log.items)).log }
     ensures shown { result.desk.shown.value.seen ≡ fold (λ _ next. next.seen) writer.desk.shown.value.seen (drop writer.behind writer.log.items) }
     ensures pending { drop result.behind result.log.items ≡ [] }
-    ensures view { Knows (view result.desk.place) result.desk.shown.value.seen.book }
+    ensures view { view result.desk.place ≡ saw result.desk.shown.value }
 {
     let mut writer = writer;
     for _ in rt.forever() {
@@ -65,9 +67,10 @@ pub(crate) fn publish<R: Wait>(rt: &R, writer: BoardWriter) -> BoardWriter
     unreachable!()
 }
 
-/// Shows a plan of the same log.
+/// Shows a plan whose list goes on from the one shown.
 fn show<R: Wait>(rt: &R, writer: BoardWriter, shown: Shown) -> BoardWriter
     requires same { shown.seen.book ≡ writer.desk.shown.value.seen.book }
+    requires onward { IsPrefix writer.desk.shown.value.seen.log shown.seen.log }
     requires pending { drop writer.behind writer.log.items ≡ [] }
     ensures shown { result.desk.shown.value.seen ≡ shown.seen }
     ensures pending { drop result.behind result.log.items ≡ [] }
@@ -161,18 +164,19 @@ impl Publisher {
         ensures last { last_of self.now.plans ≡ Some result.now }
         ensures ascends { Ascends self.now.plans }
     {
-        let mut seen = self.seen.again();
-        seen.learn(&self.seen);
         match &self.writer {
             Some(writer) => &writer.published().plan,
             None => unreachable!(),
         }
     }
 
-    /// Of the publisher's list and a reader's of one board, one begins the other. It does nothing when it runs.
+    /// Of the publisher's list and a reader's of one board, the one whose last edition is lower begins the other. It does
+    /// nothing when it runs.
     pub fn compare(&self, reader: &Reader)
         requires same { reader.now.board ≡ self.now.board }
         ensures begins { IsPrefix reader.now.plans self.now.plans ⊎ IsPrefix self.now.plans reader.now.plans }
+        ensures ahead { next_edition self.now.plans ≤ next_edition reader.now.plans → IsPrefix self.now.plans reader.now.plans }
+        ensures behind { next_edition reader.now.plans ≤ next_edition self.now.plans → IsPrefix reader.now.plans self.now.plans }
     {
         let mut both = self.seen.again();
         both.learn(&reader.kept.seen);

@@ -3,10 +3,10 @@ ghost use Rattle.std.specs.Prelude.{◌≡◌, ◌⊎◌, ◌+◌, ◌<◌, ◌�
 ghost use Rattle.left_right.specs.Sides.{view};
 ghost use mathlib.Core.List.{IsPrefix};
 ghost use Rattle.bt_board.specs.Plans.{last_of, next_edition, Ascends};
-ghost use Rattle.bt_board.specs.Rule.{Names, Knows};
+ghost use Rattle.bt_board.specs.Rule.{HasSeen};
 ghost use Rattle.bt_board.specs.Posted.{posted};
 
-use crate::rule::{Reads, SameLog};
+use crate::rule::{OneList, Reads};
 use crate::shown::Shown;
 use crate::view::View;
 use bt_demand::Plan;
@@ -14,18 +14,27 @@ use bt_frame::OutOfMemory;
 use std::marker::Model;
 
 /// A reader's place at the board.
-pub type Seat = left_right::reader::Reader<Shown, View, SameLog>;
+pub type Seat = left_right::reader::Reader<Shown, View, OneList>;
 
-/// Enters the board and takes what is shown, where its edition is past `mine` and is the one that is wanted, if one is.
-fn visit(seat: Seat, mine: u32, wanted: Option<u32>) -> (Seat, Result<Option<Shown>, OutOfMemory>)
-    ensures view { view result.0.place ≡ view seat.place }
-    ensures found { IfOk result.1 (λ o. IfSome o (λ s. Names (view seat.place) s.seen.book × (mine + 1 < next_edition s.seen.log) × IfSome wanted (λ e. next_edition s.seen.log ≡ e + 1))) }
+/// Enters the board and takes what is shown, where its edition is past that of `kept` and is the one that is wanted, if
+/// one is.
+fn visit(
+    seat: Seat,
+    kept: &Shown,
+    wanted: Option<u32>,
+) -> (Seat, Result<Option<Shown>, OutOfMemory>)
+    requires { HasSeen (view seat.place) kept.now }
+    ensures view { HasSeen (view result.0.place) kept.now }
+    ensures seen { IfOk result.1 (λ o. IfSome o (λ s. HasSeen (view result.0.place) s)) }
+    ensures begins { IfOk result.1 (λ o. IfSome o (λ s. (s.seen.book ≡ kept.now.seen.book) × IsPrefix kept.now.seen.log s.seen.log)) }
+    ensures newer { IfOk result.1 (λ o. IfSome o (λ s. next_edition kept.now.seen.log < next_edition s.seen.log)) }
+    ensures wanted { IfOk result.1 (λ o. IfSome o (λ s. IfSome wanted (λ e. next_edition s.seen.log ≡ e + 1))) }
 {
     match seat.enter_as::<Reads>() {
         Ok(reading) => {
             let shown = reading.get();
             let edition = shown.plan.edition.0;
-            let takes = mine < edition && wanted.is_none_or(|e| e == edition);
+            let takes = kept.plan.edition.0 < edition && wanted.is_none_or(|e| e == edition);
             if !takes {
                 return (reading.leave(), Ok(None));
             }
@@ -47,20 +56,20 @@ pub struct Reader {
 
 impl Model for Reader {
     ghost use Rattle.std.specs.Prelude.{MatchOption};
-    ghost use Rattle.bt_board.specs.Rule.{Knows};
+    ghost use Rattle.bt_board.specs.Rule.{HasSeen};
     ghost use Rattle.bt_board.specs.Posted.{Posted, posted};
 
     ghost Value = { Posted };
 
     ghost view = { λ r. posted r.kept.seen.book r.kept.seen.log };
 
-    ghost invariant = { λ r. MatchOption r.seat ⊥ (λ s. Knows s.place.me.0.client r.kept.seen.book) };
+    ghost invariant = { λ r. MatchOption r.seat ⊥ (λ s. HasSeen s.place.me.0.client r.kept) };
 }
 
 impl Reader {
     /// A reader that has seen the plans of `kept`.
     pub(crate) fn at(seat: Seat, kept: Shown) -> Reader
-        requires { Knows (view seat.place) kept.seen.book }
+        requires { HasSeen (view seat.place) kept }
         ensures { result ≡ posted kept.seen.book kept.seen.log }
     {
         Reader {
@@ -86,15 +95,13 @@ impl Reader {
         let Some(seat) = self.seat.take() else {
             unreachable!()
         };
-        let (seat, found) = visit(seat, self.kept.plan.edition.0, wanted);
+        let (seat, found) = visit(seat, &self.kept, wanted);
         match self.seat.replace(seat) {
             None => {}
             Some(_other) => unreachable!(),
         }
         match found? {
             Some(shown) => {
-                let mut both = self.kept.seen.again();
-                both.learn(&shown.seen);
                 self.kept = shown;
                 Ok(true)
             }
@@ -107,15 +114,16 @@ impl Reader {
         ensures last { last_of self.now.plans ≡ Some result.now }
         ensures ascends { Ascends self.now.plans }
     {
-        let mut seen = self.kept.seen.again();
-        seen.learn(&self.kept.seen);
         &self.kept.plan
     }
 
-    /// Of the lists of two readers of one board, one begins the other. It does nothing when it runs.
+    /// Of the lists of two readers of one board, the one whose last edition is lower begins the other. It does nothing when
+    /// it runs.
     pub fn compare(&self, other: &Reader)
         requires same { other.now.board ≡ self.now.board }
         ensures begins { IsPrefix self.now.plans other.now.plans ⊎ IsPrefix other.now.plans self.now.plans }
+        ensures ahead { next_edition self.now.plans ≤ next_edition other.now.plans → IsPrefix self.now.plans other.now.plans }
+        ensures behind { next_edition other.now.plans ≤ next_edition self.now.plans → IsPrefix other.now.plans self.now.plans }
     {
         let mut both = self.kept.seen.again();
         both.learn(&other.kept.seen);

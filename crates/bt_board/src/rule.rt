@@ -1,21 +1,22 @@
-// The rule of the board: whoever knows a log takes plans of that log alone.
+// The rule of the board: it goes forward along one list of plans.
 use crate::shown::Shown;
 use crate::view::View;
 use atomic_table::{Join, Split};
 use crossbeam_utils::rule::{Outcome, Protocol};
 
-/// Whoever knows a log takes plans of that log alone.
-pub struct SameLog;
+/// The plan that is shown is the last of its list, whose editions ascend, and what each has seen begins that list: so the
+/// board never goes back.
+pub struct OneList;
 
-impl Protocol<Shown, View> for SameLog {
-    ghost use Rattle.bt_board.specs.Rule.{AllName, newcomer};
+impl Protocol<Shown, View> for OneList {
+    ghost use Rattle.bt_board.specs.Rule.{GoesForward, newcomer};
 
-    ghost holds = { AllName };
+    ghost holds = { GoesForward };
 
     ghost first = { newcomer };
 }
 
-/// A reader enters.
+/// A reader enters, and sees the list of what is shown.
 pub struct Reads;
 
 impl Outcome<Shown, View> for Reads {
@@ -24,7 +25,7 @@ impl Outcome<Shown, View> for Reads {
     ghost then = { Reads };
 }
 
-/// The publisher shows another plan.
+/// The publisher shows a plan whose list goes on from the one shown.
 pub struct Posts;
 
 impl Outcome<Shown, View> for Posts {
@@ -33,7 +34,7 @@ impl Outcome<Shown, View> for Posts {
     ghost then = { Posts };
 }
 
-/// The publisher tells a reader which log it is.
+/// The publisher tells a reader what it has seen.
 pub struct Tells;
 
 impl Split<View> for Tells {
