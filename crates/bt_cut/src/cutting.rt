@@ -7,8 +7,8 @@ ghost use Rattle.bt_demand.specs.Apart.{AreBetweenTerminals};
 ghost use Rattle.bt_demand.specs.Traffic.{matrix_of, AreOfNetwork, HasSumsTo};
 ghost use Rattle.bt_cut.specs.Cutting.{IsCutting};
 
+use crate::burst_order::in_order;
 use crate::bursts::bursts_of;
-use crate::order::in_order;
 use bt_demand::{Bursts, Demand, Plan};
 use bt_frame::{EditionNo, OutOfMemory, Schedule};
 use bt_net::Network;

@@ -8,11 +8,11 @@
 //! plan good.
 #![tactic(auto)]
 
+mod burst_order;
 mod bursts;
 mod connection;
 mod cutting;
 mod laws;
-mod order;
 mod planning;
 mod table;
 

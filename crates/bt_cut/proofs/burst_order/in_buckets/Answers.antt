@@ -2,7 +2,7 @@ use Rattle.std.proofs.Common.{[], ◌<◌, ℕ, length, get_or, sym, ◌∙◌, 
 use Rattle.std.proofs.lemmas.List.Sorted.{IsPermutation-refl}
 use Rattle.bt_demand.specs.declared.burst.Burst.{Burst}
 use Rattle.bt_cut.proofs.Buckets.{all_of-none, IsBucket-none, moved_more, bucket_more}
-use Rattle.bt_cut.proofs.order.in_buckets.Goals as goal
+use Rattle.bt_cut.proofs.burst_order.in_buckets.Goals as goal
 
 -- no burst was looked at yet
 pub loop-burst-init : goal.loop-burst-init

@@ -5,7 +5,7 @@ use Rattle.std.proofs.lemmas.List.Sorted.{IsPermutation-trans}
 use Rattle.bt_demand.specs.declared.burst.Burst.{Burst}
 use Rattle.bt_cut.specs.Bucket.{all_of, IsBucket}
 use Rattle.bt_cut.proofs.Buckets.{IsOrdered-more}
-use Rattle.bt_cut.proofs.order.in_order.Goals as goal
+use Rattle.bt_cut.proofs.burst_order.in_order.Goals as goal
 
 -- the bursts of one bucket more, which are behind all others
 pub loop-bucket-preserved : goal.loop-bucket-preserved

@@ -1,7 +1,7 @@
 use Rattle.std.proofs.Common.{◌≡◌, ◌<◌, ℕ, length, take}
 use Rattle.std.specs.List.Sorted.{IsPermutation}
 use Rattle.bt_cut.specs.Bucket.{all_of, IsBucket}
-use Rattle.bt_cut.proofs.order.in_buckets.Given as goal
+use Rattle.bt_cut.proofs.burst_order.in_buckets.Given as goal
 
 -- the bursts so far, each in its bucket
 abbrev pub invariant-loop-burst : goal.invariant-loop-burst

@@ -2,7 +2,7 @@ use Rattle.std.proofs.Common.{◌≡◌, length, List, All, Vec, Global, sym, ap
 use Rattle.std.proofs.lemmas.Grind.{common_steps}
 use Rattle.std.proofs.lemmas.List.Elements.{All-push}
 use Rattle.bt_demand.specs.declared.burst.Burst.{Burst}
-use Rattle.bt_cut.proofs.order.no_buckets.Goals as goal
+use Rattle.bt_cut.proofs.burst_order.no_buckets.Goals as goal
 
 -- one bucket more
 pub loop-preserved : goal.loop-preserved

@@ -1,6 +1,6 @@
 use Rattle.std.proofs.Common.{◌≡◌, length, All, Vec, Global}
 use Rattle.bt_demand.specs.declared.burst.Burst.{Burst}
-use Rattle.bt_cut.proofs.order.no_buckets.Given as goal
+use Rattle.bt_cut.proofs.burst_order.no_buckets.Given as goal
 
 -- so many buckets without bursts
 abbrev pub invariant-loop : goal.invariant-loop

@@ -4,7 +4,7 @@ use Rattle.bt_frame.specs.declared.numbers.TermNo.{TermNo}
 use Rattle.bt_demand.specs.declared.burst.Burst.{Burst}
 use Rattle.bt_demand.proofs.BurstOrder.{IsNotAfter-compared}
 use Rattle.bt_cut.proofs.Neighbours.{all_in_order}
-use Rattle.bt_cut.proofs.order.sorted.Goals as goal
+use Rattle.bt_cut.proofs.burst_order.sorted.Goals as goal
 
 pub returns-clause-ordered : goal.returns-clause-ordered
 returns-clause-ordered c =

@@ -1,5 +1,5 @@
 use Rattle.bt_cut.proofs.Buckets.{IsOrdered}
-use Rattle.bt_cut.proofs.order.in_order.Given as goal
+use Rattle.bt_cut.proofs.burst_order.in_order.Given as goal
 
 -- the bursts of the buckets so far, in order
 abbrev pub invariant-loop-bucket : goal.invariant-loop-bucket
