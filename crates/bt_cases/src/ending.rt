@@ -1,6 +1,5 @@
 // How a command ended.
-use bt_case_text::{Part, put_lines};
-use bt_sheet::Result;
+use bt_sheet::{Part, Result, put_lines};
 use std::alloc::Global;
 
 /// What a command wrote, and its status.

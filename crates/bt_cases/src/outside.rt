@@ -5,9 +5,8 @@ ghost use Rattle.bt_cli.specs.Request.{first_word};
 
 use crate::ending::Ending;
 use bt_base::{Fail, Files, MemFiles, MemKeeper, MemSink, Sink, SureKeeper, SureSink};
-use bt_case_text::{Part, Shelf, number_of};
 use bt_cli::{History, centre_main, check_command, modes_command, plan_command, replay_command};
-use bt_sheet::{CaseFault, Result};
+use bt_sheet::{CaseFault, Part, Result, Shelf, number_of};
 use std::alloc::Global;
 use std::sync::Wait;
 use std::thread::Threads;

@@ -6,8 +6,7 @@ use bt_base::{
     Fail, FileFault, Files, KeepFault, Keeper, MemKeeper, MemSink, Sink, SinkFault, SureKeeper,
     SureSink,
 };
-use bt_case_text::{Part, Shelf, number_of, put_lines};
-use bt_sheet::{CaseFault, Result};
+use bt_sheet::{CaseFault, Part, Result, Shelf, number_of, put_lines};
 use std::alloc::Global;
 
 /// Reads files one after the other, each with the most bytes that it may have, and appends the answers, with the

@@ -1,9 +1,8 @@
 // The lines of cases: each goes to the file, or to the crate, of what it acts on. `docs/cases.md` says what they mean.
 use crate::outside::{Outside, set_meeting};
 use crate::pieces::{append, cut, put_keeps, put_reads, put_store, put_writes};
-use bt_case_text::{Shelf, number_of, set_files};
 use bt_machine_cases::Machines;
-use bt_sheet::{CaseFault, Result};
+use bt_sheet::{CaseFault, Result, Shelf, number_of, set_files};
 use bt_text_cases::Texts;
 use std::alloc::Global;
 use std::sync::Wait;

@@ -3,10 +3,9 @@ ghost use Rattle.std.specs.Prelude.{◌≤◌, length, vec_len, IfOk};
 
 use crate::lines::{end_line, put_line, put_numbers, put_word};
 use bt_air::{AirFault, Armed, Message, Status, decode, encode, messages_have_one_spelling};
-use bt_case_text::hex_byte;
 use bt_demand::Burst;
 use bt_frame::{Command, EditionNo, Mark, Mode, TermNo};
-use bt_sheet::{CaseFault, Result};
+use bt_sheet::{CaseFault, Result, hex_byte};
 use std::alloc::Global;
 
 /// Appends what the bytes are read as, and a message's bytes when it is written again.

@@ -1,9 +1,8 @@
 // Messages in words, as lines for the satellite and for a terminal give them.
 use bt_air::{Armed, Message, Status};
-use bt_case_text::{byte_of, number_of};
 use bt_demand::{Burst, Bursts};
 use bt_frame::{Columns, Command, EditionNo, Mark, Mode, Modes, TermNo};
-use bt_sheet::{CaseFault, Result};
+use bt_sheet::{CaseFault, Result, byte_of, number_of};
 use std::alloc::Global;
 
 /// The message that the words say: its kind, and its fields.

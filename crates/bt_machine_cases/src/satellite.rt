@@ -2,9 +2,8 @@
 use crate::air::put_status;
 use crate::lines::{put_number, put_word};
 use crate::message::message_of;
-use bt_case_text::number_of;
 use bt_frame::{LAST_MARK, Mark};
-use bt_sheet::{CaseFault, Result};
+use bt_sheet::{CaseFault, Result, number_of};
 use bt_switch::Satellite;
 use bt_timeline::taken_text;
 use std::alloc::Global;

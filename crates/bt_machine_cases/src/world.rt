@@ -9,12 +9,11 @@ ghost use Rattle.bt_world.specs.Life.{past_of};
 
 use crate::shown::put_shown;
 use bt_air::{Event, Place, Sent, Shown};
-use bt_case_text::{Part, byte_of, number_of, put_lines};
 use bt_demand::{Plan, empty_plan, good_plans_are_flyable};
 use bt_frame::{LAST_MARK, MOST_COUNTED, MOST_SLOTS, MOST_TEXT_BYTES, TermNo};
 use bt_net::Network;
 use bt_plan::{read_demand, read_plan};
-use bt_sheet::{CaseFault, Result};
+use bt_sheet::{CaseFault, Part, Result, byte_of, number_of, put_lines};
 use bt_timeline::sent_text;
 use bt_verdict::{Verdict, check};
 use bt_world::World;

@@ -4,14 +4,13 @@ ghost use Rattle.bt_demand.specs.Traffic.{matrix_of, AreOfNetwork, HasSumsTo};
 ghost use Rattle.bt_matrix.specs.Good.{IsGood};
 
 use crate::texts::{demand_from, is_line, put_text, schedule_from};
-use bt_case_text::number_of;
 use bt_cut::cut;
 use bt_demand::{Demand, traffic_of};
 use bt_frame::{EditionNo, MOST_SLOTS, Schedule};
 use bt_matrix::{MOST_SUM, Traffic};
 use bt_net::Network;
 use bt_plan::plan_text;
-use bt_sheet::{CaseFault, Result};
+use bt_sheet::{CaseFault, Result, number_of};
 use bt_verdict::{Verdict, check_modes};
 use std::alloc::Global;
 

@@ -1,10 +1,9 @@
 // The lines of a demand whose links gain and lose slots.
 use crate::texts::put_links;
-use bt_case_text::{byte_of, number_of};
 use bt_demand::Demand;
 use bt_frame::TermNo;
 use bt_matrix::MOST_SUM;
-use bt_sheet::{CaseFault, Result};
+use bt_sheet::{CaseFault, Result, byte_of, number_of};
 use std::alloc::Global;
 
 /// The link gains so many slots. Appends all links of a copy.

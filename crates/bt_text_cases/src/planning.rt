@@ -4,11 +4,10 @@ ghost use Rattle.bt_match.specs.Matching.{HasEqualLineSums};
 
 use crate::cutting::put_cutting;
 use crate::texts::{matrix_from, put_verdict};
-use bt_case_text::{Shelf, byte_of};
 use bt_frame::BeamNo;
 use bt_match::{Partial, Perm, perfect};
 use bt_matrix::{Dense, Traffic};
-use bt_sheet::{CaseFault, Result};
+use bt_sheet::{CaseFault, Result, Shelf, byte_of};
 use std::alloc::Global;
 
 /// Shows steps of planning over texts.

@@ -2,9 +2,8 @@
 use crate::demand::{put_gain, put_loss, put_units};
 use crate::planning::show_steps;
 use crate::texts::show_text;
-use bt_case_text::Shelf;
 use bt_demand::Demand;
-use bt_sheet::Result;
+use bt_sheet::{Result, Shelf};
 use std::alloc::Global;
 
 /// What the lines act on.

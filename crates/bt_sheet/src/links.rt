@@ -1,5 +1,5 @@
 // Traffic between all of so many terminals.
-use bt_sheet::Result;
+use crate::fault::Result;
 use std::alloc::Global;
 
 /// Appends a line with so many units for each link between the terminals `t0`, `t1` and so on, in order.

@@ -2,7 +2,7 @@
 // hexadecimal digits. A backslash at the end of a line says that no newline follows there.
 ghost use Rattle.std.specs.Prelude.{◌<◌, IfOk};
 
-use bt_sheet::{CaseFault, Result};
+use crate::fault::{CaseFault, Result};
 
 /// Appends the bytes of a line, and the newline unless a backslash ends the line.
 pub fn take_text(line: &str, bytes: &mut Vec<u8>) -> Result<()> {

@@ -1,5 +1,5 @@
 // Words of a line of cases that are numbers.
-use bt_sheet::{CaseFault, Result};
+use crate::fault::{CaseFault, Result};
 
 /// A number of four bytes.
 pub fn number_of(word: &str) -> Result<u32> {

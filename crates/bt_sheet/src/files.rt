@@ -1,9 +1,9 @@
 // The files in memory that the cases of a text share.
 use crate::escape::take_text;
+use crate::fault::{CaseFault, Result};
 use crate::links::put_links;
 use crate::words::number_of;
 use bt_base::{Fail, MemFiles, SureFiles};
-use bt_sheet::{CaseFault, Result};
 use std::alloc::Global;
 
 /// Sets up files; false where the words are another line.

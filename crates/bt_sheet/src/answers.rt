@@ -1,6 +1,6 @@
 // Answers as lines of a file of cases.
 use crate::escape::put_line;
-use bt_sheet::{CaseFault, Result};
+use crate::fault::{CaseFault, Result};
 use std::alloc::Global;
 
 /// Which lines of what a command writes are shown.
