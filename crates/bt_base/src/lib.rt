@@ -1,8 +1,8 @@
 //! The outside in memory: files, sinks and stores of records that programs of cases and bodies of proofs are given.
 //!
-//! It stands on `bt_outside`, what the outside promises and the adapters to the real one, and on `bt_frame` and
-//! `bt_text`, the words of the field and of texts, and gives all three out too. All of `specs/` is promise: `Held.antt`
-//! and `Calls.antt` say what the objects in memory are seen as.
+//! It stands on `bt_outside`, what the outside promises and the adapters to the real one, on `bt_frame` and `bt_text`,
+//! the words of the field and of texts, and on `bt_steps`, the counter of steps, and gives all four out too. All of
+//! `specs/` is promise: `Held.antt` and `Calls.antt` say what the objects in memory are seen as.
 #![tactic(auto)]
 
 mod fail;
@@ -21,6 +21,7 @@ pub use bt_frame::{
 pub use bt_outside::{
     DirFiles, FileFault, FileKeeper, Files, KeepFault, Keeper, Sink, SinkFault, StdSink,
 };
+pub use bt_steps::Steps;
 pub use bt_text::{next_line, number_text};
 pub use fail::Fail;
 pub use mem_files::MemFiles;

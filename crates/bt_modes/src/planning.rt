@@ -1,22 +1,28 @@
 // The switching schedule of the least length.
-ghost use Rattle.std.specs.Prelude.{◌≡◌, ◌<◌, length, IfOk};
-ghost use Rattle.bt_matrix.specs.Good.{IsGood};
-ghost use Rattle.bt_matrix.specs.Traffic.{row_of, IsHeaviest};
+ghost use Rattle.std.specs.Prelude.{◌≡◌, ◌<◌, IfOk};
+ghost use Rattle.bt_matrix.specs.Good.{IsGood, total_duration};
+ghost use Rattle.bt_matrix.specs.Traffic.{IsHeaviest};
+ghost use Rattle.bt_modes.specs.Decomposition.{DecomposesTo};
 
 use crate::decomposition::decompose;
-use crate::padding::pad;
-use bt_frame::{BeamNo, Modes, OutOfMemory, Schedule};
+use crate::padding::{Padded, pad};
+use bt_frame::{Mode, Modes, OutOfMemory, Schedule};
+use bt_links::Crosslinked;
 use bt_matrix::{Dense, Traffic};
+use bt_steps::Steps;
 use std::alloc::Global;
+use std::marker::Brand;
+use std::sync::ledger::{Blank, Ledger};
 
-/// A schedule for the matrix, than which none is shorter.
+/// A schedule for the matrix, than which none is shorter. The matrix is copied into one of linked nodes, and that is
+/// padded and decomposed.
 pub fn schedule(alloc: Global, matrix: &Dense) -> Result<Schedule, OutOfMemory>
     ensures heaviest { IfOk result (λ schedule. IsHeaviest matrix.now schedule.critical schedule.length) }
     ensures good { IfOk result (λ schedule. IsGood matrix.now schedule) }
 {
     let (critical, length) = matrix.heaviest();
-    let padded = pad(alloc, copy_of(alloc, matrix)?)?;
-    let modes = decompose(alloc, padded)?;
+    let padded = pad(alloc, Crosslinked::of(alloc, matrix)?)?;
+    let modes = modes_of::<Brand>(alloc, padded, Blank::new(1))?;
     Ok(Schedule {
         length,
         critical,
@@ -24,25 +30,18 @@ pub fn schedule(alloc: Global, matrix: &Dense) -> Result<Schedule, OutOfMemory>
     })
 }
 
-/// The same matrix once more.
-fn copy_of(alloc: Global, matrix: &Dense) -> Result<Dense, OutOfMemory>
-    ensures { IfOk result (λ copy. copy ≡ matrix.now) }
+/// The modes of the padded matrix, on a counter of their own that nobody reads.
+fn modes_of<L: Ledger>(
+    alloc: Global,
+    padded: Padded<Crosslinked>,
+    blank: Blank,
+) -> Result<Vec<Mode>, OutOfMemory>
+    requires name { blank.name ≡ L.name }
+    requires parts { blank.parts ≡ L.parts }
+    requires some { 0 < blank.parts }
+    ensures modes { IfOk result (λ modes. DecomposesTo padded.matrix.rows modes.items) }
+    ensures filled { IfOk result (λ modes. total_duration modes.items ≡ padded.sum) }
 {
-    let mut rows = Vec::new(alloc);
-    for up in 0..matrix.size() as u8 {
-        rows.push(copy_of_row(alloc, matrix, BeamNo(up))?)?;
-    }
-    Ok(Dense::of(rows))
-}
-
-/// The entries of one row.
-fn copy_of_row(alloc: Global, matrix: &Dense, up: BeamNo) -> Result<Vec<u32>, OutOfMemory>
-    requires { up.0 < length matrix.now }
-    ensures { IfOk result (λ row. row.items ≡ row_of matrix.now up.0) }
-{
-    let mut row = Vec::new(alloc);
-    for down in 0..matrix.size() as u8 {
-        row.push(matrix.get(up, BeamNo(down)))?;
-    }
-    Ok(row)
+    let mut steps = Steps::<L>::open(blank);
+    decompose(alloc, padded, &mut steps)
 }

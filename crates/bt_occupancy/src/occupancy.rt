@@ -12,7 +12,8 @@ ghost use Rattle.bt_occupancy.specs.Occupancy.{HasEnds, EditsLinks, GainsFirst, 
 use bt_demand::Demand;
 use bt_frame::{BeamNo, MOST_SLOTS, OutOfMemory, TermNo, Units};
 use bt_journal::Edit;
-use bt_matrix::{Dense, MOST_SUM, Traffic};
+use bt_links::Crosslinked;
+use bt_matrix::{MOST_SUM, Traffic};
 use bt_net::Network;
 use std::alloc::Global;
 use std::marker::Model;
@@ -22,7 +23,7 @@ use std::marker::Model;
 pub struct Occupancy {
     net: Network,
     demand: Demand,
-    matrix: Dense,
+    matrix: Crosslinked,
 }
 
 impl Model for Occupancy {
@@ -35,7 +36,7 @@ impl Model for Occupancy {
 
     ghost view = { λ a. record { net = a.net; links = a.demand } };
 
-    ghost invariant = { λ a. a.matrix ≡ matrix_of a.net a.demand };
+    ghost invariant = { λ a. a.matrix.rows ≡ matrix_of a.net a.demand };
 }
 
 impl Occupancy {
@@ -47,7 +48,7 @@ impl Occupancy {
         Ok(Occupancy {
             net: net.copy(alloc)?,
             demand: Demand::empty(alloc),
-            matrix: Dense::new(alloc, net.beam_count())?,
+            matrix: Crosslinked::new(alloc, net.beam_count())?,
         })
     }
 
@@ -226,6 +227,8 @@ impl Occupancy {
     {
         let (up, down) = (self.net.beam_of(from), self.net.beam_of(to));
         let slots = units.get();
+        // What may want memory comes first: behind it nothing fails, so that all stays as it was or all changes.
+        self.matrix.reserve(alloc, 1)?;
         self.demand.add(alloc, from, to, slots)?;
         self.matrix.add(up, down, slots);
         Ok(())

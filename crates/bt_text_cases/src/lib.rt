@@ -2,13 +2,17 @@
 //! what they mean.
 //!
 //! It stands on the readers of texts, on the steps from a matrix to a plan, and on the text of cases. It promises nothing
-//! beyond that each step is safe, and has no `specs/`.
+//! beyond that each step is safe, and has no `specs/`; but one small decomposition, whose looks stand in its contract
+//! (`crossed.rt`).
 #![tactic(auto)]
 
+mod crossed;
 mod cutting;
 mod demand;
+mod linked;
 mod planning;
 mod stage;
 mod texts;
+mod twins;
 
 pub use stage::Texts;

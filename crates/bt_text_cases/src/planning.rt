@@ -1,14 +1,20 @@
 // Steps of planning that a command does not show one by one.
 ghost use Rattle.std.specs.Bool.{OnTrue};
+ghost use Rattle.std.specs.Prelude.{◌≡◌, ◌<◌};
 ghost use Rattle.bt_match.specs.Matching.{HasEqualLineSums};
 
+use crate::crossed::put_crossed;
 use crate::cutting::put_cutting;
 use crate::texts::{matrix_from, put_verdict};
 use bt_frame::BeamNo;
+use bt_links::Crosslinked;
 use bt_match::{Partial, Perm, perfect};
 use bt_matrix::{Dense, Traffic};
 use bt_sheet::{CaseFault, Result, Shelf, byte_of};
+use bt_steps::Steps;
 use std::alloc::Global;
+use std::marker::Brand;
+use std::sync::ledger::{Blank, Ledger};
 
 /// Shows steps of planning over texts.
 pub fn show_steps(alloc: Global, shelf: &Shelf, words: &[&str], out: &mut String) -> Result<bool> {
@@ -20,6 +26,7 @@ pub fn show_steps(alloc: Global, shelf: &Shelf, words: &[&str], out: &mut String
         ["match", matrix, first, second, third] => {
             show_permutations(alloc, shelf, matrix, [first, second, third], out)
         }
+        ["crossed"] => put_crossed::<Brand>(alloc, Blank::new(1), out),
         _ => return Ok(false),
     };
     shown?;
@@ -69,17 +76,42 @@ fn put_permutations(alloc: Global, matrix: &[u8], rows: [u8; 3], out: &mut Strin
     if !has_equal_sums(&matrix) {
         return Err(CaseFault("other line sums"));
     }
-    put_perms(alloc, &matrix, rows, out)
+    let Ok(matrix) = Crosslinked::of(alloc, &matrix) else {
+        return Err(CaseFault("out of memory"));
+    };
+    put_counted::<Brand>(alloc, &matrix, rows, Blank::new(1), out)
 }
 
-fn put_perms(alloc: Global, matrix: &Dense, freed: [u8; 3], out: &mut String) -> Result<()>
-    requires { HasEqualLineSums matrix.now }
+/// The same on a counter that is opened for it.
+fn put_counted<L: Ledger>(
+    alloc: Global,
+    matrix: &Crosslinked,
+    freed: [u8; 3],
+    blank: Blank,
+    out: &mut String,
+) -> Result<()>
+    requires equal { HasEqualLineSums matrix.now.rows }
+    requires name { blank.name ≡ L.name }
+    requires parts { blank.parts ≡ L.parts }
+    requires some { 0 < blank.parts }
+{
+    put_perms(alloc, matrix, freed, &mut Steps::<L>::open(blank), out)
+}
+
+fn put_perms<L: Ledger>(
+    alloc: Global,
+    matrix: &Crosslinked,
+    freed: [u8; 3],
+    steps: &mut Steps<L>,
+    out: &mut String,
+) -> Result<()>
+    requires { HasEqualLineSums matrix.now.rows }
 {
     let [first, second, third] = freed;
     let Ok(begin) = Partial::empty(alloc, matrix.size()) else {
         return Err(CaseFault("out of memory"));
     };
-    let Ok(perm) = perfect(alloc, matrix, begin) else {
+    let Ok(perm) = perfect(alloc, matrix, begin, steps) else {
         return Err(CaseFault("out of memory"));
     };
     put_perm(&perm, out)?;
@@ -87,7 +119,7 @@ fn put_perms(alloc: Global, matrix: &Dense, freed: [u8; 3], out: &mut String) ->
     begin.free(BeamNo(first));
     begin.free(BeamNo(second));
     begin.free(BeamNo(third));
-    let Ok(perm) = perfect(alloc, matrix, begin) else {
+    let Ok(perm) = perfect(alloc, matrix, begin, steps) else {
         return Err(CaseFault("out of memory"));
     };
     put_perm(&perm, out)

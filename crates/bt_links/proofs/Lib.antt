@@ -1,0 +1,10 @@
+pub mod Runs
+pub mod Lines
+pub mod Tables
+pub mod Keeps
+pub mod Free
+pub mod Moves
+pub mod Walks
+pub mod Empty
+pub mod Copies
+pub mod NextEntry
