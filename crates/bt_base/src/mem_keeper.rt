@@ -1,5 +1,5 @@
 // A store in memory, some of whose calls fail.
-ghost use Rattle.std.specs.Prelude.{◌≡◌, ◌≤◌, ◌⊎◌, ◌++◌, take, Some, OnOk, IfOk, IsSome, IsSomeAnd, IsNone, IsErrOf, vec_len};
+ghost use Rattle.std.specs.Prelude.{◌≡◌, ◌≤◌, ◌⊎◌, ◌↔◌, ◌++◌, take, None, Some, OnOk, IfOk, IsSome, IsSomeAnd, IsNone, IsErrOf, vec_len};
 ghost use Rattle.bt_outside.specs.Told.{Gives, IsLonger, HasBytes, gained, GainsPrefix, shortened, HasCause};
 ghost use Rattle.bt_base.specs.Calls.{fail_at, Counts};
 
@@ -51,6 +51,8 @@ impl Keeper for MemKeeper {
 
     ghost fault_count = { λ held. held.calls.faults };
 
+    ghost crashes = { λ _. None };
+
     fn faults(&self) -> u64 {
         self.calls.faults()
     }
@@ -88,13 +90,11 @@ impl Keeper for MemKeeper {
         ensures bytes { IfOk result (λ bytes. Gives (Some self.old.bytes) bytes.items) }
         ensures short { IfOk result (λ bytes. vec_len bytes ≤ MOST_JOURNAL_BYTES) }
         ensures too_long { IsErrOf result KeepFault.TooLong → IsLonger (Some self.old.bytes) MOST_JOURNAL_BYTES }
-        ensures same_count { IsErrOf result KeepFault.OutOfMemory → self.new.calls.faults ≡ self.old.calls.faults }
         ensures cause { HasCause KeepFault.Failed self.old.calls.faults self.new.calls.faults result }
         ensures same { Some self.new.bytes ≡ Some self.old.bytes }
 
-        // The listed calls fail and no others.
-        ensures not_listed { OnOk result (IsNone (fail_at self.old.calls.fails self.old.calls.made)) }
-        ensures listed { IsErrOf result KeepFault.Failed → IsSome (fail_at self.old.calls.fails self.old.calls.made) }
+        // The listed calls fail and no others: a call of the list answers nothing else.
+        ensures listed { IsErrOf result KeepFault.Failed ↔ IsSome (fail_at self.old.calls.fails self.old.calls.made) }
         ensures calls { Counts KeepFault.Failed self.old.calls self.new.calls result }
     {
         match self.calls.count() {
@@ -113,7 +113,6 @@ impl Keeper for MemKeeper {
             → (Some self.new.bytes ≡ Some self.old.bytes)
             ⊎ (Some self.new.bytes ≡ shortened (Some self.old.bytes) length) }
         ensures out_of_memory { IsErrOf result KeepFault.OutOfMemory → Some self.new.bytes ≡ Some self.old.bytes }
-        ensures same_count { IsErrOf result KeepFault.OutOfMemory → self.new.calls.faults ≡ self.old.calls.faults }
         ensures not_too_long { IsErrOf result KeepFault.TooLong → ⊥ }
         ensures cause { HasCause KeepFault.Failed self.old.calls.faults self.new.calls.faults result }
 

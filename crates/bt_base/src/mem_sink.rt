@@ -58,6 +58,7 @@ impl Sink for MemSink {
         ensures failed { IsErrOf result SinkFault.Failed
             → GainsPrefix (Some self.old.bytes) piece.now (Some self.new.bytes) }
         ensures out_of_memory { IsErrOf result SinkFault.OutOfMemory → Some self.new.bytes ≡ Some self.old.bytes }
+        ensures same_count { IsErrOf result SinkFault.OutOfMemory → self.new.calls.faults ≡ self.old.calls.faults }
         ensures cause { HasCause SinkFault.Failed self.old.calls.faults self.new.calls.faults result }
 
         // The listed calls fail and no others, want of memory apart.

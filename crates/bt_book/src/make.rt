@@ -1,6 +1,7 @@
 // A change is made and its line kept, or neither: all room is taken before the store is asked, and nothing can fail behind it.
-ghost use Rattle.std.specs.Prelude.{◌≡◌, ◌<◌, ◌≤◌, ◌++◌, ◌∷◌, [], true, false, IfOk, OnErr, OnOk, vec_capacity, vec_len};
+ghost use Rattle.std.specs.Prelude.{◌≡◌, ◌<◌, ◌≤◌, ◌++◌, ◌∷◌, [], true, false, not, IfOk, OnErr, OnOk, vec_capacity, vec_len};
 ghost use Rattle.bt_outside.specs.Told.{gained, GainsPrefix, Rose};
+ghost use Rattle.bt_outside.specs.Crash.{IsSettled};
 ghost use Rattle.bt_frame.specs.declared.limits.TheConstants.{MOST_SLOTS};
 ghost use Rattle.bt_demand.specs.Traffic.{matrix_of, HasSumsTo};
 ghost use Rattle.bt_journal.specs.Journal.{NamesTerminals};
@@ -8,7 +9,7 @@ ghost use Rattle.bt_journal.specs.declared.call.Change.TheVariants as change;
 ghost use Rattle.bt_occupancy.specs.Occupancy.{HasEnds, HoldsTaken, EditsLinks};
 ghost use Rattle.bt_history.specs.Causes.{CanCome, IsChangeOn, IsPlanOn};
 ghost use Rattle.bt_history.specs.Machine.{ChangeStep, CanMake, line_behind};
-ghost use Rattle.bt_history.specs.Records.{IsSpelled, SameUnits, Stores, call_of};
+ghost use Rattle.bt_history.specs.Records.{CrashStep, Endures, IsSpelled, SameUnits, Stores, call_of};
 
 use crate::machine::Machine;
 use bt_air::Order;
@@ -33,15 +34,19 @@ impl Machine {
         requires can { CanMake self.old.net self.old.state asked }
         requires line { line.now ≡ line_behind self.old.net self.old.state.changes asked }
         requires spelled { IsSpelled self.old.net self.old.state.changes asked }
+        requires settled { IsSettled (K.told store.old) (K.crashes store.old) }
         ensures step { IfOk result (λ reply. ChangeStep self.old.net self.old.state asked reply self.new.state) }
         ensures entry { IfOk result (λ reply. self.new.history
             ≡ self.old.history ++ record { caller = caller; call = call_of asked; reply = reply } ∷ []) }
         ensures store { IfOk result (λ reply. Stores self.old.net self.old.state.changes asked reply
             (K.told store.old) (K.told store.new) (K.fault_count store.old) (K.fault_count store.new)) }
+        ensures crash { IfOk result (λ reply. CrashStep (line_behind self.old.net self.old.state.changes asked) reply
+            (K.told store.old) (K.told store.new) (K.crashes store.old) (K.crashes store.new)) }
         ensures net { self.new.net ≡ self.old.net }
         ensures err { OnErr result (self.new ≡ self.old) }
         ensures err_told { OnErr result (K.told store.new ≡ K.told store.old) }
         ensures err_faults { OnErr result (K.fault_count store.new ≡ K.fault_count store.old) }
+        ensures err_crashes { OnErr result (K.crashes store.new ≡ K.crashes store.old) }
     {
         match asked {
             Change::Edit(edit) => self.make_edit(alloc, caller, edit, line, store),
@@ -63,15 +68,19 @@ impl Machine {
         requires can { CanMake self.old.net self.old.state (change.Edit edit) }
         requires line { line.now ≡ line_behind self.old.net self.old.state.changes (change.Edit edit) }
         requires spelled { IsSpelled self.old.net self.old.state.changes (change.Edit edit) }
+        requires settled { IsSettled (K.told store.old) (K.crashes store.old) }
         ensures step { IfOk result (λ reply. ChangeStep self.old.net self.old.state (change.Edit edit) reply self.new.state) }
         ensures entry { IfOk result (λ reply. self.new.history
             ≡ self.old.history ++ record { caller = caller; call = call_of (change.Edit edit); reply = reply } ∷ []) }
         ensures store { IfOk result (λ reply. Stores self.old.net self.old.state.changes (change.Edit edit) reply
             (K.told store.old) (K.told store.new) (K.fault_count store.old) (K.fault_count store.new)) }
+        ensures crash { IfOk result (λ reply. CrashStep (line_behind self.old.net self.old.state.changes (change.Edit edit)) reply
+            (K.told store.old) (K.told store.new) (K.crashes store.old) (K.crashes store.new)) }
         ensures net { self.new.net ≡ self.old.net }
         ensures err { OnErr result (self.new ≡ self.old) }
         ensures err_told { OnErr result (K.told store.new ≡ K.told store.old) }
         ensures err_faults { OnErr result (K.fault_count store.new ≡ K.fault_count store.old) }
+        ensures err_crashes { OnErr result (K.crashes store.new ≡ K.crashes store.old) }
     {
         // This is there for what holds of each network: it is sound.
         let _slots = self.occupancy.slots();
@@ -120,15 +129,19 @@ impl Machine {
         requires can { CanMake self.old.net self.old.state (change.Install plan) }
         requires line { line.now ≡ line_behind self.old.net self.old.state.changes (change.Install plan) }
         requires spelled { IsSpelled self.old.net self.old.state.changes (change.Install plan) }
+        requires settled { IsSettled (K.told store.old) (K.crashes store.old) }
         ensures step { IfOk result (λ reply. ChangeStep self.old.net self.old.state (change.Install plan) reply self.new.state) }
         ensures entry { IfOk result (λ reply. self.new.history
             ≡ self.old.history ++ record { caller = caller; call = call_of (change.Install plan); reply = reply } ∷ []) }
         ensures store { IfOk result (λ reply. Stores self.old.net self.old.state.changes (change.Install plan) reply
             (K.told store.old) (K.told store.new) (K.fault_count store.old) (K.fault_count store.new)) }
+        ensures crash { IfOk result (λ reply. CrashStep (line_behind self.old.net self.old.state.changes (change.Install plan)) reply
+            (K.told store.old) (K.told store.new) (K.crashes store.old) (K.crashes store.new)) }
         ensures net { self.new.net ≡ self.old.net }
         ensures err { OnErr result (self.new ≡ self.old) }
         ensures err_told { OnErr result (K.told store.new ≡ K.told store.old) }
         ensures err_faults { OnErr result (K.fault_count store.new ≡ K.fault_count store.old) }
+        ensures err_crashes { OnErr result (K.crashes store.new ≡ K.crashes store.old) }
     {
         // This is there for what holds of each network: it is sound.
         let _slots = self.occupancy.slots();
@@ -169,15 +182,19 @@ impl Machine {
         requires can { CanMake self.old.net self.old.state (change.Order order) }
         requires line { line.now ≡ line_behind self.old.net self.old.state.changes (change.Order order) }
         requires spelled { IsSpelled self.old.net self.old.state.changes (change.Order order) }
+        requires settled { IsSettled (K.told store.old) (K.crashes store.old) }
         ensures step { IfOk result (λ reply. ChangeStep self.old.net self.old.state (change.Order order) reply self.new.state) }
         ensures entry { IfOk result (λ reply. self.new.history
             ≡ self.old.history ++ record { caller = caller; call = call_of (change.Order order); reply = reply } ∷ []) }
         ensures store { IfOk result (λ reply. Stores self.old.net self.old.state.changes (change.Order order) reply
             (K.told store.old) (K.told store.new) (K.fault_count store.old) (K.fault_count store.new)) }
+        ensures crash { IfOk result (λ reply. CrashStep (line_behind self.old.net self.old.state.changes (change.Order order)) reply
+            (K.told store.old) (K.told store.new) (K.crashes store.old) (K.crashes store.new)) }
         ensures net { self.new.net ≡ self.old.net }
         ensures err { OnErr result (self.new ≡ self.old) }
         ensures err_told { OnErr result (K.told store.new ≡ K.told store.old) }
         ensures err_faults { OnErr result (K.fault_count store.new ≡ K.fault_count store.old) }
+        ensures err_crashes { OnErr result (K.crashes store.new ≡ K.crashes store.old) }
     {
         // This is there for what holds of each network: it is sound.
         let _slots = self.occupancy.slots();
@@ -220,6 +237,7 @@ fn keep_edit<K: Keeper>(
     requires ends { HasEnds edit.now }
     requires held { HoldsTaken occupancy.old.links edit.now }
     requires small { HasSumsTo MOST_SLOTS (matrix_of occupancy.old.net occupancy.old.links) }
+    requires settled { IsSettled (K.told store.old) (K.crashes store.old) }
     ensures made { IfOk result (λ kept. kept ≡ true → EditsLinks occupancy.old.links edit.now occupancy.new.links) }
     ensures told { IfOk result (λ kept. kept ≡ true → K.told store.new ≡ gained (K.told store.old) line.now) }
     ensures later { IfOk result (λ kept. kept ≡ true → K.fault_count store.old ≤ K.fault_count store.new) }
@@ -232,6 +250,8 @@ fn keep_edit<K: Keeper>(
     ensures err_units { OnErr result (SameUnits occupancy.old.links occupancy.new.links) }
     ensures err_told { OnErr result (K.told store.new ≡ K.told store.old) }
     ensures err_faults { OnErr result (K.fault_count store.new ≡ K.fault_count store.old) }
+    ensures endures { IfOk result (λ kept. Endures line.now (not kept) (K.told store.old) (K.told store.new) (K.crashes store.old) (K.crashes store.new)) }
+    ensures err_crashes { OnErr result (K.crashes store.new ≡ K.crashes store.old) }
 {
     occupancy.gain_first(alloc, edit)?;
     match keep_line(alloc, history, line, store) {
@@ -260,6 +280,7 @@ fn keep_item<T: Drop, K: Keeper>(
     line: &[u8],
     store: &mut K,
 ) -> Result<bool, OutOfMemory>
+    requires { IsSettled (K.told store.old) (K.crashes store.old) }
     ensures kept { IfOk result (λ kept. kept ≡ true → list.new.items ≡ list.old.items ++ item ∷ []) }
     ensures told { IfOk result (λ kept. kept ≡ true → K.told store.new ≡ gained (K.told store.old) line.now) }
     ensures later { IfOk result (λ kept. kept ≡ true → K.fault_count store.old ≤ K.fault_count store.new) }
@@ -271,6 +292,8 @@ fn keep_item<T: Drop, K: Keeper>(
     ensures err_list { OnErr result (list.new.items ≡ list.old.items) }
     ensures err_told { OnErr result (K.told store.new ≡ K.told store.old) }
     ensures err_faults { OnErr result (K.fault_count store.new ≡ K.fault_count store.old) }
+    ensures endures { IfOk result (λ kept. Endures line.now (not kept) (K.told store.old) (K.told store.new) (K.crashes store.old) (K.crashes store.new)) }
+    ensures err_crashes { OnErr result (K.crashes store.new ≡ K.crashes store.old) }
 {
     list.reserve(1)?;
     if keep_line(alloc, history, line, store)? {
@@ -287,6 +310,7 @@ fn keep_line<K: Keeper>(
     line: &[u8],
     store: &mut K,
 ) -> Result<bool, OutOfMemory>
+    requires { IsSettled (K.told store.old) (K.crashes store.old) }
     ensures told { IfOk result (λ kept. kept ≡ true → K.told store.new ≡ gained (K.told store.old) line.now) }
     ensures later { IfOk result (λ kept. kept ≡ true → K.fault_count store.old ≤ K.fault_count store.new) }
     ensures prefix { IfOk result (λ kept. kept ≡ false → GainsPrefix (K.told store.old) line.now (K.told store.new)) }
@@ -295,6 +319,8 @@ fn keep_line<K: Keeper>(
     ensures room { OnOk result (vec_len history.new < vec_capacity history.new) }
     ensures err_told { OnErr result (K.told store.new ≡ K.told store.old) }
     ensures err_faults { OnErr result (K.fault_count store.new ≡ K.fault_count store.old) }
+    ensures endures { IfOk result (λ kept. Endures line.now (not kept) (K.told store.old) (K.told store.new) (K.crashes store.old) (K.crashes store.new)) }
+    ensures err_crashes { OnErr result (K.crashes store.new ≡ K.crashes store.old) }
 {
     history.reserve(1)?;
     match store.append(alloc, line) {

@@ -1,8 +1,10 @@
 // A machine is recovered from a store of records.
-ghost use Rattle.std.specs.Prelude.{◌≡◌, ◌≤◌, [], length, take, IfOk, IfErr, IfSome, IsErrOf, OnErr, OnOk, option_map};
+ghost use Rattle.std.specs.Prelude.{◌≡◌, ◌≤◌, ◌⊎◌, [], Some, length, take, IfOk, IfErr, IfSome, IsErrOf, OnErr, OnOk, option_map};
 ghost use Rattle.bt_outside.specs.Told.{Gives, HasCause};
+ghost use Rattle.bt_outside.specs.Crash.{Elapses, IsSettled, LeavesSince};
 ghost use Rattle.bt_history.specs.Causes.{Follows};
 ghost use Rattle.bt_history.specs.Machine.{running};
+ghost use Rattle.bt_history.specs.Records.{IsLeftOrCut};
 ghost use Rattle.bt_history.specs.Recovery.{AreInRange, IsReadable, IsRecoverFault, MaybeCut, Recovered, whole};
 
 use crate::RecoverFault;
@@ -27,6 +29,8 @@ pub(crate) fn recover_machine<K: Keeper>(
     ensures told { IfOk result (λ machine. K.told store.new ≡ option_map whole (K.told store.old)) }
     ensures later { K.fault_count store.old ≤ K.fault_count store.new }
     ensures fault { IfErr result (IsRecoverFault net.now (K.told store.old) (K.told store.new) (K.fault_count store.old) (K.fault_count store.new)) }
+    ensures settled { OnOk result (IsSettled (K.told store.new) (K.crashes store.new)) }
+    ensures crash { LeavesSince (K.crashes store.old) (K.crashes store.new) (IsLeftOrCut net.now (K.told store.old) (K.crashes store.old)) }
 {
     let mut machine = Machine::open(alloc, net)?;
     match take_store(alloc, &mut machine, store) {
@@ -58,6 +62,8 @@ fn take_store<K: Keeper>(
     ensures told { OnOk result (K.told store.new ≡ option_map whole (K.told store.old)) }
     ensures later { K.fault_count store.old ≤ K.fault_count store.new }
     ensures fault { IfErr result (IsRecoverFault machine.old.net (K.told store.old) (K.told store.new) (K.fault_count store.old) (K.fault_count store.new)) }
+    ensures settled { OnOk result (IsSettled (K.told store.new) (K.crashes store.new)) }
+    ensures crash { LeavesSince (K.crashes store.old) (K.crashes store.new) (IsLeftOrCut machine.old.net (K.told store.old) (K.crashes store.old)) }
 {
     let bytes = store.read_all(alloc)?;
     let kept = machine.take_lines(alloc, bytes.as_slice())?;
@@ -65,7 +71,7 @@ fn take_store<K: Keeper>(
     Ok(())
 }
 
-/// Cuts a store after that many of its bytes, by one call, where it has more.
+/// Cuts a settled store after that many of its bytes, by one call, where it has more.
 fn cut_tail<K: Keeper>(
     alloc: Global,
     store: &mut K,
@@ -75,10 +81,15 @@ fn cut_tail<K: Keeper>(
     requires held { Gives (K.told store.old) bytes.now }
     requires kept { take kept bytes.now ≡ whole bytes.now }
     requires within { kept ≤ length bytes.now }
+    requires settled { IsSettled (K.told store.old) (K.crashes store.old) }
     ensures ok { OnOk result (K.told store.new ≡ option_map whole (K.told store.old)) }
     ensures err { OnErr result (MaybeCut (K.told store.old) (K.told store.new)) }
     ensures not_too_long { IsErrOf result KeepFault.TooLong → ⊥ }
     ensures cause { HasCause KeepFault.Failed (K.fault_count store.old) (K.fault_count store.new) result }
+    ensures time { Elapses (K.crashes store.old) (K.crashes store.new) }
+    ensures still { OnOk result (IsSettled (K.told store.new) (K.crashes store.new)) }
+    ensures crash { LeavesSince (K.crashes store.old) (K.crashes store.new)
+        (λ left. (Some left ≡ K.told store.old) ⊎ (Some left ≡ option_map whole (K.told store.old))) }
 {
     if kept < bytes.len() {
         store.cut(alloc, kept as u64)

@@ -17,4 +17,5 @@ pub mod OneJournal
 pub mod Spelled
 pub mod Stored
 pub mod NextOpening
+pub mod Holding
 mod GoodPlans

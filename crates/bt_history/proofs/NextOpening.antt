@@ -14,7 +14,8 @@ use Rattle.bt_history.specs.Causes.{Follows}
 use Rattle.bt_history.specs.Changes.{edition}
 use Rattle.bt_history.specs.Machine.{line_behind}
 use Rattle.bt_history.specs.Recovery.{AreInRange, Recovered, tail_of}
-use Rattle.bt_history.specs.Store.{IsNextOpening, IsStored}
+use Rattle.bt_history.specs.Store.{IsStored}
+use Rattle.bt_history.specs.Crash.{TellsNext}
 use Rattle.bt_history.proofs.OneMore.{ended_length, journal_lines-push}
 use Rattle.bt_history.proofs.OneJournal.{AreLines, in_range-behind}
 use Rattle.bt_history.proofs.Replayed.{tail-cons}
@@ -37,7 +38,7 @@ tail_behind net are edits (first ∷ changes) tail ranges none =
     ∙ tail_behind net are number changes tail ranges.1 none)
 
 -- so lines, and a tail without a newline behind them, tell the changes of the lines
-told_lines : (net : Net) (are : AreLines net) (bytes : List ℕ) (changes : List Change) (tail : List ℕ) → AreInRange net 0 changes → Follows net changes → lacks 10 tail ≡ true
+pub told_lines : (net : Net) (are : AreLines net) (bytes : List ℕ) (changes : List Change) (tail : List ℕ) → AreInRange net 0 changes → Follows net changes → lacks 10 tail ≡ true
     → bytes ≡ journal_lines net changes ++ tail → Recovered net bytes changes
 told_lines net are bytes changes tail ranges follow none is =
     let told = journal_lines net changes in
@@ -48,10 +49,6 @@ told_lines net are bytes changes tail ranges follow none is =
       ranges = ranges;
       follow = follow;
     }
-
--- what the next opening of these bytes tells
-abbrev pub NextOpening : Net → List ℕ → List Change → List Change → Type 0
-NextOpening net bytes changes lost = (next : List Change) × Recovered net bytes next × IsNextOpening changes lost next
 
 -- the first of changes in range are in range
 ranges_first : (net : Net) (edits : ℕ) (changes more : List Change) → AreInRange net edits (changes ++ more) → AreInRange net edits changes
@@ -73,7 +70,7 @@ part_of text kept none = ⊎_elim
 
 -- where a line was lost, its bytes are not all there, or it is the last
 opening_part : (net : Net) (are : AreLines net) (bytes : List ℕ) (changes : List Change) (one : Change) (kept : ℕ) → Follows net changes → IsStored net (Some bytes) changes (one ∷ [])
-    → bytes ≡ journal_lines net changes ++ take kept (line_behind net changes one) → NextOpening net bytes changes (one ∷ [])
+    → bytes ≡ journal_lines net changes ++ take kept (line_behind net changes one) → TellsNext net changes (one ∷ []) bytes
 opening_part net are bytes changes one kept follow stored is =
     let number = edition changes + edits_in one in
     let line = line_behind net changes one in
@@ -91,10 +88,12 @@ opening_part net are bytes changes one kept follow stored is =
 
 -- so the next opening of a store has the changes, or these and the lost one
 pub next_opening : (net : Net) (are : AreLines net) (told : Option (List ℕ)) (changes lost : List Change) → Follows net changes → IsStored net told changes lost
-    → IfSome told (λ bytes. NextOpening net bytes changes lost)
+    → IfSome told (λ bytes. TellsNext net changes lost bytes)
 next_opening net are None changes lost follow stored = tt
 next_opening net are (Some bytes) changes [] follow stored =
     let ranges = subst (AreInRange net 0) (append-nil changes) stored.ranges in
     (changes, told_lines net are bytes changes [] ranges follow refl (stored.kept ∙ sym (append-nil (journal_lines net changes))), inl refl)
-next_opening net are (Some bytes) changes (one ∷ []) follow stored = opening_part net are bytes changes one stored.kept.0 follow stored stored.kept.1
+next_opening net are (Some bytes) changes (one ∷ []) follow stored =
+    let (lines, kept, keeps, is) = stored.kept in
+    opening_part net are bytes changes one kept follow stored (is ∙ ap (λ (b : List ℕ). b ++ take kept (line_behind net changes one)) keeps)
 next_opening net are (Some bytes) changes (one ∷ two ∷ more) follow stored = absurd (omega (arith, stored.one))

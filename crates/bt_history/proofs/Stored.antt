@@ -113,7 +113,7 @@ asks (change.Install plan) = refl
 asks (change.Order order) = refl
 
 -- and a fault of the store loses it
-one_lost : (one : Change) (reply : Reply) → reply ≡ StoreFault → change_lost (call_of one) reply ≡ Some one
+pub one_lost : (one : Change) (reply : Reply) → reply ≡ StoreFault → change_lost (call_of one) reply ≡ Some one
 one_lost one reply is = ap (change_lost (call_of one)) is ∙ asks one
 
 -- behind an entry that lost nothing as much is lost as before
@@ -132,7 +132,7 @@ kept_part : (net : Net) (told new : Option (List ℕ)) (changes : List Change) (
     → IsKept net new changes (one ∷ [])
 kept_part net None new changes one gains kept = rw gains.1 tt
 kept_part net (Some bytes) new changes one gains kept =
-    rw gains.1 (gains.0, ap (λ (b : List ℕ). b ++ take gains.0 (line_behind net changes one)) kept)
+    rw gains.1 (bytes, gains.0, kept, refl)
 
 -- the bytes that are told are not more than are read
 readable_gains : (net : Net) (told new : Option (List ℕ)) (changes : List Change) (one : Change) → new ≡ gained told (line_behind net changes one) → IsKept net told changes []
@@ -154,7 +154,7 @@ readable_part net (Some bytes) new changes one gains kept room =
     rw gains.1 few
 
 -- what a store tells once the line of a change was kept
-stored_gains : (net : Net) (told new : Option (List ℕ)) (changes : List Change) (one : Change) → IsSound net → IsStored net told changes [] → IsChangeOn net one
+pub stored_gains : (net : Net) (told new : Option (List ℕ)) (changes : List Change) (one : Change) → IsSound net → IsStored net told changes [] → IsChangeOn net one
     → CanMake net (running changes) one → IsSpelled net changes one → new ≡ gained told (line_behind net changes one) → IsStored net new (changes ++ one ∷ []) []
 stored_gains net told new changes one sound stored on can spelled is =
     let follow = subst (Follows net) (append-nil changes) stored.follow in
@@ -168,7 +168,7 @@ stored_gains net told new changes one sound stored on can spelled is =
     }
 
 -- and once a first part of it was
-stored_part : (net : Net) (told new : Option (List ℕ)) (changes : List Change) (one : Change) → IsSound net → IsStored net told changes [] → IsChangeOn net one
+pub stored_part : (net : Net) (told new : Option (List ℕ)) (changes : List Change) (one : Change) → IsSound net → IsStored net told changes [] → IsChangeOn net one
     → CanMake net (running changes) one → IsSpelled net changes one → GainsPrefix told (line_behind net changes one) new → IsStored net new changes (one ∷ [])
 stored_part net told new changes one sound stored on can spelled gains =
     let follow = subst (Follows net) (append-nil changes) stored.follow in
@@ -179,52 +179,4 @@ stored_part net told new changes one sound stored on can spelled gains =
       follow = FollowFrom-grows net [] changes one follow on can.good;
       ranges = AreInRange-push net changes one ranges spelled;
       readable = readable_part net told new changes one gains stored.kept (omega (arith, can.room, sound.journal.1));
-    }
-
--- where a step changed neither
-pub holds_same : (old new : Records) (told now : Option (List ℕ)) → new.net ≡ old.net → new.state ≡ old.state → lost_of new.history ≡ lost_of old.history → now ≡ told
-    → Holds old told → Holds new now
-holds_same old new told now net state lost same holds = record {
-  stored = rw (net, state, lost, same) holds.stored;
-  sure = λ runs. lost ∙ holds.sure (sym (ap (λ (s : State). s.stopped) state) ∙ runs);
-}
-
--- what the store tells is kept by each step
-pub holds_step : (old new : Records) (one : Change) (caller : ℕ) (reply : Reply) (told now : Option (List ℕ)) (before after : ℕ) → IsSound old.net → Holds old told → IsChangeOn old.net one
-    → ChangeStep old.net old.state one reply new.state → new.net ≡ old.net → new.history ≡ old.history ++ record { caller = caller; call = call_of one; reply = reply } ∷ []
-    → Stores old.net old.state.changes one reply told now before after → Holds new now
-holds_step old new one caller reply told now before after sound holds on (inl halts) net grown stores =
-    let stays = told_stays (line_behind old.net old.state.changes one) reply told now before after (ap is_made halts.told) (ap is_lost halts.told) stores.step in
-    holds_same old new told now net halts.same (lost_stays old.history new.history _ grown (ap is_lost halts.told)) stays.0 holds
-holds_step old new one caller reply told now before after sound holds on (inr (inl refused)) net grown stores =
-    let kept = no_fault_not_lost reply (refusal_no_fault reply refused.refuses) in
-    let stays = told_stays (line_behind old.net old.state.changes one) reply told now before after (refusal_not_made reply refused.refuses) kept stores.step in
-    holds_same old new told now net refused.same (lost_stays old.history new.history _ grown kept) stays.0 holds
-holds_step old new one caller reply told now before after sound holds on (inr (inr (inl full))) net grown stores =
-    let stays = told_stays (line_behind old.net old.state.changes one) reply told now before after (ap is_made full.told) (ap is_lost full.told) stores.step in
-    holds_same old new told now net full.same (lost_stays old.history new.history _ grown (ap is_lost full.told)) stays.0 holds
-holds_step old new one caller reply told now before after sound holds on (inr (inr (inr (inl done)))) net grown stores =
-    let changes = old.state.changes in
-    let can = done.makes.can in
-    let runs : CanMake old.net (running changes) one = record { runs = refl; good = can.good; room = can.room } in
-    let none = holds.sure can.runs in
-    let stored = subst (IsStored old.net told changes) none holds.stored in
-    let gains = told_gains (line_behind old.net changes one) reply told now before after done.made stores.step in
-    let lost : lost_of new.history ≡ [] = lost_stays old.history new.history _ grown (no_fault_not_lost reply (made_no_fault reply done.made)) ∙ none in
-    record {
-      stored = rw (net, done.makes.after, lost) (stored_gains old.net told now changes one sound stored on runs (spelled_made old.net changes one reply done.made stores.spelled) gains.0);
-      sure = λ _. lost;
-    }
-holds_step old new one caller reply told now before after sound holds on (inr (inr (inr (inr lost)))) net grown stores =
-    let changes = old.state.changes in
-    let can = lost.can in
-    let runs : CanMake old.net (running changes) one = record { runs = refl; good = can.good; room = can.room } in
-    let none = holds.sure can.runs in
-    let stored = subst (IsStored old.net told changes) none holds.stored in
-    let here : Stores old.net changes one StoreFault told now before after = subst (λ (r : Reply). Stores old.net changes one r told now before after) lost.told stores in
-    let lost_is : lost_of new.history ≡ one ∷ [] =
-    lost_grows old.history new.history _ (Some one) grown (one_lost one reply lost.told) ∙ ap (λ (l : List Change). l ++ one ∷ []) none in
-    record {
-      stored = rw (net, lost.stops, lost_is) (stored_part old.net told now changes one sound stored on runs here.spelled here.step.0);
-      sure = λ running. absurd cc;
     }

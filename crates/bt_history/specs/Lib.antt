@@ -6,4 +6,5 @@ pub mod Book
 pub mod Faults
 pub mod Recovery
 pub mod Store
+pub mod Crash
 pub mod Records

@@ -1,7 +1,9 @@
 -- For bodies alone: what contracts see of the machine, and what is kept beside the changes.
-use Rattle.std.specs.Prelude.{◌≡◌, ◌≢◌, ℕ, ◌+◌, ◌≤◌, ◌<◌, Bool, true, false, List, [], ◌∷◌, ◌++◌, length, sum_by, Option, Some, None}
+use Rattle.std.specs.Prelude.{◌≡◌, ◌≢◌, ◌⊎◌, ℕ, ◌+◌, ◌≤◌, ◌<◌, Bool, true, false, List, [], ◌∷◌, ◌++◌, length, sum_by, Option, Some, None, IsSomeAnd}
 use Rattle.std.specs.List.{list_any}
 use Rattle.bt_frame.specs.declared.limits.TheConstants.{MOST_JOURNAL_BYTES}
+use Rattle.bt_outside.specs.Told.{GainsPrefix}
+use Rattle.bt_outside.specs.Crash.{CouldBeLeft, Crashes, Elapses, IsSettled, LeavesOnly, LeavesSince}
 use Rattle.bt_frame.specs.declared.numbers.TermNo.{TermNo}
 use Rattle.bt_frame.specs.declared.limits.TheConstants.{MOST_SLOTS}
 use Rattle.bt_net.specs.Network.{Net}
@@ -16,7 +18,7 @@ use Rattle.bt_journal.specs.declared.call.Change.{Change}
 use Rattle.bt_journal.specs.declared.call.Change.TheVariants as change
 use Rattle.bt_journal.specs.declared.entry.Entry.{Entry}
 use Rattle.bt_journal.specs.declared.call.Edit.{Edit}
-use Rattle.bt_journal.specs.Journal.{NamesTerminals, is_refusal, is_fault, change_made}
+use Rattle.bt_journal.specs.Journal.{NamesTerminals, is_refusal, is_fault, is_made, change_made}
 use Rattle.bt_journal.specs.JournalLines.{IsChangeInRange, edits_in}
 use Rattle.bt_journal.specs.declared.reply.Reply.{Reply}
 use Rattle.bt_journal.specs.declared.reply.Reply.TheVariants.{Done, NotThere, BookFull, Installed, Placed}
@@ -28,8 +30,9 @@ use Rattle.bt_occupancy.specs.Occupancy.{HasEnds, HoldsTaken, EditsLinks}
 use Rattle.bt_history.specs.EditCauses.{IsGoodEdit}
 use Rattle.bt_history.specs.Causes.{Follows, IsChangeOn, IsGood, IsCause}
 use Rattle.bt_history.specs.Machine.{State, bytes_of, bytes_with, line_behind, running}
-use Rattle.bt_history.specs.Recovery.{IsFirstNoLine, IsFirstStray, IsNoLine, IsStray}
-use Rattle.bt_history.specs.Store.{IsStored, StoreStep, lost_of}
+use Rattle.bt_history.specs.Recovery.{IsFirstNoLine, IsFirstStray, IsNoLine, IsStray, Recovered, whole}
+use Rattle.bt_history.specs.Store.{IsStored, StoreStep, is_lost, lost_of}
+use Rattle.bt_history.specs.Crash.{TellsNext}
 
 -- the network, the state of the machine, and the entries of all calls
 pub record Records : Type 0 where
@@ -116,10 +119,31 @@ pub record Stores (net : Net) (changes : List Change) (one : Change) (reply : Re
   pub step : StoreStep (line_behind net changes one) reply old new before now
   pub spelled : IsSpelledIf net changes one reply
 
--- what holds of what the store of a book tells, beside its machine
-pub record Holds (machine : Records) (told : Option (List ℕ)) : Type 0 where
+-- What a crash leaves while a line is added behind what a settled store tells: what it told, and a first part of the line. The
+-- store is settled again unless the line is lost.
+pub record Endures (line : List ℕ) (lost : Bool) (told now : Option (List ℕ)) (old new : Option Crashes) : Type 0 where
+  pub time : Elapses old new
+  pub crash : LeavesSince old new (λ left. GainsPrefix told line (Some left))
+  pub settled : lost ≡ false → IsSettled now new
+
+-- what a crash leaves while a change is answered: the store is asked to add the line where the change is made or lost, and not
+-- asked else
+pub record CrashStep (line : List ℕ) (reply : Reply) (told now : Option (List ℕ)) (old new : Option Crashes) : Type 0 where
+  pub asked : (is_made reply ≡ true) ⊎ (is_lost reply ≡ true) → Endures line (is_lost reply) told now old new
+  pub not_asked : is_made reply ≡ false → is_lost reply ≡ false → new ≡ old
+
+-- a crash at the start of a recovery could have left these bytes, or they are those that were told then, whose lines tell changes,
+-- with or without what stands behind the last newline
+abbrev pub IsLeftOrCut : Net → Option (List ℕ) → Option Crashes → List ℕ → Type 0
+IsLeftOrCut net told crashes left = CouldBeLeft crashes left ⊎ IsSomeAnd told (λ bytes. (changes : List Change) × Recovered net bytes changes × ((left ≡ bytes) ⊎ (left ≡ whole bytes)))
+
+-- What holds of the store of a book, beside its machine: what it tells, and what a crash leaves of it. While the machine is not
+-- stopped that is what it tells and nothing else.
+pub record Holds (machine : Records) (told : Option (List ℕ)) (crashes : Option Crashes) : Type 0 where
   pub stored : IsStored machine.net told machine.state.changes (lost_of machine.history)
   pub sure : machine.state.stopped ≡ false → lost_of machine.history ≡ []
+  pub settled : machine.state.stopped ≡ false → IsSettled told crashes
+  pub leaves : LeavesOnly crashes (TellsNext machine.net machine.state.changes (lost_of machine.history))
 
 -- each link has as many slots as before
 abbrev pub SameUnits : List Link → List Link → Type 0

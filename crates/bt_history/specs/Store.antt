@@ -12,7 +12,7 @@ use Rattle.bt_journal.specs.declared.entry.Entry.{Entry}
 use Rattle.bt_journal.specs.declared.reply.Reply.{Reply}
 use Rattle.bt_journal.specs.declared.reply.Reply.TheVariants.{Done, Installed, Placed, StoreFault}
 use Rattle.bt_journal.specs.Journal.{change_asked}
-use Rattle.bt_journal.specs.JournalLines.{Keeps, journal_lines}
+use Rattle.bt_journal.specs.JournalLines.{Keeps}
 use Rattle.bt_history.specs.Causes.{Follows}
 use Rattle.bt_history.specs.Machine.{line_behind}
 use Rattle.bt_history.specs.Recovery.{AreInRange, IsReadable}
@@ -47,10 +47,10 @@ change_lost asked reply = if is_lost reply then change_asked asked else None
 abbrev pub lost_of : List Entry → List Change
 lost_of history = filter_map (λ entry. change_lost entry.call entry.reply) history
 
--- the bytes told are the lines of the changes, and behind them a first part of the line of the lost change, maybe all of it
+-- the bytes told keep the changes, and behind those stands a first part of the line of the lost change, maybe all of it
 abbrev pub IsKept : Net → Option (List ℕ) → List Change → List Change → Type 0
 IsKept net told changes [] = IfSome told (λ bytes. Keeps net bytes changes)
-IsKept net told changes (one ∷ _) = IfSome told (λ bytes. (kept : ℕ) × (bytes ≡ journal_lines net changes ++ take kept (line_behind net changes one)))
+IsKept net told changes (one ∷ _) = IfSome told (λ bytes. (lines : List ℕ) × (kept : ℕ) × Keeps net lines changes × (bytes ≡ lines ++ take kept (line_behind net changes one)))
 
 -- beside that: at most one change is lost, it could be made, each line can be spelled, and no more bytes are told than are
 -- read from a store

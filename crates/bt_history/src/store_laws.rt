@@ -3,8 +3,9 @@ ghost use Rattle.std.specs.Prelude.{ℕ, List, Option, IfSome};
 ghost use Rattle.bt_net.specs.Network.{Net, IsSound};
 ghost use Rattle.bt_journal.specs.declared.call.Change.{Change};
 ghost use Rattle.bt_history.specs.Causes.{Follows};
-ghost use Rattle.bt_history.specs.Recovery.{IsReadable, Recovered};
-ghost use Rattle.bt_history.specs.Store.{IsNextOpening, IsStored};
+ghost use Rattle.bt_history.specs.Recovery.{IsReadable};
+ghost use Rattle.bt_history.specs.Store.{IsStored};
+ghost use Rattle.bt_history.specs.Crash.{TellsNext};
 
 use bt_journal::{lines_end_once, lines_tell_changes};
 
@@ -13,7 +14,7 @@ use bt_journal::{lines_end_once, lines_tell_changes};
 pub fn stores_tell_next_openings()
     ensures next { (net : Net) (told : Option (List ℕ)) (changes lost : List Change) → IsSound net → Follows net changes
         → IsStored net told changes lost
-        → IfSome told (λ bytes. (next : List Change) × Recovered net bytes next × IsNextOpening changes lost next) }
+        → IfSome told (TellsNext net changes lost) }
     ensures short { (net : Net) (told : Option (List ℕ)) (changes lost : List Change)
         → IsStored net told changes lost → IsReadable told }
 {

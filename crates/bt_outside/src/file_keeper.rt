@@ -13,7 +13,7 @@ use std::{io, rt};
 /// The store over a file of the system. What the file holds is not told. A missing file is made at the first call.
 ///
 /// A piece is on the disk, as far as the system says, where `append` or `cut` answers Ok. Whatever stands in the place of
-/// that is `Failed`, and each answer but Ok and want of memory counts as a fault.
+/// that is `Failed`, and each answer but Ok counts as a fault.
 #[derive(Drop)]
 pub struct FileKeeper<'a, R: rt::Files> {
     rt: &'a R,
@@ -36,16 +36,13 @@ impl<'a, R: rt::Files> FileKeeper<'a, R> {
         }
     }
 
-    /// The same fault, counted where it is not want of memory.
+    /// The same fault, counted.
     fn counted(&mut self, fault: KeepFault) -> KeepFault
         ensures same { result ≡ fault }
-        ensures same_count { fault ≡ KeepFault.OutOfMemory → self.new.faults ≡ self.old.faults }
         ensures later { self.old.faults ≤ self.new.faults }
-        ensures rose { fault ≡ KeepFault.Failed → Rose self.old.faults self.new.faults }
+        ensures rose { Rose self.old.faults self.new.faults }
     {
-        if fault != KeepFault::OutOfMemory {
-            self.faults = self.faults.saturating_add(1);
-        }
+        self.faults = self.faults.saturating_add(1);
         fault
     }
 }
@@ -54,6 +51,8 @@ impl<R: rt::Files> Keeper for FileKeeper<'_, R> {
     ghost told = { λ _. None };
 
     ghost fault_count = { λ keeper. keeper.faults };
+
+    ghost crashes = { λ _. None };
 
     fn faults(&self) -> u64 {
         self.faults

@@ -50,5 +50,6 @@ pub trait Sink {
         ensures ok { OnOk result (told self.new ≡ gained (told self.old) piece.now) }
         ensures failed { IsErrOf result SinkFault.Failed → GainsPrefix (told self.old) piece.now (told self.new) }
         ensures out_of_memory { IsErrOf result SinkFault.OutOfMemory → told self.new ≡ told self.old }
+        ensures same_count { IsErrOf result SinkFault.OutOfMemory → fault_count self.new ≡ fault_count self.old }
         ensures cause { HasCause SinkFault.Failed (fault_count self.old) (fault_count self.new) result };
 }

@@ -1,5 +1,5 @@
 // A writer as a sink.
-ghost use Rattle.std.specs.Prelude.{◌≡◌, None, OnOk};
+ghost use Rattle.std.specs.Prelude.{◌≡◌, None, OnOk, IsErrOf};
 ghost use Rattle.std.specs.Io.KnownBytes.{Appends};
 ghost use Rattle.bt_outside.specs.Told.{HasCause};
 
@@ -35,6 +35,7 @@ impl<W: Write> Sink for StdSink<W> {
     }
 
     fn write(&mut self, _alloc: Global, piece: &[u8]) -> Result<(), SinkFault>
+        ensures same_count { IsErrOf result SinkFault.OutOfMemory → self.new.faults ≡ self.old.faults }
         ensures cause { HasCause SinkFault.Failed self.old.faults self.new.faults result }
 
         // Where a writer tells its bytes, it has the whole piece after Ok.

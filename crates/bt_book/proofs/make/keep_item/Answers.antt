@@ -1,4 +1,5 @@
-use Rattle.std.proofs.Common.{rules, [], ◌∷◌, ◌++◌, ◌∙◌, refl, ap}
+use Rattle.std.proofs.Common.{rules, Bool, not, [], ◌∷◌, ◌++◌, ◌∙◌, refl, ap, subst}
+use Rattle.bt_history.specs.Records.{Endures}
 use Rattle.bt_lists.proofs.Results.{if_not_ok, not_ok, on_err}
 use Rattle.bt_book.proofs.make.keep_item.Goals as goal
 
@@ -18,6 +19,8 @@ returns-in_err-reserve g c =
       err_list = on_err result c.reserve.ensures.items;
       err_told = on_err result refl;
       err_faults = on_err result refl;
+      endures = if_not_ok _ result failed;
+      err_crashes = on_err result refl;
     }
 
 pub returns-in_err-keep_line : goal.returns-in_err-keep_line
@@ -35,6 +38,8 @@ returns-in_err-keep_line g c =
       err_list = on_err result c.reserve.ensures.items;
       err_told = on_err result c.in_err-keep_line.ensures.err_told;
       err_faults = on_err result c.in_err-keep_line.ensures.err_faults;
+      endures = if_not_ok _ result failed;
+      err_crashes = on_err result c.in_err-keep_line.ensures.err_crashes;
     }
 
 -- the line is kept, and the item too
@@ -51,6 +56,9 @@ returns-then-branch g c = record {
   err_list = tt;
   err_told = tt;
   err_faults = tt;
+  endures = subst (λ (k : Bool). Endures c.args.line.now (not k) (g.K.Keeper.told c.args.store.now) (g.K.Keeper.told c.keep_line.new.store)
+      (g.K.Keeper.crashes c.args.store.now) (g.K.Keeper.crashes c.keep_line.new.store)) c.if-branch.true c.in_ok-keep_line.ensures.endures;
+  err_crashes = tt;
 }
 
 -- or neither is
@@ -67,4 +75,7 @@ returns g c = record {
   err_list = tt;
   err_told = tt;
   err_faults = tt;
+  endures = subst (λ (k : Bool). Endures c.args.line.now (not k) (g.K.Keeper.told c.args.store.now) (g.K.Keeper.told c.keep_line.new.store)
+      (g.K.Keeper.crashes c.args.store.now) (g.K.Keeper.crashes c.keep_line.new.store)) c.if-branch.false c.in_ok-keep_line.ensures.endures;
+  err_crashes = tt;
 }

@@ -1,4 +1,5 @@
-use Rattle.std.proofs.Common.{refl}
+use Rattle.std.proofs.Common.{Err, ap, refl}
+use Rattle.bt_outside.specs.declared.keeper.KeepFault.{KeepFault}
 use Rattle.bt_lists.proofs.Results.{if_not_ok, not_ok, on_err}
 use Rattle.bt_book.proofs.make.keep_line.Goals as goal
 
@@ -15,6 +16,8 @@ returns-in_err-reserve g c =
       room = not_ok _ result failed;
       err_told = on_err result refl;
       err_faults = on_err result refl;
+      endures = if_not_ok _ result failed;
+      err_crashes = on_err result refl;
     }
 
 -- the entries are as before in each case
@@ -54,3 +57,31 @@ returns-in-Err-OutOfMemory-clause-rose g c = tt
 
 pub returns-in-Err-OutOfMemory-clause-room : goal.returns-in-Err-OutOfMemory-clause-room
 returns-in-Err-OutOfMemory-clause-room g c = tt
+
+-- the store keeps the line, or a first part of it
+pub returns-in-Ok-clause-endures : goal.returns-in-Ok-clause-endures
+returns-in-Ok-clause-endures g c = record {
+  time = c.append.ensures.time;
+  crash = c.append.ensures.crash c.requires;
+  settled = λ _. c.in-Ok.ensures.settled;
+}
+
+pub returns-in-Err-Failed-clause-endures : goal.returns-in-Err-Failed-clause-endures
+returns-in-Err-Failed-clause-endures g c = record {
+  time = c.append.ensures.time;
+  crash = c.append.ensures.crash c.requires;
+  settled = λ kept. absurd cc;
+}
+
+-- and at want of memory no time goes by
+pub returns-in-Err-OutOfMemory-clause-err_crashes : goal.returns-in-Err-OutOfMemory-clause-err_crashes
+returns-in-Err-OutOfMemory-clause-err_crashes g c = c.in-Err-OutOfMemory.ensures.no_moment (ap (λ (fault : KeepFault). Err fault) c.in-Err-OutOfMemory.field-0-is) c.requires
+
+pub returns-in-Ok-clause-err_crashes : goal.returns-in-Ok-clause-err_crashes
+returns-in-Ok-clause-err_crashes g c = tt
+
+pub returns-in-Err-Failed-clause-err_crashes : goal.returns-in-Err-Failed-clause-err_crashes
+returns-in-Err-Failed-clause-err_crashes g c = tt
+
+pub returns-in-Err-OutOfMemory-clause-endures : goal.returns-in-Err-OutOfMemory-clause-endures
+returns-in-Err-OutOfMemory-clause-endures g c = tt

@@ -1,6 +1,10 @@
-use Rattle.std.proofs.Common.{ap, refl}
+use Rattle.std.proofs.Common.{ap, refl, subst}
+use Rattle.bt_journal.specs.declared.call.Call.TheVariants as call
+use Rattle.bt_history.specs.Book.{Books, Survives}
 use Rattle.bt_history.specs.Store.{is_lost}
-use Rattle.bt_history.proofs.Stored.{holds_same, lost_stays}
+use Rattle.bt_history.proofs.Holding.{book_of, holds_same, survives_same}
+use Rattle.bt_history.proofs.OneJournal.{are_lines}
+use Rattle.bt_history.proofs.Stored.{lost_stays}
 use Rattle.bt_book.proofs.book.Book.newest_after.Goals as goal
 
 -- nothing is lost by a call that only asks
@@ -8,5 +12,30 @@ pub invariant_of-self-2 : goal.invariant_of-self-2
 invariant_of-self-2 g c =
     let old = c.self.inside.machine in
     let new = c.newest_after.new.self in
-    holds_same old new (g.K.Keeper.told c.self.inside.store) (g.K.Keeper.told c.self.inside.store) c.newest_after.ensures.net c.newest_after.ensures.state
-    (lost_stays old.history new.history _ c.in_ok-reply.ensures.entry (ap is_lost c.in_ok-reply.ensures.told)) refl c.self.invariant
+    let store = c.self.inside.store in
+    holds_same old new (g.K.Keeper.told store) (g.K.Keeper.told store) (g.K.Keeper.crashes store) (g.K.Keeper.crashes store) c.newest_after.ensures.net c.newest_after.ensures.state
+    (lost_stays old.history new.history _ c.in_ok-reply.ensures.entry (ap is_lost c.in_ok-reply.ensures.told)) refl refl c.self.invariant
+
+-- and a crash leaves what it left before
+pub returns-clause-crash : goal.returns-clause-crash
+returns-clause-crash g c =
+    let old = c.self.inside.machine in
+    let new = c.newest_after.new.self in
+    let store = c.self.inside.store in
+    let are = are_lines old.net c.network-net.ensures.sound c.lines_end_once.ensures.cut c.lines_tell_changes.ensures.change c.lines_tell_changes.ensures.edition in
+    let after = book_of new (g.K.Keeper.told store) (g.K.Keeper.fault_count store) (g.K.Keeper.crashes store) in
+    subst (λ (b : Books). Survives b (call.Newest c.args.after) after) c.self.view_is
+    (survives_same old new are (call.Newest c.args.after) (g.K.Keeper.told store) (g.K.Keeper.told store) (g.K.Keeper.crashes store) (g.K.Keeper.crashes store)
+    (g.K.Keeper.fault_count store) (g.K.Keeper.fault_count store) c.newest_after.ensures.net c.newest_after.ensures.state refl c.self.invariant)
+
+-- where memory runs out too
+pub returns-in_err-reply-clause-crash : goal.returns-in_err-reply-clause-crash
+returns-in_err-reply-clause-crash g c =
+    let old = c.self.inside.machine in
+    let new = c.newest_after.new.self in
+    let store = c.self.inside.store in
+    let are = are_lines old.net c.network-net.ensures.sound c.lines_end_once.ensures.cut c.lines_tell_changes.ensures.change c.lines_tell_changes.ensures.edition in
+    let after = book_of new (g.K.Keeper.told store) (g.K.Keeper.fault_count store) (g.K.Keeper.crashes store) in
+    subst (λ (b : Books). Survives b (call.Newest c.args.after) after) c.self.view_is
+    (survives_same old new are (call.Newest c.args.after) (g.K.Keeper.told store) (g.K.Keeper.told store) (g.K.Keeper.crashes store) (g.K.Keeper.crashes store)
+    (g.K.Keeper.fault_count store) (g.K.Keeper.fault_count store) c.newest_after.ensures.net c.newest_after.ensures.state refl c.self.invariant)

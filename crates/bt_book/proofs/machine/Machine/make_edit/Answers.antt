@@ -1,4 +1,4 @@
-use Rattle.std.proofs.Common.{◌≡◌, ℕ, ◌+◌, List, [], ◌∷◌, ◌++◌, ◌∙◌, length, refl, sym, ap, subst}
+use Rattle.std.proofs.Common.{◌≡◌, inl, inr, Bool, not, ℕ, ◌+◌, List, [], ◌∷◌, ◌++◌, ◌∙◌, length, refl, sym, ap, subst}
 use Rattle.bt_outside.specs.Told.{GainsPrefix, gained}
 use Rattle.bt_net.specs.Network.{Net}
 use Rattle.bt_journal.specs.declared.call.Call.TheVariants as call
@@ -7,8 +7,9 @@ use Rattle.bt_journal.specs.declared.entry.Entry.{Entry}
 use Rattle.bt_journal.specs.declared.reply.Reply.TheVariants.{Done, StoreFault}
 use Rattle.bt_journal.specs.Journal.{NamesTerminals}
 use Rattle.bt_history.specs.Machine.{CanMake, ChangeStep, line_behind, state_after}
-use Rattle.bt_history.specs.Records.{Records, Stores}
+use Rattle.bt_history.specs.Records.{CrashStep, Endures, Records, Stores}
 use Rattle.bt_history.proofs.Entries.{kept_lost, kept_made, kept_same, lost_step, made_changes, made_step, tells_made}
+use Rattle.bt_history.proofs.Holding.{asked_step}
 use Rattle.bt_lists.proofs.Results.{if_not_ok, on_err}
 use Rattle.bt_book.proofs.machine.Machine.make_edit.Goals as goal
 
@@ -55,6 +56,9 @@ returns-in_err-keep_edit g c =
       err = on_err result same;
       err_told = on_err result c.in_err-keep_edit.ensures.err_told;
       err_faults = on_err result c.in_err-keep_edit.ensures.err_faults;
+      crash = if_not_ok (λ reply. CrashStep (line_behind now.net now.state.changes (change.Edit c.args.edit)) reply (g.K.Keeper.told c.args.store.now) (g.K.Keeper.told c.keep_edit.new.store)
+          (g.K.Keeper.crashes c.args.store.now) (g.K.Keeper.crashes c.keep_edit.new.store)) result failed;
+      err_crashes = on_err result c.in_err-keep_edit.ensures.err_crashes;
     }
 
 -- the machine makes its step, and the store has the line
@@ -81,6 +85,10 @@ returns-then-branch g c =
       err = tt;
       err_told = tt;
       err_faults = tt;
+      crash = asked_step c.args.line.now (Done (record { 0 = a.edits + 1 }) c.length-length.result) (g.K.Keeper.told c.args.store.now) (g.K.Keeper.told c.keep_edit.new.store) (g.K.Keeper.crashes c.args.store.now) (g.K.Keeper.crashes c.keep_edit.new.store)
+          c.requires.line (inl refl) (subst (λ (k : Bool). Endures c.args.line.now (not k) (g.K.Keeper.told c.args.store.now) (g.K.Keeper.told c.keep_edit.new.store)
+          (g.K.Keeper.crashes c.args.store.now) (g.K.Keeper.crashes c.keep_edit.new.store)) c.if-branch.true c.in_ok-keep_edit.ensures.endures);
+      err_crashes = tt;
     }
 
 -- the store failed, and has a first part of the line
@@ -105,4 +113,8 @@ returns-else-branch g c =
       err = tt;
       err_told = tt;
       err_faults = tt;
+      crash = asked_step c.args.line.now StoreFault (g.K.Keeper.told c.args.store.now) (g.K.Keeper.told c.keep_edit.new.store) (g.K.Keeper.crashes c.args.store.now) (g.K.Keeper.crashes c.keep_edit.new.store)
+          c.requires.line (inr refl) (subst (λ (k : Bool). Endures c.args.line.now (not k) (g.K.Keeper.told c.args.store.now) (g.K.Keeper.told c.keep_edit.new.store)
+          (g.K.Keeper.crashes c.args.store.now) (g.K.Keeper.crashes c.keep_edit.new.store)) c.if-branch.false c.in_ok-keep_edit.ensures.endures);
+      err_crashes = tt;
     }

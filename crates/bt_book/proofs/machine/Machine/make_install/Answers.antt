@@ -1,4 +1,4 @@
-use Rattle.std.proofs.Common.{◌≡◌, ℕ, List, [], ◌∷◌, ◌++◌, ◌∙◌, length, refl, sym, ap, subst}
+use Rattle.std.proofs.Common.{◌≡◌, inl, inr, Bool, not, ℕ, List, [], ◌∷◌, ◌++◌, ◌∙◌, length, refl, sym, ap, subst}
 use Rattle.std.proofs.lemmas.List.{append-nil}
 use Rattle.bt_outside.specs.Told.{GainsPrefix, gained}
 use Rattle.bt_demand.specs.declared.plan.Plan.{Plan}
@@ -8,8 +8,9 @@ use Rattle.bt_journal.specs.declared.entry.Entry.{Entry}
 use Rattle.bt_journal.specs.declared.reply.Reply.TheVariants.{Installed, StoreFault}
 use Rattle.bt_history.specs.Causes.{IsPlanOn}
 use Rattle.bt_history.specs.Machine.{CanMake, ChangeStep, line_behind, state_after}
-use Rattle.bt_history.specs.Records.{Records, Stores}
+use Rattle.bt_history.specs.Records.{CrashStep, Endures, Records, Stores}
 use Rattle.bt_history.proofs.Entries.{kept_again, kept_lost, kept_other, lost_step, made_step}
+use Rattle.bt_history.proofs.Holding.{asked_step}
 use Rattle.bt_lists.proofs.Results.{if_not_ok, on_err}
 use Rattle.bt_book.proofs.machine.Machine.make_install.Goals as goal
 
@@ -54,6 +55,9 @@ returns-in_err-copy g c =
       err = on_err result refl;
       err_told = on_err result refl;
       err_faults = on_err result refl;
+      crash = if_not_ok (λ reply. CrashStep (line_behind now.net now.state.changes (change.Install c.args.plan)) reply (g.K.Keeper.told c.args.store.now) (g.K.Keeper.told c.args.store.now)
+          (g.K.Keeper.crashes c.args.store.now) (g.K.Keeper.crashes c.args.store.now)) result failed;
+      err_crashes = on_err result refl;
     }
 
 pub returns-in_err-keep_item : goal.returns-in_err-keep_item
@@ -71,6 +75,9 @@ returns-in_err-keep_item g c =
       err = on_err result same;
       err_told = on_err result c.in_err-keep_item.ensures.err_told;
       err_faults = on_err result c.in_err-keep_item.ensures.err_faults;
+      crash = if_not_ok (λ reply. CrashStep (line_behind now.net now.state.changes (change.Install c.args.plan)) reply (g.K.Keeper.told c.args.store.now) (g.K.Keeper.told c.keep_item.new.store)
+          (g.K.Keeper.crashes c.args.store.now) (g.K.Keeper.crashes c.keep_item.new.store)) result failed;
+      err_crashes = on_err result c.in_err-keep_item.ensures.err_crashes;
     }
 
 -- the machine makes its step, and the store has the line
@@ -94,6 +101,10 @@ returns-then-branch g c =
       err = tt;
       err_told = tt;
       err_faults = tt;
+      crash = asked_step c.args.line.now (Installed c.args.plan.edition) (g.K.Keeper.told c.args.store.now) (g.K.Keeper.told c.keep_item.new.store) (g.K.Keeper.crashes c.args.store.now) (g.K.Keeper.crashes c.keep_item.new.store)
+          c.requires.line (inl refl) (subst (λ (k : Bool). Endures c.args.line.now (not k) (g.K.Keeper.told c.args.store.now) (g.K.Keeper.told c.keep_item.new.store)
+          (g.K.Keeper.crashes c.args.store.now) (g.K.Keeper.crashes c.keep_item.new.store)) c.if-branch.true c.in_ok-keep_item.ensures.endures);
+      err_crashes = tt;
     }
 
 -- the store failed, and has a first part of the line
@@ -118,4 +129,8 @@ returns-else-branch g c =
       err = tt;
       err_told = tt;
       err_faults = tt;
+      crash = asked_step c.args.line.now StoreFault (g.K.Keeper.told c.args.store.now) (g.K.Keeper.told c.keep_item.new.store) (g.K.Keeper.crashes c.args.store.now) (g.K.Keeper.crashes c.keep_item.new.store)
+          c.requires.line (inr refl) (subst (λ (k : Bool). Endures c.args.line.now (not k) (g.K.Keeper.told c.args.store.now) (g.K.Keeper.told c.keep_item.new.store)
+          (g.K.Keeper.crashes c.args.store.now) (g.K.Keeper.crashes c.keep_item.new.store)) c.if-branch.false c.in_ok-keep_item.ensures.endures);
+      err_crashes = tt;
     }

@@ -1,10 +1,11 @@
-use Rattle.std.proofs.Common.{◌≡◌, length, refl, sym, ap, subst}
+use Rattle.std.proofs.Common.{◌≡◌, inl, inr, Bool, not, length, refl, sym, ap, subst}
 use Rattle.std.proofs.lemmas.List.{append-nil}
 use Rattle.bt_journal.specs.declared.call.Change.TheVariants as change
 use Rattle.bt_journal.specs.declared.reply.Reply.TheVariants.{Placed, StoreFault}
 use Rattle.bt_history.specs.Machine.{CanMake, ChangeStep, line_behind, state_after}
-use Rattle.bt_history.specs.Records.{Records}
+use Rattle.bt_history.specs.Records.{Endures, Records}
 use Rattle.bt_history.proofs.Entries.{kept_lost, kept_other, lost_step, made_step}
+use Rattle.bt_history.proofs.Holding.{asked_step}
 use Rattle.bt_book.proofs.machine.Machine.make_order.Goals as goal
 
 -- all is kept beside the changes
@@ -43,3 +44,17 @@ returns-else-branch-clause-step g c =
     subst (λ (r : Records). ChangeStep r.net r.state (change.Order c.args.order) StoreFault (state_after a.opening.items c.keep_entry-else-branch.new.history.items)) c.self.view_is
     (lost_step a.occupancy.net a.opening.items a.history.items c.keep_item.new.history.items c.keep_entry-else-branch.new.history.items (change.Order c.args.order) _
     c.keep_item.ensures.history c.keep_entry-else-branch.ensures refl can)
+
+-- the store has the line, and a crash leaves no more than that
+pub returns-then-branch-clause-crash : goal.returns-then-branch-clause-crash
+returns-then-branch-clause-crash g c =
+    asked_step c.args.line.now Placed (g.K.Keeper.told c.args.store.now) (g.K.Keeper.told c.keep_item.new.store) (g.K.Keeper.crashes c.args.store.now) (g.K.Keeper.crashes c.keep_item.new.store)
+    c.requires.line (inl refl) (subst (λ (k : Bool). Endures c.args.line.now (not k) (g.K.Keeper.told c.args.store.now) (g.K.Keeper.told c.keep_item.new.store)
+    (g.K.Keeper.crashes c.args.store.now) (g.K.Keeper.crashes c.keep_item.new.store)) c.if-branch.true c.in_ok-keep_item.ensures.endures)
+
+-- or a first part of it, and a crash leaves no more than that
+pub returns-else-branch-clause-crash : goal.returns-else-branch-clause-crash
+returns-else-branch-clause-crash g c =
+    asked_step c.args.line.now StoreFault (g.K.Keeper.told c.args.store.now) (g.K.Keeper.told c.keep_item.new.store) (g.K.Keeper.crashes c.args.store.now) (g.K.Keeper.crashes c.keep_item.new.store)
+    c.requires.line (inr refl) (subst (λ (k : Bool). Endures c.args.line.now (not k) (g.K.Keeper.told c.args.store.now) (g.K.Keeper.told c.keep_item.new.store)
+    (g.K.Keeper.crashes c.args.store.now) (g.K.Keeper.crashes c.keep_item.new.store)) c.if-branch.false c.in_ok-keep_item.ensures.endures)

@@ -1,0 +1,30 @@
+-- What a crash leaves of the store of a book: the changes that the next opening has.
+use Rattle.std.specs.Prelude.{◌≡◌, ◌⊎◌, false, true, ℕ, List, [], ◌∷◌, Option, IsSomeAnd}
+use Rattle.bt_outside.specs.Crash.{CouldBeLeft, Crashes, LeavesOnly, LeavesSince}
+use Rattle.bt_net.specs.Network.{Net}
+use Rattle.bt_journal.specs.declared.call.Call.{Call}
+use Rattle.bt_journal.specs.declared.call.Call.TheVariants as call
+use Rattle.bt_journal.specs.declared.call.Change.{Change}
+use Rattle.bt_journal.specs.declared.call.Change.TheVariants as change
+use Rattle.bt_history.specs.Recovery.{Recovered}
+use Rattle.bt_history.specs.Store.{IsNextOpening}
+
+-- from the bytes the next opening has these changes, or these and the one that may be there or not
+abbrev pub TellsNext : Net → List Change → List Change → List ℕ → Type 0
+TellsNext net changes maybe bytes = (next : List Change) × Recovered net bytes next × IsNextOpening changes maybe next
+
+-- the change that a call asks for, if any
+abbrev pub asked_for : Call → List Change
+asked_for (call.Edit edit) = change.Edit edit ∷ []
+asked_for (call.Install plan) = change.Install plan ∷ []
+asked_for (call.Place order) = change.Order order ∷ []
+asked_for call.Snapshot = []
+asked_for (call.Newest _) = []
+
+-- the bytes tell the changes that the told ones tell
+abbrev pub TellsSame : Net → Option (List ℕ) → List ℕ → Type 0
+TellsSame net told left = IsSomeAnd told (λ bytes. (changes : List Change) × Recovered net bytes changes × Recovered net left changes)
+
+-- a crash at the start of a recovery could have left these bytes, or they tell what was told then
+abbrev pub IsLeftByRecovery : Net → Option (List ℕ) → Option Crashes → List ℕ → Type 0
+IsLeftByRecovery net told crashes left = CouldBeLeft crashes left ⊎ TellsSame net told left
