@@ -13,3 +13,4 @@ pub mod Named
 pub mod Runs
 pub mod Alone
 pub mod PrintedPlans
+pub mod Complete

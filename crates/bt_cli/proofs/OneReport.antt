@@ -129,7 +129,7 @@ overload_same lines sums net links a b (line, sum, is, over, says) (line', sum',
     says ∙ ap (λ (l : Critical). text_alone (line_of (overload_words l sum)) 4) same_line ∙ ap (λ (n : ℕ). text_alone (line_of (overload_words line' n)) 4) same_sum ∙ sym says'
 
 -- and one that does not fit does not fit
-never_both : (net : Net) (links : List Link) (a : Outcome) → NamesOverload net links a → Fits net links → ⊥
+pub never_both : (net : Net) (links : List Link) (a : Outcome) → NamesOverload net links a → Fits net links → ⊥
 never_both net links a (line, sum, is, over, says) fits =
     let most = fits line is.on_matrix in
     absurd (omega (arith, most, over, is.reached))

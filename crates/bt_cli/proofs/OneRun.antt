@@ -14,6 +14,7 @@ use Rattle.bt_history.specs.declared.fault.RecoverFault.TheVariants.{StoreFault}
 use Rattle.bt_history.specs.Recovery.{IsRecoverFault, Recovered}
 use Rattle.bt_history.specs.Store.{RoseBy}
 use Rattle.bt_centre.specs.declared.history.History.{History}
+use Rattle.bt_centre.specs.Output.{Output}
 use Rattle.bt_centre.specs.RecoverFaults.{PrintsFault, recover_line, recover_status, recover_words}
 use Rattle.bt_centre.specs.Run.{EndsFrom, RunsTo, RunsToRestart, RunsWhole, lost_in}
 use Rattle.bt_centre.specs.Stored.{IsSteady, Stored}
@@ -56,26 +57,26 @@ rose_later count before between now (inl first) (inl second) later = inl (omega 
 rose_later count before between now (inr last) rose later = inr (omega (arith, last, later))
 rose_later count before between now first (inr last) later = inr last
 
-never_failed : (net : Net) (held : List ℕ) (items : List Item) (text : List ℕ) (stored : Stored) (opening : List Change) (status : ℕ) (histories : List History) (events : List Event)
-    → stored.before ≡ Some held → IsSteady stored → RunsToRestart net items (sink_with text) stored opening status histories events → ⊥
-never_failed net held items text stored opening status histories events is steady stops =
+pub never_failed : (net : Net) (held : List ℕ) (items : List Item) (output : Output) (stored : Stored) (opening : List Change) (status : ℕ) (histories : List History) (events : List Event)
+    → stored.before ≡ Some held → IsSteady stored → RunsToRestart net items output stored opening status histories events → ⊥
+never_failed net held items output stored opening status histories events is steady stops =
     let only : stops.fault ≡ StoreFault = told stored.before held (λ _. stops.fault ≡ StoreFault) is stops.only in
     let Failed : RecoverFault → Type 0 = λ fault. IsRecoverFault net stops.told stored.after stops.faults stored.faults_after fault in
     let failed = subst Failed only stops.failed in
     steady (rose_later (length (lost_in histories)) stored.faults_before stops.faults stored.faults_after stops.left.count failed.1 stops.later)
 
 -- a run over such a store came to its end
-whole_ended : (net : Net) (items : List Item) (text : List ℕ) (stored : Stored) (opening : List Change) (status : ℕ) (histories : List History) (events : List Event)
-    → IsSteady stored → RunsWhole net items (sink_with text) stored opening status histories events → status ≡ 0
-whole_ended net items text stored opening status histories events steady ran =
+pub whole_ended : (net : Net) (items : List Item) (output : Output) (stored : Stored) (opening : List Change) (status : ℕ) (histories : List History) (events : List Event)
+    → IsSteady stored → RunsWhole net items output stored opening status histories events → status ≡ 0
+whole_ended net items output stored opening status histories events steady ran =
     ran.status_is ∙ kept_status net _ opening ran.run.end.opening histories ran.run.legal (none_lost stored (length (lost_in histories)) steady ran.left.count)
 
 parts_ended : (net : Net) (held : List ℕ) (items : List Item) (text : List ℕ) (stored : Stored) (opening : List Change) (status : ℕ) (histories : List History) (events : List Event)
     → stored.before ≡ Some held → IsSteady stored → status ≢ 1 → EndsFrom net items (sink_with text) stored opening status histories events → status ≡ 0
 parts_ended net held items text stored opening status histories events is steady memory (inl broke) = absurd (memory broke.status_is)
-parts_ended net held items text stored opening status histories events is steady memory (inr (inl ran)) = whole_ended net items text stored opening status histories events steady ran
+parts_ended net held items text stored opening status histories events is steady memory (inr (inl ran)) = whole_ended net items (sink_with text) stored opening status histories events steady ran
 parts_ended net held items text stored opening status histories events is steady memory (inr (inr (inl partly))) = absurd (no_fault partly.failed)
-parts_ended net held items text stored opening status histories events is steady memory (inr (inr (inr stops))) = absurd (never_failed net held items text stored opening status histories events is steady stops)
+parts_ended net held items text stored opening status histories events is steady memory (inr (inr (inr stops))) = absurd (never_failed net held items (sink_with text) stored opening status histories events is steady stops)
 
 run_comes : (net : Net) (script : Script) (held : List ℕ) (stored : Stored) (outcome : Outcome) (histories : List History) (events : List Event) → stored.before ≡ Some held → IsSteady stored
     → outcome.status ≢ 1 → RunsTo net script (sink_with outcome.text) stored outcome.status histories events → Comes HasEnded net held outcome

@@ -14,3 +14,4 @@ pub mod CheckPlan
 pub mod Run
 pub mod Replay
 pub mod Top
+pub mod Complete

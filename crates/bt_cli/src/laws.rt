@@ -13,6 +13,7 @@ ghost use Rattle.bt_plan.specs.ScheduleText.{schedule_of};
 ghost use Rattle.bt_words.specs.Lines.{line_of};
 ghost use Rattle.bt_cli.specs.Check.{Judges};
 ghost use Rattle.bt_cli.specs.CheckPlan.{JudgesPlan};
+ghost use Rattle.bt_cli.specs.Complete.{NothingFails, Serves};
 ghost use Rattle.bt_cli.specs.Fitting.{Fits};
 ghost use Rattle.bt_cli.specs.Outcome.{FilesFailed, Input, Outcome, PrintsOneOf, Says, text_alone};
 ghost use Rattle.bt_cli.specs.Plans.{PrintsPlan};
@@ -50,6 +51,17 @@ pub fn ends_are_reports()
     ensures printed { (input : Input) (output : Output) (stored : Stored) (request : Request) (end : End) → Ends input output stored request end
         → (end.status ≡ 6) ⊎ PrintsOneOf output (ReportsWith input.told (FilesFailed input) stored request) end.status }
 {}
+
+/// Where the words are a command's, each file that is read is told, within its limit and of its grammar, the demand fits
+/// where that is asked, the store is told, within its limit, and tells changes where it is read, and nothing fails in the
+/// call, the work is done: the status is 0, for `check` that of the verdict, or that of want of memory.
+pub fn sound_input_is_served()
+    ensures served { (input : Input) (output : Output) (stored : Stored) (request : Request) (end : End)
+        → NothingFails input output stored → Ends input output stored request end → Serves input.told stored request end.status }
+{
+    links_tell_demands();
+    journals_tell_one_thing();
+}
 
 /// What `modes` prints for a matrix is read back by `check`, for that matrix, as the schedule that was printed; and
 /// the line of its verdict is `good`, with status 0, and no other.

@@ -30,6 +30,7 @@ pub use bt_centre::{
 pub use check::check_command;
 pub use laws::{
     ends_are_reports, one_report, printed_plans_are_read_back, printed_schedules_are_read_back,
+    sound_input_is_served,
 };
 pub use modes::modes_command;
 pub use plan::plan_command;

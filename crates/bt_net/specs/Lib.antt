@@ -1,3 +1,4 @@
 pub mod Network
+pub mod Numbered
 pub mod Reading
 pub mod Terminals

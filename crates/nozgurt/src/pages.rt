@@ -87,6 +87,9 @@ exit status
   9   check: the verdict is not good       the verdict's line
   10  a file is over 4,194,304 bytes long  fault too long NAME
       the journal is over 67,108,864       fault too long store
+  The letter of a CODE names the file that is at fault: N the network, X the
+  matrix, M the modes, T the traffic, P the plan, S the script, J the journal.
+  docs/formats.md has the texts of all files and explains each code.
 ";
 
 /// What `--version` prints.
@@ -108,10 +111,10 @@ pub fn reason_of(status: u8) -> Option<&'static str> {
         OUT_OF_MEMORY => Some("memory ran out; what stands on the output may be only a first part"),
         FAULTY_WORDS => Some("these words are none of a command; try nozgurt --help"),
         NO_NETWORK => Some(
-            "the network file is no network; the last line has the fault and its place in the file",
+            "the network file is no network; the last line has the fault, whose code begins with N, and its place in the file; docs/formats.md explains each",
         ),
         FAULTY_TEXT => Some(
-            "a file leaves its grammar or its limits, or the traffic does not fit the frame; the last line has the fault",
+            "a file leaves its grammar or its limits, or the traffic does not fit the frame; the last line has the fault, and the letter of its code names the file: X the matrix, M the modes, T the traffic, P the plan, S the script; docs/formats.md explains each",
         ),
         READ_FAILED => Some("a file could not be read; the last line names it"),
         WRITE_FAILED => Some(
@@ -121,7 +124,7 @@ pub fn reason_of(status: u8) -> Option<&'static str> {
             "the journal could not be read or cut, or failed over a line; look at its file and its folder",
         ),
         FAULTY_JOURNAL => Some(
-            "a line of the journal is none, or its change does not follow those before it; the last line has the fault and the number of the line",
+            "a line of the journal is none, or its change does not follow those before it; the last line has the fault, whose code begins with J, and the number of the line; docs/formats.md explains each",
         ),
         TOO_LONG => Some(
             "a file is longer than 4194304 bytes, or the journal than 67108864; the last line names it",

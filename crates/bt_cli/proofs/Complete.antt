@@ -1,0 +1,205 @@
+-- Where nothing is at fault and nothing fails, a command does its work.
+use Rattle.std.proofs.Common.{◌≡◌, ◌⊎◌, ℕ, ◌<◌, ◌≤◌, inl, inr, List, [], length, Option, Some, Ok, refl, sym, ap, ◌∙◌, subst, arith}
+use Rattle.bt_frame.specs.declared.limits.TheConstants.{MOST_JOURNAL_BYTES}
+use Rattle.bt_outside.specs.Told.{Gives, Rose}
+use Rattle.bt_frame.specs.declared.schedule.Schedule.{Schedule}
+use Rattle.bt_net.specs.Network.{Net, IsSound}
+use Rattle.bt_air.specs.declared.event.Event.{Event}
+use Rattle.bt_demand.specs.declared.demand.Link.{Link}
+use Rattle.bt_demand.specs.declared.plan.Plan.{Plan}
+use Rattle.bt_verdict.specs.declared.verdict.Verdict.{Verdict}
+use Rattle.bt_verdict.specs.PlanVerdict.{IsPlanVerdict}
+use Rattle.bt_verdict.specs.Verdict.{IsVerdict}
+use Rattle.bt_script.specs.declared.script.Item.{Item}
+use Rattle.bt_script.specs.declared.script.Script.{Script}
+use Rattle.bt_journal.specs.declared.call.Change.{Change}
+use Rattle.bt_history.specs.declared.fault.RecoverFault.{RecoverFault}
+use Rattle.bt_history.specs.declared.fault.RecoverFault.TheVariants.{J1, J2, StoreFault, TooLong, OutOfMemory}
+use Rattle.bt_history.specs.Recovery.{IsFirstNoLine, IsFirstStray}
+use Rattle.bt_centre.specs.declared.history.History.{History}
+use Rattle.bt_centre.specs.Output.{Output, HasFailed, Prints}
+use Rattle.bt_centre.specs.Run.{EndsFrom, RunsTo}
+use Rattle.bt_centre.specs.Stored.{IsSteady, Stored}
+use Rattle.bt_cli.specs.Check.{ChecksSchedule, Judges, verdict_status}
+use Rattle.bt_cli.specs.CheckPlan.{ChecksDemand, ChecksPlanText, JudgesPlan}
+use Rattle.bt_cli.specs.Complete.{IsDone, IsJudged, NothingFails, Serves, Spells, TellsChanges}
+use Rattle.bt_cli.specs.Fitting.{Fits, WhereItFits}
+use Rattle.bt_cli.specs.Kinds.{matrix_file, schedule_file, network_file, demand_file, plan_file, script_file}
+use Rattle.bt_cli.specs.Modes.{PrintsSchedule}
+use Rattle.bt_cli.specs.Outcome.{Outcome, Input, FilesFailed, IsContent, IsLoaded, Kind, Loads, PrintsOneOf, StopsAtLoad}
+use Rattle.bt_cli.specs.Plans.{PlansDemand, PrintsPlan}
+use Rattle.bt_cli.specs.Replay.{EndsRecovery, EndsReplay, IsNotRecovered, NamesRecoverFault, PrintsState}
+use Rattle.bt_cli.specs.Request.{Request, Faulty, CheckModes, CheckPlan, PlanModes, PlanDemand, RunScript, ReplayJournal}
+use Rattle.bt_cli.specs.Run.{End, EndsRun, EndsScript}
+use Rattle.bt_cli.specs.Top.{Ends, Reports}
+use Rattle.bt_cli.proofs.OneJournal.{Laws, told}
+use Rattle.bt_cli.proofs.OneReport.{IsLoaded-same, Misspells-not_loaded, never_both, not_longer}
+use Rattle.bt_cli.proofs.OneRun.{never_failed, whole_ended}
+
+-- ---- files
+
+-- what is told, and within the limit, is the content
+is_content : (held_by : List ℕ → Option (List ℕ)) (name held : List ℕ) → held_by name ≡ Some held → length held ≤ 4194304 → IsContent held_by name held
+is_content held_by name held is short = let P : Option (List ℕ) → Type 0 = λ o. Gives o held in (subst P (sym is) refl, short)
+
+-- a file that spells a value is loaded as that value
+spelled : {Value Fault : Type 0} (kind : Kind Value Fault) (held_by : List ℕ → Option (List ℕ)) (name : List ℕ) (value : Value) → Spells kind held_by name value → IsLoaded kind held_by name value
+spelled kind held_by name value (held, is, short, reads) = (held, is_content held_by name held is short, reads)
+
+-- and its load does not stop
+never_stops : {Value Fault : Type 0} (kind : Kind Value Fault) (held_by : List ℕ → Option (List ℕ)) (failed : Type 0) (name : List ℕ) (value : Value) → ¬ failed → Spells kind held_by name value
+    → (outcome : Outcome) → StopsAtLoad kind held_by failed name outcome → ⊥
+never_stops kind held_by failed name value steady (held, is, short, reads) outcome (inl (inl fault)) = steady fault.0
+never_stops kind held_by failed name value steady (held, is, short, reads) outcome (inl (inr long)) = not_longer held_by name held held is long.0 (is_content held_by name held is short)
+never_stops kind held_by failed name value steady (held, is, short, reads) outcome (inr wrong) =
+    Misspells-not_loaded kind held_by name held is outcome value wrong (held, is_content held_by name held is short, reads)
+
+-- so that the work goes on with the value
+goes_on : {Value Fault : Type 0} (kind : Kind Value Fault) (held_by : List ℕ → Option (List ℕ)) (failed : Type 0) (name : List ℕ) (value : Value) (after : Value → Outcome → Type 0) → ¬ failed
+    → Spells kind held_by name value → (outcome : Outcome) → Loads kind held_by failed name after outcome → after value outcome
+goes_on kind held_by failed name value after steady spells outcome (inl stopped) = absurd (never_stops kind held_by failed name value steady spells outcome stopped)
+goes_on {Value} kind held_by failed name value after steady spells outcome (inr (other, loaded, so)) =
+    let P : Value → Type 0 = λ v. after v outcome in
+    subst P (IsLoaded-same kind held_by name spells.0 spells.1 other value loaded (spelled kind held_by name value spells)) so
+
+-- ---- the output
+
+-- what was printed by a sink that did not fail has the status that was wanted
+printed_status : (output : Output) (text : List ℕ) (wanted status : ℕ) → ¬ (HasFailed output) → Prints output text wanted status → status ≡ wanted
+printed_status output text wanted status steady (inl (written, is)) = is
+printed_status output text wanted status steady (inr (failed, part, six)) = absurd (steady failed)
+
+done : (output : Output) (Outcomes : Outcome → Type 0) (status : ℕ) → ¬ (HasFailed output) → ((outcome : Outcome) → Outcomes outcome → outcome.status ≡ 0) → PrintsOneOf output Outcomes status → IsDone status
+done output Outcomes status steady so (inl memory) = inr memory
+done output Outcomes status steady so (inr (outcome, is, printed)) = inl (printed_status output outcome.text outcome.status status steady printed ∙ so outcome is)
+
+abbrev HasStatus : (Verdict → Type 0) → Outcome → Type 0
+HasStatus Is outcome = (verdict : Verdict) × Is verdict × (outcome.status ≡ verdict_status verdict)
+
+judged : (output : Output) (Outcomes : Outcome → Type 0) (Is : Verdict → Type 0) (status : ℕ) → ¬ (HasFailed output) → ((outcome : Outcome) → Outcomes outcome → HasStatus Is outcome)
+    → PrintsOneOf output Outcomes status → IsJudged Is status
+judged output Outcomes Is status steady so (inl memory) = inr memory
+judged output Outcomes Is status steady so (inr (outcome, is, printed)) =
+    let found = so outcome is in
+    inl (found.0, found.1, printed_status output outcome.text outcome.status status steady printed ∙ found.2)
+
+-- nothing was printed of a load that does not stop
+memory_alone : (output : Output) (Outcomes : Outcome → Type 0) (status : ℕ) → ((outcome : Outcome) → Outcomes outcome → ⊥) → PrintsOneOf output Outcomes status → IsDone status
+memory_alone output Outcomes status never (inl memory) = inr memory
+memory_alone output Outcomes status never (inr (outcome, is, printed)) = absurd (never outcome is)
+
+-- ---- the commands
+
+fits_on : (net : Net) (links : List Link) (after : Outcome → Type 0) → Fits net links → (outcome : Outcome) → WhereItFits net links after outcome → after outcome
+fits_on net links after fits outcome (inl over) = absurd (never_both net links outcome over fits)
+fits_on net links after fits outcome (inr (here, so)) = so
+
+status_of : (a b : Outcome) → a ≡ b → a.status ≡ b.status
+status_of a b same = ap (λ (o : Outcome). o.status) same
+
+-- ---- the store
+
+-- the recovery of a store that tells changes, and does not fail, can only want memory
+wants_memory : Laws → (net : Net) (stored : Stored) (fault : RecoverFault) → IsSound net → IsSteady stored → TellsChanges net stored → IsNotRecovered net stored fault → fault ≡ OutOfMemory
+wants_memory laws net stored (J1 number) sound steady tells failed =
+    absurd (laws.no_line net tells.held tells.changes number sound tells.recovered (told stored.before tells.held (λ bytes. IsFirstNoLine net bytes number) tells.told failed.2))
+wants_memory laws net stored (J2 number) sound steady tells failed =
+    absurd (laws.stray net tells.held tells.changes number sound tells.recovered (told stored.before tells.held (λ bytes. IsFirstStray net bytes number) tells.told failed.2))
+wants_memory laws net stored StoreFault sound steady tells failed = absurd (steady failed.1)
+wants_memory laws net stored TooLong sound steady tells failed =
+    let over = told stored.before tells.held (λ bytes. MOST_JOURNAL_BYTES < length bytes) tells.told failed.1 in
+    let short = tells.short in
+    absurd (omega (arith, over, short))
+wants_memory laws net stored OutOfMemory sound steady tells failed = refl
+
+never_named : (outcome : Outcome) → NamesRecoverFault OutOfMemory outcome → ⊥
+never_named outcome names = names
+
+recovery_done : Laws → (net : Net) (output : Output) (stored : Stored) (status : ℕ) → ¬ (HasFailed output) → IsSteady stored → TellsChanges net stored → EndsRecovery net output stored status → IsDone status
+recovery_done laws net output stored status sink steady tells (sound, inl (changes, recovered, printed)) =
+    done output (PrintsState net changes) status sink (λ outcome one. status_of outcome _ one.printed) printed
+recovery_done laws net output stored status sink steady tells (sound, inr (fault, failed, printed)) =
+    let P : RecoverFault → Type 0 = λ f. PrintsOneOf output (NamesRecoverFault f) status in
+    memory_alone output (NamesRecoverFault OutOfMemory) status never_named (subst P (wants_memory laws net stored fault sound steady tells failed) printed)
+
+replay_done : Laws → (input : Input) (output : Output) (stored : Stored) (net : List ℕ) (status : ℕ) → NothingFails input output stored → EndsReplay input output stored net status
+    → (network : Net) → Spells network_file input.told net network → TellsChanges network stored → IsDone status
+replay_done laws input output stored net status steady (inl (given, stopped)) network spells tells =
+    memory_alone output (StopsAtLoad network_file input.told (FilesFailed input) net) status (never_stops network_file input.told (FilesFailed input) net network steady.files spells) stopped
+replay_done laws input output stored net status steady (inr (other, loaded, ends)) network spells tells =
+    let one : other ≡ network = IsLoaded-same network_file input.told net spells.0 spells.1 other network loaded (spelled network_file input.told net network spells) in
+    let P : Net → Type 0 = λ n. EndsRecovery n output stored status in
+    recovery_done laws network output stored status steady.sink steady.store tells (subst P one ends)
+
+-- ---- runs
+
+parts_done : (net : Net) (held : List ℕ) (items : List Item) (output : Output) (stored : Stored) (opening : List Change) (status : ℕ) (histories : List History) (events : List Event)
+    → stored.before ≡ Some held → IsSteady stored → ¬ (HasFailed output) → EndsFrom net items output stored opening status histories events → IsDone status
+parts_done net held items output stored opening status histories events is steady sink (inl broke) = inr broke.status_is
+parts_done net held items output stored opening status histories events is steady sink (inr (inl ran)) = inl (whole_ended net items output stored opening status histories events steady ran)
+parts_done net held items output stored opening status histories events is steady sink (inr (inr (inl partly))) = absurd (sink partly.failed)
+parts_done net held items output stored opening status histories events is steady sink (inr (inr (inr stops))) =
+    absurd (never_failed net held items output stored opening status histories events is steady stops)
+
+run_done : Laws → (net : Net) (script : Script) (output : Output) (stored : Stored) (status : ℕ) (histories : List History) (events : List Event)
+    → IsSound net → IsSteady stored → ¬ (HasFailed output) → TellsChanges net stored → RunsTo net script output stored status histories events → IsDone status
+run_done laws net script output stored status histories events sound steady sink tells (inl early) = inr early.status_is
+run_done laws net script output stored status histories events sound steady sink tells (inr (inl nothing)) =
+    absurd (nothing.named (wants_memory laws net stored nothing.fault sound steady tells nothing.failed))
+run_done laws net script output stored status histories events sound steady sink tells (inr (inr run)) =
+    parts_done net tells.held script.items output stored run.opening status histories events tells.told steady sink run.ends
+
+script_done : Laws → (input : Input) (output : Output) (stored : Stored) (script : List ℕ) (net : Net) (end : End) → NothingFails input output stored → EndsScript input output stored script net end
+    → (read : Script) → Spells (script_file net) input.told script read → TellsChanges net stored → IsDone end.status
+script_done laws input output stored script net end steady (inl (nothing, stopped)) read spells tells =
+    memory_alone output (StopsAtLoad (script_file net) input.told (FilesFailed input) script) end.status (never_stops (script_file net) input.told (FilesFailed input) script read steady.files spells) stopped
+script_done laws input output stored script net end steady (inr (other, loaded, sound, ran)) read spells tells =
+    run_done laws net other output stored end.status end.histories end.events sound steady.store steady.sink tells ran
+
+files_done : Laws → (input : Input) (output : Output) (stored : Stored) (net script : List ℕ) (end : End) → NothingFails input output stored → EndsRun input output stored net script end
+    → (network : Net) (read : Script) → Spells network_file input.told net network → Spells (script_file network) input.told script read → TellsChanges network stored → IsDone end.status
+files_done laws input output stored net script end steady (inl (nothing, stopped)) network read of_net of_script tells =
+    memory_alone output (StopsAtLoad network_file input.told (FilesFailed input) net) end.status (never_stops network_file input.told (FilesFailed input) net network steady.files of_net) stopped
+files_done laws input output stored net script end steady (inr (other, loaded, ends)) network read of_net of_script tells =
+    let one : other ≡ network = IsLoaded-same network_file input.told net of_net.0 of_net.1 other network loaded (spelled network_file input.told net network of_net) in
+    let P : Net → Type 0 = λ n. EndsScript input output stored script n end in
+    script_done laws input output stored script network end steady (subst P one ends) read of_script tells
+
+-- ---- what is asked
+
+pub all_served : Laws → (input : Input) (output : Output) (stored : Stored) (request : Request) (end : End) → NothingFails input output stored → Ends input output stored request end
+    → Serves input.told stored request end.status
+all_served laws input output stored Faulty end steady ends = tt
+all_served laws input output stored (CheckModes matrix modes) end steady ends = λ rows schedule of_matrix of_modes.
+    let failed = FilesFailed input in
+    judged output (Reports input.told failed (CheckModes matrix modes)) (IsVerdict rows schedule) end.status steady.sink
+    (λ outcome is.
+    let read = goes_on matrix_file input.told failed matrix rows (λ of_rows. ChecksSchedule input.told failed modes of_rows) steady.files of_matrix outcome is in
+    let found = goes_on (schedule_file (length rows)) input.told failed modes schedule (λ one. Judges rows one) steady.files of_modes outcome read in
+    (found.0, found.1, status_of outcome _ found.2))
+    ends.1
+all_served laws input output stored (CheckPlan net traffic plan) end steady ends = λ network links read of_net of_traffic fits of_plan.
+    let failed = FilesFailed input in
+    judged output (Reports input.told failed (CheckPlan net traffic plan)) (IsPlanVerdict network links read) end.status steady.sink
+    (λ outcome is.
+    let on = goes_on network_file input.told failed net network (λ n. ChecksDemand input.told failed traffic plan n) steady.files of_net outcome is in
+    let asked = goes_on (demand_file network) input.told failed traffic links (λ some. WhereItFits network some (ChecksPlanText input.told failed plan network some)) steady.files of_traffic outcome on in
+    let fitting = fits_on network links (ChecksPlanText input.told failed plan network links) fits outcome asked in
+    let found = goes_on (plan_file network) input.told failed plan read (λ one. JudgesPlan network links one) steady.files of_plan outcome fitting in
+    (found.verdict, found.is, status_of outcome _ found.says))
+    ends.1
+all_served laws input output stored (PlanModes matrix) end steady ends = λ rows of_matrix.
+    let failed = FilesFailed input in
+    done output (Reports input.told failed (PlanModes matrix)) end.status steady.sink
+    (λ outcome is. status_of outcome _ (goes_on matrix_file input.told failed matrix rows (λ of_rows. PrintsSchedule of_rows) steady.files of_matrix outcome is).3)
+    ends.1
+all_served laws input output stored (PlanDemand net traffic) end steady ends = λ network links of_net of_traffic fits.
+    let failed = FilesFailed input in
+    done output (Reports input.told failed (PlanDemand net traffic)) end.status steady.sink
+    (λ outcome is.
+    let on = goes_on network_file input.told failed net network (λ n. PlansDemand input.told failed traffic n) steady.files of_net outcome is in
+    let asked = goes_on (demand_file network) input.told failed traffic links (λ some. WhereItFits network some (PrintsPlan network some)) steady.files of_traffic outcome on in
+    status_of outcome _ (fits_on network links (PrintsPlan network links) fits outcome asked).printed)
+    ends.1
+all_served laws input output stored (RunScript net script _) end steady ends = files_done laws input output stored net script end steady ends
+all_served laws input output stored (ReplayJournal net _) end steady ends = replay_done laws input output stored net end.status steady ends.ends
