@@ -1,5 +1,5 @@
 -- Deliveries one after the other. What the receivers send meanwhile is for the centre, which sends nothing then.
-use Rattle.std.proofs.Common.{◌≡◌, ℕ, ◌+◌, ◌<◌, ◌≤◌, ◌==◌, ◌&&◌, Bool, true, false, if◌then◌else◌, List, [], ◌∷◌, ◌++◌, length, take, drop, get_or, All, Option, Some, None, refl, sym, ap, ◌∙◌, subst, append_assoc, arith, slice_get}
+use Rattle.std.proofs.Common.{◌≡◌, ℕ, ◌+◌, ◌<◌, ◌≤◌, ◌==◌, Bool, true, false, if◌then◌else◌, List, [], ◌∷◌, ◌++◌, length, take, drop, get_or, All, Option, Some, None, refl, sym, ap, ◌∙◌, subst, append_assoc, arith, slice_get}
 use Rattle.std.proofs.lemmas.List.{append-nil, drop_all, drop_more, length-append, length-drop, take_more}
 use Rattle.std.proofs.lemmas.List.Elements.{All-append, All-cons, All-head, All-nil, All-tail, All-take}
 use Rattle.bt_frame.specs.declared.numbers.EditionNo.{EditionNo}
@@ -8,47 +8,51 @@ use Rattle.bt_net.specs.Network.{Net}
 use Rattle.bt_air.specs.declared.order.Order.{Order}
 use Rattle.bt_air.specs.declared.sent.Place.{Place}
 use Rattle.bt_air.specs.declared.sent.Place.TheVariants.{Satellite, Centre, Terminal}
-use Rattle.bt_air.specs.declared.sent.Sent.{Sent}
-use Rattle.bt_air.specs.declared.sent.Sent.TheVariants as sends
-use Rattle.bt_term.specs.Said.{holds}
+use Rattle.bt_air.specs.declared.sent.Aired.{Aired}
+use Rattle.bt_air.specs.declared.sent.Aired.TheVariants as sends
+use Rattle.bt_air.specs.Sent.{sent_as}
+use Rattle.bt_frame.specs.declared.numbers.Command.{Command}
+use Rattle.bt_term.specs.declared.bank.Holding.{Holding}
+use Rattle.bt_term.specs.Said.{load_in}
 use Rattle.bt_timeline.specs.Air.{flow_line}
 use Rattle.bt_events.specs.Event.{Opening, Deliver, Happening}
-use Rattle.bt_events.specs.World.{accepted, held, held_by, heard, joins, mark, plans, sent_by_hearing, sent_by_satellite, sent_by_terminal, terminals}
+use Rattle.bt_events.specs.World.{accepted, confirms, held, held_by, joins, last_heard, mark, plans, sent_by_hearing, sent_by_satellite, sent_by_terminal, terminals}
 use Rattle.bt_workers.specs.AirLines.{AirState, PlaysDeliveries, PlaysFlow, PlaysNext, awaiting, happened, sent_by, sent_count, sent_in}
 use Rattle.bt_workers.specs.Waiting.{deliveries, deliveries_of, receivers}
 use Rattle.bt_workers.specs.Worker.{ComeFirst, IsForCentre, Plays, PlaysFirst}
 
 -- the message is for the centre alone
-abbrev IsReply : List TermNo → Sent → Type 0
-IsReply everyone one = receivers everyone one ≡ Centre ∷ []
+abbrev IsReply : List TermNo → Aired → Type 0
+IsReply everyone one = receivers everyone (sent_as one) ≡ Centre ∷ []
 
 satellite-replies : (everyone : List TermNo) (joined before : List Order) (now : ℕ) → All (IsReply everyone) (sent_by_satellite joined before now)
 satellite-replies everyone [] before now = All-nil (IsReply everyone)
 satellite-replies everyone (first ∷ rest) before now = All-cons (IsReply everyone) _ [] refl (All-nil (IsReply everyone))
 
-confirm-replies : (everyone : List TermNo) (test : Bool) (terminal : TermNo) (edition : EditionNo) → All (IsReply everyone) (if test then sends.Confirm terminal edition ∷ [] else [])
-confirm-replies everyone true terminal edition = All-cons (IsReply everyone) (sends.Confirm terminal edition) [] refl (All-nil (IsReply everyone))
-confirm-replies everyone false terminal edition = All-nil (IsReply everyone)
+confirm-replies : (everyone : List TermNo) (test : Bool) (terminal : TermNo) (edition : EditionNo) (held : Option Command) → All (IsReply everyone) (if test then confirms terminal edition held else [])
+confirm-replies everyone true terminal edition (Some load) = All-cons (IsReply everyone) (sends.Confirm terminal load edition) [] refl (All-nil (IsReply everyone))
+confirm-replies everyone true terminal edition None = All-nil (IsReply everyone)
+confirm-replies everyone false terminal edition held = All-nil (IsReply everyone)
 
-terminal-replies : (everyone : List TermNo) (after : List EditionNo) (terminal : TermNo) (one : Option Sent) → All (IsReply everyone) (sent_by_terminal after terminal one)
+terminal-replies : (everyone : List TermNo) (after : List Holding) (terminal : TermNo) (one : Option Aired) → All (IsReply everyone) (sent_by_terminal after terminal one)
 terminal-replies everyone after terminal None = All-nil (IsReply everyone)
-terminal-replies everyone after terminal (Some (sends.PlanFor for edition)) = confirm-replies everyone (for.0 == terminal.0 && holds after edition) terminal edition
+terminal-replies everyone after terminal (Some (sends.PlanFor for load edition)) = confirm-replies everyone (for.0 == terminal.0) terminal edition (load_in after edition)
 terminal-replies everyone after terminal (Some (sends.Load command edition)) = All-nil (IsReply everyone)
 terminal-replies everyone after terminal (Some (sends.Arm command edition due)) = All-nil (IsReply everyone)
 terminal-replies everyone after terminal (Some (sends.Status status)) = All-nil (IsReply everyone)
-terminal-replies everyone after terminal (Some (sends.Confirm from edition)) = All-nil (IsReply everyone)
-terminal-replies everyone after terminal (Some (sends.Reference superframe in_force)) = All-nil (IsReply everyone)
+terminal-replies everyone after terminal (Some (sends.Confirm from load edition)) = All-nil (IsReply everyone)
+terminal-replies everyone after terminal (Some (sends.Reference superframe in_force next)) = All-nil (IsReply everyone)
 terminal-replies everyone after terminal (Some (sends.Lost from)) = All-nil (IsReply everyone)
 
-hearing-replies : (everyone : List TermNo) (o : Opening) (past : List Happening) (one : Option Sent) (place : Place) → All (IsReply everyone) (sent_by_hearing o past one place)
+hearing-replies : (everyone : List TermNo) (o : Opening) (past : List Happening) (one : Option Aired) (place : Place) → All (IsReply everyone) (sent_by_hearing o past one place)
 hearing-replies everyone o past one Satellite = satellite-replies everyone (joins (accepted o past) (mark o past) (plans o past) one Satellite) (accepted o past) (mark o past)
 hearing-replies everyone o past one Centre = All-nil (IsReply everyone)
-hearing-replies everyone o past one (Terminal to) = terminal-replies everyone (held_by (held o past to) (heard o past to) to one) to one
+hearing-replies everyone o past one (Terminal to) = terminal-replies everyone (held_by (held o past to) (last_heard o past to) (mark o past) to one) to one
 
-replies-for : (everyone : List TermNo) (first : ℕ) (xs : List Sent) → All (IsReply everyone) xs → All IsForCentre (deliveries everyone first xs)
+replies-for : (everyone : List TermNo) (first : ℕ) (xs : List Aired) → All (IsReply everyone) xs → All IsForCentre (deliveries everyone first xs)
 replies-for everyone first [] all = All-nil IsForCentre
 replies-for everyone first (one ∷ more) all =
-    All-append IsForCentre (deliveries_of first (receivers everyone one)) (deliveries everyone (first + 1) more)
+    All-append IsForCentre (deliveries_of first (receivers everyone (sent_as one))) (deliveries everyone (first + 1) more)
     (subst (λ (l : List Place). All IsForCentre (deliveries_of first l)) (sym (All-head (IsReply everyone) one more all))
     (All-cons IsForCentre (first, Centre) [] refl (All-nil IsForCentre)))
     (replies-for everyone (first + 1) more (All-tail (IsReply everyone) one more all))

@@ -1,6 +1,6 @@
 -- The superframe of a world is never past the last.
 use Rattle.std.proofs.Common.{◌≡◌, ◌+◌, ◌≤◌, List, [], ◌∷◌, reverse, sym, ap, ◌∙◌, arith}
-use Rattle.bt_events.specs.Event.{Opening, Event, Tick, Turn, Ordered, Deliver, Frame, ResetTerminal, RestartCentre, Install, Happening}
+use Rattle.bt_events.specs.Event.{Opening, Event, Tick, Turn, Second, Ordered, Deliver, Frame, ResetTerminal, RestartCentre, Install, Happening}
 use Rattle.bt_frame.specs.declared.limits.TheConstants.{LAST_MARK}
 use Rattle.bt_events.specs.Fits.{IsWorld}
 use Rattle.bt_events.specs.World.{log, mark}
@@ -12,7 +12,8 @@ use Rattle.bt_workers.proofs.Running.{past-having}
 pub mark-small : (o : Opening) (events : List Event) → IsWorld o events → mark o (log o events) ≤ 4000000000
 mark-small o [] world = due-in_time o.orders world.in_time
 mark-small o (Tick ∷ earlier) world = omega (arith, world.0)
-mark-small o (Turn newest ∷ earlier) world = mark-small o earlier world.1
+mark-small o (Turn target ∷ earlier) world = mark-small o earlier world.1
+mark-small o (Second in_force ∷ earlier) world = mark-small o earlier world.1
 mark-small o (Ordered ∷ earlier) world = mark-small o earlier world.1
 mark-small o (Deliver number place ∷ earlier) world = mark-small o earlier world.1
 mark-small o (Frame ∷ earlier) world = mark-small o earlier world.1

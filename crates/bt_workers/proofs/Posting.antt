@@ -189,6 +189,8 @@ air_line_asks_none net air line.Turn entries text after plays =
     ap (λ (e : List Entry). flat_map plan_asked (map call_in e)) plays.all
     ∙ ap (λ (c : Call). plan_asked c ++ flat_map plan_asked (map call_in plays.others)) plays.call
     ∙ order_asks_none net _ _ plays.others _ after plays.turned.placed
+air_line_asks_none net air (line.Back edition) entries text after plays = nothing_asked entries plays.0
+air_line_asks_none net air line.Ahead entries text after plays = nothing_asked entries plays.0
 air_line_asks_none net air line.Flow entries text after plays = nothing_asked entries plays.0
 air_line_asks_none net air (line.Lose losing) entries text after plays = nothing_asked entries plays.0
 air_line_asks_none net air (line.Deliver number place) entries text after plays = nothing_asked entries plays.0

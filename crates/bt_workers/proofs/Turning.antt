@@ -12,9 +12,8 @@ use Rattle.bt_journal.specs.declared.call.Call.{Call}
 use Rattle.bt_journal.specs.declared.call.Call.TheVariants as call
 use Rattle.bt_journal.specs.declared.entry.Entry.{Entry}
 use Rattle.bt_journal.specs.declared.reply.Reply.TheVariants as replies
-use Rattle.bt_timeline.specs.Air.{turn_line}
 use Rattle.bt_events.specs.World.{wanted}
-use Rattle.bt_workers.specs.AirLines.{AirState, PlaysOrder, PlaysTurn, PlaysTurning, happened, having, installing, mark_of, newest_in, sends_text, turning}
+use Rattle.bt_workers.specs.AirLines.{AirState, PlaysOrder, PlaysTurn, PlaysTurning, happened, having, installing, mark_of, newest_in, sends_text, turn_text_by, turning}
 use Rattle.bt_workers.specs.Callers.{Calling, IsAnswered}
 use Rattle.bt_workers.specs.Worker.{Asks}
 
@@ -52,10 +51,10 @@ lent-newer net entry after newer so asked is =
 pub turn-done : (net : Net) (air there now after : AirState) (asked : Entry) (newer : Option Plan) (h0 h1 h2 : List Entry) (t0 t1 t2 : List ℕ)
     → asked.caller ≡ 0 → asked.call ≡ call.Newest (newest_in air) → asked.reply ≡ replies.Newest newer → h1 ≡ h0 ++ asked ∷ []
     → there ≡ installing air newer → now ≡ having there (turning there)
-    → t1 ≡ t0 ++ (turn_line (mark_of there) (newest_in there) ++ sends_text net there (turning there))
+    → t1 ≡ t0 ++ (turn_text_by (mark_of there) there.back (newest_in there) ++ sends_text net there (turning there))
     → Asks (PlaysOrder net now (wanted (happened now))) after h1 h2 t1 t2 → Asks (PlaysTurn net air) after h0 h2 t0 t2
 turn-done net air there now after asked newer h0 h1 h2 t0 t1 t2 caller called replied kept installed turned told placed =
-    let first = turn_line (mark_of there) (newest_in there) ++ sends_text net there (turning there) in
+    let first = turn_text_by (mark_of there) there.back (newest_in there) ++ sends_text net there (turning there) in
     let order : PlaysOrder net (having there (turning there)) (wanted (happened (having there (turning there)))) placed.entries placed.own after =
     subst (λ (a : AirState). PlaysOrder net a (wanted (happened a)) placed.entries placed.own after) turned placed.played in
     record {

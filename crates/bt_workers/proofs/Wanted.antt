@@ -24,16 +24,16 @@ use Rattle.bt_frame.specs.declared.numbers.Command.{Command}
 use Rattle.bt_change.specs.declared.turn.Turn.{Turn as Sight}
 use Rattle.bt_change.specs.Last.{last_order}
 use Rattle.bt_change.specs.Turn.{act_of, arm_after, attempt, is_before, is_ready, may_arm, wanted_by}
-use Rattle.bt_events.specs.Event.{Opening, Event, Tick, Turn, Ordered, Deliver, Frame, ResetTerminal, RestartCentre, Install}
+use Rattle.bt_events.specs.Event.{Opening, Event, Tick, Turn, Second, Ordered, Deliver, Frame, ResetTerminal, RestartCentre, Install}
 use Rattle.bt_events.specs.World.{kept, log, orders, sight, wanted}
 
 either : (b : Bool) (x y : Act) → (b ≡ true → IfSome (wanted_by x) CanCome) → (b ≡ false → IfSome (wanted_by y) CanCome) → IfSome (wanted_by (if b then x else y)) CanCome
 either true x y first second = first refl
 either false x y first second = second refl
 
-attempt-can : (in_force : Option EditionNo) (newest : EditionNo) (last : ℕ) → IfSome (wanted_by (attempt in_force newest last)) CanCome
-attempt-can None newest last = tt
-attempt-can (Some fore) newest last = either (nat_lt fore.0 newest.0) (Want (Load (record { 0 = last + 1 }) newest)) Quiet (λ e. tt) (λ e. tt)
+attempt-can : (in_force : Option EditionNo) (target : EditionNo) (last : ℕ) → IfSome (wanted_by (attempt in_force target last)) CanCome
+attempt-can None target last = tt
+attempt-can (Some fore) target last = either (target.0 == fore.0) Quiet (Want (Load (record { 0 = last + 1 }) target)) (λ e. tt) (λ e. tt)
 
 and-last : (a b : Bool) → (a && b) ≡ true → b ≡ true
 and-last true b e = e
@@ -53,23 +53,24 @@ load-can turn status command edition ahead =
     (λ e. tt)
 
 arm-can : (turn : Sight) (status : Status) (command : Command) (due : ℕ)
-    → IfSome (wanted_by (if is_before status due && nat_lt turn.mark.0 due then RepeatArm else (if is_before status due then Quiet else attempt turn.in_force turn.newest command.0))) CanCome
+    → IfSome (wanted_by (if is_before status due && nat_lt turn.mark.0 due then RepeatArm else (if is_before status due then Quiet else attempt turn.in_force turn.target command.0))) CanCome
 arm-can turn status command due =
-    either (is_before status due && nat_lt turn.mark.0 due) RepeatArm (if is_before status due then Quiet else attempt turn.in_force turn.newest command.0) (λ e. tt)
-    (λ e. either (is_before status due) Quiet (attempt turn.in_force turn.newest command.0) (λ f. tt) (λ f. attempt-can turn.in_force turn.newest command.0))
+    either (is_before status due && nat_lt turn.mark.0 due) RepeatArm (if is_before status due then Quiet else attempt turn.in_force turn.target command.0) (λ e. tt)
+    (λ e. either (is_before status due) Quiet (attempt turn.in_force turn.target command.0) (λ f. tt) (λ f. attempt-can turn.in_force turn.target command.0))
 
 act-can : (turn : Sight) (before : Option Order) (status : Option Status) (last : Option Order) → 1 ≤ turn.lead → IfSome before CanCome → IfSome (wanted_by (act_of turn before status last)) CanCome
 act-can turn (Some order) status last ahead can = can
 act-can turn None None last ahead can = tt
-act-can turn None (Some status) None ahead can = attempt-can turn.in_force turn.newest 0
+act-can turn None (Some status) None ahead can = attempt-can turn.in_force turn.target 0
 act-can turn None (Some status) (Some (Load command edition)) ahead can = load-can turn status command edition ahead
 act-can turn None (Some status) (Some (Arm command edition due)) ahead can = arm-can turn status command due.0
 
 wanted-can : (o : Opening) (events : List Event) → 1 ≤ o.net.lead → IfSome (wanted (log o events)) CanCome
 wanted-can o [] ahead = tt
 wanted-can o (Tick ∷ earlier) ahead = wanted-can o earlier ahead
-wanted-can o (Turn newest ∷ earlier) ahead =
-    act-can (sight o (log o earlier) newest) (wanted (log o earlier)) (kept (log o earlier)) (last_order (orders o (log o earlier))) ahead (wanted-can o earlier ahead)
+wanted-can o (Turn target ∷ earlier) ahead =
+    act-can (sight o (log o earlier) target) (wanted (log o earlier)) (kept (log o earlier)) (last_order (orders o (log o earlier))) ahead (wanted-can o earlier ahead)
+wanted-can o (Second in_force ∷ earlier) ahead = wanted-can o earlier ahead
 wanted-can o (Ordered ∷ earlier) ahead = tt
 wanted-can o (Deliver number place ∷ earlier) ahead = wanted-can o earlier ahead
 wanted-can o (Frame ∷ earlier) ahead = wanted-can o earlier ahead

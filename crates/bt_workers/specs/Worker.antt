@@ -1,17 +1,20 @@
 -- What holds of the centre's worker between its lines, and what each step of a line adds. All but `Asks` is for bodies alone.
-use Rattle.std.specs.Prelude.{◌≡◌, ◌⊎◌, ℕ, ◌<◌, ◌++◌, List, [], length, map, reverse, drop, take, All}
+use Rattle.std.specs.Prelude.{◌≡◌, ◌⊎◌, ℕ, ◌<◌, ◌++◌, List, [], length, map, reverse, drop, take, All, IfSome, IsSome}
 use Rattle.std.specs.List.{range_with_len}
+use Rattle.bt_frame.specs.declared.numbers.EditionNo.{EditionNo}
 use Rattle.bt_frame.specs.declared.numbers.TermNo.{TermNo}
 use Rattle.bt_net.specs.Network.{Net}
+use Rattle.bt_air.specs.declared.sent.Aired.{Aired}
+use Rattle.bt_air.specs.Sent.{sent_as}
 use Rattle.bt_air.specs.declared.sent.Place.{Place}
 use Rattle.bt_air.specs.declared.sent.Place.TheVariants.{Centre}
 use Rattle.bt_events.specs.Fits.{IsPlace, IsWorld}
 use Rattle.bt_world.specs.Life.{Life, past_of}
-use Rattle.bt_events.specs.World.{sent}
+use Rattle.bt_events.specs.World.{plan_of, plans, sent}
 use Rattle.bt_journal.specs.declared.entry.Entry.{Entry}
 use Rattle.bt_journal.specs.declared.reply.Reply.{Reply}
 use Rattle.bt_journal.specs.declared.reply.Reply.TheVariants.{Placed}
-use Rattle.bt_timeline.specs.Air.{IsUnplaced}
+use Rattle.bt_timeline.specs.Air.{IsUnplaced, NamesTerminal}
 use Rattle.bt_workers.specs.AirLines.{AirState, PlaysDeliveries, PlaysNext}
 
 -- the terminals of a network that has so many
@@ -23,10 +26,19 @@ pub record CanHear (life : Life) (delivery : ℕ × Place) : Type 0 where
   pub sent : delivery.0 < length (sent life.opening (past_of life))
   pub place : IsPlace life.opening delivery.1
 
--- the events are those of a world, and each delivery that waits can come
+-- the world has a plan of this edition
+abbrev pub IsPlanned : Life → EditionNo → Type 0
+IsPlanned life edition = IsSome (plan_of (plans life.opening (past_of life)) edition)
+
+-- the events are those of a world, each delivery that waits can come, and an edition to which the centre goes back has a plan
 pub record IsRunning (air : AirState) : Type 0 where
   pub world : IsWorld air.life.opening (reverse air.life.events)
   pub waiting : All (CanHear air.life) air.waiting
+  pub back : IfSome air.back (IsPlanned air.life)
+
+-- each terminal that a message names is one of the network's
+abbrev pub NamesOwn : Net → Aired → Type 0
+NamesOwn net one = NamesTerminal net (sent_as one)
 
 -- the longer list begins with the other
 pub record Begins (first whole : List (ℕ × Place)) : Type 0 where

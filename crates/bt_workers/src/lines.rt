@@ -63,6 +63,8 @@ impl CentreWorker {
         match line {
             AirLine::Tick => self.tick(alloc, net, text),
             AirLine::Turn => self.turn(rt, alloc, net, caller, text),
+            AirLine::Back(edition) => self.go_back(alloc, edition, text),
+            AirLine::Ahead => self.go_ahead(alloc, text),
             AirLine::Flow => self.flow(alloc, net, text),
             AirLine::Lose(losing) => self.lose(alloc, losing, text),
             AirLine::Deliver(number, place) => self.deliver(alloc, net, number, place, text),

@@ -1,10 +1,10 @@
 // The centre's turn, and the order that it wants.
 ghost use Rattle.std.specs.Prelude.{◌≡◌, ◌<◌, ◌++◌, IfSome, IsSome, OnOk};
 ghost use Rattle.bt_demand.specs.Flyable.{IsFlyable};
-ghost use Rattle.bt_timeline.specs.Air.{order_line, turn_line};
+ghost use Rattle.bt_timeline.specs.Air.{order_line};
 ghost use Rattle.bt_events.specs.Event.{Ordered};
 ghost use Rattle.bt_events.specs.World.{wanted};
-ghost use Rattle.bt_workers.specs.AirLines.{PlaysOrder, PlaysTurn, answer_text, happened, having, installing, mark_of, newest_in, once_answered, sends_text, turning};
+ghost use Rattle.bt_workers.specs.AirLines.{PlaysOrder, PlaysTurn, answer_text, happened, having, installing, mark_of, newest_in, once_answered, sends_text, turn_text_by, turning};
 ghost use Rattle.bt_workers.specs.Callers.{IsSameCaller, caller_number, own_of};
 ghost use Rattle.bt_workers.specs.Worker.{AnswersOrder, Asks};
 
@@ -18,7 +18,7 @@ use bt_frame::OutOfMemory;
 use bt_journal::{Call, Entry, Reply};
 use bt_net::Network;
 use bt_outside::Keeper;
-use bt_timeline::{order_text, turn_text, unplaced_text};
+use bt_timeline::{back_turn_text, order_text, turn_text, unplaced_text};
 use std::alloc::Global;
 use std::sync::Wait;
 
@@ -72,7 +72,7 @@ impl CentreWorker {
         Ok(())
     }
 
-    /// The centre has its turn, with the newest edition of the world.
+    /// The centre has its turn, with the edition to bring to the front.
     fn take_turn(
         &mut self,
         alloc: Global,
@@ -82,13 +82,23 @@ impl CentreWorker {
         requires network { self.old.life.opening.net ≡ net.now }
         ensures air { OnOk result (self.new ≡ having self.old (turning self.old)) }
         ensures text { OnOk result (text.new.items
-            ≡ text.old.items ++ (turn_line (mark_of self.old) (newest_in self.old) ++ sends_text net.now self.old (turning self.old))) }
+            ≡ text.old.items ++ (turn_text_by (mark_of self.old) self.old.back (newest_in self.old) ++ sends_text net.now self.old (turning self.old))) }
         ensures opening { self.new.life.opening ≡ self.old.life.opening }
     {
-        let (mark, newest, first) = (self.mark(), self.newest(), self.sent_count());
-        self.happen(alloc, net, Event::Turn { newest })?;
-        turn_text(alloc, mark, newest, text)?;
+        let (target, first) = (self.target(), self.sent_count());
+        self.tell_turn(alloc, text)?;
+        self.happen(alloc, net, Event::Turn { target })?;
         self.tell_sent(alloc, net, first, text)
+    }
+
+    /// Appends the line of the turn: that of an edition to go back to, or of the newest.
+    fn tell_turn(&self, alloc: Global, text: &mut Vec<u8>) -> Result<(), OutOfMemory>
+        ensures added { OnOk result (text.new.items ≡ text.old.items ++ turn_text_by (mark_of self.now) self.now.back (newest_in self.now)) }
+    {
+        match self.back {
+            Some(edition) => back_turn_text(alloc, self.mark(), edition, text),
+            None => turn_text(alloc, self.mark(), self.newest(), text),
+        }
     }
 
     /// The order that the centre wants, if any, is asked to be placed. Where it is placed, it joins the orders.

@@ -1,16 +1,16 @@
 // The centre's worker: the world is its own, and all events happen through it.
-ghost use Rattle.std.specs.Prelude.{◌≡◌, ◌≤◌, ◌++◌, [], drop, length, reverse, All, IfOk, OnOk};
-ghost use Rattle.bt_timeline.specs.Air.{NamesTerminal};
+ghost use Rattle.std.specs.Prelude.{◌≡◌, ◌≤◌, ◌++◌, [], drop, length, reverse, All, IfOk, None, OnOk};
 ghost use Rattle.bt_events.specs.Event as event;
 ghost use Rattle.bt_events.specs.Fits.{IsWorld, Meets};
 ghost use Rattle.bt_world.specs.Life.{past_of};
 ghost use Rattle.bt_world.specs.Shown.{IsShown};
 ghost use Rattle.bt_events.specs.World.{sent, wanted};
-ghost use Rattle.bt_workers.specs.AirLines.{AirState, happened, having, mark_of, newest_in, orders_in, sent_count, sent_in, sent_lines};
-ghost use Rattle.bt_workers.specs.Worker.{IsRunning};
+ghost use Rattle.bt_workers.specs.AirLines.{AirState, happened, having, mark_of, newest_in, orders_in, restarting, sent_count, sent_in, sent_lines, target_of};
+ghost use Rattle.bt_workers.specs.Worker.{IsPlanned, IsRunning, NamesOwn};
 
 use crate::waiting::Waiting;
 use bt_air::{Event, Order, Shown};
+use bt_events::{newest_edition_has_a_plan, plans_stay};
 use bt_frame::{EditionNo, MOST_COUNTED, Mark, OutOfMemory};
 use bt_net::Network;
 use bt_timeline::sent_text;
@@ -23,6 +23,8 @@ use std::marker::Model;
 pub struct CentreWorker {
     pub(crate) world: World,
     pub(crate) waiting: Waiting,
+    // the edition to which the centre goes back; no journal has it
+    pub(crate) back: Option<EditionNo>,
 }
 
 impl Model for CentreWorker {
@@ -31,20 +33,21 @@ impl Model for CentreWorker {
 
     ghost Value = { AirState };
 
-    ghost view = { λ a. record { life = a.world; waiting = a.waiting } };
+    ghost view = { λ a. record { life = a.world; waiting = a.waiting; back = a.back } };
 
-    ghost invariant = { λ a. IsRunning (record { life = a.world; waiting = a.waiting }) };
+    ghost invariant = { λ a. IsRunning (record { life = a.world; waiting = a.waiting; back = a.back }) };
 }
 
 impl CentreWorker {
-    /// The worker of a world. Nobody waits.
+    /// The worker of a world. Nobody waits, and the centre goes back to no edition.
     pub fn new(alloc: Global, world: World) -> CentreWorker
         requires world { IsWorld world.opening (reverse world.events) }
-        ensures made { result ≡ record { life = world; waiting = [] } }
+        ensures made { result ≡ record { life = world; waiting = []; back = None } }
     {
         CentreWorker {
             world,
             waiting: Waiting::none(alloc),
+            back: None,
         }
     }
 
@@ -60,6 +63,18 @@ impl CentreWorker {
         ensures { result ≡ newest_in self.now }
     {
         self.world.newest()
+    }
+
+    /// The edition to bring to the front: the one to go back to, or else the newest. It has a plan.
+    pub(crate) fn target(&self) -> EditionNo
+        ensures target { result ≡ target_of self.now }
+        ensures planned { IsPlanned self.now.life result }
+    {
+        newest_edition_has_a_plan();
+        match self.back {
+            Some(edition) => edition,
+            None => self.newest(),
+        }
     }
 
     /// How many messages were sent.
@@ -103,6 +118,7 @@ impl CentreWorker {
         if MOST_COUNTED < first || MOST_COUNTED < self.world.order_count() {
             return Err(OutOfMemory);
         }
+        plans_stay();
         let shown = self.world.step(alloc, net, event)?;
         let terminals = net.terminal_count() as u8;
         self.waiting.add_sent(&self.world, terminals, first)?;
@@ -123,16 +139,18 @@ impl CentreWorker {
         self.world.order_count()
     }
 
-    /// The centre restarts, with the order that it wanted or without it. What is on its way stays on its way.
+    /// The centre restarts, with the order that it wanted or without it, and goes back to no edition: no journal has
+    /// that. What is on its way stays on its way.
     ///
     /// Where memory runs out, it may have restarted.
     pub fn restart(&mut self, alloc: Global, net: &Network, kept: bool) -> Result<(), OutOfMemory>
         requires network { self.old.life.opening.net ≡ net.now }
         requires meets { Meets self.old.life.opening (happened self.old) (event.RestartCentre kept) }
-        ensures air { OnOk result (self.new ≡ having self.old (event.RestartCentre kept)) }
+        ensures air { OnOk result (self.new ≡ restarting self.old kept) }
         ensures opening { self.new.life.opening ≡ self.old.life.opening }
     {
         self.happen(alloc, net, Event::RestartCentre { kept })?;
+        self.back = None;
         Ok(())
     }
 
@@ -160,7 +178,7 @@ fn sent_lines(
     first: u32,
     text: &mut Vec<u8>,
 ) -> Result<(), OutOfMemory>
-    requires terminals { All (NamesTerminal net.now) (sent world.now.opening (past_of world.now)) }
+    requires terminals { All (NamesOwn net.now) (sent world.now.opening (past_of world.now)) }
     requires first { first ≤ length (sent world.now.opening (past_of world.now)) }
     ensures { OnOk result (text.new.items ≡ text.old.items ++ sent_lines net.now first (drop first (sent world.now.opening (past_of world.now)))) }
 {

@@ -10,4 +10,5 @@ invariant_of-self c = record {
   world = c.self.invariant.world;
   waiting = subst (λ (l : List (ℕ × Place)). All (CanHear c.self.inside.world) l) (sym c.lose-lost.ensures.left)
       (All-filter (λ (delivery : ℕ × Place). not (loses c.args.losing delivery.1)) (CanHear c.self.inside.world) c.self.inside.waiting c.self.invariant.waiting);
+  back = c.self.invariant.back;
 }

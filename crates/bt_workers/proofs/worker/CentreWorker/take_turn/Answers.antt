@@ -5,6 +5,6 @@ use Rattle.bt_workers.proofs.worker.CentreWorker.take_turn.Goals as goal
 pub returns-clause-text : goal.returns-clause-text
 returns-clause-text c =
     on_ok_weaker c.tell_sent.result
-    (λ added. turn-told c.args.net.now c.args.self.now c.happen.new.self c.mark-mark.result c.newest-newest.result c.sent_count-first.result
-    c.args.text.now.items _ _ c.mark-mark.ensures.mark c.newest-newest.ensures c.in_ok-happen.ensures.air c.sent_count-first.ensures c.in_ok-turn_text.ensures.added added)
+    (λ added. turn-told c.args.net.now c.args.self.now c.happen.new.self c.target-target.result c.sent_count-first.result
+    c.args.text.now.items _ _ c.target-target.ensures.target c.in_ok-happen.ensures.air c.sent_count-first.ensures c.in_ok-tell_turn.ensures.added added)
     c.tell_sent.ensures

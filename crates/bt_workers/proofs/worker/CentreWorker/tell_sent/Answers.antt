@@ -1,15 +1,15 @@
 use Rattle.std.proofs.Common.{All, subst, ap, reverse, ◌∙◌}
 use Rattle.bt_net.specs.Network.{Net}
-use Rattle.bt_timeline.specs.Air.{NamesTerminal}
 use Rattle.bt_world.specs.Life.{past_of}
 use Rattle.bt_events.specs.World.{sent}
 use Rattle.bt_workers.specs.AirLines.{AirState}
+use Rattle.bt_workers.specs.Worker.{NamesOwn}
 use Rattle.bt_workers.proofs.Sending.{all-name}
 use Rattle.bt_workers.proofs.worker.CentreWorker.tell_sent.Goals as goal
 
 pub sent_lines-requires-clause-terminals : goal.sent_lines-requires-clause-terminals
 sent_lines-requires-clause-terminals c =
     let life = c.self.inside.world in
-    subst (λ (net : Net). All (NamesTerminal net) (sent life.opening (past_of life)))
+    subst (λ (net : Net). All (NamesOwn net) (sent life.opening (past_of life)))
     (ap (λ (a : AirState). a.life.opening.net) c.self.view_is ∙ c.requires.network)
     (all-name life.opening (reverse life.events) c.self.invariant.world)
