@@ -1,10 +1,11 @@
 // The matrix of two beams that send each other three slots, taken apart on a counter.
-ghost use Rattle.std.specs.Prelude.{◌≡◌, ◌+◌, ◌<◌, ◌≤◌, [], ◌∷◌, IfOk};
+ghost use Rattle.std.specs.Prelude.{◌≡◌, ◌+◌, ◌<◌, ◌≤◌, length};
+ghost use Rattle.bt_matrix.specs.Walk.{positive_entries};
 
-use bt_frame::{BeamNo, Mode, OutOfMemory};
+use crate::texts::matrix_from;
+use bt_frame::{Mode, OutOfMemory};
 use bt_links::Crosslinked;
-use bt_matrix::Traffic;
-use bt_modes::{Padded, decompose};
+use bt_modes::{Padded, decompose, pad};
 use bt_sheet::{CaseFault, Result};
 use bt_steps::Steps;
 use std::alloc::Global;
@@ -16,11 +17,14 @@ pub fn put_crossed<L: Ledger>(alloc: Global, blank: Blank, out: &mut String) -> 
     requires parts { blank.parts ≡ L.parts }
     requires some { 0 < blank.parts }
 {
-    let Ok(matrix) = crossed(alloc) else {
+    let matrix = matrix_from(alloc, b"2\n0 3\n3 0\n")?;
+    let Ok(matrix) = Crosslinked::of(alloc, &matrix) else {
         return Err(CaseFault("out of memory"));
     };
-    let padded = Padded { matrix, sum: 3 };
-    let Ok(modes) = modes_of_crossed(alloc, padded, &mut Steps::<L>::open(blank)) else {
+    let Ok(padded) = pad(alloc, matrix) else {
+        return Err(CaseFault("out of memory"));
+    };
+    let Ok(modes) = small_modes(alloc, padded, &mut Steps::<L>::open(blank)) else {
         return Err(CaseFault("out of memory"));
     };
     for mode in &modes {
@@ -29,25 +33,13 @@ pub fn put_crossed<L: Ledger>(alloc: Global, blank: Blank, out: &mut String) -> 
     Ok(())
 }
 
-/// Three slots from each of two beams to the other.
-fn crossed(alloc: Global) -> Result<Crosslinked, OutOfMemory>
-    ensures { IfOk result (λ matrix. matrix.rows ≡ (0 ∷ 3 ∷ []) ∷ (3 ∷ 0 ∷ []) ∷ []) }
-{
-    let mut matrix = Crosslinked::new(alloc, 2)?;
-    matrix.reserve(alloc, 2)?;
-    matrix.add(BeamNo(0), BeamNo(1), 3);
-    matrix.add(BeamNo(1), BeamNo(0), 3);
-    Ok(matrix)
-}
-
-/// Its modes. Eight looks are enough: it has two positive entries and two beams.
-fn modes_of_crossed<L: Ledger>(
+/// The modes of a padded matrix. For two positive entries of two beams eight looks are enough.
+fn small_modes<L: Ledger>(
     alloc: Global,
     padded: Padded<Crosslinked>,
     steps: &mut Steps<L>,
 ) -> Result<Vec<Mode>, OutOfMemory>
-    requires crossed { padded.matrix.rows ≡ (0 ∷ 3 ∷ []) ∷ (3 ∷ 0 ∷ []) ∷ [] }
-    ensures looks { steps.new ≤ steps.old + 8 }
+    ensures looks { length padded.matrix.rows ≡ 2 → positive_entries padded.matrix.rows ≡ 2 → steps.new ≤ steps.old + 8 }
 {
     decompose(alloc, padded, steps)
 }

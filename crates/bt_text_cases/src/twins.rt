@@ -1,6 +1,6 @@
 // The same calls on two matrices that are kept in different ways.
 use crate::linked::{adds, linked_of, put_heaviest, takes};
-use bt_frame::{BeamNo, Critical};
+use bt_frame::{BeamNo, Critical, MOST_BEAMS};
 use bt_links::Crosslinked;
 use bt_matrix::{Dense, Traffic};
 use bt_sheet::{CaseFault, Result};
@@ -23,7 +23,7 @@ impl Draws {
     /// A connection between so many beams, the slots that it gains or loses, and what it does: 0 and 1 gain them, 2 loses
     /// at most as many, and 3 loses all.
     fn call(&mut self, beams: u32) -> Call {
-        let beams = beams.max(1);
+        let beams = beams.min(MOST_BEAMS as u32).max(1);
         Call {
             up: BeamNo((self.draw() % beams) as u8),
             down: BeamNo((self.draw() % beams) as u8),

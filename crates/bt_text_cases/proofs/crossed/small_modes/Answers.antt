@@ -1,0 +1,12 @@
+use Rattle.std.proofs.Common.{ℕ, ◌+◌, ◌*◌, ◌≤◌, length, subst}
+use Rattle.bt_matrix.specs.Walk.{positive_entries}
+use Rattle.bt_text_cases.proofs.crossed.small_modes.Goals as goal
+
+-- 2 * (2 + 2) looks
+pub returns : goal.returns
+returns g c = λ beams entries.
+    let rows = c.args.padded.matrix.rows in
+    let first = c.args.steps.now in
+    let after = c.decompose.new.steps in
+    subst (λ (n : ℕ). after ≤ first + 2 * (2 + n)) beams
+    (subst (λ (p : ℕ). after ≤ first + p * (p + length rows)) entries c.decompose.ensures.looks)
