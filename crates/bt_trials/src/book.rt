@@ -92,7 +92,7 @@ fn add_all<R: Threads + Wait + Sync>(
 }
 
 // The network, or None where memory runs out.
-fn network(alloc: Global) -> Option<Network>
+pub(crate) fn network(alloc: Global) -> Option<Network>
     ensures terminals { IfSome result (λ net. length net.terminals ≡ 2) }
 {
     let Ok(net) = Network::read(alloc, NETWORK.as_bytes()) else {

@@ -1,7 +1,8 @@
-// The adapters to real files, to a writer and to a real store.
+// The adapters to real files, to a writer, to a real store and to a real disk.
 use bt_base::{
     DirFiles, FileFault, FileKeeper, Files, KeepFault, Keeper, Sink, SinkFault, StdSink,
 };
+use bt_disk::{FileDisk, LineKeeper};
 use std::alloc::Global;
 use std::io::Write;
 use std::sync::atomic::{AtomicU64, Ordering};
@@ -157,6 +158,49 @@ fn a_real_store_is_made_and_grows_and_is_cut(rt: HostRuntime) -> Result<(), test
 
     let mut no_store = FileKeeper::new(&rt, folder.as_str());
     let fails = always_fails(&mut no_store, alloc);
+    assert!(rt; kept && fails);
+    Ok(())
+}
+
+// Whether a new store on a disk grows, is cut, and grows again, with no fault.
+fn is_synced<R: rt::Files>(
+    keeper: &mut LineKeeper<FileDisk<'_, R>>,
+    alloc: Global,
+) -> Result<bool, KeepFault> {
+    let is_new = holds(keeper, alloc, "");
+    append(keeper, alloc, "load 1 1\n")?;
+    append(keeper, alloc, "load")?;
+    keeper.cut(alloc, 5)?;
+    append(keeper, alloc, "2 1\n")?;
+    let is_grown = holds(keeper, alloc, "load 2 1\n");
+    Ok(is_new && is_grown && keeper.faults() == 0)
+}
+
+// Whether each call on what is no disk fails.
+fn never_syncs<R: rt::Files>(keeper: &mut LineKeeper<FileDisk<'_, R>>, alloc: Global) -> bool {
+    let failed = Err(KeepFault::Failed);
+    append(keeper, alloc, "load") == failed
+        && keeper.read_all(alloc).err() == Some(KeepFault::Failed)
+        && keeper.cut(alloc, 0) == failed
+        && keeper.faults() == 3
+}
+
+#[test]
+fn a_real_disk_is_made_and_grows_and_is_cut(rt: HostRuntime) -> Result<(), test::Fail> {
+    let alloc = rt.alloc();
+    let id = process::id(rt.process());
+    let name = format!(in alloc; "bt_trials-disk-{id}")?;
+    let folder = env::temp_dir(&rt)?;
+    let path = folder.join(alloc, name.as_str())?;
+
+    let file = String::from_str(alloc, path.as_str())?;
+    let mut keeper = LineKeeper::open(FileDisk::new(&rt, file));
+    let kept = is_synced(&mut keeper, alloc)?;
+    fs::remove_file(&rt, path.as_str())?;
+
+    let no_file = String::from_str(alloc, folder.as_str())?;
+    let mut no_disk = LineKeeper::open(FileDisk::new(&rt, no_file));
+    let fails = never_syncs(&mut no_disk, alloc);
     assert!(rt; kept && fails);
     Ok(())
 }

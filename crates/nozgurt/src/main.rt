@@ -1,12 +1,13 @@
 //! The program: it makes the real files, the output and the store, and hands its words to the top call.
 //!
-//! It stands on the real adapters (`bt_outside`) and on the top call (`bt_cli`).
+//! It stands on the real adapters (`bt_outside`, and `bt_disk` for the store) and on the top call (`bt_cli`).
 #![tactic(auto)]
 
 mod pages;
 
 use bt_cli::{DONE, OUT_OF_MEMORY, centre_main, print_text};
-use bt_outside::{DirFiles, FileKeeper, StdSink};
+use bt_disk::{FileDisk, LineKeeper};
+use bt_outside::{DirFiles, StdSink};
 use std::alloc::{AllocError, Global};
 use std::env::Env;
 use std::process::ExitCode;
@@ -15,12 +16,12 @@ use std::{env, io};
 fn main(rt: HostRuntime) -> ExitCode {
     let alloc = rt.alloc();
     let mut out = StdSink::new(rt.stdout());
-    let status = match words(&rt, alloc) {
-        Ok(words) => match pages::page_of(&words) {
+    let status = match asked(&rt, alloc) {
+        Ok((words, journal)) => match pages::page_of(&words) {
             Some(page) => print_text(alloc, page.as_bytes(), DONE, &mut out),
             None => {
                 let mut files = DirFiles::new(&rt);
-                let store = FileKeeper::new(&rt, journal_of(&words));
+                let store = LineKeeper::open(FileDisk::new(&rt, journal));
                 centre_main(&rt, alloc, &words, &mut files, &mut out, store).status
             }
         },
@@ -31,6 +32,16 @@ fn main(rt: HostRuntime) -> ExitCode {
         let _told = eprintln!(rt; "nozgurt: {reason}");
     }
     ExitCode::from(status)
+}
+
+/// The words after the program's name, and the file of the journal that they ask for.
+fn asked<R: Env + Alloc<A = Global>>(
+    rt: &R,
+    alloc: Global,
+) -> Result<(Vec<String>, String), AllocError> {
+    let words = words(rt, alloc)?;
+    let journal = String::from_str(alloc, journal_of(&words))?;
+    Ok((words, journal))
 }
 
 /// The words after the program's name; none where one of them is no text, since no command has such a word.
