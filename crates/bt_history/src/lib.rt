@@ -4,7 +4,8 @@
 //! replies and lines. These are promises: `specs/Changes.antt`, what a list of changes made, with each sum taken afresh;
 //! `specs/EditCauses.antt` and `specs/Causes.antt`, why a change is refused; `specs/Machine.antt`, the desk machine as a
 //! relation over the list of changes; `specs/Recovery.antt`, what a journal tells, and its first line that tells nothing;
-//! `specs/Store.antt`, what the store tells after each call, and what the next opening finds there;
+//! `specs/Store.antt`, what the store tells after each call, and what the next opening finds there; `specs/Crash.antt`, what a
+//! crash leaves of it;
 //! `specs/Book.antt`, what contracts see of a book, which a turn lock may hand round. `specs/Faults.antt` and
 //! `specs/Records.antt` are for bodies alone, those of `bt_book`, which is the machine that runs. `laws.rt`,
 //! `demand_laws.rt`, `journal_laws.rt` and `store_laws.rt` have what holds of all histories, of the demand after them, of

@@ -31,7 +31,7 @@ pub enum Reply {
         beam: BeamNo,
         sum: u32,
     },
-    /// The book has made as many changes as it can: so many.
+    /// The journal has no room for the line of the change: its lines have so many bytes.
     BookFull {
         length: u32,
     },
