@@ -19,7 +19,7 @@ use Rattle.bt_history.specs.Store.{IsNextOpening, is_lost, lost_of}
 use Rattle.bt_script.specs.declared.script.Item.{Item}
 use Rattle.bt_script.specs.declared.script.Item.TheVariants as item
 use Rattle.bt_script.specs.declared.script.Round.{Round}
-use Rattle.bt_workers.specs.AirLines.{AirState, happened, having, orders_in}
+use Rattle.bt_workers.specs.AirLines.{AirState, happened, orders_in, restarting}
 use Rattle.bt_workers.proofs.Running.{past-having}
 use Rattle.bt_centre.specs.declared.history.History.{History}
 use Rattle.bt_centre.specs.Joining.{HasOrders, JoinsAsTold, JoinsNone, JoinsOne, JoinsWanted, EachPartAtEnd, EachPart, EachPartOfRun, PartHasOrders, RestartJoins}
@@ -34,22 +34,22 @@ use Rattle.bt_centre.proofs.OrdersPlayed.{Keeps, keeps_lines}
 orders-append : (a b : List Change) → orders (a ++ b) ≡ orders a ++ orders b
 orders-append a b = filter_map-append order_in a b
 
-restart_joins : (air : AirState) → orders_in (having air (RestartCentre true)) ≡ with_wanted (wanted (happened air)) (orders_in air)
+restart_joins : (air : AirState) → orders_in (restarting air true) ≡ with_wanted (wanted (happened air)) (orders_in air)
 restart_joins air = ap (placed air.life.opening) (past-having air.life (RestartCentre true))
 
-restart_leaves : (air : AirState) → orders_in (having air (RestartCentre false)) ≡ orders_in air
+restart_leaves : (air : AirState) → orders_in (restarting air false) ≡ orders_in air
 restart_leaves air = ap (placed air.life.opening) (past-having air.life (RestartCentre false))
 
 -- the order that was wanted joined
-joined_one : (before after : Stand) (joining : IsJoining before.air after.opening) → after.air ≡ having before.air (RestartCentre true) → JoinsOne before joining.order after
+joined_one : (before after : Stand) (joining : IsJoining before.air after.opening) → after.air ≡ restarting before.air true → JoinsOne before joining.order after
 joined_one before after joining is =
     ap orders_in is ∙ restart_joins before.air ∙ ap (λ (w : Option Order). with_wanted w (orders_in before.air)) joining.asked
 
 -- none did
-joined_none : (before after : Stand) → after.air ≡ having before.air (RestartCentre false) → JoinsNone before after
+joined_none : (before after : Stand) → after.air ≡ restarting before.air false → JoinsNone before after
 joined_none before after is = ap orders_in is ∙ restart_leaves before.air
 
-joins_wanted_if : (before after : Stand) (kept : Bool) → JoinsOrder before.air after.opening kept → after.air ≡ having before.air (RestartCentre kept) → JoinsWanted before after
+joins_wanted_if : (before after : Stand) (kept : Bool) → JoinsOrder before.air after.opening kept → after.air ≡ restarting before.air kept → JoinsWanted before after
 joins_wanted_if before after true joins is = inl (joins, joined_one before after joins is)
 joins_wanted_if before after false joins is = inr (joins, joined_none before after is)
 

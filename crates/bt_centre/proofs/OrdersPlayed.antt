@@ -1,6 +1,7 @@
 -- What lines of the air do to the orders of the world, and to the one that is wanted.
 use Rattle.std.proofs.Common.{◌≡◌, ◌⊎◌, ℕ, if◌then◌else◌, Bool, true, false, List, [], ◌∷◌, ◌++◌, reverse, Option, Some, None, refl, sym, ap, ◌∙◌, subst, append_assoc, inl, inr}
 use Rattle.std.proofs.lemmas.List.{append-nil, reverse-append}
+use Rattle.bt_frame.specs.declared.numbers.EditionNo.{EditionNo}
 use Rattle.bt_frame.specs.declared.numbers.TermNo.{TermNo}
 use Rattle.bt_net.specs.Network.{Net}
 use Rattle.bt_demand.specs.declared.plan.Plan.{Plan}
@@ -24,7 +25,7 @@ use Rattle.bt_history.specs.Store.{is_lost}
 use Rattle.bt_history.proofs.Histories.{as_list}
 use Rattle.bt_script.specs.declared.script.AirLine.{AirLine}
 use Rattle.bt_script.specs.declared.script.AirLine.TheVariants as line
-use Rattle.bt_workers.specs.AirLines.{AirState, PlaysAirLine, PlaysAirLines, PlaysDeliveries, PlaysDelivery, PlaysFrame, PlaysHearing, PlaysOrder, PlaysTick, PlaysTurn, awaiting, happened, having, installing, newest_in, once_answered, orders_in, turning}
+use Rattle.bt_workers.specs.AirLines.{AirState, PlaysAirLine, PlaysAirLines, PlaysBack, PlaysDeliveries, PlaysDelivery, PlaysFrame, PlaysHearing, PlaysOrder, PlaysTick, PlaysTurn, awaiting, going, happened, having, installing, once_answered, orders_in, target_of, turning}
 use Rattle.bt_workers.proofs.Running.{past-having}
 use Rattle.bt_centre.proofs.Orderly.{AreOrderly, AreOrderly-first, AreOrderly-second, AsksNone, IsPlacing, MakesNone, MakesNone-parts, no_order, none_behind_lost, not_both, one_order, orders_lost, orders_made, with_append, with_cons, with_quiet}
 
@@ -63,6 +64,13 @@ stays_install air (Some plan) =
 
 stays_awaiting : (air : AirState) (waiting : List (ℕ × Place)) → Stays air (awaiting air waiting)
 stays_awaiting air waiting = record { same = refl; wants = refl }
+
+stays_going : (air : AirState) (back : Option EditionNo) → Stays air (going air back)
+stays_going air back = record { same = refl; wants = refl }
+
+stays_back : (air : AirState) (edition : EditionNo) (text : List ℕ) (after : AirState) → PlaysBack air edition text after → Stays air after
+stays_back air edition text after (inl none) = stays_self air after none.2
+stays_back air edition text after (inr goes) = stays_is air (going air (Some edition)) after goes.2 (stays_going air (Some edition))
 
 stays_hearing : (net : Net) (air : AirState) (number : ℕ) (place : Place) (text : List ℕ) (after : AirState) → PlaysHearing net air number place text after → Stays air after
 stays_hearing net air number place text after is = stays_is air (having air (Deliver number place)) after is.heard (stays_deliver air number place)
@@ -115,7 +123,7 @@ turned_orders air = ap (placed air.life.opening) (past-having air.life (turning 
 turned_wants : (air : AirState) (order : Order) → wanted (happened air) ≡ Some order → wanted (happened (having air (turning air))) ≡ Some order
 turned_wants air order is =
     ap wanted (past-having air.life (turning air))
-    ∙ wanted_again (sight air.life.opening (happened air) (newest_in air)) (wanted (happened air)) (kept (happened air)) (last_order (orders_in air)) order is
+    ∙ wanted_again (sight air.life.opening (happened air) (target_of air)) (wanted (happened air)) (kept (happened air)) (last_order (orders_in air)) order is
 
 once_other : (air : AirState) (answer : Reply) → is_made answer ≡ false → once_answered air answer ≡ air
 once_other air reply.Placed none = absurd (not_both true refl none)
@@ -204,6 +212,8 @@ keeps_line : (net : Net) (air : AirState) (one : AirLine) (entries : List Entry)
     → PlaysAirLine net air one entries text after → Keeps entries air after
 keeps_line net air line.Tick entries text after so is = keeps_none entries air after is.0 (stays_tick_line net air text after is.1)
 keeps_line net air line.Turn entries text after so is = keeps_turn net air entries text after so is
+keeps_line net air (line.Back edition) entries text after so is = keeps_none entries air after is.0 (stays_back air edition text after is.1)
+keeps_line net air line.Ahead entries text after so is = keeps_none entries air after is.0 (stays_is air (going air None) after is.1.goes (stays_going air None))
 keeps_line net air line.Flow entries text after so is = keeps_none entries air after is.0 (stays_flow net air is.1.heard is.1.lines after is.1.flowed)
 keeps_line net air (line.Lose losing) entries text after so is =
     keeps_none entries air after is.0 (subst (Stays air) (sym is.1.left) (record { same = refl; wants = refl }))

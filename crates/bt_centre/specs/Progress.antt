@@ -15,14 +15,13 @@ use Rattle.bt_history.specs.Changes.{edition, newest, orders}
 use Rattle.bt_history.specs.Machine.{Legal, running, state_after}
 use Rattle.bt_history.specs.Recovery.{IsRecoverFault, MaybeCut}
 use Rattle.bt_history.specs.Store.{IsKept, IsNextOpening, RoseBy, lost_of}
-use Rattle.bt_events.specs.Event.{RestartCentre}
 use Rattle.bt_events.specs.Fits.{IsWorld}
 use Rattle.bt_script.specs.declared.script.Item.{Item}
 use Rattle.bt_script.specs.declared.script.Item.TheVariants as item
 use Rattle.bt_script.specs.declared.script.Round.{Round}
 use Rattle.bt_timeline.specs.Timeline.{restart_line, round_line, start_line}
 use Rattle.bt_centre.specs.declared.history.History.{History}
-use Rattle.bt_workers.specs.AirLines.{AirState, having, mark_of}
+use Rattle.bt_workers.specs.AirLines.{AirState, mark_of, restarting}
 use Rattle.bt_workers.specs.Desks.{IsNotOlder, Sight}
 use Rattle.bt_round.specs.Rounds.{BookRan, RoundDone, newest_at}
 use Rattle.bt_centre.specs.Output.{Output}
@@ -118,7 +117,7 @@ TellsJoined changes placed order false = ¬ (HasJoined changes placed order)
 pub record CentreBegan (changes : List Change) (air over : AirState) (text : List ℕ) : Type 0 where
   pub kept : Bool
   pub joins : JoinsOrder air changes kept
-  pub restarts : over ≡ having air (RestartCentre kept)
+  pub restarts : over ≡ restarting air kept
   pub printed : text ≡ restart_line ++ start_line (edition changes) (newest changes).edition.0 (mark_of air).0
 
 -- a time begins over this book, behind these times

@@ -1,6 +1,6 @@
 -- The run of a script: what the desks, the planner and the centre's worker ask, what happens on the air, what the store keeps, and
 -- what is printed.
-use Rattle.std.specs.Prelude.{◌≡◌, ◌≢◌, ◌⊎◌, ℕ, ◌+◌, ◌<◌, ◌≤◌, ◌++◌, if◌then◌else◌, Bool, true, false, List, [], ◌∷◌, length, map, reverse, All, AllPairs, Contains, Option, Some, IfSome}
+use Rattle.std.specs.Prelude.{◌≡◌, ◌≢◌, ◌⊎◌, ℕ, ◌+◌, ◌<◌, ◌≤◌, ◌++◌, if◌then◌else◌, Bool, true, false, List, [], ◌∷◌, length, map, reverse, All, AllPairs, Contains, Option, Some, None, IfSome}
 use Rattle.std.specs.List.{HoldsAt, flat_map, list_any}
 use Rattle.std.specs.Option.{is_some}
 use Rattle.bt_outside.specs.Told.{GainsPrefix, gained}
@@ -9,7 +9,7 @@ use Rattle.bt_air.specs.declared.event.Event.{Event}
 use Rattle.bt_air.specs.declared.order.Order.{Order}
 use Rattle.bt_demand.specs.declared.burst.Burst.{Burst}
 use Rattle.bt_events.specs.Air.{IsAir, IsSafe, modes_in_front}
-use Rattle.bt_events.specs.Event.{Frame, Opening, RestartCentre}
+use Rattle.bt_events.specs.Event.{Frame, Opening}
 use Rattle.bt_events.specs.Fits.{IsWorld}
 use Rattle.bt_world.specs.Life.{opening_of}
 use Rattle.bt_events.specs.World.{log, wanted}
@@ -29,7 +29,7 @@ use Rattle.bt_script.specs.declared.script.Round.{Round}
 use Rattle.bt_script.specs.declared.script.Script.{Script}
 use Rattle.bt_timeline.specs.Timeline.{start_line, restart_line, round_line}
 use Rattle.bt_centre.specs.declared.history.History.{History}
-use Rattle.bt_workers.specs.AirLines.{AirState, PlaysAirLines, happened, having, mark_of, orders_in}
+use Rattle.bt_workers.specs.AirLines.{AirState, PlaysAirLines, happened, mark_of, orders_in, restarting}
 use Rattle.bt_workers.specs.Desks.{Sight, IsNotOlder, asked_by, desks_text, shown_to, shows_of}
 use Rattle.bt_workers.specs.Planning.{PlaysPlans, planner_text}
 use Rattle.bt_centre.specs.Lines.{total_of}
@@ -104,12 +104,12 @@ pub record PlaysRound (net : Net) (before : Stand) (round : Round) (text : List 
   pub printed : text ≡ round_line after.rounds ++ (desks_text net round.desks entries sights ++ planner_text net (calls_of entries 1) ++ air_text)
 
 -- The centre restarts with the changes that its store tells: those made so far, or these and the one that the store lost. It forgets
--- what it heard; the order that it wanted joins the others where the store tells it, and is forgotten else. What is on its way stays on
--- its way, and the desks' shows begin anew.
+-- what it heard, and the edition to which it went back; the order that it wanted joins the others where the store tells it, and is
+-- forgotten else. What is on its way stays on its way, and the desks' shows begin anew.
 pub record PlaysRestart (tells : Bool) (before : Stand) (text : List ℕ) (after : Stand) : Type 0 where
   pub kept : Bool
   pub joins : JoinsOrder before.air after.opening kept
-  pub air : after.air ≡ having before.air (RestartCentre kept)
+  pub air : after.air ≡ restarting before.air kept
   pub next : IsNextTime tells before.opening before.history after.opening
   pub over : after.over ≡ histories_at before
   pub none : after.history ≡ []
@@ -159,7 +159,7 @@ at_start net opening = record {
   over = [];
   opening = opening;
   history = [];
-  air = record { life = record { opening = opening_on net opening; events = [] }; waiting = [] };
+  air = record { life = record { opening = opening_on net opening; events = [] }; waiting = []; back = None };
   rounds = 0;
   sights = [];
 }

@@ -4,7 +4,7 @@ ghost use Rattle.std.specs.Prelude.{◌≤◌, length, vec_len, IfOk};
 use crate::lines::{end_line, put_line, put_numbers, put_word};
 use bt_air::{AirFault, Armed, Message, Status, decode, encode, messages_have_one_spelling};
 use bt_demand::Burst;
-use bt_frame::{Command, EditionNo, Mark, Mode, TermNo};
+use bt_frame::{Command, EditionNo, Mark, Mode};
 use bt_sheet::{CaseFault, Result, hex_byte};
 use std::alloc::Global;
 
@@ -105,16 +105,23 @@ fn put_told(message: &Message, out: &mut String) -> Result<()> {
         Message::Status(status) => put_status(status, out),
         Message::PlanFor {
             to,
+            load,
             edition,
             bursts,
-        } => put_plan_for(*to, *edition, bursts.as_slice(), out),
-        Message::Confirm { from, edition } => {
-            put_line(">confirm", &[from.0.into(), edition.0], out)
+        } => {
+            put_numbers(">plan", &[to.0.into(), load.0, edition.0], out)?;
+            put_bursts(bursts.as_slice(), out)
         }
+        Message::Confirm {
+            from,
+            load,
+            edition,
+        } => put_line(">confirm", &[from.0.into(), load.0, edition.0], out),
         Message::Reference {
             superframe,
             in_force,
-        } => put_reference(*superframe, *in_force, out),
+            next,
+        } => put_reference(*superframe, *in_force, *next, out),
         Message::Lost { from } => put_line(">lost", &[from.0.into()], out),
     }
 }
@@ -148,17 +155,22 @@ fn put_armed(armed: Option<Armed>, out: &mut String) -> Result<()> {
     }
 }
 
-fn put_plan_for(to: TermNo, edition: EditionNo, bursts: &[Burst], out: &mut String) -> Result<()> {
-    put_numbers(">plan", &[to.0.into(), edition.0], out)?;
-    put_bursts(bursts, out)
-}
-
-fn put_reference(superframe: Mark, in_force: Option<EditionNo>, out: &mut String) -> Result<()> {
+/// Appends the superframe of a reference burst, the edition that it names, and the change that it announces, if any.
+fn put_reference(
+    superframe: Mark,
+    in_force: Option<EditionNo>,
+    next: Option<Armed>,
+    out: &mut String,
+) -> Result<()> {
     put_numbers(">reference", &[superframe.0], out)?;
     match in_force {
-        Some(edition) => put_line("", &[edition.0], out),
-        None => put_line(" none", &[], out),
+        Some(edition) => put_numbers("", &[edition.0], out)?,
+        None => put_numbers(" none", &[], out)?,
     }
+    if let Some(armed) = next {
+        put_numbers(" next", &[armed.edition.0, armed.due.0], out)?;
+    }
+    end_line(out)
 }
 
 /// Appends the sender of each burst, its receiver, its first slot and its slots, and ends the line.

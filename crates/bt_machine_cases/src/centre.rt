@@ -1,12 +1,12 @@
 // The lines of a centre.
 ghost use Rattle.std.specs.Prelude.{◌<◌, IfOk};
 
-use crate::lines::{put_number, put_word};
+use crate::lines::{put_line, put_number, put_word};
 use crate::message::{numbers_of, status_of};
 use crate::shown::{put_act, put_order};
 use bt_change::{Centre, with_terminal};
 use bt_frame::{
-    EditionNo, LAST_MARK, MOST_LEAD, MOST_PLACED, MOST_TERMINALS, Mark, TermNo, TermSet,
+    Command, EditionNo, LAST_MARK, MOST_LEAD, MOST_PLACED, MOST_TERMINALS, Mark, TermNo, TermSet,
 };
 use bt_sheet::{CaseFault, Result, byte_of, number_of};
 use std::alloc::Global;
@@ -25,6 +25,8 @@ pub fn show_centre(
         }
         ["note", words @ ..] => note(centre, words),
         ["known", mark] => put_known(centre, mark, out),
+        ["next", mark] => put_next(centre, mark, out),
+        ["loaded", edition] => put_loaded(centre, edition, out),
         words => show_orders(alloc, centre, words, out),
     }
 }
@@ -32,8 +34,8 @@ pub fn show_centre(
 /// Does what a line says of the centre's turn and its orders.
 fn show_orders(alloc: Global, centre: &mut Centre, words: &[&str], out: &mut String) -> Result<()> {
     match words {
-        ["turn", mark, newest, lead, patience] => {
-            put_turn(centre, [mark, newest, lead, patience], out)
+        ["turn", mark, target, lead, patience] => {
+            put_turn(centre, [mark, target, lead, patience], out)
         }
         ["ordered", terminals @ ..] => put_ordered(alloc, centre, terminals, out),
         ["waiting", terminal] => put_waiting(centre, terminal, out),
@@ -65,11 +67,16 @@ fn note_status(centre: &mut Centre, fields: &[&str]) -> Result<()> {
 }
 
 fn note_confirm(centre: &mut Centre, fields: &[&str]) -> Result<()> {
-    let [mark, terminal, edition] = fields else {
+    let [mark, terminal, load, edition] = fields else {
         return Err(CaseFault("nothing to note"));
     };
-    let (mark, edition) = (Mark(number_of(mark)?), EditionNo(number_of(edition)?));
-    centre.confirm(mark, terminal_of(terminal)?, edition);
+    let (load, edition) = (Command(number_of(load)?), EditionNo(number_of(edition)?));
+    centre.confirm(
+        Mark(number_of(mark)?),
+        terminal_of(terminal)?,
+        load,
+        edition,
+    );
     Ok(())
 }
 
@@ -100,16 +107,30 @@ fn put_known(centre: &Centre, mark: &str, out: &mut String) -> Result<()> {
     }
 }
 
-/// Appends what the centre does in its turn, which has a superframe, the newest edition, the lead and the patience.
+/// Appends the change that the centre announces in that superframe: its edition, and the superframe in which it is due.
+fn put_next(centre: &Centre, mark: &str, out: &mut String) -> Result<()> {
+    match centre.next(Mark(number_of(mark)?)) {
+        Some(armed) => put_line(">next", &[armed.edition.0, armed.due.0], out),
+        None => put_word("none", out),
+    }
+}
+
+/// Appends the command of the latest Load of an edition, or 0.
+fn put_loaded(centre: &Centre, edition: &str, out: &mut String) -> Result<()> {
+    put_number(centre.load_of(EditionNo(number_of(edition)?)).0, out)
+}
+
+/// Appends what the centre does in its turn, which has a superframe, the edition to bring to the front, the lead and the
+/// patience.
 fn put_turn(centre: &mut Centre, turn: [&str; 4], out: &mut String) -> Result<()> {
-    let [mark, newest, lead, patience] = numbers_of(turn)?;
+    let [mark, target, lead, patience] = numbers_of(turn)?;
     if LAST_MARK < mark || MOST_LEAD < lead {
         return Err(CaseFault("no superframe or no lead"));
     }
     if MOST_PLACED < centre.order_count() {
         return Err(CaseFault("too many orders"));
     }
-    let act = centre.turn(Mark(mark), EditionNo(newest), lead, patience);
+    let act = centre.turn(Mark(mark), EditionNo(target), lead, patience);
     put_act(act, out)
 }
 

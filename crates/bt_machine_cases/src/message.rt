@@ -48,36 +48,47 @@ fn arm_of(fields: &[&str]) -> Result<Message> {
 
 /// A plan of one burst, which the terminal itself sends.
 fn plan_for(alloc: Global, fields: &[&str]) -> Result<Message> {
-    let [to, edition, length] = fields else {
+    let [to, load, edition, length] = fields else {
         return Err(CaseFault("no message"));
     };
     let to = TermNo(byte_of(to)?);
-    let [edition, length] = pair_of(edition, length)?;
+    let [load, edition] = pair_of(load, edition)?;
     Ok(Message::PlanFor {
         to,
+        load: Command(load),
         edition: EditionNo(edition),
-        bursts: burst_of(alloc, to, length)?,
+        bursts: burst_of(alloc, to, number_of(length)?)?,
     })
 }
 
 fn confirm_of(fields: &[&str]) -> Result<Message> {
-    let [from, edition] = fields else {
+    let [from, load, edition] = fields else {
         return Err(CaseFault("no message"));
     };
+    let [load, edition] = pair_of(load, edition)?;
     Ok(Message::Confirm {
         from: TermNo(byte_of(from)?),
-        edition: EditionNo(number_of(edition)?),
+        load: Command(load),
+        edition: EditionNo(edition),
     })
 }
 
-/// A reference burst that names an edition, or `none`.
+/// A reference burst that names an edition, or `none`, and announces a change where `next` stands behind that.
 fn reference_of(fields: &[&str]) -> Result<Message> {
-    let [superframe, edition] = fields else {
-        return Err(CaseFault("no message"));
-    };
+    match fields {
+        [superframe, edition] => reference_with(superframe, edition, None),
+        [superframe, edition, "next", next, due] => {
+            reference_with(superframe, edition, armed_with(next, due)?)
+        }
+        _ => Err(CaseFault("no message")),
+    }
+}
+
+fn reference_with(superframe: &str, edition: &str, next: Option<Armed>) -> Result<Message> {
     Ok(Message::Reference {
         superframe: Mark(number_of(superframe)?),
         in_force: in_force_of(edition)?,
+        next,
     })
 }
 

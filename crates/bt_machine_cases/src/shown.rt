@@ -10,6 +10,7 @@ pub fn put_shown(shown: &Shown, out: &mut String) -> Result<()> {
     match shown {
         Shown::Ticked(status) => put_line(">tick", &[status.mark.0], out),
         Shown::Turned(act) => put_act(*act, out),
+        Shown::Second => put_word("second", out),
         Shown::Ordered(order) => put_order(">ordered", *order, out),
         Shown::Delivered(answer) => put_word(answer_text(*answer), out),
         Shown::Framed(frame) => put_frame(frame, out),

@@ -10,7 +10,7 @@ ghost use Rattle.bt_world.specs.Life.{past_of};
 use crate::shown::put_shown;
 use bt_air::{Event, Place, Sent, Shown};
 use bt_demand::{Plan, empty_plan, good_plans_are_flyable};
-use bt_frame::{LAST_MARK, MOST_COUNTED, MOST_SLOTS, MOST_TEXT_BYTES, TermNo};
+use bt_frame::{EditionNo, LAST_MARK, MOST_COUNTED, MOST_SLOTS, MOST_TEXT_BYTES, TermNo};
 use bt_net::Network;
 use bt_plan::{read_demand, read_plan};
 use bt_sheet::{CaseFault, Part, Result, byte_of, number_of, put_lines};
@@ -67,6 +67,9 @@ impl Flight {
             ["deliver", number, place] => self.deliver(alloc, number, place),
             ["reset", terminal] => self.reset(alloc, terminal),
             ["restart", "kept"] => self.restart_with(alloc),
+            ["turn", "back", edition] => self.turn(alloc, EditionNo(number_of(edition)?)),
+            ["second", "none"] => self.happen(alloc, Event::Second { in_force: None }),
+            ["second", edition] => self.second(alloc, EditionNo(number_of(edition)?)),
             [word] => self.event_named(alloc, word),
             _ => Err(CaseFault("no event")),
         }
@@ -76,7 +79,10 @@ impl Flight {
     fn event_named(&mut self, alloc: Global, word: &str) -> Result<Shown> {
         match word {
             "tick" => self.tick(alloc),
-            "turn" => self.turn(alloc),
+            "turn" => {
+                let newest = self.world.newest();
+                self.turn(alloc, newest)
+            }
             "ordered" => self.order(alloc),
             "frame" => self.frame(alloc),
             "restart" => self.happen(alloc, Event::RestartCentre { kept: false }),
@@ -100,9 +106,25 @@ impl Flight {
         self.happen(alloc, Event::Tick)
     }
 
-    fn turn(&mut self, alloc: Global) -> Result<Shown> {
-        let newest = self.world.newest();
-        self.happen(alloc, Event::Turn { newest })
+    /// The centre has its turn, with this edition as the one to bring to the front.
+    fn turn(&mut self, alloc: Global, target: EditionNo) -> Result<Shown> {
+        if !self.world.has_plan(target) {
+            return Err(CaseFault("no plan of that edition"));
+        }
+        self.happen(alloc, Event::Turn { target })
+    }
+
+    /// A second reference burst names this edition.
+    fn second(&mut self, alloc: Global, edition: EditionNo) -> Result<Shown> {
+        if !self.world.is_told(edition) {
+            return Err(CaseFault("no status tells that edition"));
+        }
+        self.happen(
+            alloc,
+            Event::Second {
+                in_force: Some(edition),
+            },
+        )
     }
 
     fn order(&mut self, alloc: Global) -> Result<Shown> {

@@ -55,6 +55,9 @@ commands
       done and refused. The run begins with what the file JOURNAL comes to, and
       each change that is accepted is one line more of it before it is answered.
       A file that is not there is made, and is an empty journal.
+      The line `back E` of a script has the centre go back: from its next turn
+      on it brings the plan of edition E into force. `ahead` has it bring the
+      newest into force again, and so has a restart.
       example: nozgurt run examples/two-beams.net
                examples/calm-change.script calm.journal
 
