@@ -1,12 +1,12 @@
 -- Delays that are known, as the lines of a delay file give them.
-use Rattle.std.proofs.Common.{◌≡◌, ℕ, zero, suc, ◌+◌, ◌<◌, ◌≤◌, ◌&&◌, Bool, true, false, is_some, List, [], ◌∷◌, ◌++◌, length, get_or, set, drop, replicate, All, Option, Some, None, option_map, refl, sym, ap, subst, ◌∙◌, arith, append_assoc, add-one}
+use Rattle.std.proofs.Common.{◌≡◌, ℕ, zero, suc, ◌+◌, ◌<◌, ◌≤◌, Bool, true, false, is_some, List, [], ◌∷◌, ◌++◌, length, get_or, set, drop, replicate, All, Option, Some, None, option_map, refl, sym, ap, subst, ◌∙◌, append_assoc, add-one}
 use Rattle.std.specs.List.{list_all}
 use Rattle.std.proofs.Math.Seq.{drop-cons}
 use Rattle.std.proofs.lemmas.Bool.{and_parts}
 use Rattle.std.proofs.lemmas.List.{append-nil, drop_all}
 use Rattle.std.proofs.lemmas.List.Elements.{All-replicate, All-set}
 use Rattle.bt_timing.specs.DelayTable.{IsKnownDelay, AreSoFar}
-use Rattle.bt_timing.specs.DelayText.{SoFar, all_of}
+use Rattle.bt_timing.specs.DelayText.{all_of}
 use Rattle.bt_timing.specs.Times.{IsDelay}
 
 -- where all are known, all are with one more

@@ -1,5 +1,5 @@
 -- What always holds of the delays of the lines so far. Only bodies use it.
-use Rattle.std.specs.Prelude.{◌≡◌, ◌≤◌, ℕ, Option, Some, None, true, is_some, All}
+use Rattle.std.specs.Prelude.{◌≡◌, ℕ, Option, Some, None, true, is_some, All}
 use Rattle.std.specs.List.{list_all}
 use Rattle.bt_timing.specs.DelayText.{SoFar}
 use Rattle.bt_timing.specs.Times.{IsDelay}

@@ -1,5 +1,5 @@
 -- the guard, and what follows it
-use Rattle.std.proofs.Common.{Ok, refl}
+use Rattle.std.proofs.Common.{Ok}
 use Rattle.std.proofs.lemmas.Result.{err_from_is_err_and}
 use Rattle.bt_text.specs.Text.{words, lines}
 use Rattle.bt_text.proofs.Faults.{IsFaultOf-then}
