@@ -1,0 +1,4 @@
+pub mod Windows
+pub mod GoodPlans
+pub mod DelayLines
+pub mod KnownDelays
