@@ -22,6 +22,7 @@ pub fn show_text(alloc: Global, shelf: &Shelf, words: &[&str], out: &mut String)
         ["number", word] => put_number(alloc, word, out),
         [name, text] => show_alone(alloc, shelf, name, text, out),
         [name, first, second] => show_with(alloc, shelf, name, [first, second], out),
+        ["sum", place, start, text] => put_sum(alloc, shelf, place, [start, text], out),
         _ => Ok(false),
     }
 }
@@ -55,6 +56,7 @@ fn show_with(
     let shown = match name {
         "line" => put_line_end(shelf, first, second, out),
         "count" => put_count(alloc, shelf, first, second, out),
+        "ending" => put_ending(alloc, shelf, first, second, out),
         "schedule" => put_schedule(alloc, shelf, first, second, out),
         "demand" | "traffic" | "plan" => show_over(alloc, shelf, name, words, out),
         _ => return Ok(false),
@@ -141,12 +143,17 @@ fn put_end_from(bytes: &[u8], place: usize, out: &mut String) -> Result<()> {
     Ok(put?)
 }
 
-/// Appends how many lines begin with that word.
-fn put_count(alloc: Global, shelf: &Shelf, word: &str, text: &str, out: &mut String) -> Result<()> {
-    let bytes = shelf.text(text)?;
-    let mut start = Vec::new(alloc);
-    take_bytes(word, &mut start)?;
-    let count = count_of(bytes, &start);
+/// Appends how many lines begin with that text.
+fn put_count(alloc: Global, shelf: &Shelf, text: &str, file: &str, out: &mut String) -> Result<()> {
+    let start = bytes_of(alloc, text)?;
+    let count = count_of(shelf.text(file)?, &start);
+    Ok(write!(out, ">{count}\n")?)
+}
+
+/// Appends how many lines end with that text.
+fn put_ending(alloc: Global, shelf: &Shelf, text: &str, file: &str, out: &mut String) -> Result<()> {
+    let end = bytes_of(alloc, text)?;
+    let count = count_ending(shelf.text(file)?, &end);
     Ok(write!(out, ">{count}\n")?)
 }
 
@@ -159,6 +166,63 @@ fn count_of(bytes: &[u8], start: &[u8]) -> u64 {
         }
     }
     count
+}
+
+/// How many lines end so.
+fn count_ending(bytes: &[u8], end: &[u8]) -> u64 {
+    let mut count = 0u64;
+    for line in bytes.split(|byte| *byte == b'\n') {
+        if line.ends_with(end) {
+            count = count.saturating_add(1);
+        }
+    }
+    count
+}
+
+/// The bytes that a word of a line of cases spells.
+fn bytes_of(alloc: Global, word: &str) -> Result<Vec<u8>> {
+    let mut bytes = Vec::new(alloc);
+    take_bytes(word, &mut bytes)?;
+    Ok(bytes)
+}
+
+/// Appends the sum of the numbers that stand at that place, counted from 0, among the words of the lines that begin with a
+/// text; true, as for each line that is taken.
+fn put_sum(
+    alloc: Global,
+    shelf: &Shelf,
+    place: &str,
+    words: [&str; 2],
+    out: &mut String,
+) -> Result<bool> {
+    let [text, file] = words;
+    let start = bytes_of(alloc, text)?;
+    let sum = sum_of(shelf.text(file)?, &start, number_of(place)? as usize)?;
+    write!(out, ">{sum}\n")?;
+    Ok(true)
+}
+
+/// The sum of the numbers at that place in the lines that begin so.
+fn sum_of(bytes: &[u8], start: &[u8], place: usize) -> Result<u64> {
+    let mut sum = 0u64;
+    for line in bytes.split(|byte| *byte == b'\n') {
+        if line.starts_with(start) {
+            sum = sum.saturating_add(number_at(line, place)?);
+        }
+    }
+    Ok(sum)
+}
+
+/// The number that is the word of a line at that place.
+fn number_at(line: &[u8], place: usize) -> Result<u64> {
+    let mut at = 0usize;
+    for word in line.split(|byte| *byte == b' ') {
+        if at == place {
+            return number(word).ok_or(CaseFault("no number"));
+        }
+        at = at.saturating_add(1);
+    }
+    Err(CaseFault("no word at that place"))
 }
 
 /// Appends the rows of a matrix.

@@ -1,4 +1,4 @@
-// The object of the tests: it adds numbers.
+// The object of the tests: it adds numbers, and may be slow in its call.
 ghost use Rattle.std.specs.Prelude.{◌≡◌, ◌≤◌, ◌^◌, [], length};
 ghost use Rattle.bt_trials.specs.Sums.{Adds};
 
@@ -6,16 +6,20 @@ use bt_frame::OutOfMemory;
 use bt_line::{Entry, Object};
 use std::alloc::Global;
 use std::marker::Model;
+use std::thread::sleep;
+use std::time::{Clock, Duration};
 
-/// It adds numbers up to a limit to its total, modulo 2^64, and stores each call.
+/// It adds numbers up to a limit to its total, modulo 2^64, and stores each call, which takes it so long at least.
 #[derive(Drop)]
-pub struct Adder {
+pub struct Adder<C: Clock + Copy> {
+    clock: C,
+    takes: Duration,
     limit: u64,
     total: u64,
     past: Vec<Entry<u64, u64>>,
 }
 
-impl Model for Adder {
+impl<C: Clock + Copy> Model for Adder<C> {
     ghost use Rattle.bt_trials.specs.Sums.{Sums};
 
     ghost Value = { Sums };
@@ -23,11 +27,13 @@ impl Model for Adder {
     ghost view = { λ a. record { limit = a.limit; total = a.total; past = a.past.items } };
 }
 
-impl Adder {
-    pub fn new(alloc: Global, limit: u64) -> Adder
+impl<C: Clock + Copy> Adder<C> {
+    pub fn new(alloc: Global, clock: C, takes: Duration, limit: u64) -> Adder<C>
         ensures made { result ≡ record { limit = limit; total = 0; past = [] } }
     {
         Adder {
+            clock,
+            takes,
             limit,
             total: 0,
             past: Vec::new(alloc),
@@ -48,7 +54,7 @@ impl Adder {
     }
 }
 
-impl Object for Adder {
+impl<C: Clock + Copy> Object for Adder<C> {
     type Call = u64;
 
     type Reply = u64;
@@ -63,6 +69,9 @@ impl Object for Adder {
     ghost takes = { λ adder call. call ≤ adder.limit };
 
     fn apply(&mut self, alloc: Global, caller: u32, call: u64) -> Result<u64, OutOfMemory> {
+        if self.takes != Duration::ZERO {
+            sleep(&self.clock, self.takes);
+        }
         let reply = self.total.wrapping_add(call);
         self.past.push(Entry {
             caller,

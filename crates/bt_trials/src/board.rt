@@ -63,6 +63,32 @@ fn a_reader_that_meets_has_the_last_plan(rt: HostRuntime) -> Result<(), Fail> {
     Ok(())
 }
 
+// A post that answers that memory ran out has changed nothing: the next one comes through, and is what readers see.
+#[test]
+fn a_board_goes_on_after_a_refused_post(rt: HostRuntime) -> Result<(), Fail> {
+    let alloc = rt.alloc();
+    let (first, next, last) = (plan(alloc, 0, 1), plan(alloc, 5, 7), plan(alloc, 6, 8));
+    let Ok((mut publisher, mut readers)) = board(&rt, alloc, first, 1) else {
+        return Err(Fail::from("no board"));
+    };
+    let mut reader = readers.remove(0);
+    let posted = publisher.post(&rt, alloc, next);
+    let met = publisher.meet(&rt, &mut reader);
+    let seen = reader.newest().edition.0;
+    let posted_last = publisher.post(&rt, alloc, last);
+    let met_last = publisher.meet(&rt, &mut reader);
+    let shown = (
+        publisher.newest().edition.0,
+        reader.newest().edition.0,
+        reader.newest().schedule.length,
+    );
+    publisher.close(&rt);
+    assert!(rt; posted_last.is_ok() && met.is_ok() && met_last.is_ok());
+    assert_eq!(rt; seen, if posted.is_ok() { 5 } else { 0 });
+    assert_eq!(rt; shown, (6, 6, 8));
+    Ok(())
+}
+
 // Posts the editions 1 to 299.
 fn post_all<R: Wait>(rt: &R, alloc: Global, publisher: &mut Publisher) -> bool
     ensures { publisher.new.board ≡ publisher.old.board }
