@@ -6,6 +6,7 @@
 #![tactic(auto)]
 
 mod cutting;
+mod delays;
 mod demand;
 mod planning;
 mod stage;
