@@ -8,6 +8,7 @@
 
 mod crossed;
 mod cutting;
+mod delays;
 mod demand;
 mod linked;
 mod planning;

@@ -1,4 +1,5 @@
 // The lines of texts and of planning: each goes to the file of what it shows. `docs/cases.md` says what they mean.
+use crate::delays::show_sends;
 use crate::demand::{put_gain, put_loss, put_units};
 use crate::linked::{linked_of, put_linked};
 use crate::planning::show_steps;
@@ -35,6 +36,9 @@ impl Texts {
         out: &mut String,
     ) -> Result<bool> {
         if show_text(alloc, shelf, words, out)? {
+            return Ok(true);
+        }
+        if show_sends(alloc, shelf, words, out)? {
             return Ok(true);
         }
         self.show_planning(alloc, shelf, words, out)
