@@ -4,12 +4,11 @@ ghost use Rattle.std.specs.Bool.{OnTrue};
 ghost use Rattle.bt_timing.specs.Times.{IsSendable};
 
 use crate::texts::put_text;
-use bt_case_text::Shelf;
 use bt_demand::Burst;
 use bt_frame::{LAST_SLOT, MOST_SLOTS, MOST_TEXT_BYTES};
 use bt_net::Network;
 use bt_plan::read_plan;
-use bt_sheet::{CaseFault, Result};
+use bt_sheet::{CaseFault, Result, Shelf};
 use bt_timing::{Timing, TimingCode, TimingFault, sends_text};
 use std::alloc::Global;
 

@@ -151,7 +151,13 @@ fn put_count(alloc: Global, shelf: &Shelf, text: &str, file: &str, out: &mut Str
 }
 
 /// Appends how many lines end with that text.
-fn put_ending(alloc: Global, shelf: &Shelf, text: &str, file: &str, out: &mut String) -> Result<()> {
+fn put_ending(
+    alloc: Global,
+    shelf: &Shelf,
+    text: &str,
+    file: &str,
+    out: &mut String,
+) -> Result<()> {
     let end = bytes_of(alloc, text)?;
     let count = count_ending(shelf.text(file)?, &end);
     Ok(write!(out, ">{count}\n")?)
