@@ -1,4 +1,4 @@
-//! When each terminal transmits, so that its bursts arrive in their slots, within a guard.
+//! When each terminal transmits, so that its bursts arrive in their slots where the true delays are within a guard of the estimates.
 //!
 //! It stands on lines and words (`bt_text`), on the names of terminals (`bt_net`) and on plans and what makes them good
 //! (`bt_demand`). Promises are in `specs/DelayText.antt`, the grammar of a delay file line by line with the fault of each

@@ -49,15 +49,15 @@ commands
 
   run NET SCRIPT JOURNAL
       Plays the script in the file SCRIPT on the network in the file NET: desks
-      edit the demand, the planner plans, the centre brings plans into force,
+      edit the demand, the planner plans, the centre has plans loaded and armed,
       and frames go on the air. Prints the answer to each edit, each plan, each
       message with what its receiver did, each frame, and how many edits were
       done and refused. The run begins with what the file JOURNAL comes to, and
       each change that is accepted is one line more of it before it is answered.
       A file that is not there is made, and is an empty journal.
       The line `back E` of a script has the centre go back: from its next turn
-      on it brings the plan of edition E into force. `ahead` has it bring the
-      newest into force again, and so has a restart.
+      on it wants the plan of edition E in front. `ahead` has it want the newest
+      again, and so has a restart.
       example: nozgurt run examples/two-beams.net
                examples/calm-change.script calm.journal
 
