@@ -1,4 +1,4 @@
-// The object of the tests: it adds numbers, and may be slow in its call.
+// The object of the tests: it adds numbers.
 ghost use Rattle.std.specs.Prelude.{◌≡◌, ◌≤◌, ◌^◌, [], length};
 ghost use Rattle.bt_trials.specs.Sums.{Adds};
 
@@ -6,20 +6,16 @@ use bt_frame::OutOfMemory;
 use bt_line::{Entry, Object};
 use std::alloc::Global;
 use std::marker::Model;
-use std::thread::sleep;
-use std::time::{Clock, Duration};
 
-/// It adds numbers up to a limit to its total, modulo 2^64, and stores each call, which takes it so long at least.
+/// It adds numbers up to a limit to its total, modulo 2^64, and stores each call.
 #[derive(Drop)]
-pub struct Adder<C: Clock + Copy> {
-    clock: C,
-    takes: Duration,
+pub struct Adder {
     limit: u64,
     total: u64,
     past: Vec<Entry<u64, u64>>,
 }
 
-impl<C: Clock + Copy> Model for Adder<C> {
+impl Model for Adder {
     ghost use Rattle.bt_trials.specs.Sums.{Sums};
 
     ghost Value = { Sums };
@@ -27,13 +23,11 @@ impl<C: Clock + Copy> Model for Adder<C> {
     ghost view = { λ a. record { limit = a.limit; total = a.total; past = a.past.items } };
 }
 
-impl<C: Clock + Copy> Adder<C> {
-    pub fn new(alloc: Global, clock: C, takes: Duration, limit: u64) -> Adder<C>
+impl Adder {
+    pub fn new(alloc: Global, limit: u64) -> Adder
         ensures made { result ≡ record { limit = limit; total = 0; past = [] } }
     {
         Adder {
-            clock,
-            takes,
             limit,
             total: 0,
             past: Vec::new(alloc),
@@ -54,7 +48,7 @@ impl<C: Clock + Copy> Adder<C> {
     }
 }
 
-impl<C: Clock + Copy> Object for Adder<C> {
+impl Object for Adder {
     type Call = u64;
 
     type Reply = u64;
@@ -69,9 +63,6 @@ impl<C: Clock + Copy> Object for Adder<C> {
     ghost takes = { λ adder call. call ≤ adder.limit };
 
     fn apply(&mut self, alloc: Global, caller: u32, call: u64) -> Result<u64, OutOfMemory> {
-        if self.takes != Duration::ZERO {
-            sleep(&self.clock, self.takes);
-        }
         let reply = self.total.wrapping_add(call);
         self.past.push(Entry {
             caller,

@@ -9,16 +9,9 @@ use std::alloc::Global;
 use std::sync::Wait;
 use std::test::Fail;
 use std::thread::{Threads, for_each_chunk_mut};
-use std::time::{Clock, Duration};
 
 // One caller adds 1, so many times.
-fn add_many<R: Wait, C: Clock + Copy>(
-    rt: &R,
-    alloc: Global,
-    line: &Line<Adder<C>>,
-    pass: &mut Pass<Adder<C>>,
-    calls: u32,
-)
+fn add_many<R: Wait>(rt: &R, alloc: Global, line: &Line<Adder>, pass: &mut Pass<Adder>, calls: u32)
     requires of_line { IsOfLine line.now.table.shared.table_id line.now.table.shared.key.value pass.old.place }
     requires limit { 1 ≤ line.now.table.shared.key.value.limit }
     ensures { IsSamePass pass.old.place pass.new.place }
@@ -29,13 +22,7 @@ fn add_many<R: Wait, C: Clock + Copy>(
 }
 
 // The caller of a piece of one pass.
-fn add_as<R: Wait, C: Clock + Copy>(
-    rt: &R,
-    alloc: Global,
-    line: &Line<Adder<C>>,
-    part: &mut [Pass<Adder<C>>],
-    calls: u32,
-)
+fn add_as<R: Wait>(rt: &R, alloc: Global, line: &Line<Adder>, part: &mut [Pass<Adder>], calls: u32)
     requires one { length part.old ≡ 1 }
     requires limit { 1 ≤ line.now.table.shared.key.value.limit }
     requires of_line { (d : _) → IsOfLine line.now.table.shared.table_id line.now.table.shared.key.value (slice_index_or part.old 0 d).place }
@@ -45,11 +32,11 @@ fn add_as<R: Wait, C: Clock + Copy>(
 }
 
 // All callers at once.
-fn add_all<R: Threads + Wait + Sync, C: Clock + Copy + Send + Sync>(
+fn add_all<R: Threads + Wait + Sync>(
     rt: &R,
     alloc: Global,
-    line: &Line<Adder<C>>,
-    passes: &mut [Pass<Adder<C>>],
+    line: &Line<Adder>,
+    passes: &mut [Pass<Adder>],
     calls: u32,
 )
     requires limit { 1 ≤ line.now.table.shared.key.value.limit }
@@ -65,18 +52,16 @@ fn add_all<R: Threads + Wait + Sync, C: Clock + Copy + Send + Sync>(
     );
 }
 
-// How many entries there are after these calls of an object that takes so long for each, and the sum.
-fn entries_and_sum<R: Threads + Wait + Clock + Copy + Send + Sync>(
+// How many entries there are after these calls, and the sum.
+fn entries_and_sum<R: Threads + Wait + Sync>(
     rt: &R,
     alloc: Global,
     seats: u32,
     calls: u32,
-    takes: Duration,
 ) -> Option<(usize, u64)>
     requires { (0 < seats) × (seats ≤ MOST_CALLERS) }
 {
-    let adder = Adder::new(alloc, *rt, takes, 10);
-    let Ok((line, mut passes)) = Line::start(alloc, adder, seats) else {
+    let Ok((line, mut passes)) = Line::start(alloc, Adder::new(alloc, 10), seats) else {
         return None;
     };
     add_all(rt, alloc, &line, &mut passes[..], calls);
@@ -86,25 +71,16 @@ fn entries_and_sum<R: Threads + Wait + Clock + Copy + Send + Sync>(
 
 #[test]
 fn two_threads_make_one_history(rt: HostRuntime) -> Result<(), Fail> {
-    let made = entries_and_sum(&rt, rt.alloc(), 2, 1000, Duration::ZERO);
-    assert_eq!(rt; made, Some((2000, 2000)));
+    assert_eq!(rt;
+        entries_and_sum(&rt, rt.alloc(), 2, 1000),
+        Some((2000, 2000))
+    );
     Ok(())
 }
 
-// Each caller but one waits at a bell; one bell that is not rung keeps all behind it.
 #[test]
 fn all_seats_make_one_history(rt: HostRuntime) -> Result<(), Fail> {
-    let all = entries_and_sum(&rt, rt.alloc(), 64, 10, Duration::ZERO);
-    let one = entries_and_sum(&rt, rt.alloc(), 1, 10, Duration::ZERO);
-    assert_eq!(rt; all, Some((640, 640)));
-    assert_eq!(rt; one, Some((10, 10)));
-    Ok(())
-}
-
-// The callers sleep between almost all of their looks.
-#[test]
-fn callers_of_a_slow_object_are_all_woken(rt: HostRuntime) -> Result<(), Fail> {
-    let made = entries_and_sum(&rt, rt.alloc(), 16, 250, Duration::from_micros(100));
-    assert_eq!(rt; made, Some((4000, 4000)));
+    assert_eq!(rt; entries_and_sum(&rt, rt.alloc(), 64, 10), Some((640, 640)));
+    assert_eq!(rt; entries_and_sum(&rt, rt.alloc(), 1, 10), Some((10, 10)));
     Ok(())
 }
