@@ -47,6 +47,7 @@ impl Machines {
             ["install", traffic, plan] => {
                 self.put_install(alloc, shelf.text(traffic)?, shelf.text(plan)?, out)
             }
+            ["switch", slot] => self.put_mode(slot, out),
             words => self.show_machines(alloc, words, out),
         }
     }
@@ -74,6 +75,13 @@ impl Machines {
     fn put_event(&mut self, alloc: Global, words: &[&str], out: &mut String) -> Result<()> {
         match self.flights.last_mut() {
             Some(flight) => flight.put_event(alloc, words, out),
+            None => Err(CaseFault("no world")),
+        }
+    }
+
+    fn put_mode(&self, slot: &str, out: &mut String) -> Result<()> {
+        match self.flights.last() {
+            Some(flight) => flight.put_mode(slot, out),
             None => Err(CaseFault("no world")),
         }
     }

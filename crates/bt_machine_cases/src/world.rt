@@ -7,6 +7,7 @@ ghost use Rattle.bt_timeline.specs.Air.{NamesTerminal};
 ghost use Rattle.bt_events.specs.Fits.{IsPlace, Meets};
 ghost use Rattle.bt_world.specs.Life.{past_of};
 
+use crate::lines::{end_line, put_numbers, put_word};
 use crate::shown::put_shown;
 use bt_air::{Event, Place, Sent, Shown};
 use bt_demand::{Plan, empty_plan, good_plans_are_flyable};
@@ -59,6 +60,18 @@ impl Flight {
         let plan = good_plan_from(alloc, &self.net, traffic, plan)?;
         let shown = self.install(alloc, plan)?;
         put_shown(&shown, out)
+    }
+
+    /// Appends the mode that the switch on board takes in a slot of the frame: its slots, and the downlink of each uplink.
+    pub fn put_mode(&self, slot: &str, out: &mut String) -> Result<()> {
+        let Some(mode) = self.world.mode_at(number_of(slot)?) else {
+            return put_word("none", out);
+        };
+        put_numbers(">mode", &[mode.duration], out)?;
+        for down in mode.perm.as_slice() {
+            put_numbers("", &[u32::from(*down)], out)?;
+        }
+        end_line(out)
     }
 
     /// The event that the words say happens.
