@@ -130,9 +130,10 @@ burst_line net name burst = line_of (name ∷ decimal burst.start ∷ decimal bu
 abbrev pub burst_lines : Net → List ℕ → List Burst → List ℕ
 burst_lines net name bursts = flat_map (burst_line net name) bursts
 
--- what a desk is shown of a plan: its edition, its length and its modes, and then each burst that the terminal sends
-abbrev pub show_lines : Net → ℕ → Plan → TermNo → List ℕ
-show_lines net desk plan terminal = line_of (desk_name desk ∷ codes "shows" ∷ decimal plan.edition.0 ∷ codes "length" ∷ decimal plan.schedule.length ∷ codes "modes" ∷ decimal (length plan.schedule.modes) ∷ []) ++ burst_lines net (codes "burst") (bursts_from terminal plan.bursts)
+-- what a desk is shown of a plan of this edition, length, number of modes and bursts: these, and then each burst that the
+-- terminal sends
+abbrev pub show_lines : Net → ℕ → TermNo → EditionNo → ℕ → ℕ → List Burst → List ℕ
+show_lines net desk terminal edition length modes bursts = line_of (desk_name desk ∷ codes "shows" ∷ decimal edition.0 ∷ codes "length" ∷ decimal length ∷ codes "modes" ∷ decimal modes ∷ []) ++ burst_lines net (codes "burst") (bursts_from terminal bursts)
 
 -- the first line after a start: the last edition, the edition of the newest plan, and the mark of the superframe
 abbrev pub start_line : ℕ → ℕ → ℕ → List ℕ

@@ -1,5 +1,5 @@
 // Lines that bursts stand under: what a desk is shown of a plan, and what is on the air in a frame.
-ghost use Rattle.std.specs.Prelude.{◌≡◌, ◌++◌, OnOk, OnErr, IfOk, map};
+ghost use Rattle.std.specs.Prelude.{◌≡◌, ◌==◌, ◌++◌, [], if◌then◌else◌, codes, OnOk, OnErr, map};
 ghost use Rattle.bt_demand.specs.Apart.{bursts_from};
 ghost use Rattle.bt_net.specs.Terminals.{name_at};
 ghost use Rattle.bt_timeline.specs.Air.{frame_lines};
@@ -8,37 +8,96 @@ ghost use Rattle.bt_timeline.specs.Timeline.{burst_line, burst_lines, show_lines
 ghost use Rattle.bt_words.specs.Written.{Extends};
 
 use bt_air::AirFrame;
-use bt_demand::{Burst, Plan};
-use bt_frame::{OutOfMemory, TermNo};
+use bt_demand::Burst;
+use bt_frame::{EditionNo, OutOfMemory, TermNo};
 use bt_net::Network;
 use bt_words::{Word, add_line};
 use std::alloc::Global;
 
-/// Appends what a desk is shown of a plan: its edition, its length in slots and the number of its modes, and then the
-/// bursts that a terminal sends in it.
+/// Appends what a desk is shown of a plan: its edition, its length in slots and the number of its modes, and then those of
+/// its bursts that a terminal sends.
 pub fn show_text(
     alloc: Global,
     net: &Network,
     desk: u8,
-    plan: &Plan,
     terminal: TermNo,
+    edition: EditionNo,
+    length: u32,
+    modes: u32,
+    bursts: &[Burst],
     out: &mut Vec<u8>,
 ) -> Result<(), OutOfMemory>
-    ensures added { OnOk result (out.new.items ≡ out.old.items ++ show_lines net.now desk plan.now terminal) }
+    ensures added { OnOk result (out.new.items ≡ out.old.items ++ show_lines net.now desk terminal edition length modes bursts.now) }
     ensures unchanged { OnErr result (out.new.items ≡ out.old.items) }
 {
-    let bursts = sent_by(alloc, terminal, plan.bursts.as_slice())?;
-    let modes = plan.schedule.modes.as_slice().len() as u64;
     let words = [
         Word::Desk(desk),
         Word::Text("shows"),
-        Word::number(plan.edition.0),
+        Word::number(edition.0),
         Word::Text("length"),
-        Word::number(plan.schedule.length),
+        Word::number(length),
         Word::Text("modes"),
-        Word::Number(modes),
+        Word::number(modes),
     ];
-    list_text(alloc, net, &words, "burst", &bursts, out)
+    let before = out.len();
+    let added = add_show(alloc, net, &words, terminal, bursts, out);
+    if added.is_err() {
+        out.truncate(before);
+    }
+    added
+}
+
+/// Appends a line of these words, and under it the lines of the bursts that a terminal sends. Want of memory leaves the
+/// first of them.
+#[tactic(auto, using(bt_words::proofs::Extending::extends_on))]
+fn add_show(
+    alloc: Global,
+    net: &Network,
+    words: &[Word<'_>],
+    terminal: TermNo,
+    bursts: &[Burst],
+    out: &mut Vec<u8>,
+) -> Result<(), OutOfMemory>
+    ensures added { OnOk result (out.new.items ≡ out.old.items ++ line_of (map word_bytes words.now) ++ burst_lines net.now (codes "burst") (bursts_from terminal bursts.now)) }
+    ensures kept { Extends out.old.items out.new.items }
+{
+    add_line(alloc, words, out)?;
+    add_sent(alloc, net, terminal, bursts, out)
+}
+
+/// Appends the lines of those bursts that a terminal sends. Want of memory leaves the first of them.
+fn add_sent(
+    alloc: Global,
+    net: &Network,
+    terminal: TermNo,
+    bursts: &[Burst],
+    out: &mut Vec<u8>,
+) -> Result<(), OutOfMemory>
+    ensures added { OnOk result (out.new.items ≡ out.old.items ++ burst_lines net.now (codes "burst") (bursts_from terminal bursts.now)) }
+    ensures kept { Extends out.old.items out.new.items }
+{
+    for burst in bursts {
+        sent_text(alloc, net, terminal, *burst, out)?;
+    }
+    Ok(())
+}
+
+/// Appends the line of a burst where a terminal sends it.
+fn sent_text(
+    alloc: Global,
+    net: &Network,
+    terminal: TermNo,
+    burst: Burst,
+    out: &mut Vec<u8>,
+) -> Result<(), OutOfMemory>
+    ensures added { OnOk result (out.new.items ≡ out.old.items ++ (if burst.from.0 == terminal.0 then burst_line net.now (codes "burst") burst else [])) }
+    ensures unchanged { OnErr result (out.new.items ≡ out.old.items) }
+{
+    if burst.from == terminal {
+        burst_text(alloc, net, "burst", burst, out)
+    } else {
+        Ok(())
+    }
 }
 
 /// Appends the lines of a frame: its superframe and its number, the edition in the foreground, and the bursts on the
@@ -59,19 +118,6 @@ pub fn frame_text(
         Word::number(frame.fore.0),
     ];
     list_text(alloc, net, &words, "air", frame.bursts.as_slice(), out)
-}
-
-/// The bursts that a terminal sends, in the order in which they stand.
-fn sent_by(alloc: Global, terminal: TermNo, bursts: &[Burst]) -> Result<Vec<Burst>, OutOfMemory>
-    ensures { IfOk result (λ sent. sent.items ≡ bursts_from terminal bursts.now) }
-{
-    let mut sent = Vec::new(alloc);
-    for burst in bursts {
-        if burst.from.0 == terminal.0 {
-            sent.push(*burst)?;
-        }
-    }
-    Ok(sent)
 }
 
 /// Appends a line of these words, and under it the lines of bursts, each with the name of its kind in front.

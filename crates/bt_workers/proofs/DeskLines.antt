@@ -17,8 +17,8 @@ use Rattle.bt_journal.specs.Journal.{changes_of, change_made}
 use Rattle.bt_board.specs.Plans.{last_of}
 use Rattle.bt_script.specs.declared.script.DeskLine.{DeskLine}
 use Rattle.bt_script.specs.declared.script.DeskLine.TheVariants as desk_line
-use Rattle.bt_timeline.specs.Timeline.{entry_line, show_lines}
-use Rattle.bt_workers.specs.Desks.{asked_by_line, shown_by_line, desk_text}
+use Rattle.bt_timeline.specs.Timeline.{entry_line}
+use Rattle.bt_workers.specs.Desks.{asked_by_line, shown_by_line, desk_text, plan_shown}
 use Rattle.bt_workers.specs.Lent.{IsLent, IsNoNewer, Rises}
 use Rattle.bt_workers.specs.Done.{DeskDone}
 use Rattle.bt_workers.proofs.Lent.{lent_across, lent_last, lent_later, lent_sooner, rises_on, rises_same}
@@ -62,9 +62,9 @@ desk_text-append net desk (desk_line.Edit edit ∷ lines) more (entry ∷ entrie
     ∙ sym (append_assoc (entry_line net (Some desk) entry) (desk_text net desk lines entries shown) (desk_text net desk more others later))
 desk_text-append net desk (desk_line.Show terminal ∷ lines) more entries others [] later calls counted = absurd (omega (arith, counted))
 desk_text-append net desk (desk_line.Show terminal ∷ lines) more entries others (plan ∷ shown) later calls counted =
-    ap (λ (l : List ℕ). show_lines net desk plan terminal ++ l)
+    ap (λ (l : List ℕ). plan_shown net desk plan terminal ++ l)
     (desk_text-append net desk lines more entries others shown later calls (omega (arith, counted)))
-    ∙ sym (append_assoc (show_lines net desk plan terminal) (desk_text net desk lines entries shown) (desk_text net desk more others later))
+    ∙ sym (append_assoc (plan_shown net desk plan terminal) (desk_text net desk lines entries shown) (desk_text net desk more others later))
 
 -- no lines yet
 pub desk_begins : (net : Net) (desk : ℕ) (seen : List Plan) (history : List Entry) (text : List ℕ) → DeskDone net desk [] seen seen history history text text
@@ -135,7 +135,7 @@ desk_edited net desk edit entry seen h0 h1 t0 t1 caller asked kept printed = rec
 
 -- a plan that the reader lent was shown
 pub desk_shown : (net : Net) (desk : ℕ) (terminal : TermNo) (plan : Plan) (seen over : List Plan) (history : List Entry) (t0 t1 : List ℕ) → Rises seen over → last_of over ≡ Some plan
-    → t1 ≡ t0 ++ show_lines net desk plan terminal → DeskDone net desk (desk_line.Show terminal ∷ []) seen over history history t0 t1
+    → t1 ≡ t0 ++ plan_shown net desk plan terminal → DeskDone net desk (desk_line.Show terminal ∷ []) seen over history history t0 t1
 desk_shown net desk terminal plan seen over history t0 t1 up last printed = record {
   own = [];
   shown = plan ∷ [];
@@ -146,5 +146,5 @@ desk_shown net desk terminal plan seen over history t0 t1 up last printed = reco
   ascend = λ i j d less within. absurd (omega (arith, less, within));
   begins = up;
   kept = sym (append-nil history);
-  printed = printed ∙ ap (λ (l : List ℕ). t0 ++ l) (sym (append-nil (show_lines net desk plan terminal)));
+  printed = printed ∙ ap (λ (l : List ℕ). t0 ++ l) (sym (append-nil (plan_shown net desk plan terminal)));
 }

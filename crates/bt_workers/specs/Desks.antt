@@ -1,5 +1,5 @@
 -- The lines of desks in a round: what each asks of the book, what it is shown, and what is printed of it.
-use Rattle.std.specs.Prelude.{◌≡◌, ℕ, ◌+◌, ◌≤◌, ◌==◌, ◌++◌, if◌then◌else◌, List, [], ◌∷◌, Some}
+use Rattle.std.specs.Prelude.{◌≡◌, ℕ, ◌+◌, ◌≤◌, ◌==◌, ◌++◌, if◌then◌else◌, List, [], ◌∷◌, length, Some}
 use Rattle.std.specs.List.{flat_map}
 use Rattle.bt_frame.specs.declared.numbers.TermNo.{TermNo}
 use Rattle.bt_net.specs.Network.{Net}
@@ -30,13 +30,17 @@ shown_by_line (desk_line.Show terminal) = terminal ∷ []
 abbrev pub shows_of : ℕ → List (ℕ × List DeskLine) → List TermNo
 shows_of number desks = flat_map (λ (desk : ℕ × List DeskLine). if desk.0 == number then flat_map shown_by_line desk.1 else []) desks
 
+-- what a desk is shown of a plan, of the bursts of a terminal
+abbrev pub plan_shown : Net → ℕ → Plan → TermNo → List ℕ
+plan_shown net desk plan terminal = show_lines net desk terminal plan.edition plan.schedule.length (length plan.schedule.modes) plan.bursts
+
 -- the lines of a desk, with the entry of each edit and the plan of each show in their order
 abbrev pub desk_text : Net → ℕ → List DeskLine → List Entry → List Plan → List ℕ
 desk_text net desk [] entries shown = []
 desk_text net desk (desk_line.Edit edit ∷ lines) [] shown = []
 desk_text net desk (desk_line.Edit edit ∷ lines) (entry ∷ entries) shown = entry_line net (Some desk) entry ++ desk_text net desk lines entries shown
 desk_text net desk (desk_line.Show terminal ∷ lines) entries [] = []
-desk_text net desk (desk_line.Show terminal ∷ lines) entries (plan ∷ shown) = show_lines net desk plan terminal ++ desk_text net desk lines entries shown
+desk_text net desk (desk_line.Show terminal ∷ lines) entries (plan ∷ shown) = plan_shown net desk plan terminal ++ desk_text net desk lines entries shown
 
 -- A plan that a desk was shown.
 pub record Sight : Type 0 where

@@ -1,14 +1,16 @@
 // A desk in a round: its edits are asked, and its shows are shown.
-ghost use Rattle.std.specs.Prelude.{◌≡◌, ◌+◌, ◌∷◌, [], All, OnOk};
+ghost use Rattle.std.specs.Prelude.{◌≡◌, ◌+◌, ◌++◌, ◌∷◌, [], All, OnOk, OnErr};
 ghost use Rattle.bt_script.specs.Named.{IsLineFor};
 ghost use Rattle.bt_workers.specs.Callers.{IsSameCaller, caller_number, own_of};
+ghost use Rattle.bt_workers.specs.Desks.{plan_shown};
 ghost use Rattle.bt_workers.specs.Done.{DeskDone};
 
 use crate::caller::Caller;
 use crate::gate::Gate;
 use bt_board::Reader;
 use bt_book::replies_name_beams_of_the_network;
-use bt_frame::OutOfMemory;
+use bt_demand::Plan;
+use bt_frame::{OutOfMemory, TermNo};
 use bt_journal::Call;
 use bt_net::Network;
 use bt_outside::Keeper;
@@ -70,7 +72,35 @@ fn run_line<R: Wait, G: Gate, K: Keeper>(
         }
         DeskLine::Show(terminal) => {
             reader.look()?;
-            show_text(alloc, net, desk, reader.newest(), *terminal, text)
+            show_plan(alloc, net, desk, *terminal, reader.newest(), text)
         }
     }
+}
+
+/// Appends what a desk is shown of a plan, of the bursts of a terminal.
+fn show_plan(
+    alloc: Global,
+    net: &Network,
+    desk: u8,
+    terminal: TermNo,
+    plan: &Plan,
+    text: &mut Vec<u8>,
+) -> Result<(), OutOfMemory>
+    ensures added { OnOk result (text.new.items ≡ text.old.items ++ plan_shown net.now desk plan.now terminal) }
+    ensures unchanged { OnErr result (text.new.items ≡ text.old.items) }
+{
+    let modes = plan.schedule.modes.as_slice().len() as u32;
+    let length = plan.schedule.length;
+    let bursts = plan.bursts.as_slice();
+    show_text(
+        alloc,
+        net,
+        desk,
+        terminal,
+        plan.edition,
+        length,
+        modes,
+        bursts,
+        text,
+    )
 }

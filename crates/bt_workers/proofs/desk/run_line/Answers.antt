@@ -20,8 +20,8 @@ pub returns-in_ok-look-in-Show-clause-done : goal.returns-in_ok-look-in-Show-cla
 returns-in_ok-look-in-Show-clause-done g c =
     let seen = c.args.reader.now.plans in
     let over = c.look.new.self.plans in
-    subst (λ (line : DeskLine). OnOk c.show_text.result (DeskDone c.args.net.now c.args.desk (line ∷ []) seen over (own_of c.args.caller.now) (own_of c.args.caller.now) c.args.text.now.items c.show_text.new.out.items))
+    subst (λ (line : DeskLine). OnOk c.show_plan.result (DeskDone c.args.net.now c.args.desk (line ∷ []) seen over (own_of c.args.caller.now) (own_of c.args.caller.now) c.args.text.now.items c.show_plan.new.text.items))
     (sym c.in-Show.is)
-    (on_ok c.show_text.result c.show_text.ensures.added (λ added.
+    (on_ok c.show_plan.result c.show_plan.ensures.added (λ added.
     desk_shown c.args.net.now c.args.desk c.in-Show.terminal c.newest.result.now seen over (own_of c.args.caller.now) _ _
     (record { begins = c.look.ensures.begins; rises = c.look.ensures.rises }) c.newest.ensures.last added))
