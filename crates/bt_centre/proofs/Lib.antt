@@ -9,3 +9,6 @@ pub mod Ends
 pub mod Orderly
 pub mod OrdersPlayed
 pub mod OrdersJoin
+pub mod Lawful
+pub mod TurnsPlayed
+pub mod TurnsKnow

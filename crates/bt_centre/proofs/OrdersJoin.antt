@@ -22,8 +22,9 @@ use Rattle.bt_script.specs.declared.script.Round.{Round}
 use Rattle.bt_workers.specs.AirLines.{AirState, happened, orders_in, restarting}
 use Rattle.bt_workers.proofs.Running.{past-having}
 use Rattle.bt_centre.specs.declared.history.History.{History}
-use Rattle.bt_centre.specs.Joining.{HasOrders, JoinsAsTold, JoinsNone, JoinsOne, JoinsWanted, EachPartAtEnd, EachPart, EachPartOfRun, PartHasOrders, RestartJoins}
+use Rattle.bt_centre.specs.Joining.{HasOrders, JoinsAsTold, JoinsNone, JoinsOne, JoinsWanted, PartHasOrders, RestartJoins}
 use Rattle.bt_centre.specs.Output.{Output}
+use Rattle.bt_centre.specs.Parts.{EachPart, EachPartAtEnd, EachPartOfRun}
 use Rattle.bt_centre.specs.Run.{AreLegalTimes, AreTimes, EndsFrom, IsJoining, IsRun, JoinsOrder, PlaysItem, PlaysItems, PlaysRestart, PlaysRound, Stand, at_start, changes_at, histories_at}
 use Rattle.bt_centre.specs.Stored.{Stored}
 use Rattle.bt_centre.proofs.Joins.{some_same}
@@ -116,7 +117,7 @@ round_held net before round text after played so held =
     }
 
 -- the changes with which a time began are those of its stand, while it has no entries
-begun_changes : (after : Stand) → after.history ≡ [] → changes_at after ≡ after.opening
+pub begun_changes : (after : Stand) → after.history ≡ [] → changes_at after ≡ after.opening
 begun_changes after none = ap (λ (h : List Entry). after.opening ++ changes_of h) none ∙ append-nil after.opening
 
 -- what a restart leaves, and which order joined
@@ -232,12 +233,12 @@ orderly_from net tells before (first ∷ items) text after (between, own, others
     orderly_before net tells before first own between one (orderly_from net tells between items others after more so)
 
 -- what holds of a part
-record IsGone (before : Stand) (one : Item) (after : Stand) : Type 0 where
+record IsGone (net : Net) (before : Stand) (one : Item) (text : List ℕ) (after : Stand) (played : PlaysItem net true before one text after) : Type 0 where
   pub held : IsHeld after
-  pub joins : RestartJoins before one after
+  pub joins : RestartJoins net true before one text after played
 
-part_goes : (net : Net) (before : Stand) (one : Item) (text : List ℕ) (after : Stand) → PlaysItem net true before one text after → AreAllOrderly (histories_at after)
-    → IsHeld before → IsGone before one after
+part_goes : (net : Net) (before : Stand) (one : Item) (text : List ℕ) (after : Stand) (played : PlaysItem net true before one text after) → AreAllOrderly (histories_at after)
+    → IsHeld before → IsGone net before one text after played
 part_goes net before (item.Round round) text after played so held =
     record { held = round_held net before round text after played (AreAllOrderly-second after.over _ so).0 held; joins = tt }
 part_goes net before item.Restart text after played so held =

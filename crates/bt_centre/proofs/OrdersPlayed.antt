@@ -1,4 +1,4 @@
--- What lines of the air do to the orders of the world, and to the one that is wanted.
+-- What lines of the air do to the orders of the world, to the one that is wanted, and to the newest edition.
 use Rattle.std.proofs.Common.{◌≡◌, ◌⊎◌, ℕ, if◌then◌else◌, Bool, true, false, List, [], ◌∷◌, ◌++◌, reverse, Option, Some, None, refl, sym, ap, ◌∙◌, subst, append_assoc, inl, inr}
 use Rattle.std.proofs.lemmas.List.{append-nil, reverse-append}
 use Rattle.bt_frame.specs.declared.numbers.EditionNo.{EditionNo}
@@ -11,8 +11,9 @@ use Rattle.bt_air.specs.declared.sent.Place.{Place}
 use Rattle.bt_change.specs.Last.{last_order}
 use Rattle.bt_change.specs.Turn.{act_of, wanted_by}
 use Rattle.bt_change.specs.declared.turn.Turn.{Turn as Sight}
-use Rattle.bt_events.specs.Event.{Tick, Ordered, Deliver, Frame, ResetTerminal, Install}
-use Rattle.bt_events.specs.World.{kept, orders as placed, sight, wanted, with_wanted}
+use Rattle.bt_events.specs.Event.{Tick, Ordered, Deliver, Frame, ResetTerminal, Install, Happening}
+use Rattle.bt_events.specs.Fits.{newest_of}
+use Rattle.bt_events.specs.World.{kept, orders as placed, plans, sight, wanted, with_wanted}
 use Rattle.bt_journal.specs.declared.call.Call.{Call}
 use Rattle.bt_journal.specs.declared.call.Call.TheVariants as call
 use Rattle.bt_journal.specs.declared.call.Change.TheVariants as change
@@ -25,74 +26,91 @@ use Rattle.bt_history.specs.Store.{is_lost}
 use Rattle.bt_history.proofs.Histories.{as_list}
 use Rattle.bt_script.specs.declared.script.AirLine.{AirLine}
 use Rattle.bt_script.specs.declared.script.AirLine.TheVariants as line
-use Rattle.bt_workers.specs.AirLines.{AirState, PlaysAirLine, PlaysAirLines, PlaysBack, PlaysDeliveries, PlaysDelivery, PlaysFrame, PlaysHearing, PlaysOrder, PlaysTick, PlaysTurn, awaiting, going, happened, having, installing, once_answered, orders_in, target_of, turning}
+use Rattle.bt_script.specs.declared.script.Losing.{Losing}
+use Rattle.bt_workers.specs.AirLines.{AirState, PlaysAirLine, PlaysAirLines, PlaysBack, PlaysDeliveries, PlaysDelivery, PlaysFrame, PlaysHearing, PlaysLoss, PlaysOrder, PlaysReset, PlaysTick, PlaysTurn, awaiting, going, happened, having, installing, newest_in, once_answered, orders_in, target_of, turning}
+use Rattle.bt_workers.specs.Waiting.{left_of}
 use Rattle.bt_workers.proofs.Running.{past-having}
 use Rattle.bt_centre.proofs.Orderly.{AreOrderly, AreOrderly-first, AreOrderly-second, AsksNone, IsPlacing, MakesNone, MakesNone-parts, no_order, none_behind_lost, not_both, one_order, orders_lost, orders_made, with_append, with_cons, with_quiet}
 
--- the orders and the one that is wanted stay
+-- the newest edition of the plans that the air has after this
+abbrev pub newest_past : AirState → List Happening → EditionNo
+newest_past air past = newest_of (plans air.life.opening past)
+
+-- the orders, the one that is wanted, and the newest edition stay
 pub record Stays (air after : AirState) : Type 0 where
   pub same : orders_in after ≡ orders_in air
   pub wants : wanted (happened after) ≡ wanted (happened air)
+  pub newest : newest_in after ≡ newest_in air
 
 stays_self : (air after : AirState) → after ≡ air → Stays air after
-stays_self air after is = record { same = ap orders_in is; wants = ap (λ (a : AirState). wanted (happened a)) is }
+stays_self air after is = record { same = ap orders_in is; wants = ap (λ (a : AirState). wanted (happened a)) is; newest = ap newest_in is }
 
-stays_is : (air between after : AirState) → after ≡ between → Stays air between → Stays air after
+pub stays_is : (air between after : AirState) → after ≡ between → Stays air between → Stays air after
 stays_is air between after is stays = subst (Stays air) (sym is) stays
 
 stays_on : (air between after : AirState) → Stays air between → Stays between after → Stays air after
-stays_on air between after first second = record { same = second.same ∙ first.same; wants = second.wants ∙ first.wants }
+stays_on air between after first second = record { same = second.same ∙ first.same; wants = second.wants ∙ first.wants; newest = second.newest ∙ first.newest }
 
 stays_tick : (air : AirState) → Stays air (having air Tick)
-stays_tick air = record { same = ap (placed air.life.opening) (past-having air.life Tick); wants = ap wanted (past-having air.life Tick) }
+stays_tick air = record { same = ap (placed air.life.opening) (past-having air.life Tick); wants = ap wanted (past-having air.life Tick); newest = ap (newest_past air) (past-having air.life Tick) }
 
 stays_deliver : (air : AirState) (number : ℕ) (place : Place) → Stays air (having air (Deliver number place))
 stays_deliver air number place =
-    record { same = ap (placed air.life.opening) (past-having air.life (Deliver number place)); wants = ap wanted (past-having air.life (Deliver number place)) }
+    record { same = ap (placed air.life.opening) (past-having air.life (Deliver number place)); wants = ap wanted (past-having air.life (Deliver number place)); newest = ap (newest_past air) (past-having air.life (Deliver number place)) }
 
 stays_frame : (air : AirState) → Stays air (having air Frame)
-stays_frame air = record { same = ap (placed air.life.opening) (past-having air.life Frame); wants = ap wanted (past-having air.life Frame) }
+stays_frame air = record { same = ap (placed air.life.opening) (past-having air.life Frame); wants = ap wanted (past-having air.life Frame); newest = ap (newest_past air) (past-having air.life Frame) }
 
 stays_reset : (air : AirState) (terminal : TermNo) → Stays air (having air (ResetTerminal terminal))
 stays_reset air terminal =
-    record { same = ap (placed air.life.opening) (past-having air.life (ResetTerminal terminal)); wants = ap wanted (past-having air.life (ResetTerminal terminal)) }
+    record { same = ap (placed air.life.opening) (past-having air.life (ResetTerminal terminal)); wants = ap wanted (past-having air.life (ResetTerminal terminal)); newest = ap (newest_past air) (past-having air.life (ResetTerminal terminal)) }
 
-stays_install : (air : AirState) (newer : Option Plan) → Stays air (installing air newer)
-stays_install air None = stays_self air air refl
-stays_install air (Some plan) =
-    record { same = ap (placed air.life.opening) (past-having air.life (Install plan)); wants = ap wanted (past-having air.life (Install plan)) }
+-- a plan that joins leaves the orders and the one that is wanted
+installed_orders : (air : AirState) (newer : Option Plan) → orders_in (installing air newer) ≡ orders_in air
+installed_orders air None = refl
+installed_orders air (Some plan) = ap (placed air.life.opening) (past-having air.life (Install plan))
+
+installed_wants : (air : AirState) (newer : Option Plan) → wanted (happened (installing air newer)) ≡ wanted (happened air)
+installed_wants air None = refl
+installed_wants air (Some plan) = ap wanted (past-having air.life (Install plan))
 
 stays_awaiting : (air : AirState) (waiting : List (ℕ × Place)) → Stays air (awaiting air waiting)
-stays_awaiting air waiting = record { same = refl; wants = refl }
+stays_awaiting air waiting = record { same = refl; wants = refl; newest = refl }
 
-stays_going : (air : AirState) (back : Option EditionNo) → Stays air (going air back)
-stays_going air back = record { same = refl; wants = refl }
+pub stays_going : (air : AirState) (back : Option EditionNo) → Stays air (going air back)
+stays_going air back = record { same = refl; wants = refl; newest = refl }
 
-stays_back : (air : AirState) (edition : EditionNo) (text : List ℕ) (after : AirState) → PlaysBack air edition text after → Stays air after
+pub stays_back : (air : AirState) (edition : EditionNo) (text : List ℕ) (after : AirState) → PlaysBack air edition text after → Stays air after
 stays_back air edition text after (inl none) = stays_self air after none.2
 stays_back air edition text after (inr goes) = stays_is air (going air (Some edition)) after goes.2 (stays_going air (Some edition))
 
 stays_hearing : (net : Net) (air : AirState) (number : ℕ) (place : Place) (text : List ℕ) (after : AirState) → PlaysHearing net air number place text after → Stays air after
 stays_hearing net air number place text after is = stays_is air (having air (Deliver number place)) after is.heard (stays_deliver air number place)
 
-stays_flow : (net : Net) (air : AirState) (heard : List (ℕ × Place)) (text : List ℕ) (after : AirState) → PlaysDeliveries net air heard text after → Stays air after
+pub stays_flow : (net : Net) (air : AirState) (heard : List (ℕ × Place)) (text : List ℕ) (after : AirState) → PlaysDeliveries net air heard text after → Stays air after
 stays_flow net air [] text after (nothing, is) = stays_self air after is
 stays_flow net air (next ∷ later) text after (between, own, others, one, more, is) =
     stays_on air between after
     (stays_on air (awaiting air one.others) between (stays_awaiting air one.others) (stays_hearing net (awaiting air one.others) next.0 next.1 own between one.hearing))
     (stays_flow net between later others after more)
 
-stays_tick_line : (net : Net) (air : AirState) (text : List ℕ) (after : AirState) → PlaysTick net air text after → Stays air after
+pub stays_tick_line : (net : Net) (air : AirState) (text : List ℕ) (after : AirState) → PlaysTick net air text after → Stays air after
 stays_tick_line net air text after (inl last) = stays_self air after last.2
 stays_tick_line net air text after (inr next) = stays_is air (having air Tick) after next.2 (stays_tick air)
 
-stays_delivery : (net : Net) (air : AirState) (number : ℕ) (place : Place) (text : List ℕ) (after : AirState) → PlaysDelivery net air number place text after → Stays air after
+pub stays_delivery : (net : Net) (air : AirState) (number : ℕ) (place : Place) (text : List ℕ) (after : AirState) → PlaysDelivery net air number place text after → Stays air after
 stays_delivery net air number place text after (inl none) = stays_self air after none.2
 stays_delivery net air number place text after (inr one) = stays_hearing net air number place text after one.1
 
-stays_frame_line : (net : Net) (air : AirState) (text : List ℕ) (after : AirState) → PlaysFrame net air text after → Stays air after
+pub stays_frame_line : (net : Net) (air : AirState) (text : List ℕ) (after : AirState) → PlaysFrame net air text after → Stays air after
 stays_frame_line net air text after (inl over) = stays_self air after over.2
 stays_frame_line net air text after (inr one) = stays_is air (having air Frame) after one.1.over (stays_frame air)
+
+pub stays_reset_line : (net : Net) (air : AirState) (terminal : TermNo) (text : List ℕ) (after : AirState) → PlaysReset net air terminal text after → Stays air after
+stays_reset_line net air terminal text after is = stays_is air (having air (ResetTerminal terminal)) after is.reset (stays_reset air terminal)
+
+pub stays_loss : (air : AirState) (losing : Losing) (text : List ℕ) (after : AirState) → PlaysLoss air losing text after → Stays air after
+stays_loss air losing text after is = stays_is air (awaiting air (left_of losing air.waiting)) after is.left (stays_awaiting air (left_of losing air.waiting))
 
 -- What is played with these entries: the orders that they placed join the world, one that they lost is wanted at the end, and where they
 -- made and lost none, an order that was wanted still is.
@@ -200,11 +218,10 @@ keeps_turn : (net : Net) (air : AirState) (entries : List Entry) (text : List �
 keeps_turn net air entries text after so is =
     let with_plan = installing air is.newer in
     let turned = having with_plan (turning with_plan) in
-    let stays = stays_install air is.newer in
     let orderly = subst AreOrderly is.all so in
     subst (λ (l : List Entry). Keeps l air after) (sym is.all)
-    (keeps_behind is.asked is.others air turned after (subst AsksNone (sym is.call) tt) (turned_orders with_plan ∙ stays.same)
-    (λ order before. turned_wants with_plan order (stays.wants ∙ before))
+    (keeps_behind is.asked is.others air turned after (subst AsksNone (sym is.call) tt) (turned_orders with_plan ∙ installed_orders air is.newer)
+    (λ order before. turned_wants with_plan order (installed_wants air is.newer ∙ before))
     (keeps_order net turned (wanted (happened turned)) is.others is.turned.rest after refl orderly.2 is.turned.placed))
 
 -- a line of the air
@@ -216,11 +233,11 @@ keeps_line net air (line.Back edition) entries text after so is = keeps_none ent
 keeps_line net air line.Ahead entries text after so is = keeps_none entries air after is.0 (stays_is air (going air None) after is.1.goes (stays_going air None))
 keeps_line net air line.Flow entries text after so is = keeps_none entries air after is.0 (stays_flow net air is.1.heard is.1.lines after is.1.flowed)
 keeps_line net air (line.Lose losing) entries text after so is =
-    keeps_none entries air after is.0 (subst (Stays air) (sym is.1.left) (record { same = refl; wants = refl }))
+    keeps_none entries air after is.0 (stays_loss air losing text after is.1)
 keeps_line net air (line.Deliver number place) entries text after so is = keeps_none entries air after is.0 (stays_delivery net air number place text after is.1)
 keeps_line net air line.Frame entries text after so is = keeps_none entries air after is.0 (stays_frame_line net air text after is.1)
 keeps_line net air (line.Reset terminal) entries text after so is =
-    keeps_none entries air after is.0 (stays_is air (having air (ResetTerminal terminal)) after is.1.reset (stays_reset air terminal))
+    keeps_none entries air after is.0 (stays_reset_line net air terminal text after is.1)
 
 -- one part behind another
 pub keeps_both : (own others : List Entry) (air between after : AirState) → AreOrderly (own ++ others) → Keeps own air between → Keeps others between after → Keeps (own ++ others) air after

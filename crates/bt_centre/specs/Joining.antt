@@ -1,19 +1,13 @@
 -- Which order joins the world at a restart, and which orders the world has along a run.
 use Rattle.std.specs.Prelude.{◌≡◌, ◌⊎◌, ℕ, ◌<◌, ◌++◌, Bool, List, [], ◌∷◌, length, reverse}
-use Rattle.std.proofs.Common.{inl, inr}
-use Rattle.std.specs.Option.{is_some}
 use Rattle.bt_net.specs.Network.{Net}
-use Rattle.bt_air.specs.declared.event.Event.{Event}
 use Rattle.bt_air.specs.declared.order.Order.{Order}
 use Rattle.bt_journal.specs.declared.call.Change.{Change}
 use Rattle.bt_history.specs.Changes.{orders}
 use Rattle.bt_script.specs.declared.script.Item.{Item}
 use Rattle.bt_script.specs.declared.script.Item.TheVariants as item
 use Rattle.bt_workers.specs.AirLines.{AirState, orders_in}
-use Rattle.bt_centre.specs.declared.history.History.{History}
-use Rattle.bt_centre.specs.Output.{Output}
-use Rattle.bt_centre.specs.Run.{EndsFrom, IsJoining, IsRun, PlaysItems, Stand, at_start, changes_at}
-use Rattle.bt_centre.specs.Stored.{Stored}
+use Rattle.bt_centre.specs.Run.{IsJoining, PlaysItem, Stand, changes_at}
 
 -- the orders that the world has, the latest first, are just those of the changes
 abbrev pub HasOrders : Stand → Type 0
@@ -50,34 +44,10 @@ JoinsAsTold before after =
     ⊎ ((¬ (HaveMoreOrders after.opening before.air)) × JoinsNone before after)
 
 -- the same where a part of a script is a restart
-abbrev pub RestartJoins : Stand → Item → Stand → Type 0
-RestartJoins before (item.Round round) after = Unit {0}
-RestartJoins before item.Restart after = JoinsAsTold before after
+abbrev pub RestartJoins : (net : Net) → (tells : Bool) → (before : Stand) → (one : Item) → (text : List ℕ) → (after : Stand) → PlaysItem net tells before one text after → Type 0
+RestartJoins net tells before (item.Round round) text after played = Unit {0}
+RestartJoins net tells before item.Restart text after played = JoinsAsTold before after
 
 -- the world has just the orders of the changes before a part and behind it
-abbrev pub PartHasOrders : Stand → Item → Stand → Type 0
-PartHasOrders before one after = HasOrders before × HasOrders after
-
--- this holds of each of the parts that were played: of where the run stood before it, of the part, and of where it stood behind it
-abbrev pub EachPart : (Stand → Item → Stand → Type 0) → (net : Net) → (tells : Bool) → (before : Stand) → (items : List Item) → (text : List ℕ) → (after : Stand)
-    → PlaysItems net tells before items text after → Type 0
-EachPart IsSo net tells before [] text after played = Unit {0}
-EachPart IsSo net tells before (first ∷ items) text after played =
-    IsSo before first played.0 × EachPart IsSo net tells played.0 items played.2 after played.4
-
--- of each part of a run
-abbrev pub EachPartOfRun : (Stand → Item → Stand → Type 0) → (net : Net) → (tells : Bool) → (opening : List Change) → (items : List Item) → (histories : List History)
-    → (events : List Event) → (lines : List ℕ) → IsRun net tells opening items histories events lines → Type 0
-EachPartOfRun IsSo net tells opening items histories events lines run =
-    EachPart IsSo net tells (at_start net opening) items lines run.end run.played
-
--- of each part that was run, however the run ended; where memory ran out, it is not told which parts these are
-abbrev pub EachPartAtEnd : (Stand → Item → Stand → Type 0) → (net : Net) → (items : List Item) → (output : Output) → (stored : Stored) → (opening : List Change) → (status : ℕ)
-    → (histories : List History) → (events : List Event) → EndsFrom net items output stored opening status histories events → Type 0
-EachPartAtEnd IsSo net items output stored opening status histories events (inl breaks) = Unit {0}
-EachPartAtEnd IsSo net items output stored opening status histories events (inr (inl whole)) =
-    EachPartOfRun IsSo net (is_some stored.before) opening items histories events whole.lines whole.run
-EachPartAtEnd IsSo net items output stored opening status histories events (inr (inr (inl partly))) =
-    EachPartOfRun IsSo net (is_some stored.before) opening partly.first histories events partly.lines partly.run
-EachPartAtEnd IsSo net items output stored opening status histories events (inr (inr (inr until))) =
-    EachPartOfRun IsSo net (is_some stored.before) opening until.first histories events until.lines until.run
+abbrev pub PartHasOrders : (net : Net) → (tells : Bool) → (before : Stand) → (one : Item) → (text : List ℕ) → (after : Stand) → PlaysItem net tells before one text after → Type 0
+PartHasOrders net tells before one text after played = HasOrders before × HasOrders after

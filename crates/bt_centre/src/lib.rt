@@ -3,8 +3,10 @@
 //! It stands on the outside (`bt_outside`), on the book and its store, on the world, and on the rounds of a script
 //! (`bt_round`). A run begins with the changes that its store tells, and reads them again at each restart of the centre.
 //! `specs/Run.antt`, `specs/Lines.antt`, `specs/Output.antt`, `specs/Stored.antt` and `specs/RecoverFaults.antt` are
-//! promises: what a run is, and how it ends; `Progress` is for bodies alone. `specs/Joining.antt` is one too: which order
-//! joins the world at a restart; `joining_laws.rt` has what holds of that in all runs.
+//! promises: what a run is, and how it ends; `Progress` is for bodies alone. `specs/Joining.antt` and
+//! `specs/Turns.antt` are promises too: which order joins the world at a restart, and what a turn knows of the plans that
+//! are installed; `joining_laws.rt` and `turn_laws.rt` have what holds of that in all runs, each of their parts by
+//! `specs/Parts.antt`.
 #![tactic(auto)]
 
 mod fault;
@@ -20,6 +22,7 @@ mod script;
 mod station;
 mod status;
 mod total;
+mod turn_laws;
 
 pub use bt_workers::{Gate, NoGate};
 pub use fault::print_fault;
@@ -31,3 +34,4 @@ pub use status::{
     DONE, FAULTY_JOURNAL, FAULTY_TEXT, FAULTY_WORDS, NO_NETWORK, NOT_GOOD, OUT_OF_MEMORY,
     READ_FAILED, STORE_FAILED, TOO_LONG, WRITE_FAILED,
 };
+pub use turn_laws::turns_know_the_newest_install;

@@ -1,0 +1,39 @@
+-- What holds of each part of a run.
+use Rattle.std.specs.Prelude.{ℕ, Bool, List, [], ◌∷◌}
+use Rattle.std.proofs.Common.{inl, inr}
+use Rattle.std.specs.Option.{is_some}
+use Rattle.bt_net.specs.Network.{Net}
+use Rattle.bt_air.specs.declared.event.Event.{Event}
+use Rattle.bt_journal.specs.declared.call.Change.{Change}
+use Rattle.bt_script.specs.declared.script.Item.{Item}
+use Rattle.bt_centre.specs.declared.history.History.{History}
+use Rattle.bt_centre.specs.Output.{Output}
+use Rattle.bt_centre.specs.Run.{EndsFrom, IsRun, PlaysItem, PlaysItems, Stand, at_start}
+use Rattle.bt_centre.specs.Stored.{Stored}
+
+-- this holds of each of the parts that were played: of where the run stood before it, of the part and its text, of where it stood behind
+-- it, and of how it came there
+abbrev pub EachPart : ((net : Net) → (tells : Bool) → (before : Stand) → (one : Item) → (text : List ℕ) → (after : Stand) → PlaysItem net tells before one text after → Type 0)
+    → (net : Net) → (tells : Bool) → (before : Stand) → (items : List Item) → (text : List ℕ) → (after : Stand) → PlaysItems net tells before items text after → Type 0
+EachPart IsSo net tells before [] text after played = Unit {0}
+EachPart IsSo net tells before (first ∷ items) text after played =
+    IsSo net tells before first played.1 played.0 played.3 × EachPart IsSo net tells played.0 items played.2 after played.4
+
+-- of each part of a run
+abbrev pub EachPartOfRun : ((net : Net) → (tells : Bool) → (before : Stand) → (one : Item) → (text : List ℕ) → (after : Stand) → PlaysItem net tells before one text after → Type 0)
+    → (net : Net) → (tells : Bool) → (opening : List Change) → (items : List Item) → (histories : List History) → (events : List Event) → (lines : List ℕ)
+    → IsRun net tells opening items histories events lines → Type 0
+EachPartOfRun IsSo net tells opening items histories events lines run =
+    EachPart IsSo net tells (at_start net opening) items lines run.end run.played
+
+-- of each part that was run, however the run ended; where memory ran out, it is not told which parts these are
+abbrev pub EachPartAtEnd : ((net : Net) → (tells : Bool) → (before : Stand) → (one : Item) → (text : List ℕ) → (after : Stand) → PlaysItem net tells before one text after → Type 0)
+    → (net : Net) → (items : List Item) → (output : Output) → (stored : Stored) → (opening : List Change) → (status : ℕ) → (histories : List History) → (events : List Event)
+    → EndsFrom net items output stored opening status histories events → Type 0
+EachPartAtEnd IsSo net items output stored opening status histories events (inl breaks) = Unit {0}
+EachPartAtEnd IsSo net items output stored opening status histories events (inr (inl whole)) =
+    EachPartOfRun IsSo net (is_some stored.before) opening items histories events whole.lines whole.run
+EachPartAtEnd IsSo net items output stored opening status histories events (inr (inr (inl partly))) =
+    EachPartOfRun IsSo net (is_some stored.before) opening partly.first histories events partly.lines partly.run
+EachPartAtEnd IsSo net items output stored opening status histories events (inr (inr (inr until))) =
+    EachPartOfRun IsSo net (is_some stored.before) opening until.first histories events until.lines until.run

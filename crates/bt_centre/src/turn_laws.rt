@@ -1,0 +1,29 @@
+// What the turns of a run know of the plans that are installed.
+ghost use Rattle.std.specs.Prelude.{◌≡◌, ℕ, true, List};
+ghost use Rattle.std.specs.Option.{is_some};
+ghost use Rattle.bt_net.specs.Network.{Net};
+ghost use Rattle.bt_air.specs.declared.event.Event.{Event};
+ghost use Rattle.bt_centre.specs.declared.history.History.{History};
+ghost use Rattle.bt_centre.specs.Output.{Output};
+ghost use Rattle.bt_centre.specs.Parts.{EachPartAtEnd};
+ghost use Rattle.bt_centre.specs.Run.{RunsFrom, at_start};
+ghost use Rattle.bt_centre.specs.Stored.{Stored};
+ghost use Rattle.bt_centre.specs.Turns.{IsNewestOf, PartIsNoNewer, TurnsKnow};
+ghost use Rattle.bt_journal.specs.declared.call.Change.{Change};
+ghost use Rattle.bt_script.specs.declared.script.Script.{Script};
+
+/// In every run over a store that tells its bytes, each turn knows of the newest plan that was installed before it asked,
+/// by whomever: with the answer, the newest edition of the world is that plan's, and it is the one to bring to the front
+/// where the centre goes back to none. The world opens with the newest plan of the changes; before and behind each part
+/// that was run it has none newer than theirs. Of a run that want of memory ended no part is told.
+pub fn turns_know_the_newest_install()
+    ensures runs { (net : Net) (script : Script) (output : Output) (stored : Stored) (status : ℕ) (histories : List History)
+        (events : List Event) → is_some stored.before ≡ true
+        → (run : RunsFrom net script output stored status histories events)
+        → EachPartAtEnd TurnsKnow net script.items output stored run.opening status histories events run.ends }
+    ensures no_newer { (net : Net) (script : Script) (output : Output) (stored : Stored) (status : ℕ) (histories : List History)
+        (events : List Event) → is_some stored.before ≡ true
+        → (run : RunsFrom net script output stored status histories events)
+        → EachPartAtEnd PartIsNoNewer net script.items output stored run.opening status histories events run.ends }
+    ensures start { (net : Net) (opening : List Change) → IsNewestOf opening (at_start net opening).air }
+{}
