@@ -12,6 +12,7 @@ mod message;
 mod satellite;
 mod shown;
 mod stage;
+mod standby;
 mod terminal;
 mod world;
 

@@ -2,11 +2,13 @@
 use crate::air::put_message;
 use crate::centre::{new_centre, show_centre};
 use crate::satellite::show_satellite;
+use crate::standby::show_standby;
 use crate::terminal::show_terminal;
 use crate::world::Flight;
 use bt_change::Centre;
 use bt_frame::{Mark, TermNo};
 use bt_sheet::{CaseFault, Result, Shelf};
+use bt_standby::Standby;
 use bt_switch::Satellite;
 use bt_term::Terminal;
 use std::alloc::Global;
@@ -17,17 +19,20 @@ pub struct Machines {
     satellite: Satellite,
     terminal: Terminal,
     centre: Centre,
+    standby: Standby,
     /// The worlds that were started; the last is the one in use.
     flights: Vec<Flight>,
 }
 
 impl Machines {
-    /// A satellite at superframe 0, terminal 0, a centre that has placed no order, and no world.
+    /// A satellite at superframe 0, terminal 0, a centre that has placed no order, a standby that keeps nothing, and no
+    /// world.
     pub fn new(alloc: Global) -> Machines {
         Machines {
             satellite: Satellite::new(alloc, Mark(0)),
             terminal: Terminal::new(alloc, TermNo(0)),
             centre: new_centre(alloc),
+            standby: Standby::new(),
             flights: Vec::new(alloc),
         }
     }
@@ -52,7 +57,7 @@ impl Machines {
         }
     }
 
-    /// Shows the satellite, the terminal or the centre, each by itself.
+    /// Shows the satellite, the terminal, the standby or the centre, each by itself.
     fn show_machines(&mut self, alloc: Global, words: &[&str], out: &mut String) -> Result<()> {
         match words {
             ["satellite" | "take" | "tick" | "status" | "mode", ..] => {
@@ -61,6 +66,7 @@ impl Machines {
             ["terminal" | "hear" | "sends" | "restart", ..] => {
                 show_terminal(alloc, &mut self.terminal, words, out)
             }
+            ["standby" | "notice" | "names", ..] => show_standby(&mut self.standby, words, out),
             words => show_centre(alloc, &mut self.centre, words, out),
         }
     }

@@ -1,0 +1,2 @@
+pub mod Standby
+pub mod Heard
