@@ -19,12 +19,7 @@ pub fn show_standby(standby: &mut Standby, words: &[&str], out: &mut String) -> 
 }
 
 /// Appends the answer to a status that is heard in that superframe.
-fn put_noticed(
-    standby: &mut Standby,
-    mark: &str,
-    fields: &[&str],
-    out: &mut String,
-) -> Result<()> {
+fn put_noticed(standby: &mut Standby, mark: &str, fields: &[&str], out: &mut String) -> Result<()> {
     let status = status_of(fields)?;
     let mark = Mark(number_of(mark)?);
     match standby.hear(mark, status) {
