@@ -1,5 +1,5 @@
 // How a command ended.
-use bt_sheet::{Part, Result, put_lines};
+use bt_sheet::{CaseFault, Part, Result, put_lines};
 use std::alloc::Global;
 
 /// What a command wrote, and its status.
@@ -25,6 +25,24 @@ impl Ending {
         let mut shown = String::new(alloc);
         ending.put(alloc, part, &mut shown)?;
         Ok(shown)
+    }
+
+    /// Appends what a command wrote beyond what was written before it, with which it has to begin, and the status, which
+    /// is given back; what it wrote is what was written before the next.
+    pub fn put_beyond(
+        ending: Result<Ending>,
+        alloc: Global,
+        before: &mut Vec<u8>,
+        out: &mut String,
+    ) -> Result<u8> {
+        let ending = ending?;
+        match ending.written.strip_prefix(before) {
+            Some(more) => put_lines(alloc, more, Part::All, out)?,
+            None => return Err(CaseFault("no beginning of what is written next")),
+        }
+        ending.put_status(out)?;
+        *before = ending.written;
+        Ok(ending.status)
     }
 
     /// Appends these of its lines and the status.

@@ -5,11 +5,16 @@ ghost use Rattle.bt_cli.specs.Request.{first_word};
 
 use crate::ending::Ending;
 use bt_base::{Fail, Files, MemFiles, MemKeeper, MemSink, Sink, SureKeeper, SureSink};
-use bt_cli::{History, centre_main, check_command, modes_command, plan_command, replay_command};
+use bt_cli::{
+    History, WRITE_FAILED, centre_main, check_command, modes_command, plan_command, replay_command,
+};
 use bt_sheet::{CaseFault, Part, Result, Shelf, number_of};
 use std::alloc::Global;
 use std::sync::Wait;
 use std::thread::Threads;
+
+/// The most runs of a command whose writes fail in turn.
+const MOST_WRITES: u32 = 1000;
 
 /// What the next command meets, and what becomes of its text.
 #[derive(Drop)]
@@ -30,6 +35,8 @@ pub struct Meeting {
     pub into: Option<String>,
     /// The file of which each beginning is tried.
     pub beginnings: Option<String>,
+    /// How many bytes a write takes that fails, where each write is to fail in its turn.
+    pub each_write: Option<u32>,
 }
 
 impl Meeting {
@@ -45,6 +52,7 @@ impl Meeting {
             part: Part::All,
             into: None,
             beginnings: None,
+            each_write: None,
         }
     }
 }
@@ -97,6 +105,7 @@ fn set_part(alloc: Global, next: &mut Meeting, words: &[&str]) -> Result<bool> {
     match *words {
         ["first", count] => next.part = Part::First(number_of(count)? as usize),
         ["last", count] => next.part = Part::Last(number_of(count)? as usize),
+        ["each", "write", kept] => next.each_write = Some(number_of(kept)?),
         [what, name] => return set_name(alloc, next, what, name),
         _ => return Ok(false),
     }
@@ -144,9 +153,10 @@ impl Outside {
         words: &[&str],
         out: &mut String,
     ) -> Result<()> {
-        let run = match self.next.beginnings.take() {
-            Some(name) => self.run_beginnings(rt, alloc, shelf, name.as_str(), words, out),
-            None => self.run_whole(rt, alloc, shelf, words, out),
+        let run = match (self.next.beginnings.take(), self.next.each_write) {
+            (Some(name), _) => self.run_beginnings(rt, alloc, shelf, name.as_str(), words, out),
+            (None, Some(kept)) => self.run_writes(rt, alloc, shelf, kept, words, out),
+            (None, None) => self.run_whole(rt, alloc, shelf, words, out),
         };
         self.forget_next(alloc);
         run
@@ -212,6 +222,34 @@ impl Outside {
             put_other(answer, &mut before, out)?;
         }
         Ok(())
+    }
+
+    /// Runs a command again and again, with one write failing in each run, the first, then the second and so on, until a
+    /// run has no such write. Appends what each run wrote beyond the one before, and its status.
+    fn run_writes<R: Threads + Wait + Sync>(
+        &mut self,
+        rt: &R,
+        alloc: Global,
+        shelf: &Shelf,
+        kept: u32,
+        words: &[&str],
+        out: &mut String,
+    ) -> Result<()> {
+        let mut before = Vec::new(alloc);
+        for call in 0..MOST_WRITES {
+            self.fail_one_write(Fail { call, kept })?;
+            let ending = self.end_of(rt, alloc, shelf, words);
+            if Ending::put_beyond(ending, alloc, &mut before, out)? != WRITE_FAILED {
+                return Ok(());
+            }
+        }
+        Err(CaseFault("more writes than are tried"))
+    }
+
+    /// Of the writes of the next command that one fails, and no other.
+    fn fail_one_write(&mut self, fail: Fail) -> Result<()> {
+        self.next.writes.clear();
+        Ok(self.next.writes.push(fail)?)
     }
 
     /// What a command writes with a beginning of a file, and its status, as they are shown.
