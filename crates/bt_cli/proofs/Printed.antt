@@ -15,7 +15,7 @@ use Rattle.bt_cli.specs.Check.{Judges}
 use Rattle.bt_cli.specs.Outcome.{text_alone}
 
 -- a good schedule of few slots is one that a text can spell
-good-in_range : (rows : List (List ℕ)) (schedule : Schedule) → IsTraffic rows → schedule.length ≤ 65536 → IsGood rows schedule → IsInRange (length rows) schedule
+good-in_range : (rows : List (List ℕ)) (schedule : Schedule) → IsTraffic rows → schedule.length ≤ 131072 → IsGood rows schedule → IsInRange (length rows) schedule
 good-in_range rows schedule is few good = record {
   slots = few;
   critical = good.least.on_matrix;

@@ -22,7 +22,7 @@ use Rattle.bt_cut.proofs.Parts.{units_between-more}
 pub share-same : (up down units : ℕ) → (if up == up && down == down then units else 0) ≡ units
 share-same up down units = rw (eq-eqb up up refl, eq-eqb down down refl) refl
 
-share-other : (up down i j units : ℕ) → up * 16 + down ≢ i * 16 + j → (if up == i && down == j then units else 0) ≡ 0
+share-other : (up down i j units : ℕ) → up * 32 + down ≢ i * 32 + j → (if up == i && down == j then units else 0) ≡ 0
 share-other up down i j units other = grind (arith, nat_tests)
 
 -- there are enough slots for one link more
@@ -40,17 +40,17 @@ enough_left net links modes k link up down connection within is sends receives c
 
 -- the table after a link took its slots
 pub IsTable-given : (net : Net) (links : List Link) (modes : List Mode) (beams k : ℕ) (link : Link) (up down : BeamNo) (table : List Connection) (old new : Connection)
-    → beams ≤ 16 → k < length links → HoldsAt (λ l. l ≡ link) links k → IsInBeam net link.from up → IsInBeam net link.to down → up.0 < beams → down.0 < beams
+    → beams ≤ 32 → k < length links → HoldsAt (λ l. l ≡ link) links k → IsInBeam net link.from up → IsInBeam net link.to down → up.0 < beams → down.0 < beams
     → HasSlots modes up.0 down.0 (length modes) (units_between net (take k links) up.0 down.0) old → HasGiven old new link.units
     → IsTable modes beams (length modes) (units_between net (take k links)) table
-    → IsTable modes beams (length modes) (units_between net (take (k + 1) links)) (slice_set table (up.0 * 16 + down.0) new)
+    → IsTable modes beams (length modes) (units_between net (take (k + 1) links)) (slice_set table (up.0 * 32 + down.0) new)
 IsTable-given net links modes beams k link up down table old new few within is sends receives in_rows in_columns has given before =
-    let at = up.0 * 16 + down.0 in
+    let at = up.0 * 32 + down.0 in
     let more = λ (i j : ℕ). units_between-more net links k link up down i j within is sends receives in
     record {
       count = length-set table at new ∙ before.count;
       each = λ i j other row column.
-          elim (cases_eq (i * 16 + j) at) [
+          elim (cases_eq (i * 32 + j) at) [
             | inl same ↦
                 let row_is : i ≡ up.0 = omega arith in
                 let column_is : j ≡ down.0 = omega arith in
@@ -64,7 +64,7 @@ IsTable-given net links modes beams k link up down table old new few within is s
             | inr apart ↦
                 let was = before.each i j other row column in
                 let none : (if up.0 == i && down.0 == j then link.units else 0) ≡ 0 = share-other up.0 down.0 i j link.units (λ equal. apart (sym equal)) in
-                rw (get_or-set_other table at (i * 16 + j) new other apart)
+                rw (get_or-set_other table at (i * 32 + j) new other apart)
                 (record { turns = was.turns; all = was.all; ready = was.ready; so_many = was.so_many ∙ omega (arith, more i j, none) })
           ];
     }

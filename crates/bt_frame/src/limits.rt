@@ -2,7 +2,14 @@
 // LAST_ the greatest number of its kind, LEAST_ the least.
 
 /// The most beams of a network.
-pub const MOST_BEAMS: usize = 16;
+pub const MOST_BEAMS: usize = 32;
+
+/// The most beams whose columns a mode keeps without memory of its own: those of more beams take some.
+pub const MOST_INLINE_BEAMS: usize = 16;
+
+/// The most beams of a network whose names are numbered: it has four terminals in each beam, and so `MOST_TERMINALS` of
+/// them.
+pub const MOST_NUMBERED_BEAMS: u32 = 16;
 
 /// The last number of a beam.
 pub const LAST_BEAM: u32 = MOST_BEAMS as u32 - 1;
@@ -43,8 +50,11 @@ pub const MOST_SUM: u32 = 1_048_576;
 /// The most slots of a length or of a duration in a text: the greatest line sum of a matrix in a text.
 pub const MOST_TEXT_SLOTS: u32 = MOST_BEAMS as u32 * MOST_UNITS;
 
-/// The last slot in a text.
-pub const LAST_TEXT_SLOT: u32 = MOST_TEXT_SLOTS - 1;
+/// The most slots of a burst in a text.
+pub const MOST_BURST_SLOTS: u32 = 65_536;
+
+/// The last slot in a text from which a burst may start.
+pub const LAST_TEXT_SLOT: u32 = MOST_BURST_SLOTS - 1;
 
 /// The last superframe mark.
 pub const LAST_MARK: u32 = 4_000_000_000;

@@ -1,7 +1,7 @@
 // Switching modes: settings of the on-board switch, each held for some slots of the frame.
 ghost use Rattle.std.specs.Prelude.{◌≡◌, ◌≤◌, length, vec_len, IfOk};
 
-use crate::{MOST_BEAMS, OutOfMemory};
+use crate::{MOST_INLINE_BEAMS, OutOfMemory};
 use smallvec::SmallVec;
 use std::alloc::Global;
 use std::marker::Model;
@@ -11,10 +11,10 @@ pub const MOST_ENTRIES: usize = 2_147_483_648;
 
 /// The downlink beam of each uplink beam, by number: place `i` has the downlink of uplink `i`.
 ///
-/// The columns of as many beams as a network may have take no memory of their own.
+/// The columns of at most `MOST_INLINE_BEAMS` beams take no memory of their own.
 #[derive(Drop)]
 pub struct Columns {
-    values: SmallVec<u8, MOST_BEAMS>,
+    values: SmallVec<u8, MOST_INLINE_BEAMS>,
 }
 
 impl Model for Columns {

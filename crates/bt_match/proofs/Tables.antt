@@ -19,7 +19,7 @@ pub record IsTableTo (rows table : List (List ℕ)) (count steps first : ℕ) : 
   pub looks : steps ≤ first + total count (row_entries rows)
 
 -- a row of zeros
-zeros : (n k : ℕ) → slice_index (replicate n 0) k ≡ 0
+pub zeros : (n k : ℕ) → slice_index (replicate n 0) k ≡ 0
 zeros n k =
     elim (cases_lt k n) [
       | inl below ↦ get_or-replicate n k 0 0 below

@@ -41,11 +41,11 @@ column_sum-with_entry_other rows up down n k in_rows other =
 
 -- sixteen places, of which so many hold what a function gives there
 pub record IsFilled (f : ℕ → ℕ) (xs : List ℕ) (count : ℕ) : Type 0 where
-  pub long : length xs ≡ 16
+  pub long : length xs ≡ 32
   pub so_far : (k : ℕ) → k < count → slice_index xs k ≡ f k
 
 -- one more place is filled
-pub IsFilled-set : (f : ℕ → ℕ) (xs : List ℕ) (i x : ℕ) → i < 16 → x ≡ f i → IsFilled f xs i → IsFilled f (slice_set xs i x) (i + 1)
+pub IsFilled-set : (f : ℕ → ℕ) (xs : List ℕ) (i x : ℕ) → i < 32 → x ≡ f i → IsFilled f xs i → IsFilled f (slice_set xs i x) (i + 1)
 IsFilled-set f xs i x below is filled = record {
   long = length-set xs i x ∙ filled.long;
   so_far = below_more (λ (k : ℕ). slice_index (slice_set xs i x) k ≡ f k) i
@@ -76,7 +76,7 @@ row_sum-lists rows up row numbers within is slice =
     ap sum (row_of-map rows up row within) ∙ (sym (ap (λ (r : Vec ℕ Global). sum r.items) is) ∙ sym (ap sum slice))
 
 -- a matrix of zeros is one
-pub IsTraffic-replicate : (size : ℕ) → 1 ≤ size → size ≤ 16 → IsTraffic (replicate size (replicate size 0))
+pub IsTraffic-replicate : (size : ℕ) → 1 ≤ size → size ≤ 32 → IsTraffic (replicate size (replicate size 0))
 IsTraffic-replicate size some few =
     let zeros = replicate size 0 in
     let size_is : length (replicate size zeros) ≡ size = length-replicate size zeros in

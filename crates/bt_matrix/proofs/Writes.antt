@@ -57,7 +57,7 @@ IsTraffic-with_entry rows up down n is in_rows in_columns row column =
 
 -- the sums are kept by a write that gives its row and its column their new sums
 pub KeepsSums-with_entry : (rows : List (List ℕ)) (row_sums column_sums : List ℕ) (up down n row column : ℕ)
-    → KeepsSums rows row_sums column_sums → up < length rows → down < length rows → length row_sums ≡ 16 → length column_sums ≡ 16
+    → KeepsSums rows row_sums column_sums → up < length rows → down < length rows → length row_sums ≡ 32 → length column_sums ≡ 32
     → row + entry rows up down ≡ row_sum rows up + n → column + entry rows up down ≡ column_sum rows down + n
     → row ≤ 1048576 → column ≤ 1048576
     → KeepsSums (with_entry rows up down n) (slice_set row_sums up row) (slice_set column_sums down column)
@@ -101,7 +101,7 @@ pub record IsWritten (rows : List (Vec ℕ Global)) (row_sums column_sums : List
 -- by the vector of the row before, and by its number at the place
 pub IsWritten-set : (rows : List (Vec ℕ Global)) (row_sums column_sums : List ℕ) (up down n row column units : ℕ) (old new : Vec ℕ Global)
     → KeepsSums (map (λ row. row.items) rows) row_sums column_sums → up < length rows → down < length rows
-    → length row_sums ≡ 16 × length column_sums ≡ 16 → old ≡ get_or rows up old → units ≡ get_or old.items down units
+    → length row_sums ≡ 32 × length column_sums ≡ 32 → old ≡ get_or rows up old → units ≡ get_or old.items down units
     → new.items ≡ slice_set old.items down n → row + units ≡ slice_index row_sums up + n → column + units ≡ slice_index column_sums down + n
     → row ≤ 1048576 → column ≤ 1048576 → IsWritten rows row_sums column_sums up down n row column units new
 IsWritten-set rows row_sums column_sums up down n row column units old new keeps in_rows in_columns sixteen old_is units_is new_is row_gives column_gives row_fits column_fits =

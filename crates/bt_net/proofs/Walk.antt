@@ -102,7 +102,7 @@ with_beam-names earlier entry beams are is =
     let both = checked_is place (is_name text.0) (list_any (bytes_eq text.0) earlier) new.0 new.1 in
     subst (AreNames is_name) (ok_is (earlier ++ text.0 ∷ []) beams new.2) (AreNames-push is_name earlier text.0 are both.0 both.1)
 
-pub through-beams : (entries : List Data) (beams : List (List ℕ)) → IsWithin 1 16 (length beams) → through with_beam [] entries ≡ Ok beams → AreBeams beams
+pub through-beams : (entries : List Data) (beams : List (List ℕ)) → IsWithin 1 32 (length beams) → through with_beam [] entries ≡ Ok beams → AreBeams beams
 through-beams entries beams count is = record { count = count; names = through-keeps with_beam (AreNames is_name) with_beam-names entries [] beams (no_names is_name) is }
 
 -- ---- the terminals

@@ -1,7 +1,7 @@
 // A network whose beams and terminals are named by their numbers.
 ghost use Rattle.std.specs.Prelude.{◌≡◌, ◌≤◌, ◌++◌, ◌*◌, decimal, IfOk};
 ghost use Rattle.std.specs.String.{string_bytes};
-ghost use Rattle.bt_frame.specs.declared.limits.TheConstants.{MOST_BEAMS};
+ghost use Rattle.bt_frame.specs.declared.limits.TheConstants.{MOST_NUMBERED_BEAMS};
 ghost use Rattle.bt_frame.specs.Range.{IsWithin};
 ghost use Rattle.bt_net.specs.Numbered.{numbered_beams, numbered_network, numbered_terminals};
 
@@ -24,10 +24,10 @@ const LEAD: u32 = 4;
 const PATIENCE: u32 = 3;
 
 impl Network {
-    /// The network of so many beams, for trials of any size: beams `b0`, `b1` and so on, four terminals in each, of which
+    /// The network of so many beams, 1 to `MOST_NUMBERED_BEAMS`, for trials of any size: beams `b0`, `b1` and so on, four terminals in each, of which
     /// `t0` is in `b0`, `t1` in `b1` and so on in turn, and frames of as many slots as there may be.
     pub fn numbered(alloc: Global, beams: u32) -> Result<Network, OutOfMemory>
-        requires beams { IsWithin 1 MOST_BEAMS beams }
+        requires beams { IsWithin 1 MOST_NUMBERED_BEAMS beams }
         ensures same { IfOk result (λ net. net ≡ numbered_network beams) }
     {
         Ok(Network {
@@ -44,7 +44,7 @@ impl Network {
 
 /// So many beams.
 fn numbered_beams(alloc: Global, count: u32) -> Result<Beams, AllocError>
-    requires { count ≤ MOST_BEAMS }
+    requires { count ≤ MOST_NUMBERED_BEAMS }
     ensures { IfOk result (λ beams. beams ≡ numbered_beams count) }
 {
     let mut beams = Beams::new(alloc);
@@ -57,7 +57,7 @@ fn numbered_beams(alloc: Global, count: u32) -> Result<Beams, AllocError>
 
 /// The terminals of so many beams, which take turns.
 fn numbered_terminals(alloc: Global, beams: u32) -> Result<Terminals, AllocError>
-    requires { IsWithin 1 MOST_BEAMS beams }
+    requires { IsWithin 1 MOST_NUMBERED_BEAMS beams }
     ensures { IfOk result (λ terminals. terminals ≡ numbered_terminals beams (TERMINALS_A_BEAM * beams)) }
 {
     let mut terminals = Terminals::new(alloc);

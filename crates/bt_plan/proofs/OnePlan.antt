@@ -90,7 +90,7 @@ lines_from_plan-is net plan =
 abbrev IsSpelledBy : Net → List (List ℕ) → Plan → Type 0
 IsSpelledBy net ls plan = (ls ≡ lines_from_plan net plan) × IsPlanInRange net plan
 
-plan_in-spelled : (net : Net) (ls : List (List ℕ)) (plan : Plan) → length net.beams ≤ 16 → plan_in net ls ≡ Ok plan → IsSpelledBy net ls plan
+plan_in-spelled : (net : Net) (ls : List (List ℕ)) (plan : Plan) → length net.beams ≤ 32 → plan_in net ls ≡ Ok plan → IsSpelledBy net ls plan
 plan_in-spelled net ls plan few is =
     let first = first_says_ok 1 edition_in (length_behind net) ls plan is in
     let second = first_says_ok 2 length_in (critical_behind net first.value) first.rest plan first.behind in
@@ -117,7 +117,7 @@ plan_in-spelled net ls plan few is =
     } in
     subst (IsSpelledBy net ls) (ok_is (made parts.0) plan parts.2) (all_are, range)
 
-pub plan_spelled : (net : Net) (text : List ℕ) (plan : Plan) → length net.beams ≤ 16 → plan_of net text ≡ Ok plan → (text ≡ plan_spelling net plan) × IsPlanInRange net plan
+pub plan_spelled : (net : Net) (text : List ℕ) (plan : Plan) → length net.beams ≤ 32 → plan_of net text ≡ Ok plan → (text ≡ plan_spelling net plan) × IsPlanInRange net plan
 plan_spelled net text plan few is =
     let found = plan_in-spelled net (lines text) plan few is in
     (ended_from_lines text (plan_lines net plan) (found.0 ∙ sym (lines_from_plan-is net plan)), found.1)

@@ -45,12 +45,12 @@ number_to-spelled most word n small is =
     let within : n ≤ most = rw (← parts.1) (leb-true m most parts.0) in
     (decimal_from_number_of word n (omega arith) (read ∙ ap (λ (k : ℕ). Some k) parts.1), within))
 
-pub length_spelled : (ws : List (List ℕ)) (slots : ℕ) → length_in ws ≡ Some slots → (ws ≡ codes "length" ∷ decimal slots ∷ []) × (slots ≤ 65536)
+pub length_spelled : (ws : List (List ℕ)) (slots : ℕ) → length_in ws ≡ Some slots → (ws ≡ codes "length" ∷ decimal slots ∷ []) × (slots ≤ 131072)
 length_spelled [] slots is = absurd cc
 length_spelled (name ∷ []) slots is = absurd cc
 length_spelled (name ∷ word ∷ []) slots is =
-    let named = let_through (is_word (codes "length") name) (number_to 65536 word) slots is in
-    let number = number_to-spelled 65536 word slots (lit< tt) named.1 in
+    let named = let_through (is_word (codes "length") name) (number_to 131072 word) slots is in
+    let number = number_to-spelled 131072 word slots (lit< tt) named.1 in
     (ap (λ w. w ∷ word ∷ []) (is_word-same (codes "length") name named.0) ∙ ap (λ w. codes "length" ∷ w ∷ []) number.0, number.1)
 length_spelled (name ∷ word ∷ more ∷ rest) slots is = absurd cc
 
@@ -73,7 +73,7 @@ of_kind size n kind critical within (inl row) =
 of_kind size n kind critical within (inr column) =
     subst (IsCriticalLine size (codes "critical" ∷ kind ∷ decimal n ∷ [])) column.0 (ap (λ k. spaced (codes "critical" ∷ k ∷ decimal n ∷ [])) column.1, within)
 
-pub critical_spelled : (size : ℕ) (ws : List (List ℕ)) (critical : Critical) → size ≤ 16 → critical_in size ws ≡ Some critical → IsCriticalLine size ws critical
+pub critical_spelled : (size : ℕ) (ws : List (List ℕ)) (critical : Critical) → size ≤ 32 → critical_in size ws ≡ Some critical → IsCriticalLine size ws critical
 critical_spelled size [] critical few is = absurd cc
 critical_spelled size (name ∷ []) critical few is = absurd cc
 critical_spelled size (name ∷ kind ∷ []) critical few is = absurd cc
@@ -96,13 +96,13 @@ mode_with-spelled : (size : ℕ) (ns : List ℕ) (mode : Mode) → mode_with siz
 mode_with-spelled size [] mode is = absurd cc
 mode_with-spelled size (duration ∷ perm) mode is =
     let others : Bool = eqb (length perm) size && list_all (λ down. leb down 255) perm in
-    let made = cond_some (leb duration 65536 && others) (record { duration = duration; perm = perm }) mode is in
-    let tests = and_parts (leb duration 65536) others made.0 in
+    let made = cond_some (leb duration 131072 && others) (record { duration = duration; perm = perm }) mode is in
+    let tests = and_parts (leb duration 131072) others made.0 in
     let more = and_parts (eqb (length perm) size) (list_all (λ down. leb down 255) perm) tests.1 in
     subst (AreNumbersOf size (duration ∷ perm)) made.1 (
       refl,
       record {
-        duration = leb-true duration 65536 tests.0;
+        duration = leb-true duration 131072 tests.0;
         beams = eqb-true (length perm) size more.0;
         columns = All-weaker (λ down. leb down 255 ≡ true) (λ down. down ≤ 255) (λ down small. leb-true down 255 small) perm (AllPass-from_list_all (λ down. leb down 255) perm more.1);
       },
@@ -155,7 +155,7 @@ record IsBehindLength (size slots : ℕ) (ls : List (List ℕ)) (schedule : Sche
   critical : IsOfBeams size schedule.critical
   modes : All (IsModeInRange size) schedule.modes
 
-critical_and_modes_spelled : (size slots : ℕ) (ls : List (List ℕ)) (schedule : Schedule) → size ≤ 16 → critical_and_modes size slots ls ≡ Ok schedule → IsBehindLength size slots ls schedule
+critical_and_modes_spelled : (size slots : ℕ) (ls : List (List ℕ)) (schedule : Schedule) → size ≤ 32 → critical_and_modes size slots ls ≡ Ok schedule → IsBehindLength size slots ls schedule
 critical_and_modes_spelled size slots [] schedule few is = absurd cc
 critical_and_modes_spelled size slots (line ∷ []) schedule few is = absurd cc
 critical_and_modes_spelled size slots (line ∷ next ∷ rest) schedule few is =
@@ -173,7 +173,7 @@ critical_and_modes_spelled size slots (line ∷ next ∷ rest) schedule few is =
     })
 
 -- the whole text
-schedule_in-spelled : (size : ℕ) (ls : List (List ℕ)) (schedule : Schedule) → size ≤ 16 → schedule_in size ls ≡ Ok schedule → (ls ≡ schedule_lines schedule ++ [] ∷ []) × IsInRange size schedule
+schedule_in-spelled : (size : ℕ) (ls : List (List ℕ)) (schedule : Schedule) → size ≤ 32 → schedule_in size ls ≡ Ok schedule → (ls ≡ schedule_lines schedule ++ [] ∷ []) × IsInRange size schedule
 schedule_in-spelled size [] schedule few is = absurd cc
 schedule_in-spelled size (line ∷ []) schedule few is = absurd cc
 schedule_in-spelled size (line ∷ next ∷ rest) schedule few is =
@@ -181,13 +181,13 @@ schedule_in-spelled size (line ∷ next ∷ rest) schedule few is =
     let here = length_spelled (words line) first.0 (or_fault_ok M1 1 (length_in (words line)) first.0 first.1) in
     let behind = critical_and_modes_spelled size first.0 (next ∷ rest) schedule few first.2 in
     let line_is : line ≡ length_line schedule.length = sym (spaced-words line) ∙ ap spaced here.0 ∙ ap length_line behind.slots_are in
-    let within : schedule.length ≤ 65536 = subst (λ slots. slots ≤ 65536) behind.slots_are here.1 in (
+    let within : schedule.length ≤ 131072 = subst (λ slots. slots ≤ 131072) behind.slots_are here.1 in (
       ap (λ l. l ∷ next ∷ rest) line_is ∙ ap (λ more. length_line schedule.length ∷ more) behind.spelled
           ∙ ap (λ more. length_line schedule.length ∷ critical_line schedule.critical ∷ more) (sym (append_assoc (map mode_line schedule.modes) (codes "end" ∷ []) ([] ∷ []))),
       record { slots = within; critical = behind.critical; modes = behind.modes },
     )
 
-pub schedule_spelled : (size : ℕ) (text : List ℕ) (schedule : Schedule) → size ≤ 16 → schedule_of size text ≡ Ok schedule → (text ≡ schedule_spelling schedule) × IsInRange size schedule
+pub schedule_spelled : (size : ℕ) (text : List ℕ) (schedule : Schedule) → size ≤ 32 → schedule_of size text ≡ Ok schedule → (text ≡ schedule_spelling schedule) × IsInRange size schedule
 schedule_spelled size text schedule few is =
     let found = schedule_in-spelled size (lines text) schedule few is in
     (ended_from_lines text (schedule_lines schedule) found.0, found.1)

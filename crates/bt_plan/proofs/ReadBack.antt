@@ -23,13 +23,13 @@ pub number_to-decimal : (most n : ℕ) → n ≤ most → most < 2 ^ 64 → numb
 number_to-decimal most n within small =
     ap (option_and_then (λ m. cond (leb m most) (Some m) None)) (number_of-decimal n (omega arith)) ∙ ap (λ b. cond b (Some n) None) (le-leb n most within)
 
-pub length_read : (slots : ℕ) → slots ≤ 65536 → length_in (words (length_line slots)) ≡ Some slots
+pub length_read : (slots : ℕ) → slots ≤ 131072 → length_in (words (length_line slots)) ≡ Some slots
 length_read slots within =
     ap length_in (words-spaced (codes "length" ∷ decimal slots ∷ []) (omega arith) (rw (lacks-decimal 32 slots refl (omega arith)) refl))
-    ∙ number_to-decimal 65536 slots within (lit< tt)
+    ∙ number_to-decimal 131072 slots within (lit< tt)
 
 -- the critical line
-pub critical_read : (size : ℕ) (critical : Critical) → size ≤ 16 → IsOfBeams size critical → critical_in size (words (critical_line critical)) ≡ Some critical
+pub critical_read : (size : ℕ) (critical : Critical) → size ≤ 32 → IsOfBeams size critical → critical_in size (words (critical_line critical)) ≡ Some critical
 critical_read size (Row up) few within =
     ap (critical_in size) (words-spaced (codes "critical" ∷ codes "row" ∷ decimal up.0 ∷ []) (omega arith) (rw (lacks-decimal 32 up.0 refl (omega arith)) refl))
     ∙ ap (option_and_then (line_in size (codes "row"))) (number_of-decimal up.0 (omega arith))
@@ -51,7 +51,7 @@ columns-small perm within =
 
 mode_with-is : (size : ℕ) (mode : Mode) → IsModeInRange size mode → mode_with size (mode.duration ∷ mode.perm) ≡ Some mode
 mode_with-is size mode range =
-    rw (le-leb mode.duration 65536 range.duration, eq-eqb (length mode.perm) size range.beams, columns-small mode.perm range.columns) refl
+    rw (le-leb mode.duration 131072 range.duration, eq-eqb (length mode.perm) size range.beams, columns-small mode.perm range.columns) refl
 
 pub mode_read : (size : ℕ) (mode : Mode) → IsModeInRange size mode → mode_in size (words (mode_line mode)) ≡ Some mode
 mode_read size mode range =
@@ -96,17 +96,17 @@ modes_lack size (mode ∷ modes) range =
     let behind = modes_lack size modes (All-tail (IsModeInRange size) mode modes range) in
     ap (λ b. b && list_all (lacks 10) (map mode_line modes ++ codes "end" ∷ [])) here ∙ behind
 
-pub length_line-lacks : (slots : ℕ) → slots ≤ 65536 → lacks 10 (length_line slots) ≡ true
+pub length_line-lacks : (slots : ℕ) → slots ≤ 131072 → lacks 10 (length_line slots) ≡ true
 length_line-lacks slots within =
     lacks-spaced 10 (codes "length" ∷ decimal slots ∷ []) refl ∙ rw (lacks-decimal 10 slots refl (omega arith)) refl
 
-pub critical_line-lacks : (size : ℕ) (critical : Critical) → size ≤ 16 → IsOfBeams size critical → lacks 10 (critical_line critical) ≡ true
+pub critical_line-lacks : (size : ℕ) (critical : Critical) → size ≤ 32 → IsOfBeams size critical → lacks 10 (critical_line critical) ≡ true
 critical_line-lacks size (Row up) few within =
     lacks-spaced 10 (codes "critical" ∷ codes "row" ∷ decimal up.0 ∷ []) refl ∙ rw (lacks-decimal 10 up.0 refl (omega arith)) refl
 critical_line-lacks size (Column down) few within =
     lacks-spaced 10 (codes "critical" ∷ codes "column" ∷ decimal down.0 ∷ []) refl ∙ rw (lacks-decimal 10 down.0 refl (omega arith)) refl
 
-schedule_lines-lack : (size : ℕ) (schedule : Schedule) → size ≤ 16 → IsInRange size schedule → list_all (lacks 10) (schedule_lines schedule) ≡ true
+schedule_lines-lack : (size : ℕ) (schedule : Schedule) → size ≤ 32 → IsInRange size schedule → list_all (lacks 10) (schedule_lines schedule) ≡ true
 schedule_lines-lack size schedule few range =
     let rest = map mode_line schedule.modes ++ codes "end" ∷ [] in
     ap (λ b. b && (lacks 10 (critical_line schedule.critical) && list_all (lacks 10) rest)) (length_line-lacks schedule.length range.slots)
@@ -114,13 +114,13 @@ schedule_lines-lack size schedule few range =
     ∙ modes_lack size schedule.modes range.modes
 
 -- the lines of a schedule in range are read as that schedule
-schedule_in-is : (size : ℕ) (schedule : Schedule) → size ≤ 16 → IsInRange size schedule → schedule_in size (length_line schedule.length ∷ critical_line schedule.critical ∷ lines_from_modes schedule.modes) ≡ Ok schedule
+schedule_in-is : (size : ℕ) (schedule : Schedule) → size ≤ 32 → IsInRange size schedule → schedule_in size (length_line schedule.length ∷ critical_line schedule.critical ∷ lines_from_modes schedule.modes) ≡ Ok schedule
 schedule_in-is size schedule few range =
     ap (λ o. or_fault (M1, 1) o >>= λ slots. critical_and_modes size slots (critical_line schedule.critical ∷ lines_from_modes schedule.modes)) (length_read schedule.length range.slots)
     ∙ critical_and_modes-more size schedule.length (critical_line schedule.critical) (lines_from_modes schedule.modes) (some_lines schedule.modes)
     ∙ rw (critical_read size schedule.critical few range.critical, modes_read size 3 schedule.modes range.modes) refl
 
-pub schedule_read : (size : ℕ) (schedule : Schedule) → size ≤ 16 → IsInRange size schedule → schedule_of size (schedule_spelling schedule) ≡ Ok schedule
+pub schedule_read : (size : ℕ) (schedule : Schedule) → size ≤ 32 → IsInRange size schedule → schedule_of size (schedule_spelling schedule) ≡ Ok schedule
 schedule_read size schedule few range =
     ap (schedule_in size) (lines-ended (schedule_lines schedule) (schedule_lines-lack size schedule few range)
     ∙ ap (λ ls. length_line schedule.length ∷ critical_line schedule.critical ∷ ls) (append_assoc (map mode_line schedule.modes) (codes "end" ∷ []) ([] ∷ [])))

@@ -26,13 +26,13 @@ read x = Ok x
 pub ok_is : {A : Type 0} (x y : A) → read x ≡ read y → x ≡ y
 ok_is x y e = cc
 
-size_in-ok : (o : Option (List ℕ)) (size : ℕ) → size_in o ≡ Ok size → (1 ≤ size) × (size ≤ 16)
+size_in-ok : (o : Option (List ℕ)) (size : ℕ) → size_in o ≡ Ok size → (1 ≤ size) × (size ≤ 32)
 size_in-ok None size e = absurd cc
 size_in-ok (Some []) size e = absurd cc
 size_in-ok (Some (n ∷ [])) size e =
-    let tested = guard_ok (leb 1 n && leb n 16) (X2, 1) n size e in
-    let parts = and_parts (leb 1 n) (leb n 16) tested.0 in
-    (rw (← tested.1) (leb-true 1 n parts.0), rw (← tested.1) (leb-true n 16 parts.1))
+    let tested = guard_ok (leb 1 n && leb n 32) (X2, 1) n size e in
+    let parts = and_parts (leb 1 n) (leb n 32) tested.0 in
+    (rw (← tested.1) (leb-true 1 n parts.0), rw (← tested.1) (leb-true n 32 parts.1))
 size_in-ok (Some (n ∷ m ∷ ns)) size e = absurd cc
 
 -- as many entries as the size, each of at most 4096 slots
@@ -81,7 +81,7 @@ column-small : (size : ℕ) (rows : List (List ℕ)) (down : ℕ) → AllByRecur
 column-small size [] down each = omega arith
 column-small size (row ∷ rows) down each = omega (arith, sum_by-cons (λ (r : List ℕ). get_or r down 0) row rows, entry_small row each.0.small down, column-small size rows down each.1)
 
-rows-IsTraffic : (size : ℕ) (rows : List (List ℕ)) → 1 ≤ size → size ≤ 16 → AreRows size size rows → IsTraffic rows
+rows-IsTraffic : (size : ℕ) (rows : List (List ℕ)) → 1 ≤ size → size ≤ 32 → AreRows size size rows → IsTraffic rows
 rows-IsTraffic size rows some few are =
     let each : All (IsRow size) rows = All-from_recursion (IsRow size) rows are.each in
     record {
@@ -92,11 +92,11 @@ rows-IsTraffic size rows some few are =
       column_sums = λ down lt. omega (arith, column-small size rows down are.each, are.count_is);
     }
 
--- rows of a size from 1 to 16, as many as entries in each
+-- rows of a size from 1 to 32, as many as entries in each
 record IsSized (rows : List (List ℕ)) : Type 0 where
   size : ℕ
   some : 1 ≤ size
-  few : size ≤ 16
+  few : size ≤ 32
   are : AreRows size size rows
 
 matrix_in-sized : (ls rows : List (List ℕ)) → matrix_in ls ≡ Ok rows → IsSized rows
@@ -111,7 +111,7 @@ matrix_in-sized (first ∷ next ∷ rest) rows e =
 pub matrix_of-IsTraffic : (text : List ℕ) (rows : List (List ℕ)) → matrix_of text ≡ Ok rows → IsTraffic rows
 matrix_of-IsTraffic text rows e = let sized = matrix_in-sized (lines text) rows e in rows-IsTraffic sized.size rows sized.some sized.few sized.are
 
-line-small : (rows : List (List ℕ)) (line : Critical) → IsSized rows → IsLine rows line → line_sum rows line ≤ 65536
+line-small : (rows : List (List ℕ)) (line : Critical) → IsSized rows → IsLine rows line → line_sum rows line ≤ 131072
 line-small rows (Row up) sized within =
     let row = All-from_recursion (IsRow sized.size) rows sized.are.each up.0 [] within in
     omega (arith, sum-small (row_of rows up.0) row.small, row.len, sized.few)
@@ -119,5 +119,5 @@ line-small rows (Column down) sized within =
     omega (arith, column-small sized.size rows down.0 sized.are.each, sized.are.count_is, sized.few)
 
 -- and each line of them has at most sixteen times the greatest entry
-pub matrix_of-line_small : (text : List ℕ) (rows : List (List ℕ)) (line : Critical) → matrix_of text ≡ Ok rows → IsLine rows line → line_sum rows line ≤ 65536
+pub matrix_of-line_small : (text : List ℕ) (rows : List (List ℕ)) (line : Critical) → matrix_of text ≡ Ok rows → IsLine rows line → line_sum rows line ≤ 131072
 matrix_of-line_small text rows line e within = line-small rows line (matrix_in-sized (lines text) rows e) within

@@ -187,7 +187,7 @@ pub named_by_number : (net : Net) (at : ℕ) (from to units : List ℕ) (n : ℕ
 named_by_number net at from to units n named is = rw named (by_number net at from to n (number_of units) is)
 
 -- no link was read yet
-pub none_read : (net : Net) → 1 ≤ length net.beams → length net.beams ≤ 16 → AreRead net [] (replicate (length net.beams) (replicate (length net.beams) 0))
+pub none_read : (net : Net) → 1 ≤ length net.beams → length net.beams ≤ 32 → AreRead net [] (replicate (length net.beams) (replicate (length net.beams) 0))
 none_read net some few = record {
   demand = record { ordered = λ i j d lt within. absurd (omega arith); each = All-nil IsLink };
   terminals = All-nil (λ (l : Link). (l.from.0 < length net.terminals) × (l.to.0 < length net.terminals));

@@ -1,6 +1,6 @@
 -- How a burst time plan is spelled: its lines, each as its words, and a newline behind each of them.
 use Rattle.std.specs.Prelude.{ℕ, ◌<◌, ◌≤◌, codes, decimal, length, map, List, [], ◌∷◌, ◌++◌, All, AllPairs}
-use Rattle.bt_frame.specs.declared.limits.TheConstants.{LAST_EDITION, LAST_TEXT_SLOT, MOST_TEXT_SLOTS}
+use Rattle.bt_frame.specs.declared.limits.TheConstants.{LAST_EDITION, LAST_TEXT_SLOT, MOST_BURST_SLOTS}
 use Rattle.bt_text.specs.Text.{spaced, ended}
 use Rattle.bt_frame.specs.declared.numbers.EditionNo.{EditionNo}
 use Rattle.bt_net.specs.Network.{Net}
@@ -30,7 +30,7 @@ plan_spelling net plan = ended (plan_lines net plan)
 pub record IsBurstInRange (net : Net) (burst : Burst) : Type 0 where
   pub start : burst.start ≤ LAST_TEXT_SLOT
   pub some : 1 ≤ burst.length
-  pub few : burst.length ≤ MOST_TEXT_SLOTS
+  pub few : burst.length ≤ MOST_BURST_SLOTS
   pub sends : IsTerminal net burst.from
   pub receives : IsTerminal net burst.to
 

@@ -1,6 +1,6 @@
 -- The text of a burst time plan for a network: its edition, its length, its critical line, its modes, its bursts, and `end`.
 use Rattle.std.specs.Prelude.{ℕ, ◌+◌, if◌then◌else◌, nat_le, codes, Bool, false, length, List, [], ◌∷◌, Option, Some, None, Ok, Err, option_map, option_and_then}
-use Rattle.bt_frame.specs.declared.limits.TheConstants.{LAST_EDITION, LAST_TEXT_SLOT, MOST_TEXT_SLOTS}
+use Rattle.bt_frame.specs.declared.limits.TheConstants.{LAST_EDITION, LAST_TEXT_SLOT, MOST_BURST_SLOTS}
 use Rattle.bt_text.specs.Text.{words, lines, is_word}
 use Rattle.bt_frame.specs.declared.mode.Mode.{Mode}
 use Rattle.bt_frame.specs.declared.numbers.EditionNo.{EditionNo}
@@ -28,7 +28,7 @@ span_of start slots = if nat_le 1 slots then Some (start, slots) else None
 
 -- a start and a length of at least one slot, both such as a text may have
 abbrev pub span_in : List ℕ → List ℕ → Option (ℕ × ℕ)
-span_in start slots = option_and_then (λ first. option_and_then (span_of first) (number_to MOST_TEXT_SLOTS slots)) (number_to LAST_TEXT_SLOT start)
+span_in start slots = option_and_then (λ first. option_and_then (span_of first) (number_to MOST_BURST_SLOTS slots)) (number_to LAST_TEXT_SLOT start)
 
 -- the burst of so many slots between two terminals
 abbrev pub burst_with : Net → ℕ → ℕ × ℕ → List ℕ → List ℕ → Reading Burst

@@ -17,7 +17,7 @@ use crate::names::ends_of;
 use crate::schedule_reader::{read_critical, read_length, read_mode};
 use crate::{TextCode, TextFault};
 use bt_demand::{Burst, Bursts, Plan};
-use bt_frame::{EditionNo, LAST_EDITION, LAST_TEXT_SLOT, MOST_TEXT_SLOTS, Mode, Modes, Schedule};
+use bt_frame::{EditionNo, LAST_EDITION, LAST_TEXT_SLOT, MOST_BURST_SLOTS, Mode, Modes, Schedule};
 use bt_net::{Network, are_names};
 use bt_text::{WordReader, fault_at, first_line, is_word};
 use std::alloc::Global;
@@ -226,7 +226,7 @@ fn burst_behind(net: &Network, at: u32, mut words: WordReader<'_>) -> Result<Bur
     let Some(start) = words.number_to(LAST_TEXT_SLOT) else {
         return Err(fault(at));
     };
-    let Some(slots) = words.number_to(MOST_TEXT_SLOTS) else {
+    let Some(slots) = words.number_to(MOST_BURST_SLOTS) else {
         return Err(fault(at));
     };
     if slots == 0 {

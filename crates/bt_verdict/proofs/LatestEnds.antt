@@ -1,8 +1,8 @@
 -- The ends of the latest bursts in each beam, as a walk along the bursts keeps them.
-use Rattle.std.proofs.Common.{◌≡◌, ◌⊎◌, ℕ, ◌+◌, ◌<◌, ◌≤◌, List, [], ◌∷◌, ◌++◌, length, All, Option, Some, get_or, set, slice_index, take, AllPairs, inl, inr, sym, ap, ◌∙◌, subst, arith}
+use Rattle.std.proofs.Common.{◌≡◌, ◌⊎◌, ℕ, ◌+◌, ◌<◌, ◌≤◌, List, [], ◌∷◌, ◌++◌, length, All, Option, Some, replicate, get_or, set, slice_index, take, AllPairs, inl, inr, sym, ap, ◌∙◌, subst, arith}
 use Rattle.std.specs.List.{Any}
 use Rattle.std.proofs.lemmas.Bool.{cases_eq}
-use Rattle.std.proofs.lemmas.List.{length-set, get_or-set_same, get_or-set_other, get_or_append_left, length_push, length-take, get_or-take, get_or_default, take-take}
+use Rattle.std.proofs.lemmas.List.{length-set, get_or-set_same, get_or-set_other, get_or_append_left, length_push, length-replicate, length-take, get_or-replicate, get_or-take, get_or_default, take-take}
 use Rattle.std.proofs.lemmas.List.Elements.{All-push, All-weaker}
 use Rattle.std.proofs.lemmas.List.Quantifiers.{Any-push, all_pairs_push}
 use Rattle.bt_frame.proofs.OneNumber.{same_beam}
@@ -29,7 +29,7 @@ AreEnds-skip beam_of xs ends b are empty = record {
 
 -- a burst that begins behind the others of its beam has the latest end there
 pub AreEnds-add : (beam_of : Burst → Option BeamNo) (xs : List Burst) (ends : List ℕ) (b : Burst) (beam : BeamNo) (last : ℕ) → AreEnds beam_of xs ends
-    → beam_of b ≡ Some beam → beam.0 < 16 → 0 < b.length → slice_index ends beam.0 ≤ b.start → last ≡ b.start + b.length
+    → beam_of b ≡ Some beam → beam.0 < 32 → 0 < b.length → slice_index ends beam.0 ≤ b.start → last ≡ b.start + b.length
     → AreEnds beam_of (xs ++ b ∷ []) (set ends beam.0 last)
 AreEnds-add beam_of xs ends b beam last are in_beam in_range some behind is = record {
   wide = length-set ends beam.0 last ∙ are.wide;
@@ -66,7 +66,7 @@ empty_meets_none net xs b empty k d within meet = omega (arith, meet.second.from
 -- a burst that begins behind the others of its beams meets none of them
 pub late_meets_none : (net : Net) (xs : List Burst) (ups downs : List ℕ) (b : Burst) (up down : BeamNo)
     → AreEnds (uplink_of net) xs ups → AreEnds (downlink_of net) xs downs → uplink_of net b ≡ Some up → downlink_of net b ≡ Some down
-    → up.0 < 16 → down.0 < 16 → slice_index ups up.0 ≤ b.start → slice_index downs down.0 ≤ b.start → All (λ a. ¬ (Collide net a b)) xs
+    → up.0 < 32 → down.0 < 32 → slice_index ups up.0 ≤ b.start → slice_index downs down.0 ≤ b.start → All (λ a. ¬ (Collide net a b)) xs
 late_meets_none net xs ups downs b up down are_ups are_downs is_up is_down up_small down_small behind_up behind_down k d within meet =
     let a : Burst = get_or xs k d in
     let some : 0 < (get_or xs k d).length = omega (arith, meet.first.from_start, meet.first.before_end) in
@@ -78,7 +78,7 @@ late_meets_none net xs ups downs b up down are_ups are_downs is_up is_down up_sm
 -- a burst that begins before the end of another one of its beam meets that one
 pub early_meets_one : (net : Net) (beam_of : Burst → Option BeamNo) (xs : List Burst) (ends : List ℕ) (b : Burst) (beam : BeamNo)
     → ((a : Burst) → beam_of a ≡ beam_of b → ShareABeam net a.from a.to b.from b.to)
-    → AreEnds beam_of xs ends → All (λ a. a.start ≤ b.start) xs → beam_of b ≡ Some beam → beam.0 < 16 → 0 < b.length → b.start < slice_index ends beam.0
+    → AreEnds beam_of xs ends → All (λ a. a.start ≤ b.start) xs → beam_of b ≡ Some beam → beam.0 < 32 → 0 < b.length → b.start < slice_index ends beam.0
     → ¬ (All (λ a. ¬ (Collide net a b)) xs)
 early_meets_one net beam_of xs ends b beam shares are ordered in_beam small some before none =
     let (k, a, within, is, (of, end)) = are.reached beam small (omega arith) in
@@ -104,6 +104,21 @@ pub record IsWalked (net : Net) (bursts : List Burst) (ups downs : List ℕ) : T
   pub downlinks : AreEnds (downlink_of net) bursts downs
   pub apart : AreApart net bursts
 
+-- no burst was looked at yet
+AreEnds-none : (beam_of : Burst → Option BeamNo) → AreEnds beam_of [] (replicate 32 0)
+AreEnds-none beam_of = record {
+  wide = length-replicate {A = ℕ} 32 0;
+  none_later = λ beam small k d within. absurd (omega (arith, within));
+  reached = λ beam small some. absurd (omega (arith, some, get_or-replicate {A = ℕ} 32 beam.0 0 0 small));
+}
+
+pub IsWalked-none : (net : Net) → IsWalked net [] (replicate 32 0) (replicate 32 0)
+IsWalked-none net = record {
+  uplinks = AreEnds-none (uplink_of net);
+  downlinks = AreEnds-none (downlink_of net);
+  apart = λ i j d less within. absurd (omega (arith, within));
+}
+
 -- one more burst that meets none of those before it
 pub apart-push : (net : Net) (xs : List Burst) (b : Burst) → AreApart net xs → All (λ a. ¬ (Collide net a b)) xs → AreApart net (xs ++ b ∷ [])
 apart-push net xs b apart none = all_pairs_push (λ (a b : Burst). ¬ (Collide net a b)) xs b apart none
@@ -116,7 +131,7 @@ IsWalked-skip net xs ups downs b walked empty = record {
 }
 
 pub IsWalked-add : (net : Net) (xs : List Burst) (ups downs : List ℕ) (b : Burst) (up down : BeamNo) (last : ℕ) → IsWalked net xs ups downs
-    → uplink_of net b ≡ Some up → downlink_of net b ≡ Some down → up.0 < 16 → down.0 < 16 → 0 < b.length
+    → uplink_of net b ≡ Some up → downlink_of net b ≡ Some down → up.0 < 32 → down.0 < 32 → 0 < b.length
     → slice_index ups up.0 ≤ b.start → slice_index downs down.0 ≤ b.start → last ≡ b.start + b.length
     → IsWalked net (xs ++ b ∷ []) (set ups up.0 last) (set downs down.0 last)
 IsWalked-add net xs ups downs b up down last walked is_up is_down up_small down_small some behind_up behind_down is = record {
@@ -132,7 +147,7 @@ no_burst = record { from = record { 0 = 0 }; to = record { 0 = 0 }; start = 0; l
 -- the burst at a place that begins before another one of its beams ends
 pub is_first_late : (net : Net) (xs : List Burst) (i : ℕ) (ups downs : List ℕ) (up down : BeamNo) → i < length xs → AllPairs IsNotAfter xs
     → IsWalked net (take i xs) ups downs → uplink_of net (get_or xs i no_burst) ≡ Some up → downlink_of net (get_or xs i no_burst) ≡ Some down
-    → up.0 < 16 → down.0 < 16 → 0 < (get_or xs i no_burst).length
+    → up.0 < 32 → down.0 < 32 → 0 < (get_or xs i no_burst).length
     → ((get_or xs i no_burst).start < slice_index ups up.0) ⊎ ((get_or xs i no_burst).start < slice_index downs down.0) → IsFirstLate net xs i
 is_first_late net xs i ups downs up down within ordered walked is_up is_down up_small down_small some early =
     let b = get_or xs i no_burst in

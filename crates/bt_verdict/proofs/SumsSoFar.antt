@@ -18,30 +18,30 @@ use Rattle.bt_demand.proofs.Matrices.{IsStep, length-matrix_of, matrix_of-none}
 
 -- sixteen places for the sums of rows, and as many for those of columns
 pub record HasSums (matrix : List (List ℕ)) (row_sums column_sums : List ℕ) : Type 0 where
-  pub sixteen_rows : length row_sums ≡ 16
-  pub sixteen_columns : length column_sums ≡ 16
+  pub row_places : length row_sums ≡ 32
+  pub column_places : length column_sums ≡ 32
   pub keeps : KeepsSums matrix row_sums column_sums
 
 -- the sums of a matrix of zeros
-no_sums : (n : ℕ) → 1 ≤ n → n ≤ 16 → KeepsSums (replicate n (replicate n 0)) (replicate 16 0) (replicate 16 0)
+no_sums : (n : ℕ) → 1 ≤ n → n ≤ 32 → KeepsSums (replicate n (replicate n 0)) (replicate 32 0) (replicate 32 0)
 no_sums n some few = record {
   traffic = IsTraffic-replicate n some few;
   of_rows = λ up within.
       let below : up < n = omega (arith, length-replicate n (replicate {A = ℕ} n 0)) in
-      let none = get_or-replicate {A = ℕ} 16 up 0 0 (omega arith) in
+      let none = get_or-replicate {A = ℕ} 32 up 0 0 (omega arith) in
       none ∙ sym (rw (get_or-replicate n up (replicate {A = ℕ} n 0) [] below) (omega (arith, sum_by-replicate (λ (x : ℕ). x) n 0)));
   of_columns = λ down within.
       let below : down < n = omega (arith, length-replicate n (replicate {A = ℕ} n 0)) in
-      let none = get_or-replicate {A = ℕ} 16 down 0 0 (omega arith) in
+      let none = get_or-replicate {A = ℕ} 32 down 0 0 (omega arith) in
       let nothing : slice_index (replicate {A = ℕ} n 0) down ≡ 0 = get_or-replicate {A = ℕ} n down 0 0 below in
       none ∙ sym (rw (sum_by-replicate (λ (row : List ℕ). slice_index row down) n (replicate {A = ℕ} n 0), nothing) (omega arith));
 }
 
 -- no link was looked at yet
-pub HasSums-none : (net : Net) → 1 ≤ length net.beams → length net.beams ≤ 16 → HasSums (matrix_of net []) (replicate 16 0) (replicate 16 0)
+pub HasSums-none : (net : Net) → 1 ≤ length net.beams → length net.beams ≤ 32 → HasSums (matrix_of net []) (replicate 32 0) (replicate 32 0)
 HasSums-none net some few = record {
-  sixteen_rows = length-replicate {A = ℕ} 16 0;
-  sixteen_columns = length-replicate {A = ℕ} 16 0;
+  row_places = length-replicate {A = ℕ} 32 0;
+  column_places = length-replicate {A = ℕ} 32 0;
   keeps = rw (matrix_of-none net) (no_sums (length net.beams) some few);
 }
 
@@ -55,10 +55,10 @@ HasSums-add net links k up down units row_sums column_sums step in_rows in_colum
     let row_is = so_far.keeps.of_rows up (omega (arith, size)) in
     let column_is = so_far.keeps.of_columns down (omega (arith, size)) in
     record {
-      sixteen_rows = length-set row_sums up (slice_index row_sums up + units) ∙ so_far.sixteen_rows;
-      sixteen_columns = length-set column_sums down (slice_index column_sums down + units) ∙ so_far.sixteen_columns;
+      row_places = length-set row_sums up (slice_index row_sums up + units) ∙ so_far.row_places;
+      column_places = length-set column_sums down (slice_index column_sums down + units) ∙ so_far.column_places;
       keeps = rw step.next (KeepsSums-with_entry matrix row_sums column_sums up down (entry matrix up down + units) (slice_index row_sums up + units) (slice_index column_sums down + units)
-          so_far.keeps (omega (arith, size)) (omega (arith, size)) so_far.sixteen_rows so_far.sixteen_columns
+          so_far.keeps (omega (arith, size)) (omega (arith, size)) so_far.row_places so_far.column_places
           (omega (arith, row_is)) (omega (arith, column_is)) (omega (arith, row_is, step.row)) (omega (arith, column_is, step.column)));
     }
 
@@ -78,9 +78,9 @@ column_fits net links k up down units row_sums column_sums step in_columns so_fa
     omega (arith, so_far.keeps.of_columns down (omega (arith, length-matrix_of net (take k links))), step.column)
 
 -- the sums of all lines, without the places behind them
-pub AreLineSums-take : (rows : List (List ℕ)) (row_sums column_sums : List ℕ) (n : ℕ) → KeepsSums rows row_sums column_sums → length row_sums ≡ 16 → length column_sums ≡ 16
+pub AreLineSums-take : (rows : List (List ℕ)) (row_sums column_sums : List ℕ) (n : ℕ) → KeepsSums rows row_sums column_sums → length row_sums ≡ 32 → length column_sums ≡ 32
     → n ≡ length rows → AreLineSums rows (take n row_sums) (take n column_sums)
-AreLineSums-take rows row_sums column_sums n keeps sixteen_rows sixteen_columns count = record {
+AreLineSums-take rows row_sums column_sums n keeps row_places column_places count = record {
   each_row = omega (arith, length-take {A = ℕ} n row_sums, keeps.traffic.few_beams);
   each_column = omega (arith, length-take {A = ℕ} n column_sums, keeps.traffic.few_beams);
   of_rows = λ up within. get_or-take n row_sums up 0 (omega arith) ∙ keeps.of_rows up within;
@@ -92,7 +92,7 @@ pub line_of_beams : (rows : List (List ℕ)) (n : ℕ) (line : Critical) → n �
 line_of_beams rows n (Row up) count below = omega arith
 line_of_beams rows n (Column down) count below = omega arith
 
-pub few_beams : (n : ℕ) (line : Critical) → n ≤ 16 → IsOfBeams n line → IsOfBeams 16 line
+pub few_beams : (n : ℕ) (line : Critical) → n ≤ 32 → IsOfBeams n line → IsOfBeams 32 line
 few_beams n (Row up) few below = omega arith
 few_beams n (Column down) few below = omega arith
 

@@ -23,7 +23,7 @@ serve-requires-clause-enough c =
     let up = c.beam_of.result in
     let down = c.beam_of-in-loop-link.result in
     let old = c.index_mut.result.now in
-    let read : old ≡ get_or c.loop-link.connections.items (up.0 * 16 + down.0) old =
+    let read : old ≡ get_or c.loop-link.connections.items (up.0 * 32 + down.0) old =
     c.index_mut.ensures.value ∙ ap (λ (n : ℕ). get_or c.loop-link.connections.items n old) c.place_of-place.ensures in
     let has = subst (λ (x : Connection). HasSlots c.args.modes.now up.0 down.0 (length c.args.modes.now) (units_between c.args.net.now (take at links) up.0 down.0) x) (sym read)
     (c.loop-link.invariant.table.each up.0 down.0 old c.beam_of.ensures.in_range c.beam_of-in-loop-link.ensures.in_range) in
@@ -44,7 +44,7 @@ loop-link-preserved c =
     let old = c.index_mut.result.now in
     let modes = c.args.modes.now in
     let is = λ (d : Link). get_or_default links at d none c.loop-link-test.true in
-    let read : old ≡ get_or c.loop-link.connections.items (up.0 * 16 + down.0) old =
+    let read : old ≡ get_or c.loop-link.connections.items (up.0 * 32 + down.0) old =
     c.index_mut.ensures.value ∙ ap (λ (n : ℕ). get_or c.loop-link.connections.items n old) c.place_of-place.ensures in
     let has = subst (λ (x : Connection). HasSlots modes up.0 down.0 (length modes) (units_between c.args.net.now (take at links) up.0 down.0) x) (sym read)
     (c.loop-link.invariant.table.each up.0 down.0 old c.beam_of.ensures.in_range c.beam_of-in-loop-link.ensures.in_range) in

@@ -10,8 +10,8 @@ loop-up-preserved c =
     let perm = c.args.mode.now.perm in
     let row = c.loop-up.up in
     let old = c.index_mut.result.now in
-    let at : c.place_of.result ≡ row * 16 + slice_index perm row = c.place_of.ensures ∙ ap (λ (l : List ℕ). row * 16 + slice_index l row) c.as_slice.ensures.same in
-    let read : old ≡ get_or c.loop-up.table.items (row * 16 + slice_index perm row) old = c.index_mut.ensures.value ∙ ap (λ (n : ℕ). get_or c.loop-up.table.items n old) at in
+    let at : c.place_of.result ≡ row * 32 + slice_index perm row = c.place_of.ensures ∙ ap (λ (l : List ℕ). row * 32 + slice_index l row) c.as_slice.ensures.same in
+    let read : old ≡ get_or c.loop-up.table.items (row * 32 + slice_index perm row) old = c.index_mut.ensures.value ∙ ap (λ (n : ℕ). get_or c.loop-up.table.items n old) at in
     record {
       count = c.loop-up.invariant.count;
       so_far = λ modes place within is begins table.

@@ -18,5 +18,5 @@ pub returns : goal.returns
 returns c modes beams few = record {
   count = omega (arith, c.loop.invariant.count, c.loop.table.ok.0, c.loop-test.false, c.loop.auto.counter-end);
   each = λ up down other in_rows in_columns.
-      c.loop.invariant.empty (up * 16 + down) other (omega (arith, c.loop.invariant.count, c.loop.table.ok.0, c.loop-test.false, c.loop.auto.counter-end)) modes up down;
+      c.loop.invariant.empty (up * 32 + down) other (omega (arith, c.loop.invariant.count, c.loop.table.ok.0, c.loop-test.false, c.loop.auto.counter-end)) modes up down;
 }

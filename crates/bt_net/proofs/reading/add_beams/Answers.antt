@@ -26,5 +26,5 @@ returns-clause-walk c =
 
 pub returns-clause-sound : goal.returns-clause-sound
 returns-clause-sound c =
-    let count : IsWithin 1 16 (length c.loop-entry.beams) = (omega arith, omega arith) in
+    let count : IsWithin 1 32 (length c.loop-entry.beams) = (omega arith, omega arith) in
     through-beams (map view c.args.entries.now) c.loop-entry.beams count (returns-clause-walk c)

@@ -1,9 +1,13 @@
 use Rattle.std.proofs.Common.{◌≤◌, take, get_or, slice_index, arith, subst, rules}
 use Rattle.std.proofs.lemmas.List.{take_all, take_more}
 use Rattle.bt_verdict.specs.PlanVerdict.{AreApart}
-use Rattle.bt_verdict.proofs.LatestEnds.{no_burst, is_first_late, IsWalked-skip, IsWalked-add}
+use Rattle.bt_verdict.proofs.LatestEnds.{no_burst, is_first_late, IsWalked-none, IsWalked-skip, IsWalked-add}
 use Rattle.bt_verdict.proofs.meetings.first_late.Goals as goal
 use Rattle.bt_verdict.proofs.meetings.first_late.Goals.{then-burst-ne0+else-from-free, else-burst-ne0}
+
+-- no burst was looked at yet
+pub loop-place-init : goal.loop-place-init
+loop-place-init c = IsWalked-none c.args.net.now
 
 pub returns-then-from-free : goal.returns-then-from-free
 returns-then-from-free c =

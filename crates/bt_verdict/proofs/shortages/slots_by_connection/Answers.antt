@@ -15,6 +15,6 @@ pub loop-mode-init : goal.loop-mode-init
 loop-mode-init c = record {
   few = search rules;
   same = search rules;
-  so_far = λ up down small on_table. zeros 256 (up * 16 + down);
-  small = λ k. omega (arith, zeros 256 k);
+  so_far = λ up down small on_table. zeros 1024 (up * 32 + down);
+  small = λ k. omega (arith, zeros 1024 k);
 }

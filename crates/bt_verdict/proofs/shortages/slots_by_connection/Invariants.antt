@@ -8,6 +8,6 @@ abbrev pub invariant-loop-mode : goal.invariant-loop-mode
 invariant-loop-mode l = record {
   few : length l.mode-items ≤ 2147483648;
   same : l.mode-items ≡ l.modes;
-  so_far : (up down : ℕ) → down < 16 → All (λ (m : Mode). up < length m.perm) l.modes → get_or l.slots (up * 16 + down) 0 ≡ slots_of (take l.mode-index l.modes) up down;
+  so_far : (up down : ℕ) → down < 32 → All (λ (m : Mode). up < length m.perm) l.modes → get_or l.slots (up * 32 + down) 0 ≡ slots_of (take l.mode-index l.modes) up down;
   small : (k : ℕ) → get_or l.slots k 0 ≤ 4294967295 * l.mode-index;
 }
