@@ -117,6 +117,10 @@ module _ {O C R : Type 0} where
   HasTurn steps history k m m' = (b : List (Entry C R)) × (o : O) × (m' ≡ (record m.0 { ticket = Some k; base = Some b }, (0, Some o) ∷ []))
       × ((x : O) → m.0.start ≡ Some x → Legal steps x b o × (history o ≡ history x ++ b)) × HasSeen b m.0.number m.0.seen
 
+  -- the seat has an object out, of which this holds
+  abbrev pub HasOut : Me (Option O) (View O C R) → (O → Type 0) → Type 0
+  HasOut m says = (object : O) × (m.1 ≡ (0, Some object) ∷ []) × says object
+
   -- the step `look`: a seat that finds its own ticket has the slot from then on
   abbrev pub looked : (O → ℕ → C → R → O → Type 0) → (O → List (Entry C R)) → Step (Option O) → Me (Option O) (View O C R) → ℕ → Me (Option O) (View O C R) → Type 0
   looked steps history st m found m' = (k : ℕ) → m.0.ticket ≡ Some k
