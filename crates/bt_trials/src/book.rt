@@ -37,7 +37,7 @@ fn edit_of(desk: u32, units: Units) -> Edit
 }
 
 // The call of a desk that makes this edit.
-fn call_of(desk: u32, units: Units) -> Call
+pub(crate) fn call_of(desk: u32, units: Units) -> Call
     ensures { (net : Net) → length net.terminals ≡ 2 → IsOfNetwork net result }
 {
     Call::Edit(edit_of(desk, units))
