@@ -6,7 +6,8 @@ ghost use Rattle.bt_cli.specs.Request.{first_word};
 use crate::ending::Ending;
 use bt_base::{Fail, Files, MemFiles, MemKeeper, MemSink, Sink, SureKeeper, SureSink};
 use bt_cli::{
-    History, WRITE_FAILED, centre_main, check_command, modes_command, plan_command, replay_command,
+    History, WRITE_FAILED, centre_main, check_command, make_command, modes_command, plan_command,
+    replay_command,
 };
 use bt_sheet::{CaseFault, Part, Result, Shelf, number_of};
 use std::alloc::Global;
@@ -464,6 +465,7 @@ fn status_alone<F: Files, O: Sink>(
         ["check", first, second] => check_alone(alloc, files, sink, first, second),
         ["modes", first] => modes_alone(alloc, files, sink, first),
         ["plan", first, second] => plan_alone(alloc, files, sink, first, second),
+        ["make", first, second] => make_alone(alloc, sink, first, second),
         _ => Err(CaseFault("no command with a call of its own")),
     }
 }
@@ -501,6 +503,15 @@ fn plan_alone<F: Files, O: Sink>(
 ) -> Result<u8> {
     let words = words_of(alloc, "plan", first, second)?;
     Ok(plan_command(alloc, &words, files, sink))
+}
+
+fn make_alone<O: Sink>(alloc: Global, sink: &mut O, beams: &str, seed: &str) -> Result<u8> {
+    let words = words_of(alloc, "make", beams, seed)?;
+    let made = make_command(alloc, &words, sink);
+    if made.plan.is_some() != (made.status == 0) {
+        return Err(CaseFault("a plan where the status is not 0, or none where it is"));
+    }
+    Ok(made.status)
 }
 
 /// The words of a command with two names.

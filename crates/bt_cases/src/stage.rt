@@ -112,6 +112,7 @@ impl Stage {
         let shown = match words {
             ["histories"] => self.outside.put_histories(out),
             ["stored"] => put_store(alloc, &self.outside, out),
+            ["same", one, other] => self.put_same(one, other, out),
             ["append", name] => self.append(alloc, name),
             ["cut", length] => self.cut(alloc, length),
             [name, words @ ..] => return self.show_calls(alloc, name, words, out),
@@ -119,6 +120,16 @@ impl Stage {
         };
         shown?;
         Ok(true)
+    }
+
+    /// Shows whether two files have the same bytes.
+    fn put_same(&self, one: &str, other: &str, out: &mut String) -> Result<()> {
+        let shown = if self.shelf.text(one)? == self.shelf.text(other)? {
+            ">same\n"
+        } else {
+            ">other\n"
+        };
+        Ok(out.push_str(shown)?)
     }
 
     /// The store gains the bytes of a file.

@@ -29,7 +29,7 @@ use Rattle.bt_cli.specs.Modes.{PrintsSchedule}
 use Rattle.bt_cli.specs.Outcome.{Outcome, Input, FilesFailed, IsContent, IsLoaded, Kind, Loads, PrintsOneOf, StopsAtLoad}
 use Rattle.bt_cli.specs.Plans.{PlansDemand, PrintsPlan}
 use Rattle.bt_cli.specs.Replay.{EndsRecovery, EndsReplay, IsNotRecovered, NamesRecoverFault, PrintsState}
-use Rattle.bt_cli.specs.Request.{Request, Faulty, CheckModes, CheckPlan, PlanModes, PlanDemand, RunScript, ReplayJournal}
+use Rattle.bt_cli.specs.Request.{Request, Faulty, CheckModes, CheckPlan, PlanModes, PlanDemand, RunScript, ReplayJournal, PlanDrawn}
 use Rattle.bt_cli.specs.Run.{End, EndsRun, EndsScript}
 use Rattle.bt_cli.specs.Top.{Ends, Reports}
 use Rattle.bt_cli.proofs.OneJournal.{Laws, told}
@@ -201,5 +201,7 @@ all_served laws input output stored (PlanDemand net traffic) end steady ends = �
     let asked = goes_on (demand_file network) input.told failed traffic links (λ some. WhereItFits network some (PrintsPlan network some)) steady.files of_traffic outcome on in
     status_of outcome _ (fits_on network links (PrintsPlan network links) fits outcome asked).printed)
     ends.1
+all_served laws input output stored (PlanDrawn beams seed) end steady ends =
+    done output (Reports input.told (FilesFailed input) (PlanDrawn beams seed)) end.status steady.sink (λ outcome is. status_of outcome _ is.1.printed) ends.1
 all_served laws input output stored (RunScript net script _) end steady ends = files_done laws input output stored net script end steady ends
 all_served laws input output stored (ReplayJournal net _) end steady ends = replay_done laws input output stored net end.status steady ends.ends

@@ -10,6 +10,7 @@ pub mod OneReportWith
 pub mod Printed
 pub mod Misspelt
 pub mod Named
+pub mod CommandWords
 pub mod Runs
 pub mod Alone
 pub mod PrintedPlans

@@ -21,7 +21,7 @@ use Rattle.bt_cli.specs.Outcome.{Outcome, Kind, text_alone, IsContent, IsLoaded,
 use Rattle.bt_cli.specs.Kinds.{matrix_file, schedule_file, network_file, demand_file, plan_file}
 use Rattle.bt_cli.specs.Check.{ChecksSchedule, Judges, verdict_status}
 use Rattle.bt_cli.specs.Modes.{PrintsSchedule}
-use Rattle.bt_cli.specs.Request.{Request, Faulty, CheckModes, CheckPlan, PlanModes, PlanDemand, RunScript, ReplayJournal}
+use Rattle.bt_cli.specs.Request.{Request, Faulty, CheckModes, CheckPlan, PlanModes, PlanDemand, RunScript, ReplayJournal, PlanDrawn}
 use Rattle.bt_cli.specs.Top.{Reports, IsTold, AreTold, IsOneReport}
 
 -- a told file has one content
@@ -190,5 +190,6 @@ Reports-same laws told (PlanModes matrix) of_matrix a b first second =
     Loads-same AreAlike same_alike matrix_file told matrix of_matrix.0 of_matrix.1 (λ rows. PrintsSchedule rows) (λ rows a b one other. done_alike a b (ap (λ (o : Outcome). o.status) one.3) (ap (λ (o : Outcome). o.status) other.3)) a b first second
 Reports-same laws told (PlanDemand net traffic) (of_net, of_traffic) a b first second =
     Loads-same AreAlike same_alike network_file told net of_net.0 of_net.1 (λ network. PlansDemand told ⊥ traffic network) (PlansDemand-same laws told traffic of_traffic) a b first second
+Reports-same laws told (PlanDrawn _ _) of_files a b one other = done_alike a b (ap (λ (o : Outcome). o.status) one.1.printed) (ap (λ (o : Outcome). o.status) other.1.printed)
 Reports-same laws told (RunScript _ _ _) of_files a b first second = absurd first
 Reports-same laws told (ReplayJournal net _) of_net a b first second = absurd first

@@ -6,6 +6,7 @@ use Rattle.std.proofs.lemmas.Slice.Eq.{bytes_eq-Decides}
 use Rattle.bt_cli.specs.declared.report.Report.{Report}
 use Rattle.bt_cli.specs.declared.command_line.CommandLine.{CommandLine}
 use Rattle.bt_cli.specs.declared.command_line.CommandLine.TheVariants as command
+use Rattle.bt_cli.specs.declared.number_word.BeamCount.{BeamCount}
 use Rattle.bt_cli.specs.Report.{ReportIs}
 use Rattle.bt_cli.specs.CommandLine.{asked, name_of}
 use Rattle.bt_cli.specs.Outcome.{Says}
@@ -27,6 +28,7 @@ faulty_check (command.CheckPlan net traffic plan) request first is named check o
 faulty_check (command.PlanDemand _ _) request first is named check other another = absurd (two_names (codes "plan") (codes "check") first refl named check)
 faulty_check (command.RunScript _ _ _) request first is named check other another = absurd (two_names (codes "run") (codes "check") first refl named check)
 faulty_check (command.PlanModes matrix) request first is named check other another = absurd (two_names (codes "modes") (codes "check") first refl named check)
+faulty_check (command.PlanDrawn _ _) request first is named check other another = absurd (two_names (codes "make") (codes "check") first refl named check)
 faulty_check (command.ReplayJournal _ _) request first is named check other another = absurd (two_names (codes "replay") (codes "check") first refl named check)
 
 pub faulty_modes : (read : CommandLine) (request : Request) (first : Option (List ℕ)) → asked read ≡ request → IfSome (name_of read) (λ name. first ≡ Some name) → first ≡ Some (codes "modes") → ((matrix : Bor (List ℕ)) → read ≡ command.PlanModes matrix → ⊥) → request ≡ Faulty
@@ -35,6 +37,7 @@ faulty_modes (command.CheckModes _ _) request first is named modes other = absur
 faulty_modes (command.CheckPlan _ _ _) request first is named modes other = absurd (two_names (codes "check") (codes "modes") first refl named modes)
 faulty_modes (command.PlanDemand _ _) request first is named modes other = absurd (two_names (codes "plan") (codes "modes") first refl named modes)
 faulty_modes (command.RunScript _ _ _) request first is named modes other = absurd (two_names (codes "run") (codes "modes") first refl named modes)
+faulty_modes (command.PlanDrawn _ _) request first is named modes other = absurd (two_names (codes "make") (codes "modes") first refl named modes)
 faulty_modes (command.ReplayJournal _ _) request first is named modes other = absurd (two_names (codes "replay") (codes "modes") first refl named modes)
 faulty_modes (command.PlanModes matrix) request first is named modes other = absurd (other matrix refl)
 
@@ -44,8 +47,19 @@ faulty_plan (command.CheckModes _ _) request first is named plan other = absurd 
 faulty_plan (command.CheckPlan _ _ _) request first is named plan other = absurd (two_names (codes "check") (codes "plan") first refl named plan)
 faulty_plan (command.PlanModes _) request first is named plan other = absurd (two_names (codes "modes") (codes "plan") first refl named plan)
 faulty_plan (command.PlanDemand net traffic) request first is named plan other = absurd (other net traffic refl)
+faulty_plan (command.PlanDrawn _ _) request first is named plan other = absurd (two_names (codes "make") (codes "plan") first refl named plan)
 faulty_plan (command.ReplayJournal _ _) request first is named plan other = absurd (two_names (codes "replay") (codes "plan") first refl named plan)
 faulty_plan (command.RunScript _ _ _) request first is named plan other = absurd (two_names (codes "run") (codes "plan") first refl named plan)
+
+pub faulty_make : (read : CommandLine) (request : Request) (first : Option (List ℕ)) → asked read ≡ request → IfSome (name_of read) (λ name. first ≡ Some name) → first ≡ Some (codes "make") → ((beams : BeamCount) (seed : ℕ) → read ≡ command.PlanDrawn beams seed → ⊥) → request ≡ Faulty
+faulty_make command.Faulty request first is named make other = sym is
+faulty_make (command.CheckModes _ _) request first is named make other = absurd (two_names (codes "check") (codes "make") first refl named make)
+faulty_make (command.CheckPlan _ _ _) request first is named make other = absurd (two_names (codes "check") (codes "make") first refl named make)
+faulty_make (command.PlanModes _) request first is named make other = absurd (two_names (codes "modes") (codes "make") first refl named make)
+faulty_make (command.PlanDemand _ _) request first is named make other = absurd (two_names (codes "plan") (codes "make") first refl named make)
+faulty_make (command.RunScript _ _ _) request first is named make other = absurd (two_names (codes "run") (codes "make") first refl named make)
+faulty_make (command.ReplayJournal _ _) request first is named make other = absurd (two_names (codes "replay") (codes "make") first refl named make)
+faulty_make (command.PlanDrawn beams seed) request first is named make other = absurd (other beams seed refl)
 
 -- the report to words of no command
 pub reports_faulty : (told : List ℕ → Option (List ℕ)) (failed : Type 0) (request : Request) (report : Report) → request ≡ Faulty → ReportIs (Says (codes "fault" ∷ codes "words" ∷ []) 2) report → ReportIs (Reports told failed request) report

@@ -2,7 +2,7 @@
 use Rattle.std.specs.Prelude.{ℕ, List, codes, Option, Some, None}
 use Rattle.bt_cli.specs.declared.command_line.CommandLine.{CommandLine}
 use Rattle.bt_cli.specs.declared.command_line.CommandLine.TheVariants as command
-use Rattle.bt_cli.specs.Request.{Request, Faulty, CheckModes, CheckPlan, PlanModes, PlanDemand, RunScript, ReplayJournal}
+use Rattle.bt_cli.specs.Request.{Request, Faulty, CheckModes, CheckPlan, PlanModes, PlanDemand, RunScript, ReplayJournal, PlanDrawn}
 
 -- what the command line asks for
 abbrev pub asked : CommandLine → Request
@@ -13,6 +13,7 @@ asked (command.PlanModes matrix) = PlanModes matrix.now
 asked (command.PlanDemand net traffic) = PlanDemand net.now traffic.now
 asked (command.RunScript net script journal) = RunScript net.now script.now journal.now
 asked (command.ReplayJournal net journal) = ReplayJournal net.now journal.now
+asked (command.PlanDrawn beams seed) = PlanDrawn beams.count seed
 
 -- the name of its command
 abbrev pub name_of : CommandLine → Option (List ℕ)
@@ -23,3 +24,4 @@ name_of (command.PlanModes _) = Some (codes "modes")
 name_of (command.PlanDemand _ _) = Some (codes "plan")
 name_of (command.RunScript _ _ _) = Some (codes "run")
 name_of (command.ReplayJournal _ _) = Some (codes "replay")
+name_of (command.PlanDrawn _ _) = Some (codes "make")

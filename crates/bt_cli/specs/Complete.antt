@@ -18,7 +18,7 @@ use Rattle.bt_cli.specs.Check.{verdict_status}
 use Rattle.bt_cli.specs.Fitting.{Fits}
 use Rattle.bt_cli.specs.Kinds.{matrix_file, schedule_file, network_file, demand_file, plan_file, script_file}
 use Rattle.bt_cli.specs.Outcome.{Input, FilesFailed, Kind}
-use Rattle.bt_cli.specs.Request.{Request, Faulty, CheckModes, CheckPlan, PlanModes, PlanDemand, RunScript, ReplayJournal}
+use Rattle.bt_cli.specs.Request.{Request, Faulty, CheckModes, CheckPlan, PlanModes, PlanDemand, RunScript, ReplayJournal, PlanDrawn}
 
 -- neither a file nor the output nor the store failed in the call: no count of faults rose or stands at its last value
 pub record NothingFails (input : Input) (output : Output) (stored : Stored) : Type 0 where
@@ -60,6 +60,7 @@ Serves told stored (PlanModes matrix) status = (rows : List (List ℕ)) → Spel
 Serves told stored (PlanDemand net traffic) status =
     (network : Net) (links : List Link) → Spells network_file told net network → Spells (demand_file network) told traffic links
     → Fits network links → IsDone status
+Serves told stored (PlanDrawn _ _) status = IsDone status
 Serves told stored (RunScript net script _) status =
     (network : Net) (read : Script) → Spells network_file told net network → Spells (script_file network) told script read
     → TellsChanges network stored → IsDone status

@@ -1,6 +1,8 @@
 -- What the words after the program's name ask for.
-use Rattle.std.specs.Prelude.{ℕ, ◌&&◌, if◌then◌else◌, nat_lt, length, codes, Bool, List, [], ◌∷◌, Option, Some, None}
+use Rattle.std.specs.Prelude.{ℕ, ◌-◌, ◌^◌, ◌&&◌, if◌then◌else◌, nat_le, nat_lt, length, codes, Bool, List, [], ◌∷◌, Option, Some, None, option_and_then}
 use Rattle.std.specs.Str.{bytes_eq}
+use Rattle.bt_frame.specs.declared.limits.TheConstants.{MOST_BEAMS}
+use Rattle.bt_text.specs.Text.{number_of}
 
 -- a command with its words, or words of no command
 pub data Request : Type 0 where
@@ -11,6 +13,7 @@ pub data Request : Type 0 where
   PlanDemand : List ℕ → List ℕ → Request
   RunScript : List ℕ → List ℕ → List ℕ → Request
   ReplayJournal : List ℕ → List ℕ → Request
+  PlanDrawn : ℕ → ℕ → Request
 
 -- `check MATRIX MODES`; a word that names a file is not empty
 abbrev pub check_request : List ℕ → List ℕ → Request
@@ -40,6 +43,27 @@ run_request net script journal = if are_words net script journal then RunScript 
 abbrev pub replay_request : List ℕ → List ℕ → Request
 replay_request net journal = if nat_lt 0 (length net) && nat_lt 0 (length journal) then ReplayJournal net journal else Faulty
 
+-- the number, where it is one of these
+abbrev pub within : ℕ → ℕ → ℕ → Option ℕ
+within least most number = if nat_le least number && nat_le number most then Some number else None
+
+-- the number of beams that a word is, where a network may have so many
+abbrev pub beam_count_of : List ℕ → Option ℕ
+beam_count_of word = option_and_then (within 1 MOST_BEAMS) (number_of word)
+
+-- the number that a word is from which a demand may be drawn: one of 64 bits
+abbrev pub seed_of : List ℕ → Option ℕ
+seed_of word = option_and_then (within 0 (2 ^ 64 - 1)) (number_of word)
+
+-- a demand that is drawn, where both of its words are numbers in range
+abbrev pub drawn_request : Option ℕ → Option ℕ → Request
+drawn_request (Some beams) (Some seed) = PlanDrawn beams seed
+drawn_request _ _ = Faulty
+
+-- `make N NUMBER`
+abbrev pub make_request : List ℕ → List ℕ → Request
+make_request beams seed = drawn_request (beam_count_of beams) (seed_of seed)
+
 -- what a command with one word asks for
 abbrev pub asked_with_one : List ℕ → List ℕ → Request
 asked_with_one command first = if bytes_eq command (codes "modes") then modes_request first else Faulty
@@ -49,7 +73,8 @@ abbrev pub asked_with_two : List ℕ → List ℕ → List ℕ → Request
 asked_with_two command first second =
     if bytes_eq command (codes "check") then check_request first second
     else (if bytes_eq command (codes "plan") then plan_request first second
-    else (if bytes_eq command (codes "replay") then replay_request first second else Faulty))
+    else (if bytes_eq command (codes "replay") then replay_request first second
+    else (if bytes_eq command (codes "make") then make_request first second else Faulty)))
 
 -- what a command with three words asks for
 abbrev pub asked_with_three : List ℕ → List ℕ → List ℕ → List ℕ → Request

@@ -1,8 +1,10 @@
 // What the words after the program's name ask for.
 ghost use Rattle.std.specs.Prelude.{◌≡◌, map, codes, IfSome};
 ghost use Rattle.std.specs.String.{string_bytes};
-ghost use Rattle.bt_cli.specs.Request.{asked_with_one, asked_with_three, asked_with_two, check_plan_request, check_request, first_word, modes_request, plan_request, replay_request, request_of, run_request};
+ghost use Rattle.bt_cli.specs.Request.{asked_with_one, asked_with_three, asked_with_two, check_plan_request, check_request, first_word, make_request, modes_request, plan_request, replay_request, request_of, run_request};
 ghost use Rattle.bt_cli.specs.CommandLine.{asked, name_of};
+
+use crate::number_word::{BeamCount, seed_of};
 
 /// A command line: a command with its words.
 #[derive(Clone, Copy)]
@@ -39,6 +41,11 @@ pub enum CommandLine<'a> {
     ReplayJournal {
         net: &'a str,
         journal: &'a str,
+    },
+    /// `make N NUMBER`.
+    PlanDrawn {
+        beams: BeamCount,
+        seed: u64,
     },
 }
 
@@ -78,6 +85,8 @@ fn with_two<'a>(command: &str, first: &'a str, second: &'a str) -> CommandLine<'
         plan_of(first, second)
     } else if command == "replay" {
         replay_of(first, second)
+    } else if command == "make" {
+        make_of(first, second)
     } else {
         CommandLine::Faulty
     }
@@ -164,5 +173,15 @@ fn replay_of<'a>(net: &'a str, journal: &'a str) -> CommandLine<'a>
         CommandLine::Faulty
     } else {
         CommandLine::ReplayJournal { net, journal }
+    }
+}
+
+fn make_of(beams: &str, seed: &str) -> CommandLine<'static>
+    ensures asked { asked result ≡ make_request beams.now seed.now }
+    ensures named { IfSome (name_of result) (λ name. name ≡ codes "make") }
+{
+    match (BeamCount::of(beams), seed_of(seed)) {
+        (Some(beams), Some(seed)) => CommandLine::PlanDrawn { beams, seed },
+        _ => CommandLine::Faulty,
     }
 }

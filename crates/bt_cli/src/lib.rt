@@ -14,13 +14,16 @@ mod faulty;
 mod fit;
 mod laws;
 mod load;
+mod make;
 mod modes;
+mod number_word;
 mod plan;
 mod print;
 mod replay;
 mod report;
 mod run;
 mod stops;
+mod summary;
 mod top;
 
 pub use bt_centre::{
@@ -32,6 +35,7 @@ pub use laws::{
     ends_are_reports, one_report, printed_plans_are_read_back, printed_schedules_are_read_back,
     sound_input_is_served,
 };
+pub use make::{Made, make_command};
 pub use modes::modes_command;
 pub use plan::plan_command;
 pub use replay::replay_command;

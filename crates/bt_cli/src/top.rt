@@ -7,6 +7,7 @@ ghost use Rattle.bt_cli.specs.Top.{AsksNoStore, Ends, Reported};
 use crate::check::check_command;
 use crate::command_line::{CommandLine, command_line_of};
 use crate::faulty::print_faulty_words;
+use crate::make::make_command;
 use crate::modes::modes_command;
 use crate::plan::plan_command;
 use crate::replay::replay_command;
@@ -119,6 +120,7 @@ fn report<F: Files, O: Sink>(alloc: Global, words: &[String], files: &mut F, out
         }
         CommandLine::PlanModes { .. } => modes_command(alloc, words, files, out),
         CommandLine::PlanDemand { .. } => plan_command(alloc, words, files, out),
+        CommandLine::PlanDrawn { .. } => make_command(alloc, words, out).status,
         CommandLine::RunScript { .. } | CommandLine::ReplayJournal { .. } => unreachable!(),
     }
 }

@@ -6,6 +6,8 @@
 #![tactic(auto)]
 
 mod generator;
+mod laws;
 mod made;
 
+pub use laws::first_draw_is_known;
 pub use made::{Made, make_demand};

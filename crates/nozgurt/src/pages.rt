@@ -73,6 +73,14 @@ commands
       example: nozgurt replay examples/two-beams.net
                examples/calm-change.journal
 
+  make N NUMBER
+      Draws a demand on a network of N beams, 1 to 16, from the number NUMBER
+      on, 0 to 18446744073709551615, and plans it: for trials of any size.
+      Prints how many links and slots it has, how long the plan is and which row
+      or column asks for so many slots, and how many modes and bursts the plan
+      has. The same numbers draw the same demand.
+      example: nozgurt make 16 7
+
   --help      prints this page
   --version   prints the version
 

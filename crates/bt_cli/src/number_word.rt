@@ -1,0 +1,45 @@
+// Words of a command that are numbers.
+ghost use Rattle.std.specs.Prelude.{◌≡◌, option_map};
+ghost use Rattle.bt_frame.specs.Range.{IsWithin};
+ghost use Rattle.bt_frame.specs.declared.limits.TheConstants.{MOST_BEAMS};
+ghost use Rattle.bt_cli.specs.Request.{beam_count_of, seed_of};
+
+use bt_frame::MOST_BEAMS;
+use bt_text::number;
+
+/// The last number of 64 bits, as a word.
+const LAST_SEED: &str = "18446744073709551615";
+
+/// How many beams a network is to have.
+#[derive(Clone, Copy)]
+pub struct BeamCount {
+    pub count: u32,
+    ghost in_range: { IsWithin 1 MOST_BEAMS count },
+}
+
+impl BeamCount {
+    /// The number of beams that a word is; None where no network may have so many, or the word is no number.
+    pub fn of(word: &str) -> Option<BeamCount>
+        ensures count { option_map (λ beams. beams.count) result ≡ beam_count_of word.now }
+    {
+        match number(word.as_bytes()) {
+            Some(count @ 1..=16) => Some(BeamCount {
+                count: count as u32,
+            }),
+            _ => None,
+        }
+    }
+}
+
+/// The number of 64 bits that a word is; None where it is a larger one, or no number.
+pub fn seed_of(word: &str) -> Option<u64>
+    ensures seed { result ≡ seed_of word.now }
+{
+    let seed = number(word.as_bytes())?;
+    // The last number stands for every larger one too.
+    if seed < u64::MAX || word == LAST_SEED {
+        Some(seed)
+    } else {
+        None
+    }
+}
