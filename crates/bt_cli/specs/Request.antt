@@ -1,7 +1,7 @@
 -- What the words after the program's name ask for.
 use Rattle.std.specs.Prelude.{ℕ, ◌-◌, ◌^◌, ◌&&◌, if◌then◌else◌, nat_le, nat_lt, length, codes, Bool, List, [], ◌∷◌, Option, Some, None, option_and_then}
 use Rattle.std.specs.Str.{bytes_eq}
-use Rattle.bt_frame.specs.declared.limits.TheConstants.{MOST_BEAMS}
+use Rattle.bt_frame.specs.declared.limits.TheConstants.{MOST_NUMBERED_BEAMS}
 use Rattle.bt_text.specs.Text.{number_of}
 
 -- a command with its words, or words of no command
@@ -47,9 +47,9 @@ replay_request net journal = if nat_lt 0 (length net) && nat_lt 0 (length journa
 abbrev pub within : ℕ → ℕ → ℕ → Option ℕ
 within least most number = if nat_le least number && nat_le number most then Some number else None
 
--- the number of beams that a word is, where a network may have so many
+-- the number of beams that a word is, where a network is numbered with so many
 abbrev pub beam_count_of : List ℕ → Option ℕ
-beam_count_of word = option_and_then (within 1 MOST_BEAMS) (number_of word)
+beam_count_of word = option_and_then (within 1 MOST_NUMBERED_BEAMS) (number_of word)
 
 -- the number that a word is from which a demand may be drawn: one of 64 bits
 abbrev pub seed_of : List ℕ → Option ℕ

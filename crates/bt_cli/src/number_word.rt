@@ -1,10 +1,10 @@
 // Words of a command that are numbers.
 ghost use Rattle.std.specs.Prelude.{◌≡◌, option_map};
 ghost use Rattle.bt_frame.specs.Range.{IsWithin};
-ghost use Rattle.bt_frame.specs.declared.limits.TheConstants.{MOST_BEAMS};
+ghost use Rattle.bt_frame.specs.declared.limits.TheConstants.{MOST_NUMBERED_BEAMS};
 ghost use Rattle.bt_cli.specs.Request.{beam_count_of, seed_of};
 
-use bt_frame::MOST_BEAMS;
+use bt_frame::MOST_NUMBERED_BEAMS;
 use bt_text::number;
 
 /// The last number of 64 bits, as a word.
@@ -14,11 +14,11 @@ const LAST_SEED: &str = "18446744073709551615";
 #[derive(Clone, Copy)]
 pub struct BeamCount {
     pub count: u32,
-    ghost in_range: { IsWithin 1 MOST_BEAMS count },
+    ghost in_range: { IsWithin 1 MOST_NUMBERED_BEAMS count },
 }
 
 impl BeamCount {
-    /// The number of beams that a word is; None where no network may have so many, or the word is no number.
+    /// The number of beams that a word is; None where no network is numbered with so many, or the word is no number.
     pub fn of(word: &str) -> Option<BeamCount>
         ensures count { option_map (λ beams. beams.count) result ≡ beam_count_of word.now }
     {
