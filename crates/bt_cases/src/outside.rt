@@ -7,7 +7,7 @@ use crate::ending::Ending;
 use bt_base::{Fail, Files, MemFiles, MemKeeper, MemSink, Sink, SureKeeper, SureSink};
 use bt_cli::{
     History, WRITE_FAILED, centre_main, check_command, make_command, modes_command, plan_command,
-    replay_command,
+    replay_command, timing_command,
 };
 use bt_sheet::{CaseFault, Part, Result, Shelf, number_of};
 use std::alloc::Global;
@@ -466,6 +466,9 @@ fn status_alone<F: Files, O: Sink>(
         ["modes", first] => modes_alone(alloc, files, sink, first),
         ["plan", first, second] => plan_alone(alloc, files, sink, first, second),
         ["make", first, second] => make_alone(alloc, sink, first, second),
+        ["timing", net, traffic, plan, delays] => {
+            timing_alone(alloc, files, sink, [net, traffic, plan, delays])
+        }
         _ => Err(CaseFault("no command with a call of its own")),
     }
 }
@@ -512,6 +515,23 @@ fn make_alone<O: Sink>(alloc: Global, sink: &mut O, beams: &str, seed: &str) -> 
         return Err(CaseFault("a plan where the status is not 0, or none where it is"));
     }
     Ok(made.status)
+}
+
+fn timing_alone<F: Files, O: Sink>(
+    alloc: Global,
+    files: &mut F,
+    sink: &mut O,
+    names: [&str; 4],
+) -> Result<u8> {
+    let [net, traffic, plan, delays] = names;
+    let words = vec![in alloc;
+        String::from_str(alloc, "timing")?,
+        String::from_str(alloc, net)?,
+        String::from_str(alloc, traffic)?,
+        String::from_str(alloc, plan)?,
+        String::from_str(alloc, delays)?,
+    ]?;
+    Ok(timing_command(alloc, &words, files, sink))
 }
 
 /// The words of a command with two names.

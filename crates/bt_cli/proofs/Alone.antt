@@ -6,7 +6,7 @@ use Rattle.bt_cli.specs.declared.command_line.CommandLine.TheVariants as command
 use Rattle.bt_cli.specs.CommandLine.{asked}
 use Rattle.bt_centre.specs.Output.{Output}
 use Rattle.bt_cli.specs.Outcome.{Input}
-use Rattle.bt_cli.specs.Request.{Request, Faulty, CheckModes, CheckPlan, PlanModes, PlanDemand, RunScript, ReplayJournal, PlanDrawn}
+use Rattle.bt_cli.specs.Request.{Request, Faulty, CheckModes, CheckPlan, PlanModes, PlanDemand, RunScript, ReplayJournal, PlanDrawn, TimeSends}
 use Rattle.bt_cli.specs.Replay.{EndsReplayWords}
 use Rattle.bt_cli.specs.Run.{End}
 use Rattle.bt_cli.specs.Top.{AsksNoStore, Ends}
@@ -19,6 +19,7 @@ none_asked (command.CheckPlan _ _ _) no_run no_replay = tt
 none_asked (command.PlanModes _) no_run no_replay = tt
 none_asked (command.PlanDemand _ _) no_run no_replay = tt
 none_asked (command.PlanDrawn _ _) no_run no_replay = tt
+none_asked (command.TimeSends _ _ _ _) no_run no_replay = tt
 none_asked (command.RunScript net script journal) no_run no_replay = absurd (no_run net script journal refl)
 none_asked (command.ReplayJournal net journal) no_run no_replay = absurd (no_replay net journal refl)
 

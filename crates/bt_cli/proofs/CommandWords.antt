@@ -13,14 +13,15 @@ too_few word [] few = refl
 too_few word (_ ∷ []) few = refl
 too_few word (_ ∷ _ ∷ rest) few = absurd (omega (arith, few))
 
--- or more than four
-pub too_many : {A : Type 0} (word : A → List ℕ) (words : List A) → 4 < length words → Faulty ≡ request_of (map word words)
+-- or more than five
+pub too_many : {A : Type 0} (word : A → List ℕ) (words : List A) → 5 < length words → Faulty ≡ request_of (map word words)
 too_many word [] many = absurd (omega (arith, many))
 too_many word (_ ∷ []) many = absurd (omega (arith, many))
 too_many word (_ ∷ _ ∷ []) many = absurd (omega (arith, many))
 too_many word (_ ∷ _ ∷ _ ∷ []) many = absurd (omega (arith, many))
 too_many word (_ ∷ _ ∷ _ ∷ _ ∷ []) many = absurd (omega (arith, many))
-too_many word (_ ∷ _ ∷ _ ∷ _ ∷ _ ∷ rest) many = refl
+too_many word (_ ∷ _ ∷ _ ∷ _ ∷ _ ∷ []) many = absurd (omega (arith, many))
+too_many word (_ ∷ _ ∷ _ ∷ _ ∷ _ ∷ _ ∷ rest) many = refl
 
 -- another word than that of the last number is not the last number
 other_number : (word : List ℕ) (n : ℕ) → number_of word ≡ Some n → bytes_eq word (codes "18446744073709551615") ≡ false → n ≡ 2 ^ 64 - 1 → ⊥

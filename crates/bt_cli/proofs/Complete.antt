@@ -1,5 +1,5 @@
 -- Where nothing is at fault and nothing fails, a command does its work.
-use Rattle.std.proofs.Common.{◌≡◌, ◌⊎◌, ℕ, ◌<◌, ◌≤◌, inl, inr, List, [], length, Option, Some, Ok, refl, sym, ap, ◌∙◌, subst, arith}
+use Rattle.std.proofs.Common.{◌≡◌, ◌≢◌, ◌⊎◌, ℕ, ◌<◌, ◌≤◌, inl, inr, List, [], length, Option, Some, Ok, refl, sym, ap, ◌∙◌, subst, arith}
 use Rattle.bt_frame.specs.declared.limits.TheConstants.{MOST_JOURNAL_BYTES}
 use Rattle.bt_outside.specs.Told.{Gives, Rose}
 use Rattle.bt_frame.specs.declared.schedule.Schedule.{Schedule}
@@ -8,6 +8,7 @@ use Rattle.bt_air.specs.declared.event.Event.{Event}
 use Rattle.bt_demand.specs.declared.demand.Link.{Link}
 use Rattle.bt_demand.specs.declared.plan.Plan.{Plan}
 use Rattle.bt_verdict.specs.declared.verdict.Verdict.{Verdict}
+use Rattle.bt_verdict.specs.declared.verdict.Verdict.TheVariants.{Good, V1, V2, V3, V4, V5, V6, V7, V8}
 use Rattle.bt_verdict.specs.PlanVerdict.{IsPlanVerdict}
 use Rattle.bt_verdict.specs.Verdict.{IsVerdict}
 use Rattle.bt_script.specs.declared.script.Item.{Item}
@@ -20,17 +21,19 @@ use Rattle.bt_centre.specs.declared.history.History.{History}
 use Rattle.bt_centre.specs.Output.{Output, HasFailed, Prints}
 use Rattle.bt_centre.specs.Run.{EndsFrom, RunsTo}
 use Rattle.bt_centre.specs.Stored.{IsSteady, Stored}
+use Rattle.bt_timing.specs.Times.{Times}
 use Rattle.bt_cli.specs.Check.{ChecksSchedule, Judges, verdict_status}
 use Rattle.bt_cli.specs.CheckPlan.{ChecksDemand, ChecksPlanText, JudgesPlan}
 use Rattle.bt_cli.specs.Complete.{IsDone, IsJudged, NothingFails, Serves, Spells, TellsChanges}
 use Rattle.bt_cli.specs.Fitting.{Fits, WhereItFits}
-use Rattle.bt_cli.specs.Kinds.{matrix_file, schedule_file, network_file, demand_file, plan_file, script_file}
+use Rattle.bt_cli.specs.Kinds.{matrix_file, schedule_file, network_file, demand_file, plan_file, script_file, delay_file}
 use Rattle.bt_cli.specs.Modes.{PrintsSchedule}
 use Rattle.bt_cli.specs.Outcome.{Outcome, Input, FilesFailed, IsContent, IsLoaded, Kind, Loads, PrintsOneOf, StopsAtLoad}
 use Rattle.bt_cli.specs.Plans.{PlansDemand, PrintsPlan}
 use Rattle.bt_cli.specs.Replay.{EndsRecovery, EndsReplay, IsNotRecovered, NamesRecoverFault, PrintsState}
-use Rattle.bt_cli.specs.Request.{Request, Faulty, CheckModes, CheckPlan, PlanModes, PlanDemand, RunScript, ReplayJournal, PlanDrawn}
+use Rattle.bt_cli.specs.Request.{Request, Faulty, CheckModes, CheckPlan, PlanModes, PlanDemand, RunScript, ReplayJournal, PlanDrawn, TimeSends}
 use Rattle.bt_cli.specs.Run.{End, EndsRun, EndsScript}
+use Rattle.bt_cli.specs.Timing.{NamesVerdict, PrintsSends, TimesDelays, TimesDemand, TimesPlanText, WhereItIsGood}
 use Rattle.bt_cli.specs.Top.{Ends, Reports}
 use Rattle.bt_cli.proofs.OneJournal.{Laws, told}
 use Rattle.bt_cli.proofs.OneReport.{IsLoaded-same, Misspells-not_loaded, never_both, not_longer}
@@ -96,6 +99,25 @@ fits_on net links after fits outcome (inr (here, so)) = so
 
 status_of : (a b : Outcome) → a ≡ b → a.status ≡ b.status
 status_of a b same = ap (λ (o : Outcome). o.status) same
+
+-- the status of a verdict that is not good
+bad_status : (verdict : Verdict) → verdict ≢ Good → 9 ≡ verdict_status verdict
+bad_status Good bad = absurd (bad refl)
+bad_status (V1 _) bad = refl
+bad_status (V2 _) bad = refl
+bad_status (V3 _ _) bad = refl
+bad_status (V4 _ _) bad = refl
+bad_status (V5 _ _) bad = refl
+bad_status (V6 _) bad = refl
+bad_status (V7 _ _ _ _) bad = refl
+bad_status (V8 _ _ _ _) bad = refl
+
+-- the times of a plan come with the status of its verdict, where the delays are told and spelled
+timed_status : (input : Input) (delays : List ℕ) (net : Net) (links : List Link) (plan : Plan) (times : Times) → ¬ (FilesFailed input) → Spells (delay_file net) input.told delays times → (outcome : Outcome)
+    → WhereItIsGood net links plan (TimesDelays input.told (FilesFailed input) delays net plan) outcome → HasStatus (IsPlanVerdict net links plan) outcome
+timed_status input delays net links plan times steady spells outcome (inl named) = (named.verdict, named.is, status_of outcome _ named.says ∙ bad_status named.verdict named.bad)
+timed_status input delays net links plan times steady spells outcome (inr (good, so)) =
+    (Good, good, status_of outcome _ (goes_on (delay_file net) input.told (FilesFailed input) delays times (λ one. PrintsSends net plan one) steady spells outcome so).printed)
 
 -- ---- the store
 
@@ -200,6 +222,16 @@ all_served laws input output stored (PlanDemand net traffic) end steady ends = �
     let on = goes_on network_file input.told failed net network (λ n. PlansDemand input.told failed traffic n) steady.files of_net outcome is in
     let asked = goes_on (demand_file network) input.told failed traffic links (λ some. WhereItFits network some (PrintsPlan network some)) steady.files of_traffic outcome on in
     status_of outcome _ (fits_on network links (PrintsPlan network links) fits outcome asked).printed)
+    ends.1
+all_served laws input output stored (TimeSends net traffic plan delays) end steady ends = λ network links read times of_net of_traffic fits of_plan of_delays.
+    let failed = FilesFailed input in
+    judged output (Reports input.told failed (TimeSends net traffic plan delays)) (IsPlanVerdict network links read) end.status steady.sink
+    (λ outcome is.
+    let on = goes_on network_file input.told failed net network (λ n. TimesDemand input.told failed traffic plan delays n) steady.files of_net outcome is in
+    let asked = goes_on (demand_file network) input.told failed traffic links (λ some. WhereItFits network some (TimesPlanText input.told failed plan delays network some)) steady.files of_traffic outcome on in
+    let fitting = fits_on network links (TimesPlanText input.told failed plan delays network links) fits outcome asked in
+    let found = goes_on (plan_file network) input.told failed plan read (λ one. WhereItIsGood network links one (TimesDelays input.told failed delays network one)) steady.files of_plan outcome fitting in
+    timed_status input delays network links read times steady.files of_delays outcome found)
     ends.1
 all_served laws input output stored (PlanDrawn beams seed) end steady ends =
     done output (Reports input.told (FilesFailed input) (PlanDrawn beams seed)) end.status steady.sink (λ outcome is. status_of outcome _ is.1.printed) ends.1

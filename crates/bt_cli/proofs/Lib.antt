@@ -11,6 +11,7 @@ pub mod Printed
 pub mod Misspelt
 pub mod Named
 pub mod CommandWords
+pub mod Timed
 pub mod Runs
 pub mod Alone
 pub mod PrintedPlans

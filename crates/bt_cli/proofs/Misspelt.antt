@@ -13,6 +13,8 @@ use Rattle.bt_plan.specs.PlanText.{plan_of}
 use Rattle.bt_plan.specs.ScheduleText.{schedule_of}
 use Rattle.bt_plan.specs.declared.text_fault.TextCode.{TextCode}
 use Rattle.bt_script.specs.declared.fault.ScriptCode.{ScriptCode}
+use Rattle.bt_timing.specs.declared.fault.TimingCode.{TimingCode}
+use Rattle.bt_timing.specs.DelayText.{times_of}
 use Rattle.bt_text.specs.declared.fault.LineFault.{LineFault}
 use Rattle.bt_text.specs.declared.fault.LineFault.TheVariants as line_fault
 use Rattle.bt_script.specs.ScriptText.{script_of}
@@ -20,8 +22,8 @@ use Rattle.bt_cli.specs.declared.report.Stop.{Stop}
 use Rattle.bt_cli.specs.declared.report.Stop.TheVariants as stop
 use Rattle.bt_cli.specs.Report.{StopIs}
 use Rattle.bt_cli.specs.Outcome.{IsContent, StopsAtLoad}
-use Rattle.bt_cli.specs.Kinds.{text_file, demand_file, matrix_file, plan_file, schedule_file, network_file, script_file}
-use Rattle.bt_cli.specs.Stops.{NamesTextFault, NamesNetworkFault, NamesScriptFault}
+use Rattle.bt_cli.specs.Kinds.{text_file, demand_file, matrix_file, plan_file, schedule_file, network_file, script_file, delay_file}
+use Rattle.bt_cli.specs.Stops.{NamesTextFault, NamesNetworkFault, NamesScriptFault, NamesTimingFault}
 
 text_misspelt : {Value : Type 0} (reading : List ℕ → Reading Value) (told : List ℕ → Option (List ℕ)) (failed : Type 0) (name bytes : List ℕ) (fault : LineFault TextCode) (why : Stop) → IsContent told name bytes → IsFaultOf (reading bytes) fault → StopIs (NamesTextFault fault) why → StopIs (StopsAtLoad (text_file reading) told failed name) why
 text_misspelt reading told failed name bytes fault stop.OutOfMemory content is names = tt
@@ -32,6 +34,11 @@ pub script_misspelt : (net : Net) (told : List ℕ → Option (List ℕ)) (faile
 script_misspelt net told failed name bytes fault stop.OutOfMemory content is names = tt
 script_misspelt net told failed name bytes (line_fault.At code line) (stop.Early report) content is names = inr (bytes, (code, line), content, is, names)
 script_misspelt net told failed name bytes line_fault.OutOfMemory (stop.Early report) content is names = absurd names
+
+pub delays_misspelt : (net : Net) (told : List ℕ → Option (List ℕ)) (failed : Type 0) (name bytes : List ℕ) (fault : LineFault TimingCode) (why : Stop) → IsContent told name bytes → IsFaultOf (times_of net bytes) fault → StopIs (NamesTimingFault fault) why → StopIs (StopsAtLoad (delay_file net) told failed name) why
+delays_misspelt net told failed name bytes fault stop.OutOfMemory content is names = tt
+delays_misspelt net told failed name bytes (line_fault.At code line) (stop.Early report) content is names = inr (bytes, (code, line), content, is, names)
+delays_misspelt net told failed name bytes line_fault.OutOfMemory (stop.Early report) content is names = absurd names
 
 pub network_misspelt : (told : List ℕ → Option (List ℕ)) (failed : Type 0) (name bytes : List ℕ) (fault : NetFault) (why : Stop) → IsContent told name bytes → Fails fault (network_in bytes) → StopIs (NamesNetworkFault fault) why → StopIs (StopsAtLoad network_file told failed name) why
 network_misspelt told failed name bytes fault stop.OutOfMemory content is names = tt

@@ -1,4 +1,8 @@
 -- Where the files are told and no read failed, what is asked has one report.
+use Rattle.bt_verdict.specs.declared.verdict.Verdict.TheVariants.{Good}
+use Rattle.bt_demand.specs.Plan.{IsGoodPlan}
+use Rattle.bt_timing.specs.Times.{Times}
+use Rattle.bt_cli.specs.Timing.{NamesVerdict, PrintsSends, TimesDelays, TimesDemand, TimesPlanText, WhereItIsGood}
 use Rattle.std.proofs.Common.{◌≡◌, ℕ, ◌<◌, ◌≤◌, ◌⊎◌, inl, inr, List, length, Option, Some, None, Result, Ok, Err, sym, ap, ◌∙◌, subst, arith}
 use Rattle.bt_outside.specs.Told.{Gives, IsLonger}
 use Rattle.bt_frame.specs.declared.schedule.Schedule.{Schedule}
@@ -18,10 +22,10 @@ use Rattle.bt_cli.specs.Plans.{PrintsPlan, PlansDemand}
 use Rattle.bt_words.specs.Lines.{line_of}
 use Rattle.bt_timeline.specs.Verdicts.{verdict_words}
 use Rattle.bt_cli.specs.Outcome.{Outcome, Kind, text_alone, IsContent, IsLoaded, Misspells, Loads}
-use Rattle.bt_cli.specs.Kinds.{matrix_file, schedule_file, network_file, demand_file, plan_file}
+use Rattle.bt_cli.specs.Kinds.{matrix_file, schedule_file, network_file, demand_file, plan_file, delay_file}
 use Rattle.bt_cli.specs.Check.{ChecksSchedule, Judges, verdict_status}
 use Rattle.bt_cli.specs.Modes.{PrintsSchedule}
-use Rattle.bt_cli.specs.Request.{Request, Faulty, CheckModes, CheckPlan, PlanModes, PlanDemand, RunScript, ReplayJournal, PlanDrawn}
+use Rattle.bt_cli.specs.Request.{Request, Faulty, CheckModes, CheckPlan, PlanModes, PlanDemand, RunScript, ReplayJournal, PlanDrawn, TimeSends}
 use Rattle.bt_cli.specs.Top.{Reports, IsTold, AreTold, IsOneReport}
 
 -- a told file has one content
@@ -179,6 +183,39 @@ PlansDemand-same laws told traffic of_traffic net =
     Loads-same AreAlike same_alike (demand_file net) told traffic of_traffic.0 of_traffic.1 (λ links. WhereItFits net links (PrintsPlan net links))
     (λ links. WhereItFits-same laws.line laws.sum AreAlike same_alike net links (PrintsPlan net links) (λ a b one other. done_alike a b (ap (λ (o : Outcome). o.status) one.printed) (ap (λ (o : Outcome). o.status) other.printed)))
 
+-- a plan is not good in one way
+verdict_same : OnePlanVerdict → (net : Net) (links : List Link) (plan : Plan) (a b : Outcome) → NamesVerdict net links plan a → NamesVerdict net links plan b → a ≡ b
+verdict_same law net links plan a b one other =
+    let same : one.verdict ≡ other.verdict = law net links plan one.verdict other.verdict one.demand one.is other.is in
+    one.says ∙ ap (λ v. text_alone (line_of (verdict_words (Some net) v)) 9) same ∙ sym other.says
+
+-- and one that is not good is not good
+never_good : OnePlanVerdict → (net : Net) (links : List Link) (plan : Plan) (a : Outcome) → NamesVerdict net links plan a → IsGoodPlan net links plan → ⊥
+never_good law net links plan a one good = one.bad (law net links plan one.verdict Good one.demand one.is good)
+
+WhereItIsGood-same : OnePlanVerdict → (net : Net) (links : List Link) (plan : Plan) (after : Outcome → Type 0) → ((a b : Outcome) → after a → after b → a ≡ b) → (a b : Outcome)
+    → WhereItIsGood net links plan after a → WhereItIsGood net links plan after b → a ≡ b
+WhereItIsGood-same law net links plan after same a b (inl bad) (inl other) = verdict_same law net links plan a b bad other
+WhereItIsGood-same law net links plan after same a b (inl bad) (inr (good, so)) = absurd (never_good law net links plan a bad good)
+WhereItIsGood-same law net links plan after same a b (inr (good, so)) (inl bad) = absurd (never_good law net links plan b bad good)
+WhereItIsGood-same law net links plan after same a b (inr (good, so)) (inr (also, so')) = same a b so so'
+
+TimesDelays-same : (told : List ℕ → Option (List ℕ)) (delays : List ℕ) → IsTold told delays → (net : Net) (plan : Plan) (a b : Outcome) → TimesDelays told ⊥ delays net plan a → TimesDelays told ⊥ delays net plan b → a ≡ b
+TimesDelays-same told delays of_delays net plan =
+    Loads-same IsOne is_one (delay_file net) told delays of_delays.0 of_delays.1 (λ times. PrintsSends net plan times) (λ times a b one other. one.printed ∙ sym other.printed)
+
+TimesPlanText-same : Laws → (told : List ℕ → Option (List ℕ)) (plan delays : List ℕ) → IsTold told plan → IsTold told delays → (net : Net) (links : List Link) (a b : Outcome)
+    → TimesPlanText told ⊥ plan delays net links a → TimesPlanText told ⊥ plan delays net links b → a ≡ b
+TimesPlanText-same laws told plan delays of_plan of_delays net links =
+    Loads-same IsOne is_one (plan_file net) told plan of_plan.0 of_plan.1 (λ read. WhereItIsGood net links read (TimesDelays told ⊥ delays net read))
+    (λ read. WhereItIsGood-same laws.plan_verdict net links read (TimesDelays told ⊥ delays net read) (TimesDelays-same told delays of_delays net read))
+
+TimesDemand-same : Laws → (told : List ℕ → Option (List ℕ)) (traffic plan delays : List ℕ) → IsTold told traffic → IsTold told plan → IsTold told delays → (net : Net) (a b : Outcome)
+    → TimesDemand told ⊥ traffic plan delays net a → TimesDemand told ⊥ traffic plan delays net b → a ≡ b
+TimesDemand-same laws told traffic plan delays of_traffic of_plan of_delays net =
+    Loads-same IsOne is_one (demand_file net) told traffic of_traffic.0 of_traffic.1 (λ links. WhereItFits net links (TimesPlanText told ⊥ plan delays net links))
+    (λ links. WhereItFits-same laws.line laws.sum IsOne is_one net links (TimesPlanText told ⊥ plan delays net links) (TimesPlanText-same laws told plan delays of_plan of_delays net links))
+
 -- what is asked has one report, where it asks for no store; of several good schedules or plans any may be printed
 pub Reports-same : Laws → (told : List ℕ → Option (List ℕ)) (request : Request) → AreTold told request → (a b : Outcome) → Reports told ⊥ request a → Reports told ⊥ request b → IsOneReport request a b
 Reports-same laws told Faulty _ a b first second = first ∙ sym second
@@ -190,6 +227,8 @@ Reports-same laws told (PlanModes matrix) of_matrix a b first second =
     Loads-same AreAlike same_alike matrix_file told matrix of_matrix.0 of_matrix.1 (λ rows. PrintsSchedule rows) (λ rows a b one other. done_alike a b (ap (λ (o : Outcome). o.status) one.3) (ap (λ (o : Outcome). o.status) other.3)) a b first second
 Reports-same laws told (PlanDemand net traffic) (of_net, of_traffic) a b first second =
     Loads-same AreAlike same_alike network_file told net of_net.0 of_net.1 (λ network. PlansDemand told ⊥ traffic network) (PlansDemand-same laws told traffic of_traffic) a b first second
+Reports-same laws told (TimeSends net traffic plan delays) (of_net, of_traffic, of_plan, of_delays) a b first second =
+    Loads-same IsOne is_one network_file told net of_net.0 of_net.1 (λ network. TimesDemand told ⊥ traffic plan delays network) (TimesDemand-same laws told traffic plan delays of_traffic of_plan of_delays) a b first second
 Reports-same laws told (PlanDrawn _ _) of_files a b one other = done_alike a b (ap (λ (o : Outcome). o.status) one.1.printed) (ap (λ (o : Outcome). o.status) other.1.printed)
 Reports-same laws told (RunScript _ _ _) of_files a b first second = absurd first
 Reports-same laws told (ReplayJournal net _) of_net a b first second = absurd first

@@ -28,6 +28,7 @@ faulty_check (command.CheckPlan net traffic plan) request first is named check o
 faulty_check (command.PlanDemand _ _) request first is named check other another = absurd (two_names (codes "plan") (codes "check") first refl named check)
 faulty_check (command.RunScript _ _ _) request first is named check other another = absurd (two_names (codes "run") (codes "check") first refl named check)
 faulty_check (command.PlanModes matrix) request first is named check other another = absurd (two_names (codes "modes") (codes "check") first refl named check)
+faulty_check (command.TimeSends _ _ _ _) request first is named check other another = absurd (two_names (codes "timing") (codes "check") first refl named check)
 faulty_check (command.PlanDrawn _ _) request first is named check other another = absurd (two_names (codes "make") (codes "check") first refl named check)
 faulty_check (command.ReplayJournal _ _) request first is named check other another = absurd (two_names (codes "replay") (codes "check") first refl named check)
 
@@ -37,6 +38,7 @@ faulty_modes (command.CheckModes _ _) request first is named modes other = absur
 faulty_modes (command.CheckPlan _ _ _) request first is named modes other = absurd (two_names (codes "check") (codes "modes") first refl named modes)
 faulty_modes (command.PlanDemand _ _) request first is named modes other = absurd (two_names (codes "plan") (codes "modes") first refl named modes)
 faulty_modes (command.RunScript _ _ _) request first is named modes other = absurd (two_names (codes "run") (codes "modes") first refl named modes)
+faulty_modes (command.TimeSends _ _ _ _) request first is named modes other = absurd (two_names (codes "timing") (codes "modes") first refl named modes)
 faulty_modes (command.PlanDrawn _ _) request first is named modes other = absurd (two_names (codes "make") (codes "modes") first refl named modes)
 faulty_modes (command.ReplayJournal _ _) request first is named modes other = absurd (two_names (codes "replay") (codes "modes") first refl named modes)
 faulty_modes (command.PlanModes matrix) request first is named modes other = absurd (other matrix refl)
@@ -47,6 +49,7 @@ faulty_plan (command.CheckModes _ _) request first is named plan other = absurd 
 faulty_plan (command.CheckPlan _ _ _) request first is named plan other = absurd (two_names (codes "check") (codes "plan") first refl named plan)
 faulty_plan (command.PlanModes _) request first is named plan other = absurd (two_names (codes "modes") (codes "plan") first refl named plan)
 faulty_plan (command.PlanDemand net traffic) request first is named plan other = absurd (other net traffic refl)
+faulty_plan (command.TimeSends _ _ _ _) request first is named plan other = absurd (two_names (codes "timing") (codes "plan") first refl named plan)
 faulty_plan (command.PlanDrawn _ _) request first is named plan other = absurd (two_names (codes "make") (codes "plan") first refl named plan)
 faulty_plan (command.ReplayJournal _ _) request first is named plan other = absurd (two_names (codes "replay") (codes "plan") first refl named plan)
 faulty_plan (command.RunScript _ _ _) request first is named plan other = absurd (two_names (codes "run") (codes "plan") first refl named plan)
@@ -59,7 +62,19 @@ faulty_make (command.PlanModes _) request first is named make other = absurd (tw
 faulty_make (command.PlanDemand _ _) request first is named make other = absurd (two_names (codes "plan") (codes "make") first refl named make)
 faulty_make (command.RunScript _ _ _) request first is named make other = absurd (two_names (codes "run") (codes "make") first refl named make)
 faulty_make (command.ReplayJournal _ _) request first is named make other = absurd (two_names (codes "replay") (codes "make") first refl named make)
+faulty_make (command.TimeSends _ _ _ _) request first is named make other = absurd (two_names (codes "timing") (codes "make") first refl named make)
 faulty_make (command.PlanDrawn beams seed) request first is named make other = absurd (other beams seed refl)
+
+pub faulty_timing : (read : CommandLine) (request : Request) (first : Option (List ℕ)) → asked read ≡ request → IfSome (name_of read) (λ name. first ≡ Some name) → first ≡ Some (codes "timing") → ((net traffic plan delays : Bor (List ℕ)) → read ≡ command.TimeSends net traffic plan delays → ⊥) → request ≡ Faulty
+faulty_timing command.Faulty request first is named timing other = sym is
+faulty_timing (command.CheckModes _ _) request first is named timing other = absurd (two_names (codes "check") (codes "timing") first refl named timing)
+faulty_timing (command.CheckPlan _ _ _) request first is named timing other = absurd (two_names (codes "check") (codes "timing") first refl named timing)
+faulty_timing (command.PlanModes _) request first is named timing other = absurd (two_names (codes "modes") (codes "timing") first refl named timing)
+faulty_timing (command.PlanDemand _ _) request first is named timing other = absurd (two_names (codes "plan") (codes "timing") first refl named timing)
+faulty_timing (command.RunScript _ _ _) request first is named timing other = absurd (two_names (codes "run") (codes "timing") first refl named timing)
+faulty_timing (command.ReplayJournal _ _) request first is named timing other = absurd (two_names (codes "replay") (codes "timing") first refl named timing)
+faulty_timing (command.PlanDrawn _ _) request first is named timing other = absurd (two_names (codes "make") (codes "timing") first refl named timing)
+faulty_timing (command.TimeSends net traffic plan delays) request first is named timing other = absurd (other net traffic plan delays refl)
 
 -- the report to words of no command
 pub reports_faulty : (told : List ℕ → Option (List ℕ)) (failed : Type 0) (request : Request) (report : Report) → request ≡ Faulty → ReportIs (Says (codes "fault" ∷ codes "words" ∷ []) 2) report → ReportIs (Reports told failed request) report

@@ -2,7 +2,7 @@
 use Rattle.std.specs.Prelude.{ℕ, List, codes, Option, Some, None}
 use Rattle.bt_cli.specs.declared.command_line.CommandLine.{CommandLine}
 use Rattle.bt_cli.specs.declared.command_line.CommandLine.TheVariants as command
-use Rattle.bt_cli.specs.Request.{Request, Faulty, CheckModes, CheckPlan, PlanModes, PlanDemand, RunScript, ReplayJournal, PlanDrawn}
+use Rattle.bt_cli.specs.Request.{Request, Faulty, CheckModes, CheckPlan, PlanModes, PlanDemand, RunScript, ReplayJournal, PlanDrawn, TimeSends}
 
 -- what the command line asks for
 abbrev pub asked : CommandLine → Request
@@ -14,6 +14,7 @@ asked (command.PlanDemand net traffic) = PlanDemand net.now traffic.now
 asked (command.RunScript net script journal) = RunScript net.now script.now journal.now
 asked (command.ReplayJournal net journal) = ReplayJournal net.now journal.now
 asked (command.PlanDrawn beams seed) = PlanDrawn beams.count seed
+asked (command.TimeSends net traffic plan delays) = TimeSends net.now traffic.now plan.now delays.now
 
 -- the name of its command
 abbrev pub name_of : CommandLine → Option (List ℕ)
@@ -25,3 +26,4 @@ name_of (command.PlanDemand _ _) = Some (codes "plan")
 name_of (command.RunScript _ _ _) = Some (codes "run")
 name_of (command.ReplayJournal _ _) = Some (codes "replay")
 name_of (command.PlanDrawn _ _) = Some (codes "make")
+name_of (command.TimeSends _ _ _ _) = Some (codes "timing")

@@ -14,11 +14,12 @@ use Rattle.bt_history.specs.Recovery.{Recovered}
 use Rattle.bt_centre.specs.declared.status.TheConstants.{DONE, OUT_OF_MEMORY}
 use Rattle.bt_centre.specs.Output.{Output, HasFailed}
 use Rattle.bt_centre.specs.Stored.{IsSteady, Stored}
+use Rattle.bt_timing.specs.Times.{Times}
 use Rattle.bt_cli.specs.Check.{verdict_status}
 use Rattle.bt_cli.specs.Fitting.{Fits}
-use Rattle.bt_cli.specs.Kinds.{matrix_file, schedule_file, network_file, demand_file, plan_file, script_file}
+use Rattle.bt_cli.specs.Kinds.{matrix_file, schedule_file, network_file, demand_file, plan_file, script_file, delay_file}
 use Rattle.bt_cli.specs.Outcome.{Input, FilesFailed, Kind}
-use Rattle.bt_cli.specs.Request.{Request, Faulty, CheckModes, CheckPlan, PlanModes, PlanDemand, RunScript, ReplayJournal, PlanDrawn}
+use Rattle.bt_cli.specs.Request.{Request, Faulty, CheckModes, CheckPlan, PlanModes, PlanDemand, RunScript, ReplayJournal, PlanDrawn, TimeSends}
 
 -- neither a file nor the output nor the store failed in the call: no count of faults rose or stands at its last value
 pub record NothingFails (input : Input) (output : Output) (stored : Stored) : Type 0 where
@@ -60,6 +61,9 @@ Serves told stored (PlanModes matrix) status = (rows : List (List ℕ)) → Spel
 Serves told stored (PlanDemand net traffic) status =
     (network : Net) (links : List Link) → Spells network_file told net network → Spells (demand_file network) told traffic links
     → Fits network links → IsDone status
+Serves told stored (TimeSends net traffic plan delays) status =
+    (network : Net) (links : List Link) (read : Plan) (times : Times) → Spells network_file told net network → Spells (demand_file network) told traffic links
+    → Fits network links → Spells (plan_file network) told plan read → Spells (delay_file network) told delays times → IsJudged (IsPlanVerdict network links read) status
 Serves told stored (PlanDrawn _ _) status = IsDone status
 Serves told stored (RunScript net script _) status =
     (network : Net) (read : Script) → Spells network_file told net network → Spells (script_file network) told script read

@@ -14,7 +14,10 @@ use Rattle.bt_plan.specs.ScheduleText.{schedule_of}
 use Rattle.bt_script.specs.ScriptText.{script_of}
 use Rattle.bt_script.specs.declared.fault.ScriptCode.{ScriptCode}
 use Rattle.bt_script.specs.declared.script.Script.{Script}
-use Rattle.bt_cli.specs.Lines.{text_fault, network_fault, script_fault}
+use Rattle.bt_timing.specs.declared.fault.TimingCode.{TimingCode}
+use Rattle.bt_timing.specs.DelayText.{times_of}
+use Rattle.bt_timing.specs.Times.{Times}
+use Rattle.bt_cli.specs.Lines.{text_fault, network_fault, script_fault, timing_fault}
 use Rattle.bt_cli.specs.Outcome.{Kind}
 
 -- a text that is read line by line
@@ -44,3 +47,7 @@ network_file = record { reading = network_in; fault_words = network_fault; fault
 -- a script for a network
 abbrev pub script_file : Net → Kind Script (ScriptCode × ℕ)
 script_file net = record { reading = script_of net; fault_words = λ fault. script_fault fault.0 fault.1; fault_status = 4 }
+
+-- the delays of a network's terminals
+abbrev pub delay_file : Net → Kind Times (TimingCode × ℕ)
+delay_file net = record { reading = times_of net; fault_words = λ fault. timing_fault fault.0 fault.1; fault_status = 4 }

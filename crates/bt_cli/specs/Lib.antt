@@ -12,6 +12,7 @@ pub mod Make
 pub mod Fitting
 pub mod Plans
 pub mod CheckPlan
+pub mod Timing
 pub mod Run
 pub mod Replay
 pub mod Top

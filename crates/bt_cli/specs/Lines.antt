@@ -5,6 +5,8 @@ use Rattle.bt_names.specs.declared.fault.NetFault.TheVariants as net_fault
 use Rattle.bt_names.specs.Fault.{path_text}
 use Rattle.bt_script.specs.declared.fault.ScriptCode.{ScriptCode}
 use Rattle.bt_script.specs.declared.fault.ScriptCode.TheVariants.{S1, S2, S3, S4, S5}
+use Rattle.bt_timing.specs.declared.fault.TimingCode.{TimingCode}
+use Rattle.bt_timing.specs.declared.fault.TimingCode.TheVariants.{G1, G2, G3, G4, G5}
 use Rattle.bt_plan.specs.declared.text_fault.TextCode.{TextCode}
 use Rattle.bt_plan.specs.declared.text_fault.TextCode.TheVariants.{X1, X2, M1, T1, T2, T3, T4, T5, P1, P2, P3}
 
@@ -47,3 +49,15 @@ script_code_name S5 = codes "S5"
 -- the words of a script's first fault, with its line
 abbrev pub script_fault : ScriptCode → ℕ → List (List ℕ)
 script_fault code line = codes "fault" ∷ script_code_name code ∷ decimal line ∷ []
+
+-- the code of a delay file's fault
+abbrev pub timing_code_name : TimingCode → List ℕ
+timing_code_name G1 = codes "G1"
+timing_code_name G2 = codes "G2"
+timing_code_name G3 = codes "G3"
+timing_code_name G4 = codes "G4"
+timing_code_name G5 = codes "G5"
+
+-- the words of a delay file's first fault, with its line
+abbrev pub timing_fault : TimingCode → ℕ → List (List ℕ)
+timing_fault code line = codes "fault" ∷ timing_code_name code ∷ decimal line ∷ []

@@ -14,6 +14,7 @@ pub data Request : Type 0 where
   RunScript : List ℕ → List ℕ → List ℕ → Request
   ReplayJournal : List ℕ → List ℕ → Request
   PlanDrawn : ℕ → ℕ → Request
+  TimeSends : List ℕ → List ℕ → List ℕ → List ℕ → Request
 
 -- `check MATRIX MODES`; a word that names a file is not empty
 abbrev pub check_request : List ℕ → List ℕ → Request
@@ -34,6 +35,10 @@ check_plan_request net traffic plan = if are_words net traffic plan then CheckPl
 -- `plan NET TRAFFIC`
 abbrev pub plan_request : List ℕ → List ℕ → Request
 plan_request net traffic = if nat_lt 0 (length net) && nat_lt 0 (length traffic) then PlanDemand net traffic else Faulty
+
+-- `timing NET TRAFFIC PLAN DELAYS`
+abbrev pub timing_request : List ℕ → List ℕ → List ℕ → List ℕ → Request
+timing_request net traffic plan delays = if are_words net traffic plan && nat_lt 0 (length delays) then TimeSends net traffic plan delays else Faulty
 
 -- `run NET SCRIPT JOURNAL`
 abbrev pub run_request : List ℕ → List ℕ → List ℕ → Request
@@ -82,11 +87,16 @@ asked_with_three command first second third =
     if bytes_eq command (codes "check") then check_plan_request first second third
     else (if bytes_eq command (codes "run") then run_request first second third else Faulty)
 
+-- what a command with four words asks for
+abbrev pub asked_with_four : List ℕ → List ℕ → List ℕ → List ℕ → List ℕ → Request
+asked_with_four command first second third fourth = if bytes_eq command (codes "timing") then timing_request first second third fourth else Faulty
+
 -- what the words ask for
 abbrev pub request_of : List (List ℕ) → Request
 request_of (command ∷ first ∷ []) = asked_with_one command first
 request_of (command ∷ first ∷ second ∷ []) = asked_with_two command first second
 request_of (command ∷ first ∷ second ∷ third ∷ []) = asked_with_three command first second third
+request_of (command ∷ first ∷ second ∷ third ∷ fourth ∷ []) = asked_with_four command first second third fourth
 request_of _ = Faulty
 
 -- the first word, where there is one

@@ -3,6 +3,7 @@ use Rattle.bt_names.specs.declared.fault.NetFault.{NetFault}
 use Rattle.bt_names.specs.declared.fault.NetFault.TheVariants as net_fault
 use Rattle.bt_plan.specs.declared.text_fault.TextCode.{TextCode}
 use Rattle.bt_script.specs.declared.fault.ScriptCode.{ScriptCode}
+use Rattle.bt_timing.specs.declared.fault.TimingCode.{TimingCode}
 use Rattle.bt_text.specs.declared.fault.LineFault.{LineFault}
 use Rattle.bt_text.specs.declared.fault.LineFault.TheVariants as line_fault
 use Rattle.bt_cli.specs.Lines as lines
@@ -22,3 +23,8 @@ NamesNetworkFault fault outcome = Says (lines.network_fault fault) 3 outcome
 abbrev pub NamesScriptFault : LineFault ScriptCode → Outcome → Type 0
 NamesScriptFault (line_fault.At code line) outcome = Says (lines.script_fault code line) 4 outcome
 NamesScriptFault line_fault.OutOfMemory outcome = ⊥
+
+-- the fault of a delay file
+abbrev pub NamesTimingFault : LineFault TimingCode → Outcome → Type 0
+NamesTimingFault (line_fault.At code line) outcome = Says (lines.timing_fault code line) 4 outcome
+NamesTimingFault line_fault.OutOfMemory outcome = ⊥

@@ -2,12 +2,13 @@
 use Rattle.std.specs.Prelude.{◌≡◌, ℕ, ◌⊎◌, List, [], ◌∷◌, codes, Option, Some}
 use Rattle.bt_centre.specs.Output.{Output}
 use Rattle.bt_cli.specs.Outcome.{Outcome, Input, FilesFailed, Says, PrintsOneOf}
-use Rattle.bt_cli.specs.Request.{Request, Faulty, CheckModes, CheckPlan, PlanModes, PlanDemand, RunScript, ReplayJournal, PlanDrawn}
+use Rattle.bt_cli.specs.Request.{Request, Faulty, CheckModes, CheckPlan, PlanModes, PlanDemand, RunScript, ReplayJournal, PlanDrawn, TimeSends}
 use Rattle.bt_cli.specs.Check.{ChecksModes}
 use Rattle.bt_cli.specs.CheckPlan.{ChecksPlan}
 use Rattle.bt_cli.specs.Make.{PrintsSummary}
 use Rattle.bt_cli.specs.Modes.{PrintsModes}
 use Rattle.bt_cli.specs.Plans.{Plans}
+use Rattle.bt_cli.specs.Timing.{TimesSends}
 use Rattle.bt_centre.specs.Stored.{IsSteady, Stored}
 use Rattle.bt_cli.specs.Replay.{HasReplayed, Replays}
 use Rattle.bt_cli.specs.Run.{BeginsNoRun, End, EndsRun, Runs}
@@ -19,6 +20,7 @@ Reports told failed (CheckModes matrix modes) = ChecksModes told failed matrix m
 Reports told failed (CheckPlan net traffic plan) = ChecksPlan told failed net traffic plan
 Reports told failed (PlanModes matrix) = PrintsModes told failed matrix
 Reports told failed (PlanDemand net traffic) = Plans told failed net traffic
+Reports told failed (TimeSends net traffic plan delays) = TimesSends told failed net traffic plan delays
 Reports told failed (PlanDrawn beams seed) = PrintsSummary beams seed
 Reports told failed (RunScript _ _ _) = λ _. ⊥
 Reports told failed (ReplayJournal _ _) = λ _. ⊥
@@ -30,6 +32,7 @@ ReportsWith told failed stored (CheckModes matrix modes) = Reports told failed (
 ReportsWith told failed stored (CheckPlan net traffic plan) = Reports told failed (CheckPlan net traffic plan)
 ReportsWith told failed stored (PlanModes matrix) = Reports told failed (PlanModes matrix)
 ReportsWith told failed stored (PlanDemand net traffic) = Reports told failed (PlanDemand net traffic)
+ReportsWith told failed stored (TimeSends net traffic plan delays) = Reports told failed (TimeSends net traffic plan delays)
 ReportsWith told failed stored (PlanDrawn beams seed) = Reports told failed (PlanDrawn beams seed)
 ReportsWith told failed stored (RunScript net script _) = Runs told failed stored net script
 ReportsWith told failed stored (ReplayJournal net _) = Replays told failed stored net
@@ -55,6 +58,7 @@ Ends input output stored (CheckModes matrix modes) end = EndsAlone input output 
 Ends input output stored (CheckPlan net traffic plan) end = EndsAlone input output stored (CheckPlan net traffic plan) end
 Ends input output stored (PlanModes matrix) end = EndsAlone input output stored (PlanModes matrix) end
 Ends input output stored (PlanDemand net traffic) end = EndsAlone input output stored (PlanDemand net traffic) end
+Ends input output stored (TimeSends net traffic plan delays) end = EndsAlone input output stored (TimeSends net traffic plan delays) end
 Ends input output stored (PlanDrawn beams seed) end = EndsAlone input output stored (PlanDrawn beams seed) end
 Ends input output stored (RunScript net script _) end = EndsRun input output stored net script end
 Ends input output stored (ReplayJournal net _) end = HasReplayed input output stored net end
@@ -70,6 +74,7 @@ AreTold told (CheckModes matrix modes) = IsTold told matrix × IsTold told modes
 AreTold told (CheckPlan net traffic plan) = IsTold told net × IsTold told traffic × IsTold told plan
 AreTold told (PlanModes matrix) = IsTold told matrix
 AreTold told (PlanDemand net traffic) = IsTold told net × IsTold told traffic
+AreTold told (TimeSends net traffic plan delays) = IsTold told net × IsTold told traffic × IsTold told plan × IsTold told delays
 AreTold told (PlanDrawn _ _) = Unit {0}
 AreTold told (RunScript net script _) = IsTold told net × IsTold told script
 AreTold told (ReplayJournal net _) = IsTold told net
@@ -96,6 +101,7 @@ IsOneReport (CheckModes _ _) a b = a ≡ b
 IsOneReport (CheckPlan _ _ _) a b = a ≡ b
 IsOneReport (PlanDemand _ _) a b = (a.status ≡ b.status) × ((a.status ≡ 0) ⊎ (a ≡ b))
 IsOneReport (PlanModes _) a b = (a.status ≡ b.status) × ((a.status ≡ 0) ⊎ (a ≡ b))
+IsOneReport (TimeSends _ _ _ _) a b = a ≡ b
 IsOneReport (PlanDrawn _ _) a b = (a.status ≡ b.status) × ((a.status ≡ 0) ⊎ (a ≡ b))
 IsOneReport (RunScript _ _ _) a b = (a.status ≡ b.status) × ((a.status ≡ 0) ⊎ (a ≡ b))
 IsOneReport (ReplayJournal _ _) a b = a ≡ b

@@ -98,7 +98,7 @@ fn judge_plan(alloc: Global, net: &Network, demand: &Demand, plan: &Plan) -> Res
 
 /// The verdict, which names terminals of the network alone.
 #[tactic(auto, using(crate::proofs::Named::verdict_names))]
-fn verdict_on(net: &Network, demand: &Demand, plan: &Plan) -> Verdict
+pub(crate) fn verdict_on(net: &Network, demand: &Demand, plan: &Plan) -> Verdict
     requires demand { AreOfNetwork net.now demand.now }
     requires bursts { AreBetweenTerminals net.now plan.now.bursts }
     requires critical { IsOfBeams (length net.now.beams) plan.now.schedule.critical }

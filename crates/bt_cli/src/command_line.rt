@@ -1,7 +1,7 @@
 // What the words after the program's name ask for.
 ghost use Rattle.std.specs.Prelude.{◌≡◌, map, codes, IfSome};
 ghost use Rattle.std.specs.String.{string_bytes};
-ghost use Rattle.bt_cli.specs.Request.{asked_with_one, asked_with_three, asked_with_two, check_plan_request, check_request, first_word, make_request, modes_request, plan_request, replay_request, request_of, run_request};
+ghost use Rattle.bt_cli.specs.Request.{asked_with_four, asked_with_one, asked_with_three, asked_with_two, check_plan_request, check_request, first_word, make_request, modes_request, plan_request, replay_request, request_of, run_request, timing_request};
 ghost use Rattle.bt_cli.specs.CommandLine.{asked, name_of};
 
 use crate::number_word::{BeamCount, seed_of};
@@ -47,6 +47,13 @@ pub enum CommandLine<'a> {
         beams: BeamCount,
         seed: u64,
     },
+    /// `timing NET TRAFFIC PLAN DELAYS`.
+    TimeSends {
+        net: &'a str,
+        traffic: &'a str,
+        plan: &'a str,
+        delays: &'a str,
+    },
 }
 
 /// The command line that the words are.
@@ -58,6 +65,9 @@ pub fn command_line_of(words: &[String]) -> CommandLine<'_>
         [command, first] => with_one(command, first),
         [command, first, second] => with_two(command, first, second),
         [command, first, second, third] => with_three(command, first, second, third),
+        [command, first, second, third, fourth] => {
+            with_four(command, first, second, third, fourth)
+        }
         _ => CommandLine::Faulty,
     }
 }
@@ -101,6 +111,24 @@ fn with_three<'a>(command: &str, first: &'a str, second: &'a str, third: &'a str
         check_plan_of(first, second, third)
     } else if command == "run" {
         run_of(first, second, third)
+    } else {
+        CommandLine::Faulty
+    }
+}
+
+/// The command line of that command with four words.
+fn with_four<'a>(
+    command: &str,
+    first: &'a str,
+    second: &'a str,
+    third: &'a str,
+    fourth: &'a str,
+) -> CommandLine<'a>
+    ensures asked { asked result ≡ asked_with_four command.now first.now second.now third.now fourth.now }
+    ensures named { IfSome (name_of result) (λ name. command.now ≡ name) }
+{
+    if command == "timing" {
+        timing_of(first, second, third, fourth)
     } else {
         CommandLine::Faulty
     }
@@ -183,5 +211,21 @@ fn make_of(beams: &str, seed: &str) -> CommandLine<'static>
     match (BeamCount::of(beams), seed_of(seed)) {
         (Some(beams), Some(seed)) => CommandLine::PlanDrawn { beams, seed },
         _ => CommandLine::Faulty,
+    }
+}
+
+fn timing_of<'a>(net: &'a str, traffic: &'a str, plan: &'a str, delays: &'a str) -> CommandLine<'a>
+    ensures asked { asked result ≡ timing_request net.now traffic.now plan.now delays.now }
+    ensures named { IfSome (name_of result) (λ name. name ≡ codes "timing") }
+{
+    if net.is_empty() || traffic.is_empty() || plan.is_empty() || delays.is_empty() {
+        CommandLine::Faulty
+    } else {
+        CommandLine::TimeSends {
+            net,
+            traffic,
+            plan,
+            delays,
+        }
     }
 }

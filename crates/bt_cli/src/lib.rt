@@ -24,6 +24,7 @@ mod report;
 mod run;
 mod stops;
 mod summary;
+mod timing;
 mod top;
 
 pub use bt_centre::{
@@ -39,4 +40,5 @@ pub use make::{Made, make_command};
 pub use modes::modes_command;
 pub use plan::plan_command;
 pub use replay::replay_command;
+pub use timing::timing_command;
 pub use top::{Ended, centre_main};

@@ -6,12 +6,13 @@ ghost use Rattle.bt_frame.specs.Critical.{IsOfBeams};
 ghost use Rattle.bt_verdict.specs.PlanVerdict.{AreBetweenTerminals};
 ghost use Rattle.bt_demand.specs.Traffic.{matrix_of, AreOfNetwork, HasSumsTo};
 ghost use Rattle.bt_script.specs.Named.{IsItemFor};
+ghost use Rattle.bt_timing.specs.Times.{AreTimes};
 ghost use Rattle.bt_cli.specs.Outcome.{IsContent, CannotRead, IsLoaded, StopsAtLoad};
-ghost use Rattle.bt_cli.specs.Kinds.{demand_file, matrix_file, network_file, plan_file, schedule_file, script_file};
+ghost use Rattle.bt_cli.specs.Kinds.{delay_file, demand_file, matrix_file, network_file, plan_file, schedule_file, script_file};
 ghost use Rattle.bt_cli.specs.Report.{StopIs};
 
 use crate::report::Stop;
-use crate::stops::{network_stop, script_stop, text_stop};
+use crate::stops::{network_stop, script_stop, text_stop, timing_stop};
 use bt_centre::{READ_FAILED, TOO_LONG};
 use bt_demand::{Demand, Plan};
 use bt_frame::{MOST_FILE_BYTES, Schedule};
@@ -20,6 +21,7 @@ use bt_net::Network;
 use bt_outside::{FileFault, Files};
 use bt_plan::{read_demand, read_matrix, read_plan, read_schedule};
 use bt_script::Script;
+use bt_timing::Timing;
 use bt_words::Word;
 use std::alloc::Global;
 
@@ -155,4 +157,24 @@ pub fn load_script<F: Files>(
 {
     let bytes = read_file(alloc, files, name)?;
     Script::read(alloc, net, &bytes).map_err(|fault| script_stop(alloc, fault))
+}
+
+/// The delays of a network's terminals in a file.
+#[tactic(auto, using(crate::proofs::Misspelt::delays_misspelt))]
+pub fn load_delays<F: Files>(
+    alloc: Global,
+    files: &mut F,
+    name: &str,
+    net: &Network,
+) -> Result<Timing, Stop>
+    ensures times { IfOk result AreTimes }
+    ensures terminals { IfOk result (λ times. length times.delays ≡ length net.now.terminals) }
+    ensures loaded { IfOk result (λ times. IsLoaded (delay_file net.now) (F.told files.old) name.now times) }
+    ensures stops { IfErr result (StopIs (StopsAtLoad (delay_file net.now) (F.told files.old)
+        (Rose (F.fault_count files.old) (F.fault_count files.new)) name.now)) }
+    ensures later { F.fault_count files.old ≤ F.fault_count files.new }
+    ensures same { F.told files.new ≡ F.told files.old }
+{
+    let bytes = read_file(alloc, files, name)?;
+    Timing::read(alloc, net, &bytes).map_err(|fault| timing_stop(alloc, fault))
 }

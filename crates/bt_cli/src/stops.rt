@@ -1,9 +1,9 @@
 // The reports that name the first fault of a file's bytes.
 ghost use Rattle.std.specs.Prelude.{◌≡◌, ◌∷◌, [], codes};
 ghost use Rattle.bt_names.specs.Fault.{path_text};
-ghost use Rattle.bt_cli.specs.Stops.{NamesNetworkFault, NamesScriptFault, NamesTextFault};
+ghost use Rattle.bt_cli.specs.Stops.{NamesNetworkFault, NamesScriptFault, NamesTextFault, NamesTimingFault};
 ghost use Rattle.bt_cli.specs.Report.{StopIs};
-ghost use Rattle.bt_cli.specs.Lines.{code_name, script_code_name};
+ghost use Rattle.bt_cli.specs.Lines.{code_name, script_code_name, timing_code_name};
 ghost use Rattle.bt_cli.specs.Outcome.{Says};
 
 use crate::report::Stop;
@@ -11,6 +11,7 @@ use bt_centre::{FAULTY_TEXT, NO_NETWORK};
 use bt_net::{NetFault, Path};
 use bt_plan::{TextCode, TextFault};
 use bt_script::{ScriptCode, ScriptFault};
+use bt_timing::{TimingCode, TimingFault};
 use bt_words::Word;
 use std::alloc::Global;
 
@@ -103,5 +104,34 @@ fn script_code_text(code: ScriptCode) -> &'static str
         ScriptCode::S3 => "S3",
         ScriptCode::S4 => "S4",
         ScriptCode::S5 => "S5",
+    }
+}
+
+/// The report that names a delay file's first fault.
+pub fn timing_stop(alloc: Global, fault: TimingFault) -> Stop
+    ensures stop { StopIs (NamesTimingFault fault) result }
+{
+    match fault {
+        TimingFault::OutOfMemory => Stop::OutOfMemory,
+        TimingFault::At { code, line } => {
+            let code = Word::Text(timing_code_text(code));
+            Stop::says(
+                alloc,
+                &[Word::Text("fault"), code, Word::number(line)],
+                FAULTY_TEXT,
+            )
+        }
+    }
+}
+
+fn timing_code_text(code: TimingCode) -> &'static str
+    ensures { result.now ≡ timing_code_name code }
+{
+    match code {
+        TimingCode::G1 => "G1",
+        TimingCode::G2 => "G2",
+        TimingCode::G3 => "G3",
+        TimingCode::G4 => "G4",
+        TimingCode::G5 => "G5",
     }
 }

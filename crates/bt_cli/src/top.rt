@@ -12,6 +12,7 @@ use crate::modes::modes_command;
 use crate::plan::plan_command;
 use crate::replay::replay_command;
 use crate::run::run_files;
+use crate::timing::timing_command;
 use bt_air::Event;
 use bt_centre::{Histories, RunEnd};
 use bt_outside::{Files, Keeper, Sink};
@@ -78,7 +79,7 @@ impl<K> Ended<K> {
 /// | 6 | the output could not be written |
 /// | 7 | the store failed: it could not be read or cut, or a line of a run was not kept |
 /// | 8 | a line of the journal is of no change, or of one that does not follow |
-/// | 9 | the verdict of `check` is not good |
+/// | 9 | the verdict of `check`, or of `timing` on its plan, is not good |
 /// | 10 | a file is longer than `MOST_FILE_BYTES`, or the store than `MOST_JOURNAL_BYTES` |
 pub fn centre_main<R: Threads + Wait + Sync, F: Files, O: Sink, K: Keeper + Send>(
     rt: &R,
@@ -120,6 +121,7 @@ fn report<F: Files, O: Sink>(alloc: Global, words: &[String], files: &mut F, out
         }
         CommandLine::PlanModes { .. } => modes_command(alloc, words, files, out),
         CommandLine::PlanDemand { .. } => plan_command(alloc, words, files, out),
+        CommandLine::TimeSends { .. } => timing_command(alloc, words, files, out),
         CommandLine::PlanDrawn { .. } => make_command(alloc, words, out).status,
         CommandLine::RunScript { .. } | CommandLine::ReplayJournal { .. } => unreachable!(),
     }

@@ -8,7 +8,7 @@ ghost use Rattle.bt_net.specs.Terminals.{IsTerminal};
 ghost use Rattle.bt_text.specs.Reading.{Gives};
 ghost use Rattle.bt_text.specs.Text.{words, lines};
 ghost use Rattle.bt_timing.specs.DelayText.{number_within, worded_number, number_line, slot_in, half_of, half_in, terminal_within, named_number, named_behind, delay_behind, change_behind, line_by, line_with, delays_in, nothing_known, behind_slot, times_of};
-ghost use Rattle.bt_timing.specs.Times.{IsDelay};
+ghost use Rattle.bt_timing.specs.Times.{AreTimes, IsDelay};
 ghost use Rattle.bt_timing.specs.declared.limits.TheConstants.{LEAST_SLOT_TICKS, MOST_SLOT_TICKS, MOST_HALF, MOST_DELAY};
 
 use crate::delay_table::{Change, DelayTable};
@@ -26,6 +26,7 @@ impl Timing {
     pub fn read(alloc: Global, net: &Network, bytes: &[u8]) -> Result<Timing, TimingFault>
         requires short { length bytes.now ≤ MOST_TEXT_BYTES }
         ensures reading { Gives (λ times. times) result (times_of net.now bytes.now) }
+        ensures times { IfOk result AreTimes }
         ensures terminals { IfOk result (λ times. length times.delays ≡ length net.now.terminals) }
     {
         let Some((line, rest)) = first_line(bytes) else {

@@ -47,6 +47,14 @@ commands
       example: nozgurt check examples/two-beams.net examples/two-beams.traffic
                examples/two-beams.plan
 
+  timing NET TRAFFIC PLAN DELAYS
+      Prints when each burst of that plan is to be sent, in ticks from the begin
+      of the frame at the satellite, so that it arrives in its slots by the
+      delays in the file DELAYS: `send AT TICKS FROM TO`. Where `check` says
+      that the plan is not good, it prints that, and ends with status 9.
+      example: nozgurt timing examples/six-beams.net examples/six-beams.traffic
+               examples/six-beams.plan examples/six-beams.delays
+
   run NET SCRIPT JOURNAL
       Plays the script in the file SCRIPT on the network in the file NET: desks
       edit the demand, the planner plans, the centre has plans loaded and armed,
@@ -95,11 +103,12 @@ exit status
   6   the output could not be written
   7   the journal failed                   fault store, or the whole run
   8   a line of the journal is wrong       fault CODE LINE
-  9   check: the verdict is not good       the verdict's line
+  9   check, timing: it is not good        the verdict's line
   10  a file is over 4,194,304 bytes long  fault too long NAME
       the journal is over 67,108,864       fault too long store
   The letter of a CODE names the file that is at fault: N the network, X the
-  matrix, M the modes, T the traffic, P the plan, S the script, J the journal.
+  matrix, M the modes, T the traffic, P the plan, G the delays, S the script, J
+  the journal.
   docs/formats.md has the texts of all files and explains each code.
 ";
 
@@ -125,7 +134,7 @@ pub fn reason_of(status: u8) -> Option<&'static str> {
             "the network file is no network; the last line has the fault, whose code begins with N, and its place in the file; docs/formats.md explains each",
         ),
         FAULTY_TEXT => Some(
-            "a file leaves its grammar or its limits, or the traffic does not fit the frame; the last line has the fault, and the letter of its code names the file: X the matrix, M the modes, T the traffic, P the plan, S the script; docs/formats.md explains each",
+            "a file leaves its grammar or its limits, or the traffic does not fit the frame; the last line has the fault, and the letter of its code names the file: X the matrix, M the modes, T the traffic, P the plan, G the delays, S the script; docs/formats.md explains each",
         ),
         READ_FAILED => Some("a file could not be read; the last line names it"),
         WRITE_FAILED => Some(
