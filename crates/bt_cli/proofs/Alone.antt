@@ -6,7 +6,7 @@ use Rattle.bt_cli.specs.declared.command_line.CommandLine.TheVariants as command
 use Rattle.bt_cli.specs.CommandLine.{asked}
 use Rattle.bt_centre.specs.Output.{Output}
 use Rattle.bt_cli.specs.Outcome.{Input}
-use Rattle.bt_cli.specs.Request.{Request, Faulty, CheckModes, CheckPlan, PlanModes, PlanDemand, RunScript, ReplayJournal, PlanDrawn, TimeSends}
+use Rattle.bt_cli.specs.Request.{Request, ReplayJournal}
 use Rattle.bt_cli.specs.Replay.{EndsReplayWords}
 use Rattle.bt_cli.specs.Run.{End}
 use Rattle.bt_cli.specs.Top.{AsksNoStore, Ends}

@@ -1,8 +1,7 @@
 -- Where nothing is at fault and nothing fails, a command does its work.
-use Rattle.std.proofs.Common.{◌≡◌, ◌≢◌, ◌⊎◌, ℕ, ◌<◌, ◌≤◌, inl, inr, List, [], length, Option, Some, Ok, refl, sym, ap, ◌∙◌, subst, arith}
+use Rattle.std.proofs.Common.{◌≡◌, ◌≢◌, ℕ, ◌<◌, ◌≤◌, inl, inr, List, length, Option, Some, refl, sym, ap, ◌∙◌, subst, arith}
 use Rattle.bt_frame.specs.declared.limits.TheConstants.{MOST_JOURNAL_BYTES}
-use Rattle.bt_outside.specs.Told.{Gives, Rose}
-use Rattle.bt_frame.specs.declared.schedule.Schedule.{Schedule}
+use Rattle.bt_outside.specs.Told.{Gives}
 use Rattle.bt_net.specs.Network.{Net, IsSound}
 use Rattle.bt_air.specs.declared.event.Event.{Event}
 use Rattle.bt_demand.specs.declared.demand.Link.{Link}
@@ -33,7 +32,7 @@ use Rattle.bt_cli.specs.Plans.{PlansDemand, PrintsPlan}
 use Rattle.bt_cli.specs.Replay.{EndsRecovery, EndsReplay, IsNotRecovered, NamesRecoverFault, PrintsState}
 use Rattle.bt_cli.specs.Request.{Request, Faulty, CheckModes, CheckPlan, PlanModes, PlanDemand, RunScript, ReplayJournal, PlanDrawn, TimeSends}
 use Rattle.bt_cli.specs.Run.{End, EndsRun, EndsScript}
-use Rattle.bt_cli.specs.Timing.{NamesVerdict, PrintsSends, TimesDelays, TimesDemand, TimesPlanText, WhereItIsGood}
+use Rattle.bt_cli.specs.Timing.{PrintsSends, TimesDelays, TimesDemand, TimesPlanText, WhereItIsGood}
 use Rattle.bt_cli.specs.Top.{Ends, Reports}
 use Rattle.bt_cli.proofs.OneJournal.{Laws, told}
 use Rattle.bt_cli.proofs.OneReport.{IsLoaded-same, Misspells-not_loaded, never_both, not_longer}

@@ -1,24 +1,23 @@
 -- Where the files are told and no read failed, what is asked has one report.
-use Rattle.bt_verdict.specs.declared.verdict.Verdict.TheVariants.{Good}
-use Rattle.bt_demand.specs.Plan.{IsGoodPlan}
-use Rattle.bt_timing.specs.Times.{Times}
-use Rattle.bt_cli.specs.Timing.{NamesVerdict, PrintsSends, TimesDelays, TimesDemand, TimesPlanText, WhereItIsGood}
 use Rattle.std.proofs.Common.{◌≡◌, ℕ, ◌<◌, ◌≤◌, ◌⊎◌, inl, inr, List, length, Option, Some, None, Result, Ok, Err, sym, ap, ◌∙◌, subst, arith}
 use Rattle.bt_outside.specs.Told.{Gives, IsLonger}
 use Rattle.bt_frame.specs.declared.schedule.Schedule.{Schedule}
 use Rattle.bt_verdict.specs.declared.verdict.Verdict.{Verdict}
+use Rattle.bt_verdict.specs.declared.verdict.Verdict.TheVariants.{Good}
 use Rattle.bt_frame.specs.declared.schedule.Critical.{Critical}
 use Rattle.bt_matrix.specs.Traffic.{IsHeaviest}
 use Rattle.bt_net.specs.Network.{Net}
 use Rattle.bt_demand.specs.declared.demand.Link.{Link}
 use Rattle.bt_demand.specs.declared.plan.Plan.{Plan}
 use Rattle.bt_demand.specs.Demand.{IsDemand}
+use Rattle.bt_demand.specs.Plan.{IsGoodPlan}
 use Rattle.bt_verdict.specs.PlanVerdict.{IsPlanVerdict}
 use Rattle.bt_demand.specs.Traffic.{matrix_of}
 use Rattle.bt_verdict.specs.Verdict.{IsVerdict}
 use Rattle.bt_cli.specs.CheckPlan.{JudgesPlan, ChecksPlanText, ChecksDemand}
 use Rattle.bt_cli.specs.Fitting.{overload_words, Fits, NamesOverload, WhereItFits}
 use Rattle.bt_cli.specs.Plans.{PrintsPlan, PlansDemand}
+use Rattle.bt_cli.specs.Timing.{NamesVerdict, PrintsSends, TimesDelays, TimesDemand, TimesPlanText, WhereItIsGood}
 use Rattle.bt_words.specs.Lines.{line_of}
 use Rattle.bt_timeline.specs.Verdicts.{verdict_words}
 use Rattle.bt_cli.specs.Outcome.{Outcome, Kind, text_alone, IsContent, IsLoaded, Misspells, Loads}

@@ -1,5 +1,5 @@
 -- the network is the numbered one
-use Rattle.std.proofs.Common.{◌≡◌, ℕ, length, sym, ap, ◌∙◌, subst, rules}
+use Rattle.std.proofs.Common.{◌≡◌, ℕ, length, ap, ◌∙◌, subst, rules}
 use Rattle.std.proofs.lemmas.List.FromFn.{length-map-range_with_len}
 use Rattle.bt_net.specs.Network.{Net}
 use Rattle.bt_net.specs.Numbered.{numbered_beam, numbered_network}

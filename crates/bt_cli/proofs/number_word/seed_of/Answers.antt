@@ -1,5 +1,5 @@
 -- a word of a larger number
-use Rattle.std.proofs.Common.{sym, refl, ◌∙◌, arith, rules}
+use Rattle.std.proofs.Common.{refl, rules}
 use Rattle.bt_text.specs.Text.{number_of}
 use Rattle.bt_cli.proofs.CommandWords.{past_last}
 use Rattle.bt_cli.proofs.number_word.seed_of.Goals as goal
