@@ -7,11 +7,13 @@ use Rattle.bt_net.specs.Network.{Net}
 use Rattle.bt_demand.specs.declared.plan.Plan.{Plan}
 use Rattle.bt_air.specs.declared.order.Order.{Order}
 use Rattle.bt_air.specs.declared.order.Status.{Status}
+use Rattle.bt_air.specs.declared.sent.Aired.{Aired}
+use Rattle.bt_air.specs.declared.sent.Aired.TheVariants as sends
 use Rattle.bt_air.specs.declared.sent.Place.{Place}
 use Rattle.bt_change.specs.Last.{last_order}
 use Rattle.bt_change.specs.Turn.{act_of, wanted_by}
 use Rattle.bt_change.specs.declared.turn.Turn.{Turn as Sight}
-use Rattle.bt_events.specs.Event.{Tick, Ordered, Deliver, Frame, ResetTerminal, Install, Happening}
+use Rattle.bt_events.specs.Event.{Tick, Second, Ordered, Deliver, Frame, ResetTerminal, Install, Happening}
 use Rattle.bt_events.specs.Fits.{newest_of}
 use Rattle.bt_events.specs.World.{kept, orders as placed, plans, sight, wanted, with_wanted}
 use Rattle.bt_journal.specs.declared.call.Call.{Call}
@@ -27,7 +29,7 @@ use Rattle.bt_history.proofs.Histories.{as_list}
 use Rattle.bt_script.specs.declared.script.AirLine.{AirLine}
 use Rattle.bt_script.specs.declared.script.AirLine.TheVariants as line
 use Rattle.bt_script.specs.declared.script.Losing.{Losing}
-use Rattle.bt_workers.specs.AirLines.{AirState, PlaysAirLine, PlaysAirLines, PlaysBack, PlaysDeliveries, PlaysDelivery, PlaysFrame, PlaysHearing, PlaysLoss, PlaysOrder, PlaysReset, PlaysTick, PlaysTurn, awaiting, going, happened, having, installing, newest_in, once_answered, orders_in, target_of, turning}
+use Rattle.bt_workers.specs.AirLines.{AirState, PlaysAirLine, PlaysAirLines, PlaysBack, PlaysBurst, PlaysDeliveries, PlaysDelivery, PlaysFrame, PlaysHearing, PlaysLoss, PlaysNotice, PlaysOrder, PlaysReset, PlaysTick, PlaysTurn, awaiting, bridging, going, happened, having, installing, newest_in, noticed, once_answered, orders_in, target_of, turning}
 use Rattle.bt_workers.specs.Waiting.{left_of}
 use Rattle.bt_workers.proofs.Running.{past-having}
 use Rattle.bt_centre.proofs.Orderly.{AreOrderly, AreOrderly-first, AreOrderly-second, AsksNone, IsPlacing, MakesNone, MakesNone-parts, no_order, none_behind_lost, not_both, one_order, orders_lost, orders_made, with_append, with_cons, with_quiet}
@@ -83,6 +85,25 @@ stays_going air back = record { same = refl; wants = refl; newest = refl }
 pub stays_back : (air : AirState) (edition : EditionNo) (text : List ℕ) (after : AirState) → PlaysBack air edition text after → Stays air after
 stays_back air edition text after (inl none) = stays_self air after none.2
 stays_back air edition text after (inr goes) = stays_is air (going air (Some edition)) after goes.2 (stays_going air (Some edition))
+
+stays_noticed : (air : AirState) (one : Aired) → Stays air (noticed air one)
+stays_noticed air (sends.Status status) = record { same = refl; wants = refl; newest = refl }
+stays_noticed air (sends.Load command edition) = stays_self air air refl
+stays_noticed air (sends.Arm command edition due) = stays_self air air refl
+stays_noticed air (sends.PlanFor to load edition) = stays_self air air refl
+stays_noticed air (sends.Confirm from load edition) = stays_self air air refl
+stays_noticed air (sends.Reference superframe in_force next) = stays_self air air refl
+stays_noticed air (sends.Lost from) = stays_self air air refl
+
+pub stays_notice : (air : AirState) (number : ℕ) (text : List ℕ) (after : AirState) → PlaysNotice air number text after → Stays air after
+stays_notice air number text after (inl none) = stays_self air after none.2
+stays_notice air number text after (inr one) = stays_is air (noticed air one.1.one) after one.1.kept (stays_noticed air one.1.one)
+
+stays_second : (air : AirState) (in_force : Option EditionNo) → Stays air (having air (Second in_force))
+stays_second air in_force = record { same = ap (placed air.life.opening) (past-having air.life (Second in_force)); wants = ap wanted (past-having air.life (Second in_force)); newest = ap (newest_past air) (past-having air.life (Second in_force)) }
+
+pub stays_burst : (net : Net) (air : AirState) (text : List ℕ) (after : AirState) → PlaysBurst net air text after → Stays air after
+stays_burst net air text after is = stays_is air (having air (bridging air)) after is.sent (stays_second air _)
 
 stays_hearing : (net : Net) (air : AirState) (number : ℕ) (place : Place) (text : List ℕ) (after : AirState) → PlaysHearing net air number place text after → Stays air after
 stays_hearing net air number place text after is = stays_is air (having air (Deliver number place)) after is.heard (stays_deliver air number place)
@@ -238,6 +259,8 @@ keeps_line net air (line.Deliver number place) entries text after so is = keeps_
 keeps_line net air line.Frame entries text after so is = keeps_none entries air after is.0 (stays_frame_line net air text after is.1)
 keeps_line net air (line.Reset terminal) entries text after so is =
     keeps_none entries air after is.0 (stays_reset_line net air terminal text after is.1)
+keeps_line net air (line.StandbyHears number) entries text after so is = keeps_none entries air after is.0 (stays_notice air number text after is.1)
+keeps_line net air line.StandbyBurst entries text after so is = keeps_none entries air after is.0 (stays_burst net air text after is.1)
 
 -- one part behind another
 pub keeps_both : (own others : List Entry) (air between after : AirState) → AreOrderly (own ++ others) → Keeps own air between → Keeps others between after → Keeps (own ++ others) air after

@@ -28,7 +28,7 @@ use Rattle.bt_workers.proofs.Installed.{newest_ascends}
 use Rattle.bt_workers.proofs.Running.{past-having}
 use Rattle.bt_centre.specs.Turns.{IsNewestOf, IsNoNewer, LineKnows, LinesKnow}
 use Rattle.bt_centre.proofs.Lawful.{step_at, steps_first}
-use Rattle.bt_centre.proofs.OrdersPlayed.{Stays, newest_past, stays_back, stays_delivery, stays_flow, stays_frame_line, stays_going, stays_is, stays_loss, stays_reset_line, stays_tick_line}
+use Rattle.bt_centre.proofs.OrdersPlayed.{Stays, newest_past, stays_back, stays_burst, stays_delivery, stays_flow, stays_frame_line, stays_going, stays_is, stays_loss, stays_notice, stays_reset_line, stays_tick_line}
 
 -- entries in two parts, of which the first has these calls of the centre's worker and the other has those
 record IsCut (entries own others : List Entry) : Type 0 where
@@ -275,6 +275,10 @@ line_goes net opening history entries before done rest air line.Frame own others
     record { knows = tt; so = quiet_goes net opening history entries before done rest air own others after (stays_frame_line net air text after is.1) at cut so }
 line_goes net opening history entries before done rest air (line.Reset terminal) own others text after is at cut so =
     record { knows = tt; so = quiet_goes net opening history entries before done rest air own others after (stays_reset_line net air terminal text after is.1) at cut so }
+line_goes net opening history entries before done rest air (line.StandbyHears number) own others text after is at cut so =
+    record { knows = tt; so = quiet_goes net opening history entries before done rest air own others after (stays_notice air number text after is.1) at cut so }
+line_goes net opening history entries before done rest air line.StandbyBurst own others text after is at cut so =
+    record { knows = tt; so = quiet_goes net opening history entries before done rest air own others after (stays_burst net air text after is.1) at cut so }
 
 -- what lines know, and how the air stands behind them
 pub record AreLinesGone (net : Net) (opening : List Change) (history entries before : List Entry) (air : AirState) (lines : List AirLine) (own : List Entry) (text : List ℕ) (after : AirState)

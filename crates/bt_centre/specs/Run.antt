@@ -105,7 +105,7 @@ pub record PlaysRound (net : Net) (before : Stand) (round : Round) (text : List 
 
 -- The centre restarts with the changes that its store tells: those made so far, or these and the one that the store lost. It forgets
 -- what it heard, and the edition to which it went back; the order that it wanted joins the others where the store tells it, and is
--- forgotten else. What is on its way stays on its way, and the desks' shows begin anew.
+-- forgotten else. What is on its way stays on its way, the standby keeps what it keeps, and the desks' shows begin anew.
 pub record PlaysRestart (tells : Bool) (before : Stand) (text : List ℕ) (after : Stand) : Type 0 where
   pub kept : Bool
   pub joins : JoinsOrder before.air after.opening kept
@@ -159,7 +159,7 @@ at_start net opening = record {
   over = [];
   opening = opening;
   history = [];
-  air = record { life = record { opening = opening_on net opening; events = [] }; waiting = []; back = None };
+  air = record { life = record { opening = opening_on net opening; events = [] }; waiting = []; back = None; standby = None };
   rounds = 0;
   sights = [];
 }

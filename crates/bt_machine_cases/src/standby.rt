@@ -3,7 +3,8 @@ use crate::lines::{put_number, put_word};
 use crate::message::status_of;
 use bt_frame::Mark;
 use bt_sheet::{CaseFault, Result, number_of};
-use bt_standby::{Noticed, Standby};
+use bt_standby::Standby;
+use bt_timeline::noticed_word;
 
 /// Does what a line of a standby says.
 pub fn show_standby(standby: &mut Standby, words: &[&str], out: &mut String) -> Result<()> {
@@ -22,10 +23,7 @@ pub fn show_standby(standby: &mut Standby, words: &[&str], out: &mut String) -> 
 fn put_noticed(standby: &mut Standby, mark: &str, fields: &[&str], out: &mut String) -> Result<()> {
     let status = status_of(fields)?;
     let mark = Mark(number_of(mark)?);
-    match standby.hear(mark, status) {
-        Noticed::Noted => put_word("noted", out),
-        Noticed::WrongMark => put_word("wrongmark", out),
-    }
+    put_word(noticed_word(standby.hear(mark, status)), out)
 }
 
 /// Appends the edition that the standby names in that superframe.

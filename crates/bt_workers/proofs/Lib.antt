@@ -9,6 +9,7 @@ pub mod FromNumber
 pub mod Terminals
 pub mod Sending
 pub mod Running
+pub mod Bridging
 pub mod Marks
 pub mod Flowing
 pub mod Wanted

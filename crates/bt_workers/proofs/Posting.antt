@@ -196,6 +196,8 @@ air_line_asks_none net air (line.Lose losing) entries text after plays = nothing
 air_line_asks_none net air (line.Deliver number place) entries text after plays = nothing_asked entries plays.0
 air_line_asks_none net air line.Frame entries text after plays = nothing_asked entries plays.0
 air_line_asks_none net air (line.Reset terminal) entries text after plays = nothing_asked entries plays.0
+air_line_asks_none net air (line.StandbyHears number) entries text after plays = nothing_asked entries plays.0
+air_line_asks_none net air line.StandbyBurst entries text after plays = nothing_asked entries plays.0
 
 -- and neither do those of the air
 pub air_installs_none : (net : Net) (air : AirState) (lines : List AirLine) (entries : List Entry) (text : List ℕ) (after : AirState) → PlaysAirLines net air lines entries text after

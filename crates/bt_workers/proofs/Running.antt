@@ -1,12 +1,15 @@
 -- The air after an event: still a world, and each delivery that waits can come.
-use Rattle.std.proofs.Common.{◌≡◌, ℕ, suc, ◌+◌, ◌<◌, List, [], ◌∷◌, ◌++◌, length, reverse, All, Option, Some, None, IfSome, IsSome, refl, sym, ap, ◌∙◌, subst, arith, append_assoc, drop}
+use Rattle.std.proofs.Common.{◌≡◌, ℕ, suc, ◌+◌, ◌<◌, ◌||◌, Bool, List, [], ◌∷◌, ◌++◌, length, reverse, All, Option, Some, None, IfSome, IsSome, refl, sym, ap, ◌∙◌, subst, arith, append_assoc, drop}
 use Rattle.std.proofs.lemmas.List.{drop_at, length-append, reverse-append}
+use Rattle.std.proofs.lemmas.List.Folds.{list_any-append}
+use Rattle.std.specs.List.{list_any}
 use Rattle.std.proofs.lemmas.List.Elements.{All-append, All-cons, All-head, All-map, All-nil, All-tail, All-weaker}
 use Rattle.bt_frame.specs.declared.numbers.TermNo.{TermNo}
 use Rattle.bt_net.specs.Network.{Net}
 use Rattle.bt_air.specs.declared.sent.Place.{Place}
 use Rattle.bt_air.specs.declared.sent.Place.TheVariants.{Satellite, Centre, Terminal}
 use Rattle.bt_demand.specs.declared.plan.Plan.{Plan}
+use Rattle.bt_air.specs.declared.order.Status.{Status}
 use Rattle.bt_air.specs.declared.sent.Aired.{Aired}
 use Rattle.bt_air.specs.declared.sent.Aired.TheVariants as sends
 use Rattle.bt_air.specs.Sent.{sent_as}
@@ -15,10 +18,10 @@ use Rattle.bt_frame.specs.declared.numbers.Mark.{Mark}
 use Rattle.bt_events.specs.Event.{Opening, Event, Happening, Turn}
 use Rattle.bt_events.specs.Fits.{IsPlace, IsWorld, Meets, newest_of}
 use Rattle.bt_world.specs.Life.{Life, having_had, past_of}
-use Rattle.bt_events.specs.World.{comes_to, log, plan_of, plans, sent, terminals}
+use Rattle.bt_events.specs.World.{comes_to, is_told, log, plan_of, plans, sent, tells, terminals}
 use Rattle.bt_workers.specs.AirLines.{AirState, happened, having, mark_of, newest_in, sends_text, target_by, target_of, turn_text_by, turning, sent_by, sent_count, sent_in, sent_lines}
 use Rattle.bt_workers.specs.Waiting.{deliveries, deliveries_of, receivers}
-use Rattle.bt_workers.specs.Worker.{CanHear, IsPlanned, IsRunning, NamesOwn, numbered}
+use Rattle.bt_workers.specs.Worker.{CanHear, IsHeard, IsPlanned, IsRunning, NamesOwn, numbered}
 use Rattle.bt_workers.proofs.Sending.{event-names, terminals-own}
 
 pub last-first : (events : List Event) (event : Event) → reverse (events ++ event ∷ []) ≡ event ∷ reverse events
@@ -78,7 +81,7 @@ can-still : (life : Life) (event : Event) (waiting : List (ℕ × Place)) → Al
 can-still life event waiting all =
     All-weaker (CanHear life) (CanHear (having_had life event))
     (λ delivery can.
-    let size = count-having (record { life = life; waiting = []; back = None }) event in
+    let size = count-having (record { life = life; waiting = []; back = None; standby = None }) event in
     record { sent = omega (arith, size, can.sent); place = can.place })
     waiting all
 
@@ -97,6 +100,13 @@ planned-still stays life event edition planned =
     subst (λ (past : List Happening). IsSome (plan_of (plans life.opening past) edition)) (sym (past-having life event))
     (subst (λ (plan : Option Plan). IsSome plan) (sym (stays life.opening (past_of life) (comes_to life.opening (past_of life) event) edition planned)) planned)
 
+-- a status that was sent stays sent
+heard-still : (air : AirState) (event : Event) (status : Status) → IsHeard air.life status → IsHeard (having_had air.life event) status
+heard-still air event status heard =
+    ap (λ (all : List Aired). is_told all status.mark.0 status.fore) (sent-having air event)
+    ∙ list_any-append (tells status.mark.0 status.fore) (sent_in air) (sent_by air event)
+    ∙ ap (λ (b : Bool). b || list_any (tells status.mark.0 status.fore) (sent_by air event)) heard
+
 -- an event happened, and what it sent waits
 pub running-having : PlansStay → (air : AirState) (event : Event) → IsRunning air → Meets air.life.opening (happened air) event → IsRunning (having air event)
 running-having stays air event running meets = record {
@@ -110,34 +120,35 @@ running-having stays air event running meets = record {
       (deliveries (terminals air.life.opening) (sent_count air) (sent_by air event))
       (deliveries-own air.life.opening (sent_count air) (sent_by air event) (event-names air.life.opening (happened air) event meets)));
   back = if-weaker (IsPlanned air.life) (IsPlanned (having_had air.life event)) (planned-still stays air.life event) air.back running.back;
+  standby = if-weaker (IsHeard air.life) (IsHeard (having_had air.life event)) (heard-still air event) air.standby running.standby;
 }
 
 -- one step of a world: what it keeps before and after, and who waits
-pub record Steps (air : AirState) (life now : Life) (waiting after : List (ℕ × Place)) (going_back : Option EditionNo) (event : Event) : Type 0 where
-  pub began : record { life = life; waiting = waiting; back = going_back } ≡ air
+pub record Steps (air : AirState) (life now : Life) (waiting after : List (ℕ × Place)) (going_back : Option EditionNo) (standby : Option Status) (event : Event) : Type 0 where
+  pub began : record { life = life; waiting = waiting; back = going_back; standby = standby } ≡ air
   pub stepped : now ≡ having_had life event
   pub joined : after ≡ waiting ++ deliveries (terminals life.opening) (length (sent life.opening (past_of life))) (drop (length (sent life.opening (past_of life))) (sent now.opening (past_of now)))
 
 -- the parts after a step are those of the air that has had the event
-pub steps-to : (air : AirState) (life now : Life) (waiting after : List (ℕ × Place)) (going_back : Option EditionNo) (event : Event) → Steps air life now waiting after going_back event
-    → record { life = now; waiting = after; back = going_back } ≡ having air event
-steps-to air life now waiting after going_back event step =
-    let old : AirState = record { life = life; waiting = waiting; back = going_back } in
+pub steps-to : (air : AirState) (life now : Life) (waiting after : List (ℕ × Place)) (going_back : Option EditionNo) (standby : Option Status) (event : Event) → Steps air life now waiting after going_back standby event
+    → record { life = now; waiting = after; back = going_back; standby = standby } ≡ having air event
+steps-to air life now waiting after going_back standby event step =
+    let old : AirState = record { life = life; waiting = waiting; back = going_back; standby = standby } in
     let since : drop (sent_count old) (sent now.opening (past_of now)) ≡ sent_by old event =
     ap (λ (l : Life). drop (sent_count old) (sent l.opening (past_of l))) step.stepped ∙ sent-since old event in
     let joined : after ≡ (having old event).waiting =
     step.joined ∙ ap (λ (l : List Aired). waiting ++ deliveries (terminals life.opening) (sent_count old) l) since in
-    let lives : record { life = now; waiting = after; back = going_back } ≡ record { life = having_had life event; waiting = after; back = going_back } =
-    ap (λ (l : Life). record { life = l; waiting = after; back = going_back }) step.stepped in
-    lives ∙ ap (λ (w : List (ℕ × Place)). record { life = having_had life event; waiting = w; back = going_back }) joined
+    let lives : record { life = now; waiting = after; back = going_back; standby = standby } ≡ record { life = having_had life event; waiting = after; back = going_back; standby = standby } =
+    ap (λ (l : Life). record { life = l; waiting = after; back = going_back; standby = standby }) step.stepped in
+    lives ∙ ap (λ (w : List (ℕ × Place)). record { life = having_had life event; waiting = w; back = going_back; standby = standby }) joined
     ∙ ap (λ (a : AirState). having a event) step.began
 
 -- by the numbers that are counted
-pub counted-steps : (air : AirState) (life now : Life) (waiting after : List (ℕ × Place)) (going_back : Option EditionNo) (event : Event) (net : Net) (count first : ℕ)
-    → record { life = life; waiting = waiting; back = going_back } ≡ air → now ≡ having_had life event → air.life.opening.net ≡ net → count ≡ length net.terminals
+pub counted-steps : (air : AirState) (life now : Life) (waiting after : List (ℕ × Place)) (going_back : Option EditionNo) (standby : Option Status) (event : Event) (net : Net) (count first : ℕ)
+    → record { life = life; waiting = waiting; back = going_back; standby = standby } ≡ air → now ≡ having_had life event → air.life.opening.net ≡ net → count ≡ length net.terminals
     → first ≡ length (sent life.opening (past_of life)) → after ≡ waiting ++ deliveries (numbered count) first (drop first (sent now.opening (past_of now)))
-    → Steps air life now waiting after going_back event
-counted-steps air life now waiting after going_back event net count first before step same counted numbered_from added =
+    → Steps air life now waiting after going_back standby event
+counted-steps air life now waiting after going_back standby event net count first before step same counted numbered_from added =
     let own : life.opening.net ≡ net = ap (λ (a : AirState). a.life.opening.net) before ∙ same in
     let all : numbered count ≡ terminals life.opening = ap numbered (counted ∙ ap (λ (n : Net). length n.terminals) (sym own)) in
     record {
@@ -148,11 +159,11 @@ counted-steps air life now waiting after going_back event net count first before
           ∙ ap (λ (n : ℕ). waiting ++ deliveries (terminals life.opening) n (drop n (sent now.opening (past_of now)))) numbered_from;
     }
 
-pub running-now : PlansStay → (air : AirState) (life now : Life) (waiting after : List (ℕ × Place)) (going_back : Option EditionNo) (event : Event)
-    → Steps air life now waiting after going_back event → IsRunning (record { life = life; waiting = waiting; back = going_back }) → Meets air.life.opening (happened air) event
-    → IsRunning (record { life = now; waiting = after; back = going_back })
-running-now stays air life now waiting after going_back event step running meets =
-    subst IsRunning (sym (steps-to air life now waiting after going_back event step)) (running-having stays air event (subst IsRunning step.began running) meets)
+pub running-now : PlansStay → (air : AirState) (life now : Life) (waiting after : List (ℕ × Place)) (going_back : Option EditionNo) (standby : Option Status) (event : Event)
+    → Steps air life now waiting after going_back standby event → IsRunning (record { life = life; waiting = waiting; back = going_back; standby = standby }) → Meets air.life.opening (happened air) event
+    → IsRunning (record { life = now; waiting = after; back = going_back; standby = standby })
+running-now stays air life now waiting after going_back standby event step running meets =
+    subst IsRunning (sym (steps-to air life now waiting after going_back standby event step)) (running-having stays air event (subst IsRunning step.began running) meets)
 
 -- the text of an event, whose messages stand behind its own line
 pub told : (net : Net) (air now : AirState) (event : Event) (first : ℕ) (text middle after heading : List ℕ) → now ≡ having air event → first ≡ sent_count air

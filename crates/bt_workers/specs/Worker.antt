@@ -1,16 +1,17 @@
 -- What holds of the centre's worker between its lines, and what each step of a line adds. All but `Asks` is for bodies alone.
-use Rattle.std.specs.Prelude.{◌≡◌, ◌⊎◌, ℕ, ◌<◌, ◌++◌, List, [], length, map, reverse, drop, take, All, IfSome, IsSome}
+use Rattle.std.specs.Prelude.{◌≡◌, ◌⊎◌, ℕ, ◌<◌, ◌++◌, true, List, [], length, map, reverse, drop, take, All, IfSome, IsSome}
 use Rattle.std.specs.List.{range_with_len}
 use Rattle.bt_frame.specs.declared.numbers.EditionNo.{EditionNo}
 use Rattle.bt_frame.specs.declared.numbers.TermNo.{TermNo}
 use Rattle.bt_net.specs.Network.{Net}
+use Rattle.bt_air.specs.declared.order.Status.{Status}
 use Rattle.bt_air.specs.declared.sent.Aired.{Aired}
 use Rattle.bt_air.specs.Sent.{sent_as}
 use Rattle.bt_air.specs.declared.sent.Place.{Place}
 use Rattle.bt_air.specs.declared.sent.Place.TheVariants.{Centre}
 use Rattle.bt_events.specs.Fits.{IsPlace, IsWorld}
 use Rattle.bt_world.specs.Life.{Life, past_of}
-use Rattle.bt_events.specs.World.{plan_of, plans, sent}
+use Rattle.bt_events.specs.World.{is_told, plan_of, plans, sent}
 use Rattle.bt_journal.specs.declared.entry.Entry.{Entry}
 use Rattle.bt_journal.specs.declared.reply.Reply.{Reply}
 use Rattle.bt_journal.specs.declared.reply.Reply.TheVariants.{Placed}
@@ -30,11 +31,17 @@ pub record CanHear (life : Life) (delivery : ℕ × Place) : Type 0 where
 abbrev pub IsPlanned : Life → EditionNo → Type 0
 IsPlanned life edition = IsSome (plan_of (plans life.opening (past_of life)) edition)
 
--- the events are those of a world, each delivery that waits can come, and an edition to which the centre goes back has a plan
+-- a status of its superframe was sent that has its edition in front
+abbrev pub IsHeard : Life → Status → Type 0
+IsHeard life status = is_told (sent life.opening (past_of life)) status.mark.0 status.fore ≡ true
+
+-- the events are those of a world, each delivery that waits can come, an edition to which the centre goes back has a plan, and the
+-- standby keeps a status that was sent
 pub record IsRunning (air : AirState) : Type 0 where
   pub world : IsWorld air.life.opening (reverse air.life.events)
   pub waiting : All (CanHear air.life) air.waiting
   pub back : IfSome air.back (IsPlanned air.life)
+  pub standby : IfSome air.standby (IsHeard air.life)
 
 -- each terminal that a message names is one of the network's
 abbrev pub NamesOwn : Net → Aired → Type 0

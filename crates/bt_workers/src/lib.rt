@@ -16,6 +16,7 @@ mod flow;
 mod gate;
 mod lines;
 mod planner;
+mod standby;
 mod turn;
 mod waiting;
 mod worker;

@@ -70,6 +70,8 @@ impl CentreWorker {
             AirLine::Deliver(number, place) => self.deliver(alloc, net, number, place, text),
             AirLine::Frame => self.frame(alloc, net, text),
             AirLine::Reset(terminal) => self.reset(alloc, net, terminal, text),
+            AirLine::StandbyHears(number) => self.standby_hears(alloc, number, text),
+            AirLine::StandbyBurst => self.standby_burst(alloc, net, text),
         }
     }
 }

@@ -13,6 +13,7 @@ use bt_air::{Event, Order, Shown};
 use bt_events::{newest_edition_has_a_plan, plans_stay};
 use bt_frame::{EditionNo, MOST_COUNTED, Mark, OutOfMemory};
 use bt_net::Network;
+use bt_standby::Standby;
 use bt_timeline::sent_text;
 use bt_world::World;
 use std::alloc::Global;
@@ -25,6 +26,8 @@ pub struct CentreWorker {
     pub(crate) waiting: Waiting,
     // the edition to which the centre goes back; no journal has it
     pub(crate) back: Option<EditionNo>,
+    // the second reference station; a restart of the centre leaves it
+    pub(crate) standby: Standby,
 }
 
 impl Model for CentreWorker {
@@ -33,21 +36,22 @@ impl Model for CentreWorker {
 
     ghost Value = { AirState };
 
-    ghost view = { λ a. record { life = a.world; waiting = a.waiting; back = a.back } };
+    ghost view = { λ a. record { life = a.world; waiting = a.waiting; back = a.back; standby = a.standby } };
 
-    ghost invariant = { λ a. IsRunning (record { life = a.world; waiting = a.waiting; back = a.back }) };
+    ghost invariant = { λ a. IsRunning (record { life = a.world; waiting = a.waiting; back = a.back; standby = a.standby }) };
 }
 
 impl CentreWorker {
-    /// The worker of a world. Nobody waits, and the centre goes back to no edition.
+    /// The worker of a world. Nobody waits, the centre goes back to no edition, and the standby keeps nothing.
     pub fn new(alloc: Global, world: World) -> CentreWorker
         requires world { IsWorld world.opening (reverse world.events) }
-        ensures made { result ≡ record { life = world; waiting = []; back = None } }
+        ensures made { result ≡ record { life = world; waiting = []; back = None; standby = None } }
     {
         CentreWorker {
             world,
             waiting: Waiting::none(alloc),
             back: None,
+            standby: Standby::new(),
         }
     }
 
@@ -140,7 +144,7 @@ impl CentreWorker {
     }
 
     /// The centre restarts, with the order that it wanted or without it, and goes back to no edition: no journal has
-    /// that. What is on its way stays on its way.
+    /// that. What is on its way stays on its way, and the standby keeps what it keeps.
     ///
     /// Where memory runs out, it may have restarted.
     pub fn restart(&mut self, alloc: Global, net: &Network, kept: bool) -> Result<(), OutOfMemory>

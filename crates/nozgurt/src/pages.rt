@@ -65,7 +65,10 @@ commands
       A file that is not there is made, and is an empty journal.
       The line `back E` of a script has the centre go back: from its next turn
       on it wants the plan of edition E in front. `ahead` has it want the newest
-      again, and so has a restart.
+      again, and so has a restart. A standby is a second reference station: by
+      `standby hears K` it hears message K, a status of the satellite, and by
+      `standby burst` it names the edition in front by the last one that it heard
+      in the present superframe, or none.
       example: nozgurt run examples/two-beams.net
                examples/calm-change.script calm.journal
 

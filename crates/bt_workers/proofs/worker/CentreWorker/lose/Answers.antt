@@ -11,4 +11,5 @@ invariant_of-self c = record {
   waiting = subst (λ (l : List (ℕ × Place)). All (CanHear c.self.inside.world) l) (sym c.lose-lost.ensures.left)
       (All-filter (λ (delivery : ℕ × Place). not (loses c.args.losing delivery.1)) (CanHear c.self.inside.world) c.self.inside.waiting c.self.invariant.waiting);
   back = c.self.invariant.back;
+  standby = c.self.invariant.standby;
 }

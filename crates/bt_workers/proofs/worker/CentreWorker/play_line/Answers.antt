@@ -1,5 +1,5 @@
 use Rattle.bt_script.specs.declared.script.AirLine.TheVariants as line
-use Rattle.bt_workers.specs.AirLines.{PlaysAhead, PlaysBack, PlaysDelivery, PlaysFlow, PlaysFrame, PlaysLoss, PlaysReset, PlaysTick}
+use Rattle.bt_workers.specs.AirLines.{PlaysAhead, PlaysBack, PlaysBurst, PlaysDelivery, PlaysFlow, PlaysFrame, PlaysLoss, PlaysNotice, PlaysReset, PlaysTick}
 use Rattle.bt_workers.specs.Callers.{own_of}
 use Rattle.bt_workers.proofs.PlayedLines.{asks-nothing, on-line}
 use Rattle.bt_workers.proofs.worker.CentreWorker.play_line.Goals as goal
@@ -48,3 +48,13 @@ pub returns-in-Reset-clause-played : goal.returns-in-Reset-clause-played
 returns-in-Reset-clause-played g c =
     on-line c.reset.result c.args.net.now c.args.self.now c.reset.new.self c.args.line (line.Reset c.in-Reset.terminal) _ (own_of c.args.caller.now) (own_of c.args.caller.now) c.args.text.now.items c.reset.new.text.items
     c.in-Reset.is (asks-nothing (PlaysReset c.args.net.now c.args.self.now c.in-Reset.terminal) c.reset.new.self (own_of c.args.caller.now) c.args.text.now.items c.reset.new.text.items) c.reset.ensures.played
+
+pub returns-in-StandbyHears-clause-played : goal.returns-in-StandbyHears-clause-played
+returns-in-StandbyHears-clause-played g c =
+    on-line c.standby_hears.result c.args.net.now c.args.self.now c.standby_hears.new.self c.args.line (line.StandbyHears c.in-StandbyHears.number) _ (own_of c.args.caller.now) (own_of c.args.caller.now) c.args.text.now.items c.standby_hears.new.text.items
+    c.in-StandbyHears.is (asks-nothing (PlaysNotice c.args.self.now c.in-StandbyHears.number) c.standby_hears.new.self (own_of c.args.caller.now) c.args.text.now.items c.standby_hears.new.text.items) c.standby_hears.ensures.played
+
+pub returns-in-StandbyBurst-clause-played : goal.returns-in-StandbyBurst-clause-played
+returns-in-StandbyBurst-clause-played g c =
+    on-line c.standby_burst.result c.args.net.now c.args.self.now c.standby_burst.new.self c.args.line line.StandbyBurst _ (own_of c.args.caller.now) (own_of c.args.caller.now) c.args.text.now.items c.standby_burst.new.text.items
+    c.in-StandbyBurst.is (asks-nothing (PlaysBurst c.args.net.now c.args.self.now) c.standby_burst.new.self (own_of c.args.caller.now) c.args.text.now.items c.standby_burst.new.text.items) c.standby_burst.ensures.played
