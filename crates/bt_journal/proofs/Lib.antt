@@ -3,3 +3,4 @@ pub mod PlanWords
 pub mod Words
 pub mod Spelled
 pub mod ChangeLines
+pub mod Marks

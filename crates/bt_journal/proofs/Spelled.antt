@@ -23,11 +23,11 @@ pub mapped : {A B : Type 0} (f : A → B) (o : Option A) (y : B) → option_map 
 mapped f None y is = absurd cc
 mapped f (Some x) y is = (x, refl, same_Some (f x) y is)
 
-then : {A B : Type 0} (f : A → Option B) (o : Option A) (y : B) → option_and_then f o ≡ Some y → (x : A) × (o ≡ Some x) × (f x ≡ Some y)
+pub then : {A B : Type 0} (f : A → Option B) (o : Option A) (y : B) → option_and_then f o ≡ Some y → (x : A) × (o ≡ Some x) × (f x ≡ Some y)
 then f None y is = absurd cc
 then f (Some x) y is = (x, refl, is)
 
-ended : {A : Type 0} (ws : List (List ℕ)) (x y : A) → at_end ws x ≡ Some y → (ws ≡ []) × (x ≡ y)
+pub ended : {A : Type 0} (ws : List (List ℕ)) (x y : A) → at_end ws x ≡ Some y → (ws ≡ []) × (x ≡ y)
 ended ws x y is = let tested = cond_some (length ws == 0) x y is in (no_word ws (sym tested.0), tested.1)
 
 drop_two : (ws : List (List ℕ)) → drop 1 (drop 1 ws) ≡ drop 2 ws
@@ -35,16 +35,16 @@ drop_two [] = refl
 drop_two (word ∷ rest) = refl
 
 -- a word in front of a list of words, by what is behind it
-front : (ws : List (List ℕ)) (word : List ℕ) (rest : List (List ℕ)) → ws ≡ word ∷ drop 1 ws → drop 1 ws ≡ rest → ws ≡ word ∷ rest
+pub front : (ws : List (List ℕ)) (word : List ℕ) (rest : List (List ℕ)) → ws ≡ word ∷ drop 1 ws → drop 1 ws ≡ rest → ws ≡ word ∷ rest
 front ws word rest here behind = here ∙ ap (λ r. word ∷ r) behind
 
 -- a number in front
-record IsNumber (least most n : ℕ) (ws : List (List ℕ)) : Type 0 where
-  spelled : ws ≡ decimal n ∷ drop 1 ws
-  above : least ≤ n
-  below : n ≤ most
+pub record IsNumber (least most n : ℕ) (ws : List (List ℕ)) : Type 0 where
+  pub spelled : ws ≡ decimal n ∷ drop 1 ws
+  pub above : least ≤ n
+  pub below : n ≤ most
 
-number_spelled : (least most n : ℕ) (ws : List (List ℕ)) → most < 2 ^ 64 → number_from least most ws ≡ Some n → IsNumber least most n ws
+pub number_spelled : (least most n : ℕ) (ws : List (List ℕ)) → most < 2 ^ 64 → number_from least most ws ≡ Some n → IsNumber least most n ws
 number_spelled least most n [] small is = absurd cc
 number_spelled least most n (word ∷ rest) small is =
     let (m, read, tested) = then (λ (k : ℕ). cond (leb least k) (Some k) None) (number_to most word) n is in

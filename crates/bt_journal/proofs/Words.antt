@@ -19,6 +19,11 @@ use Rattle.bt_journal.specs.declared.call.Edit.TheVariants.{Add, Drop, Move}
 use Rattle.bt_journal.specs.JournalLines.{edit_words, order_words, change_parts, edition_said, IsEditInRange, IsOrderInRange}
 use Rattle.bt_journal.specs.LineReading.{number_from, ends_in, link_in, links_in, edit_in, said_in}
 
+-- a number in front is read
+pub number_read : (least most n : ℕ) (rest : List (List ℕ)) → least ≤ n → n ≤ most → most < 2 ^ 64 → number_from least most (decimal n ∷ rest) ≡ Some n
+number_read least most n rest above within small =
+    ap (option_and_then (λ m. cond (leb least m) (Some m) None)) (number_to-decimal most n within small) ∙ ap (λ b. cond b (Some n) None) (le-leb least n above)
+
 module _ (net : Net) (sound : IsSound net) where
   -- a byte that is no digit and stands in no name stands in none of the words
   module _ (byte : ℕ) (digit : is_ascii_digit byte ≡ false) (other : is_name_byte byte ≡ false) where
@@ -39,11 +44,7 @@ module _ (net : Net) (sound : IsSound net) where
     order-lacks (Arm command edition due) range =
         rw (name_lacks byte (codes "arm") other refl, lacks-decimal byte command.0 digit (omega arith), lacks-decimal byte edition.0 digit (omega arith), lacks-decimal byte due.0 digit (omega arith)) refl
 
-  -- numbers, terminals and links are read
-  number_read : (least most n : ℕ) (rest : List (List ℕ)) → least ≤ n → n ≤ most → most < 2 ^ 64 → number_from least most (decimal n ∷ rest) ≡ Some n
-  number_read least most n rest above within small =
-      ap (option_and_then (λ m. cond (leb least m) (Some m) None)) (number_to-decimal most n within small) ∙ ap (λ b. cond b (Some n) None) (le-leb least n above)
-
+  -- terminals and links are read
   ends_read : (from to : TermNo) (rest : List (List ℕ)) → IsBetweenTerminals net from to → ends_in net (name_at net from ∷ name_at net to ∷ rest) ≡ Some (from, to)
   ends_read from to rest within = rw (terminal_found net from sound within.0, terminal_found net to sound within.1) refl
 

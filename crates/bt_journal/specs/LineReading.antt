@@ -1,8 +1,8 @@
 -- How the line of a change is read, word by word, and how the lines of a text are put into one. All of it is for bodies alone.
-use Rattle.std.specs.Prelude.{◌≡◌, ℕ, zero, suc, ◌+◌, ◌==◌, ◌||◌, if◌then◌else◌, nat_le, codes, length, drop, List, [], ◌∷◌, ◌++◌, Option, Some, None, option_map, option_and_then, Result, Ok, Err}
+use Rattle.std.specs.Prelude.{◌≡◌, ℕ, zero, suc, ◌+◌, ◌==◌, ◌&&◌, ◌||◌, if◌then◌else◌, nat_le, codes, length, drop, List, [], ◌∷◌, ◌++◌, Option, Some, None, option_map, option_and_then, Result, Ok, Err}
 use Rattle.bt_text.specs.Text.{is_word}
-use Rattle.bt_text.specs.WordReader.{first_word, number_to}
-use Rattle.bt_frame.specs.declared.limits.TheConstants.{MOST_UNITS, LAST_MARK, LAST_COMMAND, LAST_EDITION}
+use Rattle.bt_text.specs.WordReader.{first_word, is_first, number_to}
+use Rattle.bt_frame.specs.declared.limits.TheConstants.{MOST_BEAMS, MOST_TERMINALS, MOST_UNITS, LAST_MARK, LAST_COMMAND, LAST_EDITION}
 use Rattle.bt_frame.specs.declared.numbers.EditionNo.{EditionNo}
 use Rattle.bt_frame.specs.declared.numbers.TermNo.{TermNo}
 use Rattle.bt_net.specs.Network.{Net}
@@ -127,6 +127,14 @@ abbrev pub Answers : Result Said LineFault → Option Said → Type 0
 Answers (Ok change_read) said = said ≡ Some change_read
 Answers (Err Bad) said = said ≡ None
 Answers (Err OutOfMemory) said = Unit {0}
+
+-- the beams and the terminals in front, and no more words
+abbrev pub sizes_in : List (List ℕ) → Option (ℕ × ℕ)
+sizes_in ws = option_and_then (λ beams. option_and_then (λ terminals. at_end (drop 1 (drop 1 ws)) (beams, terminals)) (number_from 1 MOST_TERMINALS (drop 1 ws))) (number_from 1 MOST_BEAMS ws)
+
+-- the words of a mark
+abbrev pub mark_in : List (List ℕ) → Option (ℕ × ℕ)
+mark_in ws = if is_first (codes "journal") ws && is_first (codes "2") (drop 1 ws) then sizes_in (drop 1 (drop 1 ws)) else None
 
 -- a space in the place of a newline, and each other byte as it is
 abbrev pub space_for_newline : ℕ → ℕ

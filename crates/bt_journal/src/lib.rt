@@ -2,21 +2,24 @@
 //!
 //! It stands on the network's terminals, on demands and plans and their texts, on the orders of the air and on verdicts.
 //! Promises are in `specs/Journal.antt`, the words for calls, replies and histories, and in `specs/JournalLines.antt`, the
-//! one line of each change. `laws.rt` says that there is no other. `specs/LineReading.antt` is for bodies alone.
+//! one line of each change. `laws.rt` says that there is no other. `specs/Mark.antt` has the line that says of which network a
+//! journal is. `specs/LineReading.antt` is for bodies alone.
 #![tactic(auto)]
 
 mod call;
 mod entry;
 mod laws;
 mod line_fault;
+mod mark;
 mod reader;
 mod reply;
 mod writer;
 
 pub use call::{Call, Change, Edit};
 pub use entry::{Entries, Entry};
-pub use laws::{lines_end_once, lines_tell_changes};
+pub use laws::{lines_end_once, lines_tell_changes, marks_tell_sizes};
 pub use line_fault::LineFault;
+pub use mark::{mark_text, read_mark};
 pub use reader::read_change;
 pub use reply::Reply;
 pub use writer::change_text;

@@ -40,7 +40,7 @@ pub fn read_change(
 }
 
 // The text of a line, whose only newline is its last byte.
-fn text_of(line: &[u8]) -> Option<&[u8]>
+pub(crate) fn text_of(line: &[u8]) -> Option<&[u8]>
     ensures text { IfSome result (λ text. lines line.now ≡ text.now ∷ [] ∷ []) }
     ensures none { IfNone result ((text : List ℕ) → lines line.now ≡ text ∷ [] ∷ [] → ⊥) }
 {
@@ -171,7 +171,7 @@ fn terminal_in(net: &Network, words: &mut WordReader<'_>) -> Option<TermNo>
 }
 
 // The number in front, which it passes; None where it is not from `least` to `most`.
-fn number_from(least: u32, most: u32, words: &mut WordReader<'_>) -> Option<u32>
+pub(crate) fn number_from(least: u32, most: u32, words: &mut WordReader<'_>) -> Option<u32>
     ensures number { result ≡ number_from least most words.old }
     ensures rest { IfSome result (λ _. words.new ≡ drop 1 words.old) }
 {

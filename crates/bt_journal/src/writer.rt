@@ -111,7 +111,11 @@ fn write_link(
 }
 
 // Appends a number, behind a space.
-fn write_number(alloc: Global, number: u32, text: &mut Vec<u8>) -> Result<(), OutOfMemory>
+pub(crate) fn write_number(
+    alloc: Global,
+    number: u32,
+    text: &mut Vec<u8>,
+) -> Result<(), OutOfMemory>
     ensures { OnOk result (text.new.items ≡ text.old.items ++ 32 ∷ decimal number) }
 {
     text.push(b' ')?;

@@ -11,6 +11,7 @@ mod cutting;
 mod delays;
 mod demand;
 mod linked;
+mod marks;
 mod planning;
 mod stage;
 mod texts;

@@ -2,6 +2,7 @@
 use crate::delays::show_sends;
 use crate::demand::{put_gain, put_loss, put_units};
 use crate::linked::{linked_of, put_linked};
+use crate::marks::show_mark;
 use crate::planning::show_steps;
 use crate::texts::show_text;
 use crate::twins::put_twins;
@@ -39,6 +40,9 @@ impl Texts {
             return Ok(true);
         }
         if show_sends(alloc, shelf, words, out)? {
+            return Ok(true);
+        }
+        if show_mark(alloc, shelf, words, out)? {
             return Ok(true);
         }
         self.show_planning(alloc, shelf, words, out)
