@@ -90,6 +90,9 @@ pub const LEAST_JOURNAL_BYTES: u32 = 32;
 /// The most bytes of a journal, and so of a store that is read.
 pub const MOST_JOURNAL_BYTES: u64 = MOST_TEXT_BYTES as u64;
 
+/// The most bytes of changes that a journal may have: the mark stands beside them.
+pub const MOST_BOOK_BYTES: u64 = 67_108_800;
+
 /// The most lines of a script; remarks count.
 pub const MOST_LINES: u32 = 20_000;
 

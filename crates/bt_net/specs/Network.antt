@@ -1,7 +1,7 @@
 -- What contracts see of a network, and what always holds of it.
 use Rattle.std.specs.Prelude.{◌≢◌, ℕ, ◌<◌, List, length, map, Bool, All, AllPairs, IsTrue}
 use Rattle.bt_frame.specs.declared.numbers.BeamNo.{BeamNo}
-use Rattle.bt_frame.specs.declared.limits.TheConstants.{MOST_BEAMS, MOST_TERMINALS, MOST_SLOTS, MOST_FRAMES, LEAST_LEAD, MOST_LEAD, MOST_PATIENCE, LEAST_JOURNAL_BYTES, MOST_JOURNAL_BYTES}
+use Rattle.bt_frame.specs.declared.limits.TheConstants.{MOST_BEAMS, MOST_TERMINALS, MOST_SLOTS, MOST_FRAMES, LEAST_LEAD, MOST_LEAD, MOST_PATIENCE, LEAST_JOURNAL_BYTES, MOST_BOOK_BYTES}
 use Rattle.bt_frame.specs.Range.{IsWithin}
 use Rattle.bt_names.specs.Name.{is_name, is_terminal_name}
 
@@ -43,4 +43,4 @@ pub record IsSound (net : Net) : Type 0 where
   pub frames : IsWithin 1 MOST_FRAMES net.frames
   pub lead : IsWithin LEAST_LEAD MOST_LEAD net.lead
   pub patience : IsWithin 1 MOST_PATIENCE net.patience
-  pub journal : IsWithin LEAST_JOURNAL_BYTES MOST_JOURNAL_BYTES net.journal
+  pub journal : IsWithin LEAST_JOURNAL_BYTES MOST_BOOK_BYTES net.journal

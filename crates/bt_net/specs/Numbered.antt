@@ -1,7 +1,7 @@
 -- The network of so many beams whose names are numbers behind a letter, for trials of any size.
 use Rattle.std.specs.Prelude.{ℕ, ◌*◌, ◌%◌, ◌++◌, List, map, codes, decimal}
 use Rattle.std.specs.List.{range_with_len}
-use Rattle.bt_frame.specs.declared.limits.TheConstants.{MOST_SLOTS, MOST_JOURNAL_BYTES}
+use Rattle.bt_frame.specs.declared.limits.TheConstants.{MOST_SLOTS, MOST_BOOK_BYTES}
 use Rattle.bt_frame.specs.declared.numbers.BeamNo.{BeamNo}
 use Rattle.bt_net.specs.declared.numbered.TheConstants.{TERMINALS_A_BEAM, FRAMES, LEAD, PATIENCE}
 use Rattle.bt_net.specs.Network.{Net}
@@ -31,5 +31,5 @@ numbered_network beams = record {
   frames = FRAMES;
   lead = LEAD;
   patience = PATIENCE;
-  journal = MOST_JOURNAL_BYTES;
+  journal = MOST_BOOK_BYTES;
 }

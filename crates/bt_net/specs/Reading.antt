@@ -1,5 +1,5 @@
 -- The walk over a network file: the network that its bytes are, or the first fault in them.
-use Rattle.std.specs.Prelude.{ℕ, ◌&&◌, List, [], ◌∷◌, ◌++◌, length, Option, Some, None, option_map, option_and_then, Result, Ok, Err, nat_le, if◌then◌else◌, codes, position}
+use Rattle.std.specs.Prelude.{ℕ, ◌&&◌, List, [], ◌∷◌, ◌++◌, length, min, Option, Some, None, option_map, option_and_then, Result, Ok, Err, nat_le, if◌then◌else◌, codes, position}
 use Rattle.std.specs.List.{list_any}
 use Rattle.std.specs.Option.{ok_or}
 use Rattle.std.specs.Str.{bytes_eq, is_utf8}
@@ -7,7 +7,7 @@ use Rattle.serde_json.specs.Data.{Data, Items, no_items, item}
 use Rattle.serde_json.specs.Find.{get, as_u64, as_number, as_str, as_array, as_object}
 use Rattle.serde_json.specs.Read as json
 use Rattle.bt_text.specs.Reading.{◌>>=◌}
-use Rattle.bt_frame.specs.declared.limits.TheConstants.{MOST_BEAMS, MOST_TERMINALS, MOST_SLOTS, MOST_FRAMES, LEAST_LEAD, MOST_LEAD, MOST_PATIENCE, LEAST_JOURNAL_BYTES, MOST_JOURNAL_BYTES}
+use Rattle.bt_frame.specs.declared.limits.TheConstants.{MOST_BEAMS, MOST_TERMINALS, MOST_SLOTS, MOST_FRAMES, LEAST_LEAD, MOST_LEAD, MOST_PATIENCE, LEAST_JOURNAL_BYTES, MOST_JOURNAL_BYTES, MOST_BOOK_BYTES}
 use Rattle.bt_frame.specs.declared.numbers.BeamNo.{BeamNo}
 use Rattle.bt_frame.specs.Range.{IsWithin}
 use Rattle.bt_names.specs.declared.fault.NetFault.{NetFault}
@@ -81,10 +81,13 @@ with_terminal beams earlier entry = do
 unfoldable pub terminals_of : List (List ℕ) → Data → Result (List (List ℕ × BeamNo)) NetFault
 terminals_of beams value = entries_at path.Terminals MOST_TERMINALS (codes "terminals") value >>= through (with_terminal beams) []
 
--- the limit of the journal; where the field is missing, the greatest that there is
+-- the limit of a journal's changes: what the field says, and at most what the mark leaves; where the field is missing,
+-- all that the mark leaves
 abbrev pub journal_found : Option Data → Data → Result ℕ NetFault
-journal_found None value = Ok MOST_JOURNAL_BYTES
-journal_found (Some found) value = number_at path.Journal LEAST_JOURNAL_BYTES MOST_JOURNAL_BYTES (codes "journal") value
+journal_found None value = Ok MOST_BOOK_BYTES
+journal_found (Some found) value = do
+  number ← number_at path.Journal LEAST_JOURNAL_BYTES MOST_JOURNAL_BYTES (codes "journal") value
+  Ok (min number MOST_BOOK_BYTES)
 
 unfoldable pub journal_of : Data → Result ℕ NetFault
 journal_of value = journal_found (get (codes "journal") value) value
@@ -105,7 +108,7 @@ pub record AreInRange (numbers : Numbers) : Type 0 where
   pub frames : IsWithin 1 MOST_FRAMES numbers.frames
   pub lead : IsWithin LEAST_LEAD MOST_LEAD numbers.lead
   pub patience : IsWithin 1 MOST_PATIENCE numbers.patience
-  pub journal : IsWithin LEAST_JOURNAL_BYTES MOST_JOURNAL_BYTES numbers.journal
+  pub journal : IsWithin LEAST_JOURNAL_BYTES MOST_BOOK_BYTES numbers.journal
 
 -- a network of these beams, terminals and numbers
 abbrev pub net_of : List (List ℕ) → List (List ℕ × BeamNo) → Numbers → Net

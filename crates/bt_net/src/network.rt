@@ -3,7 +3,7 @@ ghost use Rattle.std.specs.Prelude.{◌≡◌, ◌<◌, Some, IfSome, IfNone, If
 ghost use Rattle.std.specs.Option.{option_map};
 ghost use Rattle.bt_names.specs.Name.{is_name as is_name_of, is_terminal_name};
 ghost use Rattle.std.specs.Str.{bytes_eq};
-ghost use Rattle.bt_frame.specs.declared.limits.TheConstants.{MOST_BEAMS, MOST_TERMINALS, MOST_SLOTS, MOST_FRAMES, LEAST_LEAD, MOST_LEAD, MOST_PATIENCE, LEAST_JOURNAL_BYTES, MOST_JOURNAL_BYTES};
+ghost use Rattle.bt_frame.specs.declared.limits.TheConstants.{MOST_BEAMS, MOST_TERMINALS, MOST_SLOTS, MOST_FRAMES, LEAST_LEAD, MOST_LEAD, MOST_PATIENCE, LEAST_JOURNAL_BYTES, MOST_BOOK_BYTES};
 ghost use Rattle.bt_net.specs.Network.{IsSound, names_of};
 ghost use Rattle.bt_net.specs.Terminals.{terminal_of, IsTerminal};
 ghost use Rattle.bt_frame.specs.Range.{IsWithin};
@@ -90,10 +90,10 @@ impl Network {
         self.patience
     }
 
-    /// The most bytes of a journal.
+    /// The most bytes of changes that a journal may have.
     pub fn journal(&self) -> u32
         ensures same { result ≡ self.now.journal }
-        ensures in_range { IsWithin LEAST_JOURNAL_BYTES MOST_JOURNAL_BYTES result }
+        ensures in_range { IsWithin LEAST_JOURNAL_BYTES MOST_BOOK_BYTES result }
     {
         self.journal
     }

@@ -8,7 +8,7 @@ ghost use Rattle.bt_net.specs.Numbered.{numbered_beams, numbered_network, number
 use crate::Network;
 use crate::beams::Beams;
 use crate::terminals::Terminals;
-use bt_frame::{BeamNo, MOST_JOURNAL_BYTES, MOST_SLOTS, OutOfMemory};
+use bt_frame::{BeamNo, MOST_BOOK_BYTES, MOST_SLOTS, OutOfMemory};
 use std::alloc::{AllocError, Global};
 
 /// Terminals in each beam.
@@ -37,7 +37,7 @@ impl Network {
             frames: FRAMES,
             lead: LEAD,
             patience: PATIENCE,
-            journal: MOST_JOURNAL_BYTES as u32,
+            journal: MOST_BOOK_BYTES as u32,
         })
     }
 }

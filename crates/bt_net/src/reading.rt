@@ -13,8 +13,8 @@ use crate::Network;
 use crate::beams::Beams;
 use crate::terminals::Terminals;
 use bt_frame::{
-    BeamNo, LEAST_JOURNAL_BYTES, LEAST_LEAD, MOST_BEAMS, MOST_FRAMES, MOST_JOURNAL_BYTES,
-    MOST_LEAD, MOST_PATIENCE, MOST_SLOTS, MOST_TERMINALS,
+    BeamNo, LEAST_JOURNAL_BYTES, LEAST_LEAD, MOST_BEAMS, MOST_BOOK_BYTES, MOST_FRAMES,
+    MOST_JOURNAL_BYTES, MOST_LEAD, MOST_PATIENCE, MOST_SLOTS, MOST_TERMINALS,
 };
 use bt_names::{NetFault, Path, check_name, is_name, is_terminal_name};
 use serde_json::{Error, Value};
@@ -72,17 +72,20 @@ fn number_at(value: &Value, key: &str, path: Path, least: u32, most: u32) -> Res
 #[tactic(auto, unfolding(crate::specs::Reading::journal_of))]
 fn journal_of(value: &Value) -> Result<u32, NetFault>
     ensures walk { Gives (λ number. number) result (journal_of (view value.now)) }
-    ensures in_range { IfOk result (IsWithin LEAST_JOURNAL_BYTES MOST_JOURNAL_BYTES) }
+    ensures in_range { IfOk result (IsWithin LEAST_JOURNAL_BYTES MOST_BOOK_BYTES) }
 {
     match value.get("journal") {
-        Some(_) => number_at(
-            value,
-            "journal",
-            Path::Journal,
-            LEAST_JOURNAL_BYTES,
-            MOST_JOURNAL_BYTES as u32,
-        ),
-        None => Ok(MOST_JOURNAL_BYTES as u32),
+        Some(_) => {
+            let number = number_at(
+                value,
+                "journal",
+                Path::Journal,
+                LEAST_JOURNAL_BYTES,
+                MOST_JOURNAL_BYTES as u32,
+            )?;
+            Ok(number.min(MOST_BOOK_BYTES as u32))
+        }
+        None => Ok(MOST_BOOK_BYTES as u32),
     }
 }
 
