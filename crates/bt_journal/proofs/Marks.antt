@@ -1,9 +1,10 @@
 -- A mark is read as its numbers, no other line is read as it, and it is the line of no change.
-use Rattle.std.proofs.Common.{◌≡◌, ◌≢◌, ℕ, Bool, true, false, cond, List, [], ◌∷◌, ◌++◌, codes, decimal, drop, Option, Some, None, refl, sym, ap, subst, ◌∙◌, append_assoc, arith, lit<}
+use Rattle.std.proofs.Common.{◌≡◌, ◌≢◌, ℕ, ◌≤◌, Bool, true, false, cond, List, [], ◌∷◌, ◌++◌, codes, decimal, drop, Option, Some, None, refl, sym, ap, subst, ◌∙◌, append_assoc, arith, length, length-append, lit<}
 use Rattle.std.specs.Prelude.{◌&&◌, option_and_then, IfSome, IfNone}
 use Rattle.std.specs.List.{list_all}
 use Rattle.std.specs.Char.{is_ascii_digit}
 use Rattle.std.proofs.lemmas.List.{append_cancel_right, append-nil}
+use Rattle.std.proofs.lemmas.Fmt.{length-decimal-le}
 use Rattle.std.proofs.lemmas.Option.{same_Some}
 use Rattle.bt_text.specs.Text.{words, lines, spaced, lacks}
 use Rattle.bt_text.specs.WordReader.{is_first}
@@ -25,6 +26,17 @@ use Rattle.bt_journal.proofs.ChangeLines.{change_read}
 mark-lacks : (byte beams terminals : ℕ) → is_ascii_digit byte ≡ false → is_name_byte byte ≡ false → lacks byte (codes "2") ≡ true → IsMarkOf beams terminals → list_all (lacks byte) (mark_words beams terminals) ≡ true
 mark-lacks byte beams terminals digit other version range =
     rw (name_lacks byte (codes "journal") other refl, version, lacks-decimal byte beams digit (let few = range.0.1 in omega arith), lacks-decimal byte terminals digit (let few = range.1.1 in omega arith)) refl
+
+-- a mark has few bytes, since its numbers have at most two digits each
+pub short : (beams terminals : ℕ) → IsMarkOf beams terminals → length (mark_line beams terminals) ≤ 16
+short beams terminals range =
+    omega (
+      arith,
+      length-append (spaced (mark_words beams terminals)) (10 ∷ []),
+      length-append (decimal beams) (32 ∷ decimal terminals),
+      length-decimal-le 2 beams (omega arith) (omega (arith, range.0.1)) (omega (arith, range.0.1)),
+      length-decimal-le 2 terminals (omega arith) (omega (arith, range.1.1)) (omega (arith, range.1.1)),
+    )
 
 -- no newline stands in the text of a mark
 pub once : (beams terminals : ℕ) → IsMarkOf beams terminals → lacks 10 (spaced (mark_words beams terminals)) ≡ true

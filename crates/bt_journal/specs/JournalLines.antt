@@ -1,5 +1,5 @@
--- The lines of a journal, one for each change, and which bytes keep a list of changes.
-use Rattle.std.specs.Prelude.{◌≡◌, ℕ, ◌+◌, ◌≤◌, codes, decimal, List, [], ◌∷◌, ◌++◌}
+-- The lines of a journal, one for each change.
+use Rattle.std.specs.Prelude.{ℕ, ◌+◌, ◌≤◌, codes, decimal, List, [], ◌∷◌, ◌++◌}
 use Rattle.bt_text.specs.Text.{spaced}
 use Rattle.bt_frame.specs.declared.limits.TheConstants.{MOST_UNITS, LAST_COMMAND, LAST_EDITION}
 use Rattle.bt_frame.specs.declared.numbers.EditionNo.{EditionNo}
@@ -82,7 +82,3 @@ lines_from net edits (first ∷ changes) = change_line net (edits + edits_in fir
 -- the lines of changes, from no changes on
 abbrev pub journal_lines : Net → List Change → List ℕ
 journal_lines net changes = lines_from net 0 changes
-
--- the bytes keep the changes: they are the lines of these
-abbrev pub Keeps : Net → List ℕ → List Change → Type 0
-Keeps net bytes changes = bytes ≡ journal_lines net changes

@@ -17,6 +17,10 @@ mark_line beams terminals = spaced (mark_words beams terminals) ++ 10 ∷ []
 abbrev pub IsMarkOf : ℕ → ℕ → Type 0
 IsMarkOf beams terminals = IsWithin 1 MOST_BEAMS beams × IsWithin 1 MOST_TERMINALS terminals
 
+-- the text of the network's mark, its newline left out
+abbrev pub text_of_mark : Net → List ℕ
+text_of_mark net = spaced (mark_words (length net.beams) (length net.terminals))
+
 -- the mark of the network, its newline included
 abbrev pub mark_of : Net → List ℕ
 mark_of net = mark_line (length net.beams) (length net.terminals)

@@ -1,5 +1,5 @@
 // What holds of the lines of changes whatever the program does.
-ghost use Rattle.std.specs.Prelude.{◌≡◌, ◌≢◌, ◌++◌, ◌∷◌, [], ℕ, List, IsTrue};
+ghost use Rattle.std.specs.Prelude.{◌≡◌, ◌≢◌, ◌≤◌, ◌++◌, ◌∷◌, [], ℕ, List, IsTrue, length};
 ghost use Rattle.bt_text.specs.Text.{lines, lacks, spaced};
 ghost use Rattle.bt_net.specs.Network.{Net, IsSound};
 ghost use Rattle.bt_journal.specs.declared.call.Change.{Change};
@@ -31,10 +31,11 @@ pub fn lines_tell_changes()
         → edition_said number change ≡ edition_said other changed }
 {}
 
-/// A mark is a text without a newline, and one newline behind it; it says its numbers of beams and of terminals, and on a
+/// A mark is a text without a newline, and one newline behind it, of at most 16 bytes; it says its numbers of beams and of terminals, and on a
 /// sound network it is the line of no change in range.
 pub fn marks_tell_sizes()
     ensures line { (beams terminals : ℕ) → mark_line beams terminals ≡ spaced (mark_words beams terminals) ++ 10 ∷ [] }
+    ensures short { (beams terminals : ℕ) → IsMarkOf beams terminals → length (mark_line beams terminals) ≤ 16 }
     ensures once { (beams terminals : ℕ) → IsMarkOf beams terminals → IsTrue (lacks 10 (spaced (mark_words beams terminals))) }
     ensures cut { (beams terminals : ℕ) (rest : List ℕ) → IsMarkOf beams terminals
         → lines (mark_line beams terminals ++ rest) ≡ spaced (mark_words beams terminals) ∷ lines rest }

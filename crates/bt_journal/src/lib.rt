@@ -3,7 +3,7 @@
 //! It stands on the network's terminals, on demands and plans and their texts, on the orders of the air and on verdicts.
 //! Promises are in `specs/Journal.antt`, the words for calls, replies and histories, and in `specs/JournalLines.antt`, the
 //! one line of each change. `laws.rt` says that there is no other. `specs/Mark.antt` has the line that says of which network a
-//! journal is. `specs/LineReading.antt` is for bodies alone.
+//! journal is, and `specs/Kept.antt` which lines keep a list of changes. `specs/LineReading.antt` is for bodies alone.
 #![tactic(auto)]
 
 mod call;

@@ -1,6 +1,9 @@
--- where a mark ends, and two marks with one line
-use Rattle.bt_journal.proofs.Marks.{once, cut, same_sizes}
+-- how long a mark is, where it ends, and two marks with one line
+use Rattle.bt_journal.proofs.Marks.{short, once, cut, same_sizes}
 use Rattle.bt_journal.proofs.laws.marks_tell_sizes.Goals as goal
+
+pub returns-clause-short : goal.returns-clause-short
+returns-clause-short c = λ beams terminals range. short beams terminals range
 
 pub returns-clause-once : goal.returns-clause-once
 returns-clause-once c = λ beams terminals range. once beams terminals range
