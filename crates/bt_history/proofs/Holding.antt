@@ -1,8 +1,8 @@
 -- What holds of the store of a book, and what a crash leaves of it, from call to call.
-use Rattle.std.proofs.Common.{◌≡◌, ◌⊎◌, ⊎_elim, ℕ, ◌≤◌, Bool, true, false, List, [], ◌∷◌, ◌++◌, take, Option, Some, None, Result, Ok, Err, refl, sym, ap, ◌∙◌, subst, inl, inr}
+use Rattle.std.proofs.Common.{◌≡◌, ◌⊎◌, ⊎_elim, ℕ, ◌-◌, ◌^◌, ◌<◌, ◌≤◌, arith, Bool, true, false, List, [], ◌∷◌, ◌++◌, take, Option, Some, None, Result, Ok, Err, refl, sym, ap, ◌∙◌, subst, inl, inr}
 use Rattle.std.specs.Prelude.{IfOk, IfSome, IsSomeAnd, option_map}
 use Rattle.std.proofs.lemmas.List.{append-nil}
-use Rattle.bt_outside.specs.Told.{gained, GainsPrefix, Gives, shortened}
+use Rattle.bt_outside.specs.Told.{gained, GainsPrefix, Gives, Rose, shortened}
 use Rattle.bt_outside.specs.Crash.{CouldBeLeft, Crashes, Elapses, IsSettled, LeavesOnly, LeavesSince}
 use Rattle.bt_outside.proofs.Moments.{elapses_nowhere, leaves_further, leaves_now, leaves_nowhere, leaves_only_weaker, leaves_since_weaker, settled_leaves}
 use Rattle.bt_net.specs.Network.{Net, IsSound}
@@ -12,15 +12,17 @@ use Rattle.bt_journal.specs.declared.call.Change.TheVariants as change
 use Rattle.bt_journal.specs.declared.reply.Reply.{Reply}
 use Rattle.bt_journal.specs.declared.reply.Reply.TheVariants.{StoreFault}
 use Rattle.bt_journal.specs.Journal.{is_made, is_refusal}
-use Rattle.bt_journal.specs.JournalLines.{journal_lines}
 use Rattle.bt_history.specs.Causes.{Follows, IsChangeOn}
 use Rattle.bt_history.specs.Machine.{State, line_behind, running, CanMake, ChangeStep}
-use Rattle.bt_history.specs.Records.{CrashStep, Endures, Holds, IsLeftOrCut, IsSpelled, Records, Stores, call_of}
-use Rattle.bt_history.specs.Recovery.{Recovered, whole}
+use Rattle.bt_history.specs.Records.{CrashStep, Endures, Holds, IsAppendFault, IsLeftOrCut, IsPartMarked, IsSpelled, Records, Stores, call_of}
+use Rattle.bt_history.specs.declared.fault.RecoverFault.{RecoverFault}
+use Rattle.bt_history.specs.declared.fault.RecoverFault.TheVariants.{J1, J2, StoreFault as store_fault, TooLong, OutOfMemory}
+use Rattle.bt_history.specs.Recovery.{IsRecoverFault, Recovered, mark_owed, marked_in_part, whole}
 use Rattle.bt_history.specs.Store.{IsStored, is_lost, lost_of}
 use Rattle.bt_history.specs.Crash.{IsLeftByRecovery, TellsNext, TellsSame, asked_for}
 use Rattle.bt_history.specs.Book.{Books, Survives}
-use Rattle.bt_history.proofs.NextOpening.{next_opening, told_lines}
+use Rattle.bt_history.proofs.Marked.{gained_part, part_tells}
+use Rattle.bt_history.proofs.NextOpening.{next_opening}
 use Rattle.bt_history.proofs.OneJournal.{AreLines}
 use Rattle.bt_history.proofs.Replies.{made_no_fault, no_fault_not_lost, refusal_no_fault, refusal_not_made}
 use Rattle.bt_history.proofs.Stored.{lost_grows, lost_stays, one_lost, spelled_made, stored_gains, stored_part, told_gains, told_stays}
@@ -62,7 +64,7 @@ append_tells : (net : Net) (are : AreLines net) (told : Option (List ℕ)) (old 
     → LeavesSince old now (TellsNext net changes (one ∷ []))
 append_tells net are told old now changes one sound stored on can spelled since =
     leaves_since_weaker old now (λ left. GainsPrefix told (line_behind net changes one) (Some left)) (TellsNext net changes (one ∷ []))
-    (λ left gains. next_opening net are (Some left) changes (one ∷ []) (follow_stored net told changes stored) (stored_part net told (Some left) changes one sound stored on can spelled gains))
+    (λ left gains. next_opening net are (Some left) changes (one ∷ []) (follow_stored net told changes stored) (stored_part net are told (Some left) changes one sound stored on can spelled gains))
     since
 
 -- a reply that is made or lost is not one that is neither
@@ -137,7 +139,7 @@ holds_step old new are one caller reply told now was will before after sound hol
     let gains = told_gains (line_behind old.net changes one) reply told now before after done.made stores.step in
     let kept = no_fault_not_lost reply (made_no_fault reply done.made) in
     let lost : lost_of new.history ≡ [] = lost_stays old.history new.history _ grown kept ∙ none in
-    let more = stored_gains old.net told now changes one sound stored on runs (spelled_made old.net changes one reply done.made stores.spelled) gains.0 in
+    let more = stored_gains old.net are told now changes one sound stored on runs (spelled_made old.net changes one reply done.made stores.spelled) gains.0 in
     holds_running new (subst AreLines (sym net) are) now will (rw (net, done.makes.after) more) lost ((crash.asked (inl done.made)).settled kept)
 holds_step old new are one caller reply told now was will before after sound holds on (inr (inr (inr (inr lost)))) net grown stores crash =
     let changes = old.state.changes in
@@ -151,7 +153,7 @@ holds_step old new are one caller reply told now was will before after sound hol
     let endures = crash.asked (inr (ap is_lost lost.told)) in
     let leaves = leaves_now was will (TellsNext old.net changes (one ∷ [])) endures.time (append_tells old.net are told was will changes one sound stored on runs here.spelled endures.crash) in
     record {
-      stored = rw (net, lost.stops, lost_is) (stored_part old.net told now changes one sound stored on runs here.spelled here.step.0);
+      stored = rw (net, lost.stops, lost_is) (stored_part old.net are told now changes one sound stored on runs here.spelled here.step.0);
       sure = λ running. absurd cc;
       settled = λ running. absurd cc;
       leaves = rw (net, lost.stops, lost_is) leaves;
@@ -199,7 +201,7 @@ survives_step old new are one reply told now was will before after sound holds o
     let spelled = spelled_made old.net changes one reply done.made stores.spelled in
     let gains = told_gains (line_behind old.net changes one) reply told now before after done.made stores.step in
     let endures = crash.asked (inl done.made) in
-    let more = stored_gains old.net told now changes one sound stored on runs spelled gains.0 in
+    let more = stored_gains old.net are told now changes one sound stored on runs spelled gains.0 in
     record {
       running = λ _. subst (λ (l : List Change). LeavesSince was will (TellsNext old.net changes l)) (sym (asks_one one))
           (append_tells old.net are told was will changes one sound stored on runs spelled endures.crash);
@@ -241,11 +243,13 @@ left_by_read net told old new since = leaves_since_weaker old new (CouldBeLeft o
 
 -- the bytes of which the changes were told, or these cut
 is_cut : (net : Net) (told : Option (List ℕ)) (changes : List Change) (left : List ℕ) → IfSome told (λ bytes. Recovered net bytes changes)
-    → (Some left ≡ told) ⊎ (Some left ≡ option_map whole told) → IsSomeAnd told (λ bytes. (c : List Change) × Recovered net bytes c × ((left ≡ bytes) ⊎ (left ≡ whole bytes)))
+    → (Some left ≡ told) ⊎ (Some left ≡ option_map whole told) → IsSomeAnd told (λ bytes. (c : List Change) × Recovered net bytes c × IsPartMarked net bytes left)
 is_cut net None changes left tells (inl is) = absurd cc
 is_cut net None changes left tells (inr is) = absurd cc
 is_cut net (Some bytes) changes left tells (inl is) = (changes, tells, inl cc)
-is_cut net (Some bytes) changes left tells (inr is) = (changes, tells, inr cc)
+is_cut net (Some bytes) changes left tells (inr is) =
+    let cut : left ≡ whole bytes = cc in
+    (changes, tells, inr (0, cut ∙ sym (append-nil (whole bytes))))
 
 -- and of one that reads and then cuts
 pub left_by_cut : (net : Net) (told : Option (List ℕ)) (old mid new : Option Crashes) (changes : List Change) → IfSome told (λ bytes. Recovered net bytes changes) → Elapses old mid → Elapses mid new
@@ -254,23 +258,57 @@ left_by_cut net told old mid new changes tells first then read cut =
     leaves_further old mid new (IsLeftOrCut net told old) first then (left_by_read net told old mid read)
     (leaves_since_weaker mid new (λ left. (Some left ≡ told) ⊎ (Some left ≡ option_map whole told)) (IsLeftOrCut net told old) (λ left either. inr (is_cut net told changes left tells either)) cut)
 
+-- the bytes of which the changes were told, cut and marked in part
+is_marked : (net : Net) (told : Option (List ℕ)) (bytes piece : List ℕ) (changes : List Change) (left : List ℕ) → IfSome told (λ held. Recovered net held changes) → Gives told bytes
+    → piece ≡ mark_owed net bytes → GainsPrefix (option_map whole told) piece (Some left) → IsSomeAnd told (λ held. (c : List Change) × Recovered net held c × IsPartMarked net held left)
+is_marked net None bytes piece changes left tells gives is gains = absurd (let bad = gains.1 in cc)
+is_marked net (Some held) bytes piece changes left tells gives is gains =
+    let there : Some left ≡ Some (marked_in_part net gains.0 held) = gains.1 ∙ gained_part net (Some held) bytes piece gains.0 gives is in
+    let marks : left ≡ marked_in_part net gains.0 held = cc in
+    (changes, tells, inr (gains.0, marks))
+
+-- and of one that reads, cuts and then appends the mark
+pub left_by_mark : (net : Net) (told : Option (List ℕ)) (bytes piece : List ℕ) (old mid new : Option Crashes) (changes : List Change) → IfSome told (λ held. Recovered net held changes) → Gives told bytes
+    → piece ≡ mark_owed net bytes → Elapses old mid → Elapses mid new → LeavesSince old mid (IsLeftOrCut net told old)
+    → LeavesSince mid new (λ left. GainsPrefix (option_map whole told) piece (Some left)) → LeavesSince old new (IsLeftOrCut net told old)
+left_by_mark net told bytes piece old mid new changes tells gives is first then cut mark =
+    leaves_further old mid new (IsLeftOrCut net told old) first then cut
+    (leaves_since_weaker mid new (λ left. GainsPrefix (option_map whole told) piece (Some left)) (IsLeftOrCut net told old)
+    (λ left gains. inr (is_marked net told bytes piece changes left tells gives is gains)) mark)
+
+-- a count that rose in the later part rose
+rose_later : (before mid now : ℕ) → before ≤ mid → Rose mid now → Rose before now
+rose_later before mid now later rose = ⊎_elim
+    (λ (more : mid < now). inl (omega (arith, later, more)))
+    (λ (last : 2 ^ 64 - 1 ≤ now). inr last)
+    rose
+
+-- what a recovery says whose append of the mark failed
+pub mark_fault : (net : Net) (told : Option (List ℕ)) (bytes piece : List ℕ) (cut new : Option (List ℕ)) (before mid now : ℕ) (fault : RecoverFault) → Gives told bytes
+    → piece ≡ mark_owed net bytes → cut ≡ option_map whole told → before ≤ mid → IsAppendFault piece cut new mid now fault → IsRecoverFault net told new before now fault
+mark_fault net told bytes piece cut new before mid now (J1 number) gives is cut_is later failed = absurd failed
+mark_fault net told bytes piece cut new before mid now (J2 number) gives is cut_is later failed = absurd failed
+mark_fault net told bytes piece cut new before mid now store_fault gives is cut_is later failed =
+    let gains = failed.0 in
+    let there : new ≡ option_map (marked_in_part net gains.0) told =
+    gains.1 ∙ (ap (λ (t : Option (List ℕ)). gained t (take gains.0 piece)) cut_is ∙ gained_part net told bytes piece gains.0 gives is) in
+    (inr (gains.0, there), rose_later before mid now later failed.1)
+mark_fault net told bytes piece cut new before mid now TooLong gives is cut_is later failed = absurd failed
+mark_fault net told bytes piece cut new before mid now OutOfMemory gives is cut_is later failed = inr (failed ∙ cut_is)
+
 -- where nothing is cut
 pub left_uncut : (told : Option (List ℕ)) (now : Option Crashes) → IsSettled told now → LeavesSince now now (λ left. (Some left ≡ told) ⊎ (Some left ≡ option_map whole told))
 left_uncut told now settled =
     leaves_nowhere now (λ left. (Some left ≡ told) ⊎ (Some left ≡ option_map whole told))
     (leaves_only_weaker now (λ left. Some left ≡ told) (λ left. (Some left ≡ told) ⊎ (Some left ≡ option_map whole told)) (λ left is. inl is) (settled_leaves told now settled))
 
--- the bytes up to the last newline tell the same changes
-whole_tells : (net : Net) (are : AreLines net) (bytes : List ℕ) (changes : List Change) → Recovered net bytes changes → Recovered net (whole bytes) changes
-whole_tells net are bytes changes tells =
-    told_lines net are (whole bytes) changes [] tells.ranges tells.follow refl (tells.lines ∙ sym (append-nil (journal_lines net changes)))
-
--- what is told and cut tells the same
+-- what is told, cut and marked in part, tells the same
 cut_tells : (net : Net) (are : AreLines net) (told : Option (List ℕ)) (left : List ℕ)
-    → IsSomeAnd told (λ bytes. (c : List Change) × Recovered net bytes c × ((left ≡ bytes) ⊎ (left ≡ whole bytes))) → TellsSame net told left
+    → IsSomeAnd told (λ bytes. (c : List Change) × Recovered net bytes c × IsPartMarked net bytes left) → TellsSame net told left
 cut_tells net are None left none = none
 cut_tells net are (Some bytes) left (changes, tells, inl is) = (changes, tells, subst (λ (b : List ℕ). Recovered net b changes) (sym is) tells)
-cut_tells net are (Some bytes) left (changes, tells, inr is) = (changes, tells, subst (λ (b : List ℕ). Recovered net b changes) (sym is) (whole_tells net are bytes changes tells))
+cut_tells net are (Some bytes) left (changes, tells, inr (kept, is)) =
+    (changes, tells, subst (λ (b : List ℕ). Recovered net b changes) (sym is) (part_tells net are bytes changes kept tells))
 
 -- so a crash of a recovery leaves what it could have left before, or what tells the same
 pub left_by_recovery : (net : Net) (are : AreLines net) (told : Option (List ℕ)) (old new : Option Crashes) → LeavesSince old new (IsLeftOrCut net told old)

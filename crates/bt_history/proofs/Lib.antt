@@ -3,6 +3,8 @@ pub mod Start
 pub mod After
 pub mod Done
 pub mod OneMore
+pub mod SaidLines
+pub mod Marked
 pub mod Histories
 pub mod Entries
 pub mod Redone

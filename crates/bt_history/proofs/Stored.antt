@@ -1,8 +1,8 @@
 -- What a store tells after each step of a book, and what is kept of it.
-use Rattle.std.proofs.Common.{◌≡◌, ℕ, ◌≤◌, Bool, true, false, if◌then◌else◌, List, [], ◌∷◌, ◌++◌, length, take, Option, Some, None, refl, sym, ap, ◌∙◌, subst, arith, length-append, inl, inr}
+use Rattle.std.proofs.Common.{◌≡◌, ℕ, ◌≤◌, Bool, true, false, if◌then◌else◌, List, [], ◌∷◌, ◌++◌, length, take, Option, Some, None, refl, sym, ap, ◌∙◌, subst, arith, length-append}
 use Rattle.std.proofs.lemmas.List.{append-nil, length-take}
 use Rattle.std.proofs.lemmas.List.Elements.{filter_map-append}
-use Rattle.bt_frame.specs.declared.limits.TheConstants.{MOST_JOURNAL_BYTES}
+use Rattle.bt_frame.specs.declared.limits.TheConstants.{MOST_BOOK_BYTES, MOST_JOURNAL_BYTES}
 use Rattle.bt_outside.specs.Told.{gained, GainsPrefix}
 use Rattle.bt_net.specs.Network.{Net, IsSound}
 use Rattle.bt_journal.specs.declared.call.Call.{Call}
@@ -13,14 +13,14 @@ use Rattle.bt_journal.specs.declared.reply.Reply.{Reply}
 use Rattle.bt_journal.specs.declared.reply.Reply.TheVariants.{Done, SameTerminal, NotThere, RowFull, ColumnFull, BookFull, NotNewer, NoSuchEdition, NotGood, OutOfTurn, NotInstalled, Demand, Installed, Newest, Placed, StoreFault, Stopped}
 use Rattle.bt_journal.specs.Journal.{change_asked, is_made}
 use Rattle.bt_history.specs.Causes.{Follows, IsChangeOn}
-use Rattle.bt_history.specs.Machine.{State, bytes_with, line_behind, running, CanMake, ChangeStep}
-use Rattle.bt_history.specs.Records.{Holds, IsSpelled, IsSpelledIf, Records, Stores, call_of}
+use Rattle.bt_history.specs.Machine.{bytes_with, line_behind, running, CanMake}
+use Rattle.bt_history.specs.Records.{IsSpelled, IsSpelledIf, call_of}
 use Rattle.bt_history.specs.Recovery.{AreInRange, IsReadable}
 use Rattle.bt_history.specs.Store.{IsKept, IsStored, StoreStep, change_lost, is_lost, lost_of}
 use Rattle.bt_history.proofs.Histories.{FollowFrom-grows, as_list}
-use Rattle.bt_history.proofs.OneMore.{journal_lines-push}
+use Rattle.bt_history.proofs.OneJournal.{AreLines}
 use Rattle.bt_history.proofs.Replayed.{AreInRange-push}
-use Rattle.bt_history.proofs.Replies.{made_no_fault, no_fault_not_lost, refusal_not_made, refusal_no_fault}
+use Rattle.bt_history.proofs.SaidLines.{keeps_change, kept_length}
 
 -- so both stay
 pub told_stays : (line : List ℕ) (reply : Reply) (old new : Option (List ℕ)) (before now : ℕ) → is_made reply ≡ false → is_lost reply ≡ false
@@ -124,8 +124,7 @@ lost_stays history after entry grown kept = lost_grows history after entry None 
 kept_gains : (net : Net) (told new : Option (List ℕ)) (changes : List Change) (one : Change) → new ≡ gained told (line_behind net changes one) → IsKept net told changes []
     → IsKept net new (changes ++ one ∷ []) []
 kept_gains net None new changes one is kept = rw is tt
-kept_gains net (Some bytes) new changes one is kept =
-    rw is (ap (λ (b : List ℕ). b ++ line_behind net changes one) kept ∙ sym (journal_lines-push net changes one))
+kept_gains net (Some bytes) new changes one is kept = rw is (keeps_change net bytes changes one kept)
 
 -- with a first part of it, that change is the lost one
 kept_part : (net : Net) (told new : Option (List ℕ)) (changes : List Change) (one : Change) → GainsPrefix told (line_behind net changes one) new → IsKept net told changes []
@@ -134,29 +133,29 @@ kept_part net None new changes one gains kept = rw gains.1 tt
 kept_part net (Some bytes) new changes one gains kept =
     rw gains.1 (bytes, gains.0, kept, refl)
 
--- the bytes that are told are not more than are read
-readable_gains : (net : Net) (told new : Option (List ℕ)) (changes : List Change) (one : Change) → new ≡ gained told (line_behind net changes one) → IsKept net told changes []
-    → bytes_with net changes one ≤ MOST_JOURNAL_BYTES → IsReadable new
-readable_gains net None new changes one is kept room = rw is tt
-readable_gains net (Some bytes) new changes one is kept room =
+-- the bytes that are told are not more than are read, since the mark has room beside those of the changes
+readable_gains : (net : Net) (are : AreLines net) (told new : Option (List ℕ)) (changes : List Change) (one : Change) → new ≡ gained told (line_behind net changes one) → IsKept net told changes []
+    → bytes_with net changes one ≤ MOST_BOOK_BYTES → IsReadable new
+readable_gains net are None new changes one is kept room = rw is tt
+readable_gains net are (Some bytes) new changes one is kept room =
     let line = line_behind net changes one in
-    let few : length (bytes ++ line) ≤ MOST_JOURNAL_BYTES = omega (arith, room, ap length kept, length-append bytes line) in
+    let few : length (bytes ++ line) ≤ MOST_JOURNAL_BYTES = omega (arith, room, kept_length net bytes changes 16 are.short kept, length-append bytes line) in
     rw is few
 
 -- nor are they with a first part of the line
-readable_part : (net : Net) (told new : Option (List ℕ)) (changes : List Change) (one : Change) → GainsPrefix told (line_behind net changes one) new → IsKept net told changes []
-    → bytes_with net changes one ≤ MOST_JOURNAL_BYTES → IsReadable new
-readable_part net None new changes one gains kept room = rw gains.1 tt
-readable_part net (Some bytes) new changes one gains kept room =
+readable_part : (net : Net) (are : AreLines net) (told new : Option (List ℕ)) (changes : List Change) (one : Change) → GainsPrefix told (line_behind net changes one) new → IsKept net told changes []
+    → bytes_with net changes one ≤ MOST_BOOK_BYTES → IsReadable new
+readable_part net are None new changes one gains kept room = rw gains.1 tt
+readable_part net are (Some bytes) new changes one gains kept room =
     let line = line_behind net changes one in
     let few : length (bytes ++ take gains.0 line) ≤ MOST_JOURNAL_BYTES =
-    omega (arith, room, ap length kept, length-append bytes (take gains.0 line), length-take gains.0 line) in
+    omega (arith, room, kept_length net bytes changes 16 are.short kept, length-append bytes (take gains.0 line), length-take gains.0 line) in
     rw gains.1 few
 
 -- what a store tells once the line of a change was kept
-pub stored_gains : (net : Net) (told new : Option (List ℕ)) (changes : List Change) (one : Change) → IsSound net → IsStored net told changes [] → IsChangeOn net one
+pub stored_gains : (net : Net) (are : AreLines net) (told new : Option (List ℕ)) (changes : List Change) (one : Change) → IsSound net → IsStored net told changes [] → IsChangeOn net one
     → CanMake net (running changes) one → IsSpelled net changes one → new ≡ gained told (line_behind net changes one) → IsStored net new (changes ++ one ∷ []) []
-stored_gains net told new changes one sound stored on can spelled is =
+stored_gains net are told new changes one sound stored on can spelled is =
     let follow = subst (Follows net) (append-nil changes) stored.follow in
     let ranges = subst (AreInRange net 0) (append-nil changes) stored.ranges in
     record {
@@ -164,13 +163,13 @@ stored_gains net told new changes one sound stored on can spelled is =
       one = omega arith;
       follow = subst (Follows net) (sym (append-nil (changes ++ one ∷ []))) (FollowFrom-grows net [] changes one follow on can.good);
       ranges = subst (AreInRange net 0) (sym (append-nil (changes ++ one ∷ []))) (AreInRange-push net changes one ranges spelled);
-      readable = readable_gains net told new changes one is stored.kept (omega (arith, can.room, sound.journal.1));
+      readable = readable_gains net are told new changes one is stored.kept (omega (arith, can.room, sound.journal.1));
     }
 
 -- and once a first part of it was
-pub stored_part : (net : Net) (told new : Option (List ℕ)) (changes : List Change) (one : Change) → IsSound net → IsStored net told changes [] → IsChangeOn net one
+pub stored_part : (net : Net) (are : AreLines net) (told new : Option (List ℕ)) (changes : List Change) (one : Change) → IsSound net → IsStored net told changes [] → IsChangeOn net one
     → CanMake net (running changes) one → IsSpelled net changes one → GainsPrefix told (line_behind net changes one) new → IsStored net new changes (one ∷ [])
-stored_part net told new changes one sound stored on can spelled gains =
+stored_part net are told new changes one sound stored on can spelled gains =
     let follow = subst (Follows net) (append-nil changes) stored.follow in
     let ranges = subst (AreInRange net 0) (append-nil changes) stored.ranges in
     record {
@@ -178,5 +177,5 @@ stored_part net told new changes one sound stored on can spelled gains =
       one = omega arith;
       follow = FollowFrom-grows net [] changes one follow on can.good;
       ranges = AreInRange-push net changes one ranges spelled;
-      readable = readable_part net told new changes one gains stored.kept (omega (arith, can.room, sound.journal.1));
+      readable = readable_part net are told new changes one gains stored.kept (omega (arith, can.room, sound.journal.1));
     }

@@ -1,6 +1,6 @@
 -- What a crash leaves of the store of a book: the changes that the next opening has.
-use Rattle.std.specs.Prelude.{◌≡◌, ◌⊎◌, false, true, ℕ, List, [], ◌∷◌, Option, IsSomeAnd}
-use Rattle.bt_outside.specs.Crash.{CouldBeLeft, Crashes, LeavesOnly, LeavesSince}
+use Rattle.std.specs.Prelude.{◌⊎◌, ℕ, List, [], ◌∷◌, Option, IsSomeAnd}
+use Rattle.bt_outside.specs.Crash.{CouldBeLeft, Crashes}
 use Rattle.bt_net.specs.Network.{Net}
 use Rattle.bt_journal.specs.declared.call.Call.{Call}
 use Rattle.bt_journal.specs.declared.call.Call.TheVariants as call

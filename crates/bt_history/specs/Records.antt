@@ -1,8 +1,8 @@
 -- For bodies alone: what contracts see of the machine, and what is kept beside the changes.
-use Rattle.std.specs.Prelude.{◌≡◌, ◌≢◌, ◌⊎◌, ℕ, ◌+◌, ◌≤◌, ◌<◌, Bool, true, false, List, [], ◌∷◌, ◌++◌, length, sum_by, Option, Some, None, IsSomeAnd}
+use Rattle.std.specs.Prelude.{◌≡◌, ◌≢◌, ◌⊎◌, ℕ, ◌+◌, ◌≤◌, ◌<◌, if◌then◌else◌, Bool, true, false, List, [], ◌∷◌, ◌++◌, length, sum_by, take, Option, Some, None, IsSomeAnd}
 use Rattle.std.specs.List.{list_any}
 use Rattle.bt_frame.specs.declared.limits.TheConstants.{MOST_JOURNAL_BYTES}
-use Rattle.bt_outside.specs.Told.{GainsPrefix}
+use Rattle.bt_outside.specs.Told.{GainsPrefix, Rose}
 use Rattle.bt_outside.specs.Crash.{CouldBeLeft, Crashes, Elapses, IsSettled, LeavesOnly, LeavesSince}
 use Rattle.bt_frame.specs.declared.numbers.TermNo.{TermNo}
 use Rattle.bt_frame.specs.declared.limits.TheConstants.{MOST_SLOTS}
@@ -20,6 +20,8 @@ use Rattle.bt_journal.specs.declared.entry.Entry.{Entry}
 use Rattle.bt_journal.specs.declared.call.Edit.{Edit}
 use Rattle.bt_journal.specs.Journal.{NamesTerminals, is_refusal, is_fault, is_made, change_made}
 use Rattle.bt_journal.specs.JournalLines.{IsChangeInRange, edits_in}
+use Rattle.bt_journal.specs.Kept.{marks_in}
+use Rattle.bt_journal.specs.Mark.{mark_of}
 use Rattle.bt_journal.specs.declared.reply.Reply.{Reply}
 use Rattle.bt_journal.specs.declared.reply.Reply.TheVariants.{Done, NotThere, BookFull, Installed, Placed}
 use Rattle.bt_journal.specs.declared.reply.Reply.TheVariants.{StoreFault as store_fault}
@@ -30,7 +32,7 @@ use Rattle.bt_occupancy.specs.Occupancy.{HasEnds, HoldsTaken, EditsLinks}
 use Rattle.bt_history.specs.EditCauses.{IsGoodEdit}
 use Rattle.bt_history.specs.Causes.{Follows, IsChangeOn, IsGood, IsCause}
 use Rattle.bt_history.specs.Machine.{State, bytes_of, bytes_with, line_behind, running}
-use Rattle.bt_history.specs.Recovery.{IsFirstNoLine, IsFirstStray, IsNoLine, IsStray, Recovered, whole}
+use Rattle.bt_history.specs.Recovery.{IsFirstNoLine, IsFirstStray, IsNoLine, IsStrayBehind, Recovered, marked_in_part, whole}
 use Rattle.bt_history.specs.Store.{IsStored, StoreStep, is_lost, lost_of}
 use Rattle.bt_history.specs.Crash.{TellsNext}
 
@@ -132,10 +134,14 @@ pub record CrashStep (line : List ℕ) (reply : Reply) (told now : Option (List 
   pub asked : (is_made reply ≡ true) ⊎ (is_lost reply ≡ true) → Endures line (is_lost reply) told now old new
   pub not_asked : is_made reply ≡ false → is_lost reply ≡ false → new ≡ old
 
+-- these are the bytes, or those up to their last newline with a first part of the mark behind them
+abbrev pub IsPartMarked : Net → List ℕ → List ℕ → Type 0
+IsPartMarked net bytes left = (left ≡ bytes) ⊎ ((kept : ℕ) × (left ≡ marked_in_part net kept bytes))
+
 -- a crash at the start of a recovery could have left these bytes, or they are those that were told then, whose lines tell changes,
--- with or without what stands behind the last newline
+-- as they were or cut and marked in part
 abbrev pub IsLeftOrCut : Net → Option (List ℕ) → Option Crashes → List ℕ → Type 0
-IsLeftOrCut net told crashes left = CouldBeLeft crashes left ⊎ IsSomeAnd told (λ bytes. (changes : List Change) × Recovered net bytes changes × ((left ≡ bytes) ⊎ (left ≡ whole bytes)))
+IsLeftOrCut net told crashes left = CouldBeLeft crashes left ⊎ IsSomeAnd told (λ bytes. (changes : List Change) × Recovered net bytes changes × IsPartMarked net bytes left)
 
 -- What holds of the store of a book, beside its machine: what it tells, and what a crash leaves of it. While the machine is not
 -- stopped that is what it tells and nothing else.
@@ -190,7 +196,7 @@ pub record RedoesOne (old : List Link) (edit : Edit) (left : ℕ) (new : List Li
   pub past : left ≡ 0 → (new ≡ old) × (after ≡ 0)
 
 -- the line, its newline included, is of a change that follows these, and the machine has made it too
-pub record TakesLine (net : Net) (before : List Change) (line : List ℕ) (new : State) : Type 0 where
+pub record TakesChange (net : Net) (before : List Change) (line : List ℕ) (new : State) : Type 0 where
   pub one : Change
   pub range : IsSpelled net before one
   pub spelled : line ≡ line_behind net before one
@@ -198,13 +204,28 @@ pub record TakesLine (net : Net) (before : List Change) (line : List ℕ) (new :
   pub good : IsGood net before one
   pub after : new ≡ running (before ++ one ∷ [])
 
--- what is wrong with the line behind those of these changes
-abbrev pub IsLineFault : Net → List Change → List ℕ → RecoverFault → Type 0
-IsLineFault net before line (J1 number) = (number ≡ length before + 1) × IsNoLine net line
-IsLineFault net before line (J2 number) = (number ≡ length before + 1) × IsStray net before line
-IsLineFault net before line StoreFault = ⊥
-IsLineFault net before line TooLong = ⊥
-IsLineFault net before line OutOfMemory = Unit {0}
+-- the line, its newline included, is the mark, behind none, and the machine is as it was
+pub record TakesMark (net : Net) (old : State) (stood : Bool) (line : List ℕ) (new : State) (stands : Bool) : Type 0 where
+  pub first : stood ≡ false
+  pub spelled : line ≡ mark_of net
+  pub after : new ≡ old
+  pub marked : stands ≡ true
+
+-- the line was taken: its change, or the mark; where it was a change, the mark stands among the lines if it stood before
+abbrev pub TakesLine : Net → State → Bool → List ℕ → State → Bool → Type 0
+TakesLine net old stood line new stands = (TakesChange net old.changes line new × (stands ≡ stood)) ⊎ TakesMark net old stood line new stands
+
+-- how many marks stand, at most one
+abbrev pub marks_where : Bool → ℕ
+marks_where stands = if stands then 1 else 0
+
+-- what is wrong with the line of this number, behind those of these changes, and the mark where it stands
+abbrev pub IsLineFault : Net → List Change → Bool → ℕ → List ℕ → RecoverFault → Type 0
+IsLineFault net before stands number line (J1 found) = (found ≡ number) × IsNoLine net line
+IsLineFault net before stands number line (J2 found) = (found ≡ number) × IsStrayBehind net before (marks_where stands) line
+IsLineFault net before stands number line StoreFault = ⊥
+IsLineFault net before stands number line TooLong = ⊥
+IsLineFault net before stands number line OutOfMemory = Unit {0}
 
 -- why the bytes tell no changes
 abbrev pub IsTextFault : Net → List ℕ → RecoverFault → Type 0
@@ -213,3 +234,20 @@ IsTextFault net bytes (J2 number) = IsFirstStray net bytes number
 IsTextFault net bytes StoreFault = ⊥
 IsTextFault net bytes TooLong = ⊥
 IsTextFault net bytes OutOfMemory = Unit {0}
+
+-- All lines of the bytes were taken: they tell the changes of the machine, and the mark stands among them or not. So many bytes
+-- they have.
+pub record TakesText (net : Net) (bytes : List ℕ) (state : State) (kept : ℕ) (stands : Bool) : Type 0 where
+  pub told : Recovered net bytes state.changes
+  pub marks : marks_in told.lines.said ≡ marks_where stands
+  pub runs : state ≡ running state.changes
+  pub kept_is : take kept bytes ≡ whole bytes
+  pub within : kept ≤ length bytes
+
+-- why a piece was not appended: the store failed, and may have kept a first part of it, or memory ran out
+abbrev pub IsAppendFault : List ℕ → Option (List ℕ) → Option (List ℕ) → ℕ → ℕ → RecoverFault → Type 0
+IsAppendFault piece old new before now (J1 _) = ⊥
+IsAppendFault piece old new before now (J2 _) = ⊥
+IsAppendFault piece old new before now StoreFault = GainsPrefix old piece new × Rose before now
+IsAppendFault piece old new before now TooLong = ⊥
+IsAppendFault piece old new before now OutOfMemory = new ≡ old

@@ -12,7 +12,7 @@ use Rattle.bt_journal.specs.declared.entry.Entry.{Entry}
 use Rattle.bt_journal.specs.declared.reply.Reply.{Reply}
 use Rattle.bt_journal.specs.declared.reply.Reply.TheVariants.{Done, Installed, Placed, StoreFault}
 use Rattle.bt_journal.specs.Journal.{change_asked}
-use Rattle.bt_journal.specs.JournalLines.{Keeps}
+use Rattle.bt_journal.specs.Kept.{Keeps}
 use Rattle.bt_history.specs.Causes.{Follows}
 use Rattle.bt_history.specs.Machine.{line_behind}
 use Rattle.bt_history.specs.Recovery.{AreInRange, IsReadable}

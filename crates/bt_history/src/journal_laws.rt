@@ -2,12 +2,13 @@
 ghost use Rattle.std.specs.Prelude.{◌≡◌, ℕ, List};
 ghost use Rattle.bt_net.specs.Network.{Net, IsSound};
 ghost use Rattle.bt_journal.specs.declared.call.Change.{Change};
-ghost use Rattle.bt_history.specs.Recovery.{IsFirstNoLine, IsFirstStray, Recovered};
+ghost use Rattle.bt_journal.specs.Kept.{Keeps};
+ghost use Rattle.bt_history.specs.Recovery.{IsFirstNoLine, IsFirstStray, Recovered, marked, marked_in_part};
 
-use bt_journal::{lines_end_once, lines_tell_changes};
+use bt_journal::{lines_end_once, lines_tell_changes, marks_tell_sizes};
 
-/// On a sound network the bytes of a journal tell one list of changes, or have one first line that is of no change, or
-/// one first line that is of a change that does not follow; never two of these.
+/// On a sound network the bytes of a journal tell one list of changes, or have one first line that is of no change and no
+/// mark, or one first line that is of a change or a mark that does not follow; never two of these.
 pub fn journals_tell_one_thing()
     ensures changes { (net : Net) (bytes : List ℕ) (a b : List Change) → IsSound net
         → Recovered net bytes a → Recovered net bytes b → a ≡ b }
@@ -24,4 +25,22 @@ pub fn journals_tell_one_thing()
 {
     lines_end_once();
     lines_tell_changes();
+    marks_tell_sizes();
+}
+
+/// What a recovery leaves of bytes that tell changes tells the same ones: those up to the last newline with the mark behind
+/// them, where it is owed, or with a first part of it. They keep these changes, and a second recovery leaves them as they are.
+pub fn marked_journals_tell_the_same()
+    ensures part { (net : Net) (bytes : List ℕ) (changes : List Change) (kept : ℕ) → IsSound net
+        → Recovered net bytes changes → Recovered net (marked_in_part net kept bytes) changes }
+    ensures marked { (net : Net) (bytes : List ℕ) (changes : List Change) → IsSound net
+        → Recovered net bytes changes → Recovered net (marked net bytes) changes }
+    ensures keeps { (net : Net) (bytes : List ℕ) (changes : List Change) → IsSound net
+        → Recovered net bytes changes → Keeps net (marked net bytes) changes }
+    ensures again { (net : Net) (bytes : List ℕ) (changes : List Change) → IsSound net
+        → Recovered net bytes changes → marked net (marked net bytes) ≡ marked net bytes }
+{
+    lines_end_once();
+    lines_tell_changes();
+    marks_tell_sizes();
 }

@@ -20,7 +20,7 @@ mod store_laws;
 
 pub use demand_laws::demands_fit_the_frame;
 pub use fault::RecoverFault;
-pub use journal_laws::journals_tell_one_thing;
+pub use journal_laws::{journals_tell_one_thing, marked_journals_tell_the_same};
 pub use laws::{
     histories_grow_by_steps, installed_plans_are_good, installed_plans_can_be_flown,
     legal_changes_follow, locked_books_are_legal, locked_books_go_on, locked_calls_are_steps,

@@ -7,7 +7,7 @@ ghost use Rattle.bt_history.specs.Recovery.{IsReadable};
 ghost use Rattle.bt_history.specs.Store.{IsStored};
 ghost use Rattle.bt_history.specs.Crash.{TellsNext};
 
-use bt_journal::{lines_end_once, lines_tell_changes};
+use bt_journal::{lines_end_once, lines_tell_changes, marks_tell_sizes};
 
 /// On a sound network the bytes that a book leaves in its store tell its changes, or these and the one that was lost; and
 /// they are no more than are read.
@@ -20,4 +20,5 @@ pub fn stores_tell_next_openings()
 {
     lines_end_once();
     lines_tell_changes();
+    marks_tell_sizes();
 }
