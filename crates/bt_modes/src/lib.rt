@@ -13,4 +13,4 @@ mod step;
 
 pub use decomposition::decompose;
 pub use padding::{Padded, pad};
-pub use planning::schedule;
+pub use planning::{modes_of, schedule};

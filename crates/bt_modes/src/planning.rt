@@ -22,7 +22,7 @@ pub fn schedule(alloc: Global, matrix: &Dense) -> Result<Schedule, OutOfMemory>
 {
     let (critical, length) = matrix.heaviest();
     let padded = pad(alloc, Crosslinked::of(alloc, matrix)?)?;
-    let modes = modes_of::<Brand>(alloc, padded, Blank::new(1))?;
+    let modes = modes_of(alloc, padded)?;
     Ok(Schedule {
         length,
         critical,
@@ -30,8 +30,16 @@ pub fn schedule(alloc: Global, matrix: &Dense) -> Result<Schedule, OutOfMemory>
     })
 }
 
-/// The modes of the padded matrix, on a counter of their own that nobody reads.
-fn modes_of<L: Ledger>(
+/// The modes whose slots are those of a padded matrix of linked nodes.
+pub fn modes_of(alloc: Global, padded: Padded<Crosslinked>) -> Result<Vec<Mode>, OutOfMemory>
+    ensures modes { IfOk result (λ modes. DecomposesTo padded.matrix.rows modes.items) }
+    ensures filled { IfOk result (λ modes. total_duration modes.items ≡ padded.sum) }
+{
+    modes_on::<Brand>(alloc, padded, Blank::new(1))
+}
+
+/// The same, on a counter of their own that nobody reads.
+fn modes_on<L: Ledger>(
     alloc: Global,
     padded: Padded<Crosslinked>,
     blank: Blank,

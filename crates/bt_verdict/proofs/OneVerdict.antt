@@ -35,7 +35,7 @@ one_line rows a b m n x y = elim (line_order a b) [
 ]
 
 -- of two places one is the first
-place_order : (i j up down : ℕ) → ((i ≡ up) × (j ≡ down)) ⊎ (IsEarlier i j up down ⊎ IsEarlier up down i j)
+pub place_order : (i j up down : ℕ) → ((i ≡ up) × (j ≡ down)) ⊎ (IsEarlier i j up down ⊎ IsEarlier up down i j)
 place_order i j up down = elim (cases_order i up) [
   | inl row ↦ elim (cases_order j down) [
     | inl column ↦ inl (row, column)

@@ -1,0 +1,12 @@
+pub mod Borders
+pub mod Cells
+pub mod Clips
+pub mod Goods
+pub mod LeastLengths
+pub mod OneVerdict
+pub mod OwnDownlinks
+pub mod Places
+pub mod Printed
+pub mod Shortest
+pub mod Totals
+pub mod Written

@@ -1,0 +1,34 @@
+use Rattle.std.proofs.Common.{arith, ◌≡◌, ℕ, List, length, map, subst, ap, ◌∙◌}
+use Rattle.std.proofs.lemmas.List.{length-map}
+use Rattle.bt_modes.proofs.Parts.{modes-le-duration}
+use Rattle.bt_trans.specs.declared.part.PartMode.{PartMode}
+use Rattle.bt_trans.specs.declared.part.PartSchedule.{PartSchedule}
+use Rattle.bt_trans.specs.Border.{clip, IsBordered}
+use Rattle.bt_trans.proofs.Goods.{IsGoodPart-clips}
+use Rattle.bt_trans.proofs.planning.part_schedule.Goals as goal
+
+-- there are no more modes than slots
+pub of-requires : goal.of-requires
+of-requires c =
+    let parts = c.in_ok-parts.parts in
+    let modes = c.in_ok-modes.modes in
+    let items : parts.items ≡ map (clip c.size-size.result) modes.items = c.in_ok-parts.ensures.parts ∙ ap (map (clip c.size-size.result)) c.as_slice.ensures.value in
+    let count : length parts.items ≡ length modes.items = ap length items ∙ length-map modes.items (clip c.size-size.result) in
+    record { few = omega (arith, parts.ok.0, count, modes-le-duration modes.items c.in_ok-modes.ensures.modes.durations, c.in_ok-modes.ensures.filled, c.in_ok-padded.ensures.sum, c.least_length-length.ensures.limit c.requires.total) }
+
+pub returns : goal.returns
+returns c =
+    let rows = c.args.matrix.now in
+    let modes = c.in_ok-modes.modes.items in
+    let size = c.size-size.result in
+    let slots = c.least_length-length.result.0 in
+    let bound = c.least_length-length.result.1 in
+    let items : c.in_ok-parts.parts.items ≡ map (clip size) modes = c.in_ok-parts.ensures.parts ∙ ap (map (clip size)) c.as_slice.ensures.value in
+    let all : c.of.result ≡ map (clip (length rows)) modes = c.of.ensures.same ∙ (items ∙ ap (λ (n : ℕ). map (clip n) modes) c.size-size.ensures.size) in
+    let schedule = λ (ms : List PartMode). let s : PartSchedule = record { length = slots; bound = bound; modes = ms } in s in
+    let bordered = subst (λ (s : ℕ). IsBordered rows c.in_ok-padded.padded.matrix.rows c.args.k s) c.in_ok-padded.ensures.sum c.in_ok-padded.ensures.bordered in
+    record {
+      good = IsGoodPart-clips rows c.in_ok-padded.padded.matrix.rows c.args.k slots bound modes (schedule c.of.result) (omega (arith, c.size-size.ensures.traffic.few_beams)) c.requires.most
+          bordered c.in_ok-modes.ensures.modes (c.in_ok-modes.ensures.filled ∙ c.in_ok-padded.ensures.sum) c.least_length-length.ensures.least (ap schedule all);
+      named = c.least_length-length.ensures.named;
+    }

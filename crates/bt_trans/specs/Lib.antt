@@ -1,0 +1,6 @@
+pub mod Allocation
+pub mod Border
+pub mod Part
+pub mod PartText
+pub mod PartVerdict
+pub mod Short
