@@ -9,11 +9,11 @@ use Rattle.bt_matrix.specs.Traffic.{entry, row_of, IsTraffic}
 use Rattle.bt_matrix.specs.Walk.{is_positive, row_entries, positive_entries}
 use Rattle.bt_matrix.proofs.Walks.{entry-past}
 use Rattle.bt_match.specs.Matching.{IsPartial}
-use Rattle.bt_match.specs.Search.{HasEntriesOf, IsWithin, IsMatching, IsSpent, IsExplored}
+use Rattle.bt_match.specs.Search.{HasEntriesOf, HasNoEntry, IsWithin, IsMatching, IsSpent, IsExplored}
 
--- The first rows of the matrix stand in the table, and nothing in the others.
-pub record IsTableTo (rows table : List (List ℕ)) (count steps first : ℕ) : Type 0 where
-  pub long : length table ≡ MOST_BEAMS
+-- The first rows of the matrix stand in the table of so many rows, and nothing in the others.
+pub record IsTableTo (size : ℕ) (rows table : List (List ℕ)) (count steps first : ℕ) : Type 0 where
+  pub long : length table ≡ size
   pub so_far : (up down : ℕ) → up < count → entry table up down ≡ entry rows up down
   pub later : (up down : ℕ) → count ≤ up → entry table up down ≡ 0
   pub looks : steps ≤ first + total count (row_entries rows)
@@ -27,7 +27,7 @@ zeros n k =
     ]
 
 -- a table of zeros
-zero_table : (n m up down : ℕ) → entry (replicate n (replicate m 0)) up down ≡ 0
+pub zero_table : (n m : ℕ) → HasNoEntry (replicate n (replicate m 0))
 zero_table n m up down =
     elim (cases_lt up n) [
       | inl below ↦ ap (λ (r : List ℕ). slice_index r down) (get_or-replicate n up (replicate m 0) [] below) ∙ zeros m down
@@ -35,19 +35,19 @@ zero_table n m up down =
     ]
 
 -- at first there is nothing
-pub IsTableTo-first : (rows : List (List ℕ)) (steps : ℕ) → IsTableTo rows (replicate MOST_BEAMS (replicate MOST_BEAMS 0)) 0 steps steps
-IsTableTo-first rows steps = record {
+pub IsTableTo-first : (rows table : List (List ℕ)) (steps : ℕ) → HasNoEntry table → IsTableTo (length table) rows table 0 steps steps
+IsTableTo-first rows table steps empty = record {
   long = refl;
   so_far = λ up down below. absurd (omega arith);
-  later = λ up down _. zero_table MOST_BEAMS MOST_BEAMS up down;
+  later = λ up down _. empty up down;
   looks = omega arith;
 }
 
 -- one row more
-pub IsTableTo-row : (rows table : List (List ℕ)) (slots : List ℕ) (row steps after first : ℕ) → IsTableTo rows table row steps first
-    → row < MOST_BEAMS → ((down : ℕ) → slice_index slots down ≡ entry rows row down) → after ≤ steps + row_entries rows row
-    → IsTableTo rows (set table row slots) (row + 1) after first
-IsTableTo-row rows table slots row steps after first so_far inside here looks = record {
+pub IsTableTo-row : (size : ℕ) (rows table : List (List ℕ)) (slots : List ℕ) (row steps after first : ℕ) → IsTableTo size rows table row steps first
+    → row < size → ((down : ℕ) → slice_index slots down ≡ entry rows row down) → after ≤ steps + row_entries rows row
+    → IsTableTo size rows (set table row slots) (row + 1) after first
+IsTableTo-row size rows table slots row steps after first so_far inside here looks = record {
   long = length-set table row slots ∙ so_far.long;
   so_far = λ up down below. elim (cases_eq up row) [
     | inl same ↦ rw same (ap (λ (r : List ℕ). slice_index r down) (get_or-set_same table row slots [] (omega (arith, so_far.long))) ∙ here down)
@@ -58,8 +58,8 @@ IsTableTo-row rows table slots row steps after first so_far inside here looks = 
 }
 
 -- all rows do
-pub HasEntriesOf-all : (rows table : List (List ℕ)) (steps first : ℕ) → IsTableTo rows table (length rows) steps first → HasEntriesOf table rows
-HasEntriesOf-all rows table steps first all up down =
+pub HasEntriesOf-all : (size : ℕ) (rows table : List (List ℕ)) (steps first : ℕ) → IsTableTo size rows table (length rows) steps first → HasEntriesOf table rows
+HasEntriesOf-all size rows table steps first all up down =
     elim (cases_lt up (length rows)) [
       | inl inside ↦ all.so_far up down inside
       | inr past ↦
@@ -68,8 +68,8 @@ HasEntriesOf-all rows table steps first all up down =
     ]
 
 -- and each positive entry was looked at once
-pub looks-all : (rows table : List (List ℕ)) (steps first : ℕ) → IsTableTo rows table (length rows) steps first → steps ≤ first + positive_entries rows
-looks-all rows table steps first all =
+pub looks-all : (size : ℕ) (rows table : List (List ℕ)) (steps first : ℕ) → IsTableTo size rows table (length rows) steps first → steps ≤ first + positive_entries rows
+looks-all size rows table steps first all =
     let whole : positive_entries rows ≡ total (length rows) (row_entries rows) = sum_by-total (λ (row : List ℕ). count_by is_positive row) rows [] in
     omega (arith, all.looks)
 

@@ -5,12 +5,12 @@ ghost use Rattle.bt_matrix.specs.Good.{IsPermutation};
 ghost use Rattle.bt_matrix.specs.Traffic.{entry};
 ghost use Rattle.bt_matrix.specs.Walk.{positive_entries};
 ghost use Rattle.bt_match.specs.Matching.{column_of, free_rows, HasEqualLineSums, IsPartial, IsWhole, IsInside, IsInsidePerm};
-ghost use Rattle.bt_match.specs.Search.{IsMatching, StaysMatched, AreHolders, HasEntriesOf, IsWithin};
+ghost use Rattle.bt_match.specs.Search.{IsMatching, StaysMatched, AreHolders, HasEntriesOf, HasNoEntry, IsWithin};
 
 use crate::partial::Partial;
 use crate::perm::Perm;
 use crate::search::seek;
-use crate::table::table_of;
+use crate::table::{FEW_BEAMS, fill_table};
 use bt_frame::{MOST_BEAMS, OutOfMemory};
 use bt_matrix::Walk;
 use bt_steps::Steps;
@@ -57,10 +57,38 @@ pub(crate) fn match_rows<M: Walk<L>, L: Ledger>(
     ensures looks { steps.new ≤ steps.old + positive_entries (M.rows matrix.now) * free_rows columns.old }
 {
     if has_free_row(columns) {
-        let table = table_of(matrix, steps);
-        match_free_rows::<M, L>(matrix, &table, columns);
-        widen_rows(&table, columns);
+        if columns.len() <= FEW_BEAMS {
+            let mut table = [[0; MOST_BEAMS]; FEW_BEAMS];
+            match_by_table(matrix, &mut table, columns, steps);
+        } else {
+            let mut table = [[0; MOST_BEAMS]; MOST_BEAMS];
+            match_by_table(matrix, &mut table, columns, steps);
+        }
     }
+}
+
+/// Gives every row a column, by a table that has a row for each and is empty.
+fn match_by_table<M: Walk<L>, L: Ledger>(
+    matrix: &M,
+    table: &mut [[u32; MOST_BEAMS]],
+    columns: &mut [Option<u8>],
+    steps: &mut Steps<L>,
+)
+    requires equal { HasEqualLineSums (M.rows matrix.now) }
+    requires size { length columns.old ≡ length (M.rows matrix.now) }
+    requires long { length columns.old ≤ length table.old }
+    requires empty { HasNoEntry table.old }
+    requires partial { IsPartial columns.old }
+    requires inside { IsInside (M.rows matrix.now) columns.old }
+    ensures size { length columns.new ≡ length columns.old }
+    ensures matching { IsMatching (M.rows matrix.now) columns.new }
+    ensures partial { IsPartial columns.new }
+    ensures whole { IsWhole columns.new }
+    ensures looks { steps.new ≤ steps.old + positive_entries (M.rows matrix.now) }
+{
+    fill_table(matrix, table, steps);
+    match_free_rows::<M, L>(matrix, table, columns);
+    widen_rows(table, columns);
 }
 
 /// Some row has no column.
@@ -84,7 +112,7 @@ fn match_free_rows<M: Walk<L>, L: Ledger>(
 )
     requires equal { HasEqualLineSums (M.rows matrix.now) }
     requires entries { HasEntriesOf table.now (M.rows matrix.now) }
-    requires long { length table.now ≡ MOST_BEAMS }
+    requires long { length columns.old ≤ length table.now }
     requires size { length columns.old ≡ length (M.rows matrix.now) }
     requires partial { IsPartial columns.old }
     requires matching { IsMatching table.now columns.old }
@@ -124,7 +152,7 @@ fn match_row<M: Walk<L>, L: Ledger>(
 )
     requires equal { HasEqualLineSums (M.rows matrix.now) }
     requires entries { HasEntriesOf table.now (M.rows matrix.now) }
-    requires long { length table.now ≡ MOST_BEAMS }
+    requires long { length columns.old ≤ length table.now }
     requires within { IsWithin table.now (length columns.old) }
     requires size { length columns.old ≡ length (M.rows matrix.now) }
     requires row { row < length columns.old }
@@ -145,7 +173,7 @@ fn match_row<M: Walk<L>, L: Ledger>(
 
 /// Moves rows to columns of more slots, as long as the row of fewest slots can be moved.
 fn widen_rows(table: &[[u32; MOST_BEAMS]], columns: &mut [Option<u8>])
-    requires long { length table.now ≡ MOST_BEAMS }
+    requires long { length columns.old ≤ length table.now }
     requires within { IsWithin table.now (length columns.old) }
     requires matching { IsMatching table.now columns.old }
     requires partial { IsPartial columns.old }
@@ -164,7 +192,7 @@ fn widen_rows(table: &[[u32; MOST_BEAMS]], columns: &mut [Option<u8>])
 
 /// Moves the row of fewest slots to a column of more, if it can be done by moving others to columns of more.
 fn widen(table: &[[u32; MOST_BEAMS]], columns: &mut [Option<u8>]) -> bool
-    requires long { length table.now ≡ MOST_BEAMS }
+    requires long { length columns.old ≤ length table.now }
     requires within { IsWithin table.now (length columns.old) }
     requires matching { IsMatching table.now columns.old }
     requires partial { IsPartial columns.old }
@@ -189,7 +217,7 @@ fn widen(table: &[[u32; MOST_BEAMS]], columns: &mut [Option<u8>]) -> bool
 
 /// The row whose connection has the fewest slots, and these.
 fn narrowest(table: &[[u32; MOST_BEAMS]], columns: &[Option<u8>]) -> (usize, u32)
-    requires long { length table.now ≡ MOST_BEAMS }
+    requires long { length columns.now ≤ length table.now }
     requires partial { IsPartial columns.now }
     requires whole { IsWhole columns.now }
     ensures row { result.0 < length columns.now }
@@ -211,7 +239,7 @@ fn narrowest(table: &[[u32; MOST_BEAMS]], columns: &[Option<u8>]) -> (usize, u32
 
 /// The slots of the connection of a row.
 fn slots_of(table: &[[u32; MOST_BEAMS]], columns: &[Option<u8>], row: usize) -> u32
-    requires long { length table.now ≡ MOST_BEAMS }
+    requires long { length columns.now ≤ length table.now }
     requires partial { IsPartial columns.now }
     requires whole { IsWhole columns.now }
     requires row { row < length columns.now }

@@ -1,6 +1,6 @@
 use Rattle.std.proofs.Common.{◌≡◌, ℕ, ◌<◌, length, IsSome}
 use Rattle.bt_match.specs.Matching.{column_of}
-use Rattle.bt_match.specs.Search.{IsMatching, AreHolders, IsWithin}
+use Rattle.bt_match.specs.Search.{IsMatching, AreHolders}
 use Rattle.bt_match.proofs.matching.match_free_rows.Given as goal
 
 -- the rows so far have a column
