@@ -11,9 +11,9 @@ ghost use Rattle.bt_history.specs.Records.{call_of};
 ghost use Rattle.bt_history.specs.Book.{Survives};
 ghost use Rattle.bt_history.specs.Crash.{IsLeftByRecovery, TellsNext};
 ghost use Rattle.bt_history.specs.Store.{IsStored, StoreStep, asked_line, lost_of};
-ghost use Rattle.bt_history.specs.Recovery.{IsFirstNoLine, IsFirstStray, IsOutside, IsReadable, IsRecoverFault, Recovered, whole};
+ghost use Rattle.bt_history.specs.Recovery.{IsFirstNoLine, IsFirstStray, IsOutside, IsReadable, IsRecoverFault, Recovered, marked};
 ghost use Rattle.bt_journal.specs.declared.call.Change.{Change};
-ghost use Rattle.bt_journal.specs.JournalLines.{Keeps};
+ghost use Rattle.bt_journal.specs.Kept.{Keeps};
 
 use crate::RecoverFault;
 use crate::machine::Machine;
@@ -21,7 +21,9 @@ use crate::recover::recover_machine;
 use bt_air::Order;
 use bt_demand::{Demand, Plan};
 use bt_frame::{EditionNo, OutOfMemory};
-use bt_journal::{Call, Change, Entry, Reply, lines_end_once, lines_tell_changes};
+use bt_journal::{
+    Call, Change, Entry, Reply, lines_end_once, lines_tell_changes, marks_tell_sizes,
+};
 use bt_net::Network;
 use bt_outside::Keeper;
 use std::alloc::Global;
@@ -53,11 +55,12 @@ impl<K: Keeper> Model for Book<K> {
 }
 
 impl<K: Keeper> Book<K> {
-    /// The book that its store's journal tells, with no call yet. Bytes behind the last newline are cut, by one call on the
-    /// store, once all lines were tested.
+    /// The book that its store's journal tells, with no call yet. Once all lines were tested, bytes behind the last newline are
+    /// cut, by one call on the store where there are such bytes; then the mark of the network is appended, by one call where no
+    /// line is it and the bytes with it are at most `MOST_JOURNAL_BYTES`.
     ///
-    /// The store is handed back with the fault: its bytes are as they were, unless the store failed or memory ran out when
-    /// they were being cut, and then maybe the tail is cut.
+    /// The store is handed back with the fault: its bytes are as they were, unless the store failed or memory ran out once the
+    /// lines were tested. Then maybe the tail is cut, and where the store failed, a first part of the mark may stand behind.
     pub fn recover(alloc: Global, net: &Network, mut store: K) -> Result<Book<K>, (K, RecoverFault)>
         ensures net { IfOk result (λ book. book.net ≡ net.now) }
         ensures history { IfOk result (λ book. book.history ≡ []) }
@@ -65,7 +68,7 @@ impl<K: Keeper> Book<K> {
         ensures changes { IfOk result (λ book. IfSome (K.told store) (λ bytes. Recovered net.now bytes book.state.changes)) }
         ensures readable { IfOk result (λ _. IsReadable (K.told store)) }
         ensures follows { IfOk result (λ book. Follows net.now book.state.changes) }
-        ensures told { IfOk result (λ book. book.told ≡ option_map whole (K.told store)) }
+        ensures told { IfOk result (λ book. book.told ≡ option_map (marked net.now) (K.told store)) }
         ensures keeps { IfOk result (λ book. IfSome book.told (λ bytes. Keeps net.now bytes book.state.changes)) }
         ensures stored { IfOk result (λ book. IsStored net.now book.told book.state.changes []) }
         ensures later { IfOk result (λ book. K.fault_count store ≤ book.faults) }
@@ -86,10 +89,12 @@ impl<K: Keeper> Book<K> {
         // Once the book is there, a crash leaves just its changes.
         ensures crash_now { IfOk result (λ book. LeavesOnly book.crashes (λ left. Recovered net.now left book.state.changes)) }
     {
-        // These are there for what holds of each network, that it is sound, and of the lines of changes.
+        // These are there for what holds of each network, that it is sound, and of the lines of changes
+        // and of marks.
         let _beams = net.beam_count();
         lines_end_once();
         lines_tell_changes();
+        marks_tell_sizes();
         match recover_machine(alloc, net, &mut store) {
             Ok(machine) => Ok(Book { machine, store }),
             Err(fault) => Err((store, fault)),
@@ -135,10 +140,12 @@ impl<K: Keeper> Book<K> {
         ensures err { OnErr result (self.new ≡ self.old) }
         ensures crash { Survives self.old Call.Snapshot self.new }
     {
-        // These are there for what holds of each network, that it is sound, and of the lines of changes.
+        // These are there for what holds of each network, that it is sound, and of the lines of changes
+        // and of marks.
         let _net = self.machine.network();
         lines_end_once();
         lines_tell_changes();
+        marks_tell_sizes();
         let reply = self.machine.snapshot(alloc, caller)?;
         Ok(reply)
     }
@@ -158,10 +165,12 @@ impl<K: Keeper> Book<K> {
         ensures err { OnErr result (self.new ≡ self.old) }
         ensures crash { Survives self.old (Call.Newest after) self.new }
     {
-        // These are there for what holds of each network, that it is sound, and of the lines of changes.
+        // These are there for what holds of each network, that it is sound, and of the lines of changes
+        // and of marks.
         let _net = self.machine.network();
         lines_end_once();
         lines_tell_changes();
+        marks_tell_sizes();
         let reply = self.machine.newest_after(alloc, caller, after)?;
         Ok(reply)
     }
@@ -178,10 +187,12 @@ impl<K: Keeper> Book<K> {
         ensures err { OnErr result (self.new ≡ self.old) }
         ensures crash { Survives self.old (call_of asked) self.new }
     {
-        // These are there for what holds of each network, that it is sound, and of the lines of changes.
+        // These are there for what holds of each network, that it is sound, and of the lines of changes
+        // and of marks.
         let _net = self.machine.network();
         lines_end_once();
         lines_tell_changes();
+        marks_tell_sizes();
         let reply = self.machine.change(alloc, caller, asked, &mut self.store)?;
         Ok(reply)
     }

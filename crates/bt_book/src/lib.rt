@@ -28,5 +28,5 @@ pub use bt_history::{
     RecoverFault, demands_fit_the_frame, histories_grow_by_steps, installed_plans_are_good,
     installed_plans_can_be_flown, journals_tell_one_thing, legal_changes_follow,
     locked_books_are_legal, locked_books_go_on, locked_calls_are_steps,
-    replies_name_beams_of_the_network, stores_tell_next_openings,
+    marked_journals_tell_the_same, replies_name_beams_of_the_network, stores_tell_next_openings,
 };

@@ -1,19 +1,24 @@
 // A machine is recovered from a store of records.
 ghost use Rattle.std.specs.Prelude.{◌≡◌, ◌≤◌, ◌⊎◌, [], Some, length, take, IfOk, IfErr, IfSome, IsErrOf, OnErr, OnOk, option_map};
-ghost use Rattle.bt_outside.specs.Told.{Gives, HasCause};
+ghost use Rattle.bt_frame.specs.declared.limits.TheConstants.{MOST_JOURNAL_BYTES};
+ghost use Rattle.bt_outside.specs.Told.{Gives, GainsPrefix, HasCause, gained};
 ghost use Rattle.bt_outside.specs.Crash.{Elapses, IsSettled, LeavesSince};
 ghost use Rattle.bt_history.specs.Causes.{Follows};
 ghost use Rattle.bt_history.specs.Machine.{running};
-ghost use Rattle.bt_history.specs.Records.{IsLeftOrCut};
-ghost use Rattle.bt_history.specs.Recovery.{AreInRange, IsReadable, IsRecoverFault, MaybeCut, Recovered, whole};
+ghost use Rattle.bt_history.specs.Records.{IsAppendFault, IsLeftOrCut};
+ghost use Rattle.bt_history.specs.Recovery.{AreInRange, IsReadable, IsRecoverFault, MaybeCut, Recovered, mark_where, marked, whole};
 
 use crate::RecoverFault;
 use crate::machine::Machine;
+use crate::replay::Taken;
+use bt_frame::MOST_JOURNAL_BYTES;
+use bt_journal::{lines_end_once, lines_tell_changes, mark_text, marks_tell_sizes};
 use bt_net::Network;
 use bt_outside::{KeepFault, Keeper};
 use std::alloc::Global;
 
-/// Reads the store, makes the changes of all its lines again, and then cuts what stands behind the last newline.
+/// Reads the store, makes the changes of all its lines again, then cuts what stands behind the last newline, and then appends
+/// the mark where it is owed.
 pub(crate) fn recover_machine<K: Keeper>(
     alloc: Global,
     net: &Network,
@@ -26,7 +31,7 @@ pub(crate) fn recover_machine<K: Keeper>(
     ensures readable { IfOk result (λ _. IsReadable (K.told store.old)) }
     ensures follows { IfOk result (λ machine. Follows net.now machine.state.changes) }
     ensures ranges { IfOk result (λ machine. AreInRange net.now 0 machine.state.changes) }
-    ensures told { IfOk result (λ machine. K.told store.new ≡ option_map whole (K.told store.old)) }
+    ensures told { IfOk result (λ machine. K.told store.new ≡ option_map (marked net.now) (K.told store.old)) }
     ensures later { K.fault_count store.old ≤ K.fault_count store.new }
     ensures fault { IfErr result (IsRecoverFault net.now (K.told store.old) (K.told store.new) (K.fault_count store.old) (K.fault_count store.new)) }
     ensures settled { OnOk result (IsSettled (K.told store.new) (K.crashes store.new)) }
@@ -43,8 +48,8 @@ pub(crate) fn recover_machine<K: Keeper>(
     }
 }
 
-/// Makes the changes of all lines of a store again, on a machine that has made none, and then cuts what the store has behind
-/// its last newline.
+/// Makes the changes of all lines of a store again, on a machine that has made none, then cuts what the store has behind its
+/// last newline, and then appends the mark where it is owed.
 fn take_store<K: Keeper>(
     alloc: Global,
     machine: &mut Machine,
@@ -59,15 +64,21 @@ fn take_store<K: Keeper>(
     ensures readable { OnOk result (IsReadable (K.told store.old)) }
     ensures follows { OnOk result (Follows machine.old.net machine.new.state.changes) }
     ensures ranges { OnOk result (AreInRange machine.old.net 0 machine.new.state.changes) }
-    ensures told { OnOk result (K.told store.new ≡ option_map whole (K.told store.old)) }
+    ensures told { OnOk result (K.told store.new ≡ option_map (marked machine.old.net) (K.told store.old)) }
     ensures later { K.fault_count store.old ≤ K.fault_count store.new }
     ensures fault { IfErr result (IsRecoverFault machine.old.net (K.told store.old) (K.told store.new) (K.fault_count store.old) (K.fault_count store.new)) }
     ensures settled { OnOk result (IsSettled (K.told store.new) (K.crashes store.new)) }
     ensures crash { LeavesSince (K.crashes store.old) (K.crashes store.new) (IsLeftOrCut machine.old.net (K.told store.old) (K.crashes store.old)) }
 {
+    // These are there for what holds of each network, that it is sound, and of the lines of changes and of marks.
+    let _net = machine.network();
+    lines_end_once();
+    lines_tell_changes();
+    marks_tell_sizes();
     let bytes = store.read_all(alloc)?;
-    let kept = machine.take_lines(alloc, bytes.as_slice())?;
-    cut_tail(alloc, store, bytes.as_slice(), kept)?;
+    let taken = machine.take_lines(alloc, bytes.as_slice())?;
+    cut_tail(alloc, store, bytes.as_slice(), taken.kept)?;
+    put_mark(alloc, machine.network(), store, taken)?;
     Ok(())
 }
 
@@ -96,4 +107,35 @@ fn cut_tail<K: Keeper>(
     } else {
         Ok(())
     }
+}
+
+/// Appends the mark of the network to a settled store, by one call, where it does not stand yet and there is room for it behind
+/// so many bytes.
+fn put_mark<K: Keeper>(
+    alloc: Global,
+    net: &Network,
+    store: &mut K,
+    taken: Taken,
+) -> Result<(), RecoverFault>
+    requires short { taken.kept ≤ MOST_JOURNAL_BYTES }
+    requires settled { IsSettled (K.told store.old) (K.crashes store.old) }
+    ensures ok { OnOk result (K.told store.new ≡ gained (K.told store.old) (mark_where net.now taken.marked taken.kept)) }
+    ensures fault { IfErr result (IsAppendFault (mark_where net.now taken.marked taken.kept)
+        (K.told store.old) (K.told store.new) (K.fault_count store.old) (K.fault_count store.new)) }
+    ensures later { K.fault_count store.old ≤ K.fault_count store.new }
+    ensures time { Elapses (K.crashes store.old) (K.crashes store.new) }
+    ensures still { OnOk result (IsSettled (K.told store.new) (K.crashes store.new)) }
+    ensures crash { LeavesSince (K.crashes store.old) (K.crashes store.new)
+        (λ left. GainsPrefix (K.told store.old) (mark_where net.now taken.marked taken.kept) (Some left)) }
+{
+    if taken.marked {
+        return Ok(());
+    }
+    let mark = mark_text(alloc, net)?;
+    let room = MOST_JOURNAL_BYTES as usize - taken.kept;
+    if room < mark.len() {
+        return Ok(());
+    }
+    store.append(alloc, mark.as_slice())?;
+    Ok(())
 }

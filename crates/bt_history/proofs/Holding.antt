@@ -1,8 +1,8 @@
 -- What holds of the store of a book, and what a crash leaves of it, from call to call.
 use Rattle.std.proofs.Common.{◌≡◌, ◌⊎◌, ⊎_elim, ℕ, ◌-◌, ◌^◌, ◌<◌, ◌≤◌, arith, Bool, true, false, List, [], ◌∷◌, ◌++◌, take, Option, Some, None, Result, Ok, Err, refl, sym, ap, ◌∙◌, subst, inl, inr}
-use Rattle.std.specs.Prelude.{IfOk, IfSome, IsSomeAnd, option_map}
+use Rattle.std.specs.Prelude.{IfOk, IfSome, IsErrOf, IsSomeAnd, option_map}
 use Rattle.std.proofs.lemmas.List.{append-nil}
-use Rattle.bt_outside.specs.Told.{gained, GainsPrefix, Gives, Rose, shortened}
+use Rattle.bt_outside.specs.Told.{gained, GainsPrefix, Gives, HasCause, Rose, shortened}
 use Rattle.bt_outside.specs.Crash.{CouldBeLeft, Crashes, Elapses, IsSettled, LeavesOnly, LeavesSince}
 use Rattle.bt_outside.proofs.Moments.{elapses_nowhere, leaves_further, leaves_now, leaves_nowhere, leaves_only_weaker, leaves_since_weaker, settled_leaves}
 use Rattle.bt_net.specs.Network.{Net, IsSound}
@@ -15,13 +15,16 @@ use Rattle.bt_journal.specs.Journal.{is_made, is_refusal}
 use Rattle.bt_history.specs.Causes.{Follows, IsChangeOn}
 use Rattle.bt_history.specs.Machine.{State, line_behind, running, CanMake, ChangeStep}
 use Rattle.bt_history.specs.Records.{CrashStep, Endures, Holds, IsAppendFault, IsLeftOrCut, IsPartMarked, IsSpelled, Records, Stores, call_of}
+use Rattle.bt_outside.specs.declared.keeper.KeepFault.{KeepFault}
+use Rattle.bt_outside.specs.declared.keeper.KeepFault.TheVariants as keep
+use Rattle.bt_history.specs.Faults.{recover_fault}
 use Rattle.bt_history.specs.declared.fault.RecoverFault.{RecoverFault}
 use Rattle.bt_history.specs.declared.fault.RecoverFault.TheVariants.{J1, J2, StoreFault as store_fault, TooLong, OutOfMemory}
-use Rattle.bt_history.specs.Recovery.{IsRecoverFault, Recovered, mark_owed, marked_in_part, whole}
+use Rattle.bt_history.specs.Recovery.{IsRecoverFault, MaybeCut, Recovered, mark_owed, marked_in_part, whole}
 use Rattle.bt_history.specs.Store.{IsStored, is_lost, lost_of}
 use Rattle.bt_history.specs.Crash.{IsLeftByRecovery, TellsNext, TellsSame, asked_for}
 use Rattle.bt_history.specs.Book.{Books, Survives}
-use Rattle.bt_history.proofs.Marked.{gained_part, part_tells}
+use Rattle.bt_history.proofs.Marked.{cut_or_marked, gained_part, part_tells}
 use Rattle.bt_history.proofs.NextOpening.{next_opening}
 use Rattle.bt_history.proofs.OneJournal.{AreLines}
 use Rattle.bt_history.proofs.Replies.{made_no_fault, no_fault_not_lost, refusal_no_fault, refusal_not_made}
@@ -295,6 +298,22 @@ mark_fault net told bytes piece cut new before mid now store_fault gives is cut_
     (inr (gains.0, there), rose_later before mid now later failed.1)
 mark_fault net told bytes piece cut new before mid now TooLong gives is cut_is later failed = absurd failed
 mark_fault net told bytes piece cut new before mid now OutOfMemory gives is cut_is later failed = inr (failed ∙ cut_is)
+
+-- what an append that failed says
+pub append_fault : {T : Type 0} (piece : List ℕ) (old new : Option (List ℕ)) (before now : ℕ) (fault : KeepFault) → (IsErrOf {T = T} (Err fault) keep.Failed → GainsPrefix old piece new)
+    → (IsErrOf {T = T} (Err fault) keep.OutOfMemory → new ≡ old) → (IsErrOf {T = T} (Err fault) keep.TooLong → ⊥) → HasCause {T = T} keep.Failed before now (Err fault)
+    → IsAppendFault piece old new before now (recover_fault fault)
+append_fault piece old new before now keep.Failed failed memory long cause = (failed refl, cause.failed refl)
+append_fault piece old new before now keep.TooLong failed memory long cause = absurd (long refl)
+append_fault piece old new before now keep.OutOfMemory failed memory long cause = memory refl
+
+-- what a recovery says whose cut failed
+pub cut_fault : {T : Type 0} (net : Net) (told new held : Option (List ℕ)) (before mid now : ℕ) (fault : KeepFault) → held ≡ told → before ≤ mid → MaybeCut held new
+    → (IsErrOf {T = T} (Err fault) keep.TooLong → ⊥) → HasCause {T = T} keep.Failed mid now (Err fault) → IsRecoverFault net told new before now (recover_fault fault)
+cut_fault net told new held before mid now keep.Failed same later cut long cause =
+    (cut_or_marked net told new (subst (λ (t : Option (List ℕ)). MaybeCut t new) same cut), rose_later before mid now later (cause.failed refl))
+cut_fault net told new held before mid now keep.TooLong same later cut long cause = absurd (long refl)
+cut_fault net told new held before mid now keep.OutOfMemory same later cut long cause = subst (λ (t : Option (List ℕ)). MaybeCut t new) same cut
 
 -- where nothing is cut
 pub left_uncut : (told : Option (List ℕ)) (now : Option Crashes) → IsSettled told now → LeavesSince now now (λ left. (Some left ≡ told) ⊎ (Some left ≡ option_map whole told))

@@ -2,7 +2,7 @@
 use Rattle.std.proofs.Common.{◌≡◌, ◌⊎◌, ℕ, ◌+◌, ◌-◌, ◌≤◌, ◌||◌, cond, leb, Bool, true, false, List, [], ◌∷◌, ◌++◌, length, take, slice_index_or, Option, Some, None, refl, sym, ap, ◌∙◌, subst, arith, length-append, inl, inr, ⊎_elim}
 use Rattle.std.specs.Prelude.{option_map}
 use Rattle.std.specs.List.{list_any}
-use Rattle.std.proofs.lemmas.Bool.{cases_eq, false_from_ne_true, leb-true}
+use Rattle.std.proofs.lemmas.Bool.{cases_eq, false_from_ne_true, le-leb, leb-true}
 use Rattle.std.proofs.lemmas.List.{append-nil, length-take, length-take-le, take_all}
 use Rattle.std.proofs.Math.Seq.{take-append_seam}
 use Rattle.std.proofs.lemmas.Slice.Eq.{bytes_eq-Decides}
@@ -74,6 +74,11 @@ by_room net size false is = inr (ap (λ (b : Bool). cond b (mark_of net) []) is)
 mark_or_none : (net : Net) (stands : Bool) (size : ℕ) → IsMarkWhere net stands size ⊎ (mark_where net stands size ≡ [])
 mark_or_none net true size = inr refl
 mark_or_none net false size = by_room net size (leb (size + length (mark_of net)) MOST_JOURNAL_BYTES) refl
+
+-- where there is room
+pub where_room : (net : Net) (stands : Bool) (size : ℕ) → stands ≡ false → size + length (mark_of net) ≤ MOST_JOURNAL_BYTES → mark_where net stands size ≡ mark_of net
+where_room net true size first room = absurd cc
+where_room net false size first room = ap (λ (b : Bool). cond b (mark_of net) []) (le-leb (size + length (mark_of net)) MOST_JOURNAL_BYTES room)
 
 -- of bytes that are read no more are left than are read
 pub marked_short : (net : Net) (bytes : List ℕ) → length bytes ≤ MOST_JOURNAL_BYTES → length (marked net bytes) ≤ MOST_JOURNAL_BYTES

@@ -1,7 +1,5 @@
 use Rattle.std.proofs.Common.{◌≡◌, ◌⊎◌, List, ℕ, Option, Some, subst}
-use Rattle.std.specs.Prelude.{option_map}
 use Rattle.bt_outside.specs.Crash.{LeavesSince}
-use Rattle.bt_history.specs.Recovery.{whole}
 use Rattle.bt_history.proofs.Holding.{cut_is_whole, left_uncut}
 use Rattle.bt_book.proofs.recover.cut_tail.Goals as goal
 

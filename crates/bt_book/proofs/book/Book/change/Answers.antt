@@ -10,7 +10,8 @@ use Rattle.bt_book.proofs.book.Book.change.Goals as goal
 pub invariant_of-self-2 : goal.invariant_of-self-2
 invariant_of-self-2 g c =
     let a = c.self.inside in
-    let are = are_lines a.machine.net c.network-net.ensures.sound c.lines_end_once.ensures.cut c.lines_tell_changes.ensures.change c.lines_tell_changes.ensures.edition in
+    let are = are_lines a.machine.net c.network-net.ensures.sound c.lines_end_once.ensures.cut c.lines_tell_changes.ensures.change c.lines_tell_changes.ensures.edition c.marks_tell_sizes.ensures.short
+    c.marks_tell_sizes.ensures.cut c.marks_tell_sizes.ensures.beams c.marks_tell_sizes.ensures.terminals c.marks_tell_sizes.ensures.no_change in
     let on = subst (λ (b : Books). IsChangeOn b.net c.args.asked) (sym c.self.view_is) c.requires in
     let done = c.in_ok-reply.ensures in
     holds_step a.machine c.change.new.self are c.args.asked c.args.caller c.in_ok-reply.reply (g.K.Keeper.told a.store) (g.K.Keeper.told c.change.new.store)
@@ -21,7 +22,8 @@ invariant_of-self-2 g c =
 pub returns-clause-crash : goal.returns-clause-crash
 returns-clause-crash g c =
     let a = c.self.inside in
-    let are = are_lines a.machine.net c.network-net.ensures.sound c.lines_end_once.ensures.cut c.lines_tell_changes.ensures.change c.lines_tell_changes.ensures.edition in
+    let are = are_lines a.machine.net c.network-net.ensures.sound c.lines_end_once.ensures.cut c.lines_tell_changes.ensures.change c.lines_tell_changes.ensures.edition c.marks_tell_sizes.ensures.short
+    c.marks_tell_sizes.ensures.cut c.marks_tell_sizes.ensures.beams c.marks_tell_sizes.ensures.terminals c.marks_tell_sizes.ensures.no_change in
     let on = subst (λ (b : Books). IsChangeOn b.net c.args.asked) (sym c.self.view_is) c.requires in
     let done = c.in_ok-reply.ensures in
     let new = book_of c.change.new.self (g.K.Keeper.told c.change.new.store) (g.K.Keeper.fault_count c.change.new.store) (g.K.Keeper.crashes c.change.new.store) in
@@ -34,7 +36,8 @@ returns-clause-crash g c =
 pub returns-in_err-reply-clause-crash : goal.returns-in_err-reply-clause-crash
 returns-in_err-reply-clause-crash g c =
     let a = c.self.inside in
-    let are = are_lines a.machine.net c.network-net.ensures.sound c.lines_end_once.ensures.cut c.lines_tell_changes.ensures.change c.lines_tell_changes.ensures.edition in
+    let are = are_lines a.machine.net c.network-net.ensures.sound c.lines_end_once.ensures.cut c.lines_tell_changes.ensures.change c.lines_tell_changes.ensures.edition c.marks_tell_sizes.ensures.short
+    c.marks_tell_sizes.ensures.cut c.marks_tell_sizes.ensures.beams c.marks_tell_sizes.ensures.terminals c.marks_tell_sizes.ensures.no_change in
     let failed = c.in_err-reply.ensures in
     let new = book_of c.change.new.self (g.K.Keeper.told c.change.new.store) (g.K.Keeper.fault_count c.change.new.store) (g.K.Keeper.crashes c.change.new.store) in
     subst (λ (b : Books). Survives b (call_of c.args.asked) new) c.self.view_is

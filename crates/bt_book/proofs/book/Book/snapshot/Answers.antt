@@ -22,7 +22,8 @@ returns-clause-crash g c =
     let old = c.self.inside.machine in
     let new = c.snapshot.new.self in
     let store = c.self.inside.store in
-    let are = are_lines old.net c.network-net.ensures.sound c.lines_end_once.ensures.cut c.lines_tell_changes.ensures.change c.lines_tell_changes.ensures.edition in
+    let are = are_lines old.net c.network-net.ensures.sound c.lines_end_once.ensures.cut c.lines_tell_changes.ensures.change c.lines_tell_changes.ensures.edition c.marks_tell_sizes.ensures.short
+    c.marks_tell_sizes.ensures.cut c.marks_tell_sizes.ensures.beams c.marks_tell_sizes.ensures.terminals c.marks_tell_sizes.ensures.no_change in
     let after = book_of new (g.K.Keeper.told store) (g.K.Keeper.fault_count store) (g.K.Keeper.crashes store) in
     subst (λ (b : Books). Survives b call.Snapshot after) c.self.view_is
     (survives_same old new are call.Snapshot (g.K.Keeper.told store) (g.K.Keeper.told store) (g.K.Keeper.crashes store) (g.K.Keeper.crashes store)
@@ -34,7 +35,8 @@ returns-in_err-reply-clause-crash g c =
     let old = c.self.inside.machine in
     let new = c.snapshot.new.self in
     let store = c.self.inside.store in
-    let are = are_lines old.net c.network-net.ensures.sound c.lines_end_once.ensures.cut c.lines_tell_changes.ensures.change c.lines_tell_changes.ensures.edition in
+    let are = are_lines old.net c.network-net.ensures.sound c.lines_end_once.ensures.cut c.lines_tell_changes.ensures.change c.lines_tell_changes.ensures.edition c.marks_tell_sizes.ensures.short
+    c.marks_tell_sizes.ensures.cut c.marks_tell_sizes.ensures.beams c.marks_tell_sizes.ensures.terminals c.marks_tell_sizes.ensures.no_change in
     let after = book_of new (g.K.Keeper.told store) (g.K.Keeper.fault_count store) (g.K.Keeper.crashes store) in
     subst (λ (b : Books). Survives b call.Snapshot after) c.self.view_is
     (survives_same old new are call.Snapshot (g.K.Keeper.told store) (g.K.Keeper.told store) (g.K.Keeper.crashes store) (g.K.Keeper.crashes store)
