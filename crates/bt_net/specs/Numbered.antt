@@ -3,7 +3,6 @@ use Rattle.std.specs.Prelude.{ℕ, ◌*◌, ◌%◌, ◌++◌, List, map, codes,
 use Rattle.std.specs.List.{range_with_len}
 use Rattle.bt_frame.specs.declared.limits.TheConstants.{MOST_SLOTS, MOST_BOOK_BYTES}
 use Rattle.bt_frame.specs.declared.numbers.BeamNo.{BeamNo}
-use Rattle.bt_net.specs.declared.numbered.TheConstants.{TERMINALS_A_BEAM, FRAMES, LEAD, PATIENCE}
 use Rattle.bt_net.specs.Network.{Net}
 
 -- the name of a beam, such as `b0`
@@ -22,14 +21,14 @@ numbered_beams beams = map numbered_beam (range_with_len 0 beams)
 abbrev pub numbered_terminals : ℕ → ℕ → List (List ℕ × BeamNo)
 numbered_terminals beams count = map (numbered_terminal beams) (range_with_len 0 count)
 
--- the network of so many beams, with four terminals in each
+-- the network of so many beams: four terminals in each, 32 frames, a lead of 4 superframes and a patience of 3 turns
 abbrev pub numbered_network : ℕ → Net
 numbered_network beams = record {
   beams = numbered_beams beams;
-  terminals = numbered_terminals beams (TERMINALS_A_BEAM * beams);
+  terminals = numbered_terminals beams (4 * beams);
   slots = MOST_SLOTS;
-  frames = FRAMES;
-  lead = LEAD;
-  patience = PATIENCE;
+  frames = 32;
+  lead = 4;
+  patience = 3;
   journal = MOST_BOOK_BYTES;
 }

@@ -58,7 +58,7 @@ fn numbered_beams(alloc: Global, count: u32) -> Result<Beams, AllocError>
 /// The terminals of so many beams, which take turns.
 fn numbered_terminals(alloc: Global, beams: u32) -> Result<Terminals, AllocError>
     requires { IsWithin 1 MOST_NUMBERED_BEAMS beams }
-    ensures { IfOk result (λ terminals. terminals ≡ numbered_terminals beams (TERMINALS_A_BEAM * beams)) }
+    ensures { IfOk result (λ terminals. terminals ≡ numbered_terminals beams (4 * beams)) }
 {
     let mut terminals = Terminals::new(alloc);
     for number in 0..TERMINALS_A_BEAM * beams {
