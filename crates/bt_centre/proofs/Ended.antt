@@ -16,6 +16,7 @@ use Rattle.bt_history.specs.declared.fault.RecoverFault.TheVariants.{StoreFault}
 use Rattle.bt_history.specs.Book.{Books}
 use Rattle.bt_history.specs.Causes.{Follows, IsGoodForItsEdition}
 use Rattle.bt_history.specs.Changes.{installs}
+use Rattle.bt_history.specs.Recovery.{MaybeMarked}
 use Rattle.bt_history.specs.Store.{IsKept, lost_of}
 use Rattle.bt_events.specs.Event.{Opening}
 use Rattle.bt_events.specs.Fits.{IsWorld}
@@ -30,7 +31,7 @@ use Rattle.bt_centre.specs.RecoverFaults.{PrintsNamed, recover_line, recover_sta
 use Rattle.bt_centre.specs.Run.{AreLegalTimes, IsRun, LeavesStore, changes_at, entries_of, first_line, lost_in, opening_on, status_after, whole_text}
 use Rattle.bt_round.proofs.Closing.{ran_nothing}
 use Rattle.bt_centre.proofs.Going.{breaks_off, left_early, legal_times}
-use Rattle.bt_centre.proofs.Restarts.{cut_at_fault}
+use Rattle.bt_centre.proofs.Restarts.{left_at_fault}
 use Rattle.bt_centre.proofs.Played.{changes_are, gained-append, item_goes_on, items_begin, next_parts, same_histories, start_is}
 use Rattle.bt_centre.proofs.Times.{rose_still}
 
@@ -180,7 +181,7 @@ ended_at_restart net items index begun old left before between after f0 f1 f2 fa
       goes = record { over = refl; before = refl; ran = ran_nothing old.book (subst (λ (n : Net). Follows n old.book.state.changes) (sym so.done.so_far.network) so.done.so_far.follow); world = refl };
       histories = is.histories;
       kept = is.kept;
-      cut = cut_at_fault net old.book.told left.told old.book.faults left.faults fault is.failed;
+      cut = subst (λ (n : Net). MaybeMarked n old.book.told left.told) (sym so.done.so_far.network) (left_at_fault net old.book.told left.told old.book.faults left.faults fault is.failed);
       later = is.later;
       world = is.world;
     }) early

@@ -8,7 +8,7 @@ use Rattle.bt_demand.specs.declared.burst.Burst.{Burst}
 use Rattle.bt_journal.specs.declared.call.Change.{Change}
 use Rattle.bt_history.specs.declared.fault.RecoverFault.{RecoverFault}
 use Rattle.bt_history.specs.declared.fault.RecoverFault.TheVariants.{StoreFault}
-use Rattle.bt_history.specs.Recovery.{IsReadable, IsRecoverFault, Recovered, whole}
+use Rattle.bt_history.specs.Recovery.{IsReadable, Recovered, marked}
 use Rattle.bt_events.specs.Air.{AreFlyable, IsAir, IsSafe, modes_in_front}
 use Rattle.bt_events.specs.Event.{Frame, Opening}
 use Rattle.bt_events.specs.Fits.{IsWorld}
@@ -17,12 +17,12 @@ use Rattle.bt_script.specs.declared.script.Item.{Item}
 use Rattle.bt_script.specs.declared.script.Script.{Script}
 use Rattle.bt_centre.specs.declared.history.History.{History}
 use Rattle.bt_centre.specs.Output.{Output}
-use Rattle.bt_centre.specs.Progress.{Hand, IsBegun, Left, PartsEnded}
+use Rattle.bt_centre.specs.Progress.{Hand, IsBegun, IsOpenFault, Left, PartsEnded}
 use Rattle.bt_centre.specs.RecoverFaults.{PrintsNamed}
 use Rattle.bt_centre.specs.Run.{AreLegalTimes, EndsFrom, FramesAreSafe, IsRun, LeavesStore, PlaysItems, RunsFrom, RunsTo, Stand, at_start, lost_in, opening_on}
 use Rattle.bt_centre.specs.Stored.{Stored}
 use Rattle.bt_centre.proofs.Ended.{only_fault}
-use Rattle.bt_centre.proofs.Restarts.{cut_at_fault, tells_whole}
+use Rattle.bt_centre.proofs.Restarts.{left_unopened, named_fault, tells_marked}
 use Rattle.bt_centre.proofs.Times.{rose_since}
 
 -- what happened before an event of a world is a world
@@ -117,7 +117,7 @@ ends_from net items output told given after faults begun now opening status hist
 
 -- the run, from what its store told
 pub runs_from : AreFlown → AreSafe → (net : Net) (script : Script) (output : Output) (given : Option (List ℕ)) (faults : ℕ) (hand : Hand) (left : Left) (status : ℕ) → IsBegun net hand
-    → hand.book.told ≡ option_map whole given → IfSome given (λ bytes. Recovered net bytes hand.book.state.changes) → IsReadable given → faults ≤ hand.book.faults
+    → hand.book.told ≡ option_map (marked net) given → IfSome given (λ bytes. Recovered net bytes hand.book.state.changes) → IsReadable given → faults ≤ hand.book.faults
     → PartsEnded net script.items output hand.book left status → RunsFrom net script output (stored_from given left.told faults left.faults) status left.histories left.events
 runs_from flown safe net script output given faults hand left status begun told changes readable later ended = record {
   opening = hand.book.state.changes;
@@ -125,21 +125,21 @@ runs_from flown safe net script output given faults hand left status begun told 
   world = ended.world;
   safe = frames_safe flown safe (opening_on net hand.book.state.changes) (reverse left.events) ended.world;
   ends = ends_from net script.items output hand.book.told given left.told faults hand.book.faults left.faults hand.book.state.changes status left.histories left.events
-      (ap is_some told ∙ tells_whole given) later ended.ends;
+      (ap is_some told ∙ tells_marked net given) later ended.ends;
 }
 
 -- memory ran out before anything was run, or the first recovery failed
 pub nothing_run : (net : Net) (script : Script) (output : Output) (stored : Stored) (fault : RecoverFault) (status : ℕ) (histories : List History) (events : List Event)
-    → IsRecoverFault net stored.before stored.after stored.faults_before stored.faults_after fault → stored.faults_before ≤ stored.faults_after → histories ≡ [] → events ≡ []
+    → IsOpenFault net stored.before stored.after stored.faults_before stored.faults_after fault → stored.faults_before ≤ stored.faults_after → histories ≡ [] → events ≡ []
     → PrintsNamed output [] fault status → RunsTo net script output stored status histories events
 nothing_run net script output stored fault status histories events failed later none quiet (inl early) = inl (record {
   none = record { none = none; quiet = quiet; later = later };
-  bytes = cut_at_fault net stored.before stored.after stored.faults_before stored.faults_after fault failed;
+  bytes = left_unopened net stored.before stored.after stored.faults_before stored.faults_after fault failed;
   status_is = early;
 })
 nothing_run net script output stored fault status histories events failed later none quiet (inr (named, printed)) = inr (inl (record {
   fault = fault;
-  failed = failed;
+  failed = named_fault net stored.before stored.after stored.faults_before stored.faults_after fault named failed;
   named = named;
   none = record { none = none; quiet = quiet; later = later };
   printed = printed;

@@ -7,6 +7,7 @@ use Rattle.bt_journal.specs.declared.entry.Entry.{Entry}
 use Rattle.bt_history.specs.Book.{Books}
 use Rattle.bt_history.specs.Causes.{Follows}
 use Rattle.bt_history.specs.Machine.{Legal, State, running, state_after}
+use Rattle.bt_history.specs.Recovery.{MaybeMarked}
 use Rattle.bt_history.specs.Store.{IsKept, lost_of}
 use Rattle.bt_history.proofs.Histories.{state_from-none}
 use Rattle.bt_centre.specs.declared.history.History.{History}
@@ -136,7 +137,7 @@ breaks_off net begun opening old left status so is status_is =
       told = told;
       kept = subst (λ (c : List Change). IsKept net told c (lost_of history)) (ap (λ (s : State). s.changes) now.reached)
           (subst (λ (n : Net). IsKept n told is.hand.book.state.changes (lost_of history)) now.network is.kept);
-      bytes = is.cut;
+      bytes = subst (λ (n : Net). MaybeMarked n told left.told) now.network is.cut;
       count = rose_still (length (lost_in (histories_in is.hand))) (length (lost_in left.histories)) begun.faults is.hand.book.faults left.faults
           (ap (λ (l : List History). length (lost_in l)) is.histories) now.count is.later;
       status_is = status_is;

@@ -13,13 +13,14 @@ use Rattle.bt_history.specs.declared.fault.RecoverFault.TheVariants.{J1, J2, Sto
 use Rattle.bt_history.specs.Book.{Books}
 use Rattle.bt_history.specs.Causes.{Follows}
 use Rattle.bt_history.specs.Machine.{running}
-use Rattle.bt_history.specs.Recovery.{IsOutside, IsReadable, IsRecoverFault, MaybeCut, Recovered, whole}
+use Rattle.bt_history.specs.Recovery.{IsOutside, IsReadable, IsRecoverFault, MaybeMarked, Recovered, marked}
 use Rattle.bt_history.specs.Store.{IsKept, IsNextOpening, IsStored, lost_of}
 use Rattle.bt_script.specs.declared.script.Item.TheVariants as item
 use Rattle.bt_events.specs.Fits.{IsWorld}
 use Rattle.bt_workers.specs.AirLines.{AirState}
 use Rattle.bt_centre.specs.declared.history.History.{History}
-use Rattle.bt_centre.specs.Progress.{BeganAgain, CentreBegan, Hand, IsLeftAtRestart, IsLeftBehind, IsLeftEarly, ItemFailed, Left, RestartPlayed, histories_in}
+use Rattle.bt_centre.specs.Progress.{BeganAgain, CentreBegan, Hand, IsLeftAtRestart, IsOpenFault, IsLeftBehind, IsLeftEarly, ItemFailed, Left, RestartPlayed, histories_in}
+use Rattle.bt_history.proofs.Marked.{cut_or_marked, maybe_marked}
 use Rattle.bt_centre.proofs.Going.{ran_none}
 
 -- a store tells its next opening
@@ -32,9 +33,9 @@ pub next_is : (net : Net) (told : Option (List ℕ)) (changes lost now : List Ch
 next_is net (Some bytes) changes lost now (next, is, on) exact = subst (IsNextOpening changes lost) (sym (exact next is)) on
 next_is net None changes lost now next exact = tt
 
-pub tells_whole : (told : Option (List ℕ)) → is_some (option_map whole told) ≡ is_some told
-tells_whole (Some bytes) = refl
-tells_whole None = refl
+pub tells_marked : (net : Net) (told : Option (List ℕ)) → is_some (option_map (marked net) told) ≡ is_some told
+tells_marked net (Some bytes) = refl
+tells_marked net None = refl
 
 -- the centre restarted
 pub restarted : (net : Net) (old new : Hand) (book : Books) (over : List History) (text : List ℕ) → BeganAgain book old.air over old.rounds new text → over ≡ histories_in old
@@ -59,14 +60,14 @@ restarted net old new book over text began all network none runs follow next tel
 
 -- memory ran out over the restart
 pub left_behind : (net : Net) (old : Hand) (left : Left) → old.book.net ≡ net → Follows net old.book.state.changes → left.histories ≡ histories_in old → old.book.faults ≤ left.faults
-    → IsWorld old.air.life.opening (reverse left.events) → IsKept old.book.net old.book.told old.book.state.changes (lost_of old.book.history) → MaybeCut old.book.told left.told
+    → IsWorld old.air.life.opening (reverse left.events) → IsKept old.book.net old.book.told old.book.state.changes (lost_of old.book.history) → MaybeMarked net old.book.told left.told
     → IsLeftEarly old left
 left_behind net old left network follow all later world kept cut = record {
   hand = old;
   goes = record { over = refl; before = refl; ran = ran_none net old.book network follow; world = refl };
   histories = all;
   kept = kept;
-  cut = cut;
+  cut = subst (λ (n : Net). MaybeMarked n old.book.told left.told) (sym network) cut;
   later = later;
   world = world;
 }
@@ -111,17 +112,42 @@ always : (told : Option (List ℕ)) (Q : Type 0) → Q → IfSome told (λ _. Q)
 always (Some bytes) Q is = is
 always None Q is = tt
 
--- a recovery that failed leaves the store as it was, or with its tail cut
-pub cut_at_fault : (net : Net) (old new : Option (List ℕ)) (before now : ℕ) (fault : RecoverFault) → IsRecoverFault net old new before now fault → MaybeCut old new
-cut_at_fault net old new before now (J1 line) is = inl is.0
-cut_at_fault net old new before now (J2 line) is = inl is.0
-cut_at_fault net old new before now StoreFault is = is.0
-cut_at_fault net old new before now TooLong is = inl is.0
-cut_at_fault net old new before now OutOfMemory is = is
+-- a recovery that failed leaves the store as it was, or with its tail cut, and then maybe a first part of the mark
+pub left_at_fault : (net : Net) (old new : Option (List ℕ)) (before now : ℕ) (fault : RecoverFault) → IsRecoverFault net old new before now fault → MaybeMarked net old new
+left_at_fault net old new before now (J1 line) is = inl is.0
+left_at_fault net old new before now (J2 line) is = inl is.0
+left_at_fault net old new before now StoreFault is = is.0
+left_at_fault net old new before now TooLong is = inl is.0
+left_at_fault net old new before now OutOfMemory is = cut_or_marked net old new is
+
+-- and so does one behind which memory ran out
+pub left_unopened : (net : Net) (old new : Option (List ℕ)) (before now : ℕ) (fault : RecoverFault) → IsOpenFault net old new before now fault → MaybeMarked net old new
+left_unopened net old new before now (J1 line) is = inl is.0
+left_unopened net old new before now (J2 line) is = inl is.0
+left_unopened net old new before now StoreFault is = is.0
+left_unopened net old new before now TooLong is = inl is.0
+left_unopened net old new before now OutOfMemory is = is
+
+-- a fault of the recovery is one of the opening
+pub open_fault : (net : Net) (old new : Option (List ℕ)) (before now : ℕ) (fault : RecoverFault) → IsRecoverFault net old new before now fault → IsOpenFault net old new before now fault
+open_fault net old new before now (J1 line) is = is
+open_fault net old new before now (J2 line) is = is
+open_fault net old new before now StoreFault is = is
+open_fault net old new before now TooLong is = is
+open_fault net old new before now OutOfMemory is = cut_or_marked net old new is
+
+-- and where it is named, the other way round
+pub named_fault : (net : Net) (old new : Option (List ℕ)) (before now : ℕ) (fault : RecoverFault) → fault ≢ OutOfMemory → IsOpenFault net old new before now fault
+    → IsRecoverFault net old new before now fault
+named_fault net old new before now (J1 line) named is = is
+named_fault net old new before now (J2 line) named is = is
+named_fault net old new before now StoreFault named is = is
+named_fault net old new before now TooLong named is = is
+named_fault net old new before now OutOfMemory named is = absurd (named refl)
 
 -- the recovery failed, or memory ran out over it
 pub restart_failed : (net : Net) (old : Hand) (left : Left) (fault : RecoverFault) → Fails net old left fault → ItemFailed net item.Restart old left fault
-restart_failed net old left OutOfMemory is = inl (refl, left_behind net old left is.network is.follow is.histories is.later is.world is.kept is.failed)
+restart_failed net old left OutOfMemory is = inl (refl, left_behind net old left is.network is.follow is.histories is.later is.world is.kept (cut_or_marked net old.book.told left.told is.failed))
 restart_failed net old left StoreFault is = inr (refl, at_restart net old left StoreFault is (λ same. cc) (always old.book.told (StoreFault ≡ StoreFault) refl))
 restart_failed net old left TooLong is = inr (refl, at_restart net old left TooLong is (λ same. cc) (never_long old.book.told (TooLong ≡ StoreFault) is.short is.failed.1))
 restart_failed net old left (J1 line) is =
@@ -176,7 +202,7 @@ fails laws net old book left fault told faults sound is network follow stored to
 pub restarts : Laws → (net : Net) (old new : Hand) (book again : Books) (air : AirState) (over : List History) (text : List ℕ) (told : Option (List ℕ)) (faults : ℕ) → IsSound net → book ≡ old.book → air ≡ old.air
     → old.book.net ≡ net → Follows net old.book.state.changes → IsStored book.net book.told book.state.changes (lost_of book.history) → told ≡ book.told → faults ≡ book.faults
     → BeganAgain again air over old.rounds new text → over ≡ histories_in old → again.net ≡ net → again.history ≡ [] → again.state ≡ running again.state.changes → Follows net again.state.changes
-    → IfSome told (λ bytes. (changes : List Change) → Recovered net bytes changes → again.state.changes ≡ changes) → again.told ≡ option_map whole told → faults ≤ again.faults
+    → IfSome told (λ bytes. (changes : List Change) → Recovered net bytes changes → again.state.changes ≡ changes) → again.told ≡ option_map (marked net) told → faults ≤ again.faults
     → RestartPlayed net old new text
 restarts laws net old new book again air over text told faults sound is air_is network follow stored told_is faults_are began all net_is none runs follows exact again_told later =
     let t : told ≡ old.book.told = told_is ∙ ap (λ (b : Books). b.told) is in
@@ -185,17 +211,17 @@ restarts laws net old new book again air over text told faults sound is air_is n
     restarted net old new again over text (subst (λ (a : AirState). BeganAgain again a over old.rounds new text) air_is began) all net_is none runs follows
     (next_is net old.book.told old.book.state.changes (lost_of old.book.history) again.state.changes next
     (subst (λ (o : Option (List ℕ)). IfSome o (λ bytes. (changes : List Change) → Recovered net bytes changes → again.state.changes ≡ changes)) t exact))
-    (ap is_some again_told ∙ tells_whole told ∙ ap is_some t) (omega (arith, later, f))
+    (ap is_some again_told ∙ tells_marked net told ∙ ap is_some t) (omega (arith, later, f))
 
 -- memory ran out over what was recovered
 pub breaks_behind : (net : Net) (old : Hand) (book again : Books) (air : AirState) (over : List History) (left : Left) (told : Option (List ℕ)) (faults : ℕ) → book ≡ old.book → air ≡ old.air → old.book.net ≡ net
-    → Follows net old.book.state.changes → IsStored book.net book.told book.state.changes (lost_of book.history) → told ≡ book.told → again.told ≡ option_map whole told
+    → Follows net old.book.state.changes → IsStored book.net book.told book.state.changes (lost_of book.history) → told ≡ book.told → again.told ≡ option_map (marked net) told
     → faults ≡ book.faults → faults ≤ again.faults → IsLeftBehind again air over left → over ≡ histories_in old → IsLeftEarly old left
 breaks_behind net old book again air over left told faults is air_is network follow stored told_is again_told faults_are later behind all =
     let kept = subst (λ (b : Books). IsKept b.net b.told b.state.changes (lost_of b.history)) is stored.kept in
-    let cut : left.told ≡ option_map whole old.book.told = behind.told ∙ again_told ∙ ap (option_map whole) (told_is ∙ ap (λ (b : Books). b.told) is) in
+    let there : left.told ≡ option_map (marked net) old.book.told = behind.told ∙ again_told ∙ ap (option_map (marked net)) (told_is ∙ ap (λ (b : Books). b.told) is) in
     left_behind net old left network follow (behind.histories ∙ all) (omega (arith, later, faults_are, ap (λ (b : Books). b.faults) is, behind.faults))
-    (subst (λ (a : AirState). IsWorld a.life.opening (reverse left.events)) air_is behind.world) kept (inr cut)
+    (subst (λ (a : AirState). IsWorld a.life.opening (reverse left.events)) air_is behind.world) kept (maybe_marked net old.book.told left.told there)
 
 -- the world of the centre's worker
 pub world_at : (air old : AirState) (events : List Event) → air ≡ old → events ≡ air.life.events → IsWorld air.life.opening (reverse air.life.events) → IsWorld old.life.opening (reverse events)

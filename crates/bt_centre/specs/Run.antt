@@ -21,7 +21,7 @@ use Rattle.bt_history.specs.declared.fault.RecoverFault.TheVariants.{OutOfMemory
 use Rattle.bt_history.specs.Causes.{Follows, IsGoodForItsEdition}
 use Rattle.bt_history.specs.Changes.{edition, installs, newest, orders, plans}
 use Rattle.bt_history.specs.Machine.{Legal}
-use Rattle.bt_history.specs.Recovery.{IsReadable, IsRecoverFault, MaybeCut, Recovered}
+use Rattle.bt_history.specs.Recovery.{IsReadable, IsRecoverFault, MaybeMarked, Recovered}
 use Rattle.bt_history.specs.Store.{IsKept, IsNextOpening, RoseBy, is_lost, lost_of}
 use Rattle.bt_script.specs.declared.script.Item.{Item}
 use Rattle.bt_script.specs.declared.script.Item.TheVariants as item
@@ -226,10 +226,11 @@ pub record RunsNone (stored : Stored) (histories : List History) (events : List 
   pub quiet : events ≡ []
   pub later : stored.faults_before ≤ stored.faults_after
 
--- memory ran out before anything was run: the store is as it was, or with what stood behind its last newline cut
-pub record BreaksEarly (stored : Stored) (status : ℕ) (histories : List History) (events : List Event) : Type 0 where
+-- memory ran out before anything was run: the store is as it was, or with what stood behind its last newline cut, and then maybe
+-- a first part of the mark appended
+pub record BreaksEarly (net : Net) (stored : Stored) (status : ℕ) (histories : List History) (events : List Event) : Type 0 where
   pub none : RunsNone stored histories events
-  pub bytes : MaybeCut stored.before stored.after
+  pub bytes : MaybeMarked net stored.before stored.after
   pub status_is : status ≡ 1
 
 -- the first recovery failed: nothing was run, and its fault was printed
@@ -242,7 +243,7 @@ pub record RunsNothing (net : Net) (output : Output) (stored : Stored) (status :
 
 -- Memory ran out: what was asked and answered in each time is legal. The store told the lines of the changes of the last time, and behind
 -- them a first part of the line of the change that it lost in that time, where it lost one; it tells that, or what stands up to its last
--- newline. Its count of faults rose by as many changes at least as it lost, or stands at its end.
+-- newline, and maybe a first part of the mark. Its count of faults rose by as many changes at least as it lost, or stands at its end.
 pub record BreaksOff (net : Net) (stored : Stored) (opening : List Change) (status : ℕ) (histories : List History) : Type 0 where
   pub last : List Change
   pub legal : AreLegalTimes net (is_some stored.before) opening last histories
@@ -251,7 +252,7 @@ pub record BreaksOff (net : Net) (stored : Stored) (opening : List Change) (stat
   pub all : histories ≡ over ++ record { before = length last; entries = entries } ∷ []
   pub told : Option (List ℕ)
   pub kept : IsKept net told (last ++ changes_of entries) (lost_of entries)
-  pub bytes : MaybeCut told stored.after
+  pub bytes : MaybeMarked net told stored.after
   pub count : RoseBy (length (lost_in histories)) stored.faults_before stored.faults_after
   pub status_is : status ≡ 1
 
@@ -321,6 +322,6 @@ pub record RunsFrom (net : Net) (script : Script) (output : Output) (stored : St
 -- how a run ends: memory ran out early; or the store's changes could not be recovered; or they were, and the script was run from them on
 abbrev pub RunsTo : Net → Script → Output → Stored → ℕ → List History → List Event → Type 0
 RunsTo net script output stored status histories events =
-    BreaksEarly stored status histories events
+    BreaksEarly net stored status histories events
     ⊎ RunsNothing net output stored status histories events
     ⊎ RunsFrom net script output stored status histories events

@@ -3,8 +3,8 @@ ghost use Rattle.std.specs.Prelude.{◌≡◌, ◌<◌, ◌≤◌, ◌+◌, [], 
 ghost use Rattle.bt_history.specs.Causes.{Follows};
 ghost use Rattle.bt_history.specs.Changes.{orders, plans};
 ghost use Rattle.bt_history.specs.Machine.{running};
-ghost use Rattle.bt_history.specs.Recovery.{IsReadable, IsRecoverFault, Recovered, whole};
-ghost use Rattle.bt_centre.specs.Progress.{IsBegun};
+ghost use Rattle.bt_history.specs.Recovery.{IsReadable, Recovered, marked};
+ghost use Rattle.bt_centre.specs.Progress.{IsBegun, IsOpenFault};
 ghost use Rattle.bt_centre.specs.Run.{at_start, opening_on};
 ghost use Rattle.bt_round.specs.Boards.{IsPublished};
 
@@ -32,11 +32,11 @@ pub(crate) fn open<R: Threads + Wait + Sync, K: Keeper>(
     store: K,
 ) -> Result<Playing<K>, (K, RecoverFault)>
     ensures begun { IfOk result (λ hand. IsBegun net.now hand) }
-    ensures told { IfOk result (λ hand. hand.book.told ≡ option_map whole (K.told store)) }
+    ensures told { IfOk result (λ hand. hand.book.told ≡ option_map (marked net.now) (K.told store)) }
     ensures changes { IfOk result (λ hand. IfSome (K.told store) (λ bytes. Recovered net.now bytes hand.book.state.changes)) }
     ensures readable { IfOk result (λ _. IsReadable (K.told store)) }
     ensures later { IfOk result (λ hand. K.fault_count store ≤ hand.book.faults) }
-    ensures fault { IfErr result (λ end. IsRecoverFault net.now (K.told store) (K.told end.0) (K.fault_count store) (K.fault_count end.0) end.1) }
+    ensures fault { IfErr result (λ end. IsOpenFault net.now (K.told store) (K.told end.0) (K.fault_count store) (K.fault_count end.0) end.1) }
     ensures fault_later { IfErr result (λ end. K.fault_count store ≤ K.fault_count end.0) }
 {
     match Book::recover(alloc, net, store) {
