@@ -7,15 +7,15 @@ use Rattle.bt_matrix.specs.Traffic.{row_sum, column_sum}
 use Rattle.bt_demand.specs.declared.demand.Link.{Link}
 use Rattle.bt_demand.specs.Demand.{Gains, IsDemand}
 use Rattle.bt_demand.specs.Traffic.{matrix_of}
-use Rattle.bt_make.specs.declared.made.TheConstants.{ATTEMPTS_A_BEAM, MOST_GAIN}
 use Rattle.bt_make.specs.Generator.{drawn, next}
 
--- the attempt of the three draws behind this number: a link between two of so many terminals, and the units that it is to gain
+-- the attempt of the three draws behind this number: a link between two of so many terminals, and the units that it is to
+-- gain, 1 to 64
 abbrev pub attempt_at : ℕ → ℕ → Link
 attempt_at terminals state = record {
   from = record { 0 = drawn (next state) % terminals };
   to = record { 0 = drawn (next (next state)) % terminals };
-  units = 1 + drawn (next (next (next state))) % MOST_GAIN;
+  units = 1 + drawn (next (next (next state))) % 64;
 }
 
 -- so many attempts between so many terminals, the first behind this number
@@ -40,7 +40,7 @@ abbrev pub TriesAll : Net → List Link → List Link → List Link → Type 0
 TriesAll net old [] new = new ≡ old
 TriesAll net old (attempt ∷ rest) new = (between : List Link) × Tries net old attempt between × TriesAll net between rest new
 
--- the demand that the generator makes on the network from this number on: so many attempts for each beam
+-- the demand that the generator makes on the network from this number on: 64 attempts for each beam
 pub record IsMade (net : Net) (number : ℕ) (links : List Link) : Type 0 where
   pub demand : IsDemand links
-  pub made : TriesAll net [] (attempts (length net.terminals) (ATTEMPTS_A_BEAM * length net.beams) number) links
+  pub made : TriesAll net [] (attempts (length net.terminals) (64 * length net.beams) number) links
