@@ -208,7 +208,8 @@ fn wrong_in_book(book: &Book<SureKeeper>) -> Option<&'static str> {
 
 // What is not as it must be in its history, or in what the store keeps, if anything.
 fn wrong_in_history(history: &[Entry], kept: &[u8]) -> Option<&'static str> {
-    if lines_in(kept) != 40 {
+    // The mark, and a line for each of the 40 edits.
+    if lines_in(kept) != 41 {
         return Some("lines of the store");
     }
     if history.len() != 60 || first_wrong(history).is_some() {

@@ -100,7 +100,7 @@ fn edition_after(alloc: Global, net: &Network, disk: &MemDisk, extra: u64) -> Op
     }
 }
 
-// What reads of the line behind the last edit that is answered Done, once the disk has stopped.
+// What reads of the line of the edit behind the last that is answered Done, once the disk has stopped.
 #[derive(Clone, Copy)]
 enum Next {
     // No call on it was made.
@@ -120,19 +120,21 @@ fn edits_that_are_done_outlast_a_crash(rt: HostRuntime) -> Result<(), test::Fail
     let Some(net) = network(alloc) else {
         return Err(test::Fail::from("out of memory"));
     };
-    // Calls 0 to 2 open the book; then each edit is a write and a sync.
+    // Calls 0 to 2 read the disk, and 3 and 4 write and sync the mark of its journal; then each edit is a write and a sync.
     let rows = [
         // the call at which the disk stops; edits that are done, none where the book is not opened; the next line
         (0, None, Next::Nothing),
         (1, None, Next::Nothing),
         (2, None, Next::Nothing),
-        (3, Some(0), Next::Part),
-        (4, Some(0), Next::Whole),
-        (5, Some(1), Next::Part),
-        (6, Some(1), Next::Whole),
-        (7, Some(2), Next::Part),
-        (8, Some(2), Next::Whole),
-        (9, Some(3), Next::Nothing),
+        (3, None, Next::Nothing),
+        (4, None, Next::Nothing),
+        (5, Some(0), Next::Part),
+        (6, Some(0), Next::Whole),
+        (7, Some(1), Next::Part),
+        (8, Some(1), Next::Whole),
+        (9, Some(2), Next::Part),
+        (10, Some(2), Next::Whole),
+        (11, Some(3), Next::Nothing),
     ];
     for (stop, done, next) in rows {
         for kept in [0, 5, LINE] {
