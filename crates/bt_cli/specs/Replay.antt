@@ -6,7 +6,7 @@ use Rattle.bt_journal.specs.declared.call.Change.{Change}
 use Rattle.bt_history.specs.declared.fault.RecoverFault.{RecoverFault}
 use Rattle.bt_history.specs.declared.fault.RecoverFault.TheVariants.{OutOfMemory}
 use Rattle.bt_history.specs.Changes.{edition, newest, orders, IsDemandAfter}
-use Rattle.bt_history.specs.Recovery.{IsReadable, IsRecoverFault, Recovered, whole}
+use Rattle.bt_history.specs.Recovery.{IsReadable, IsRecoverFault, Recovered, marked}
 use Rattle.bt_timeline.specs.Replayed.{replay_lines}
 use Rattle.bt_centre.specs.Output.{Output}
 use Rattle.bt_centre.specs.RecoverFaults.{recover_status, recover_words}
@@ -27,11 +27,12 @@ pub record PrintsState (net : Net) (changes : List Change) (outcome : Outcome) :
   pub demand : IsDemandAfter changes links
   pub printed : outcome ≡ text_alone (replay_lines net (edition changes) (newest changes) (length (orders changes)) links) 0
 
--- the changes are those that the store told, in no more bytes than are read, and what stood behind their last line is cut
+-- the changes are those that the store told, in no more bytes than are read; what stood behind their last line is cut, and the mark
+-- appended where it is owed
 pub record IsRecovered (net : Net) (stored : Stored) (changes : List Change) : Type 0 where
   pub told : IfSome stored.before (λ bytes. Recovered net bytes changes)
   pub readable : IsReadable stored.before
-  pub cut : stored.after ≡ option_map whole stored.before
+  pub left : stored.after ≡ option_map (marked net) stored.before
 
 -- the recovery of the store failed so
 abbrev pub IsNotRecovered : Net → Stored → RecoverFault → Type 0

@@ -19,7 +19,8 @@ use bt_timeline::replay_text;
 use std::alloc::Global;
 
 /// Prints what the journal in a store comes to: the last edition of the demand, the newest plan, the number of orders,
-/// and the links of the demand. What stands behind the journal's last newline is cut from the store.
+/// and the links of the demand. What stands behind the journal's last newline is cut from the
+/// store, and the mark of the network is appended where no line is it and there is room for it.
 ///
 /// The words are those after the program's name, of which the first is `replay`. The status is 0 where all that is
 /// printed; the refusals are those of the top call. The store comes back with the status.

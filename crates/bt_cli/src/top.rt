@@ -77,7 +77,7 @@ impl<K> Ended<K> {
 /// | 4 | a text leaves its grammar or its limits, or a demand does not fit the frame |
 /// | 5 | a file could not be read |
 /// | 6 | the output could not be written |
-/// | 7 | the store failed: it could not be read or cut, or a line of a run was not kept |
+/// | 7 | the store failed: it could not be read, cut or marked, or a line of a run was not kept |
 /// | 8 | a line of the journal is of no change, or of one that does not follow |
 /// | 9 | the verdict of `check`, or of `timing` on its plan, is not good |
 /// | 10 | a file is longer than `MOST_FILE_BYTES`, or the store than `MOST_JOURNAL_BYTES` |

@@ -76,10 +76,13 @@ commands
       Prints what the journal in the file JOURNAL comes to on the network in the
       file NET: the last edition, the newest plan, how many orders were placed,
       and each link of the demand with its slots. Bytes behind the last newline
-      are no line, and are cut off the file. Else the first line that is wrong
-      is named, as in `fault J2 3`, and nothing is cut:
+      are no line, and are cut off the file. Where the file has no mark, a line
+      `journal 2 BEAMS TERMINALS` that says of which network it is, it is
+      appended. Else the first line that is wrong is named, as in `fault J2 3`,
+      and nothing is changed:
         J1 LINE               it is no line of a journal
-        J2 LINE               its change does not follow those before it
+        J2 LINE               its change does not follow those before it, or its
+                              mark is of another network, or the second
       A file that is not there is made, and is an empty journal.
       example: nozgurt replay examples/two-beams.net
                examples/calm-change.journal
@@ -144,10 +147,10 @@ pub fn reason_of(status: u8) -> Option<&'static str> {
             "the output could not be written; at most a first part of it stands there",
         ),
         STORE_FAILED => Some(
-            "the journal could not be read or cut, or failed over a line; look at its file and its folder",
+            "the journal could not be read, cut or marked, or failed over a line; look at its file and its folder",
         ),
         FAULTY_JOURNAL => Some(
-            "a line of the journal is none, or its change does not follow those before it; the last line has the fault, whose code begins with J, and the number of the line; docs/formats.md explains each",
+            "a line of the journal is none, its change does not follow those before it, or its mark is of another network; the last line has the fault, whose code begins with J, and the number of the line; docs/formats.md explains each",
         ),
         TOO_LONG => Some(
             "a file is longer than 4194304 bytes, or the journal than 67108864; the last line names it",
