@@ -20,6 +20,7 @@ none_asked (command.PlanModes _) no_run no_replay = tt
 none_asked (command.PlanDemand _ _) no_run no_replay = tt
 none_asked (command.PlanDrawn _ _) no_run no_replay = tt
 none_asked (command.TimeSends _ _ _ _) no_run no_replay = tt
+none_asked (command.PlanPart _ _) no_run no_replay = tt
 none_asked (command.RunScript net script journal) no_run no_replay = absurd (no_run net script journal refl)
 none_asked (command.ReplayJournal net journal) no_run no_replay = absurd (no_replay net journal refl)
 

@@ -30,12 +30,13 @@ use Rattle.bt_cli.specs.Modes.{PrintsSchedule}
 use Rattle.bt_cli.specs.Outcome.{Outcome, Input, FilesFailed, IsContent, IsLoaded, Kind, Loads, PrintsOneOf, StopsAtLoad}
 use Rattle.bt_cli.specs.Plans.{PlansDemand, PrintsPlan}
 use Rattle.bt_cli.specs.Replay.{EndsRecovery, EndsReplay, IsNotRecovered, NamesRecoverFault, PrintsState}
-use Rattle.bt_cli.specs.Request.{Request, Faulty, CheckModes, CheckPlan, PlanModes, PlanDemand, RunScript, ReplayJournal, PlanDrawn, TimeSends}
+use Rattle.bt_cli.specs.Request.{Request, Faulty, CheckModes, CheckPlan, PlanModes, PlanDemand, RunScript, ReplayJournal, PlanDrawn, TimeSends, PlanPart}
 use Rattle.bt_cli.specs.Run.{End, EndsRun, EndsScript}
 use Rattle.bt_cli.specs.Timing.{PrintsSends, TimesDelays, TimesDemand, TimesPlanText, WhereItIsGood}
+use Rattle.bt_cli.specs.Trans.{PrintsPart, PrintsWhereItSuits, Suits}
 use Rattle.bt_cli.specs.Top.{Ends, Reports}
 use Rattle.bt_cli.proofs.OneJournal.{Laws, told}
-use Rattle.bt_cli.proofs.OneReport.{IsLoaded-same, Misspells-not_loaded, never_both, not_longer}
+use Rattle.bt_cli.proofs.OneReport.{IsLoaded-same, Misspells-not_loaded, never_both, never_suits, not_longer}
 use Rattle.bt_cli.proofs.OneRun.{never_failed, whole_ended}
 
 -- ---- files
@@ -95,6 +96,10 @@ memory_alone output Outcomes status never (inr (outcome, is, printed)) = absurd 
 fits_on : (net : Net) (links : List Link) (after : Outcome → Type 0) → Fits net links → (outcome : Outcome) → WhereItFits net links after outcome → after outcome
 fits_on net links after fits outcome (inl over) = absurd (never_both net links outcome over fits)
 fits_on net links after fits outcome (inr (here, so)) = so
+
+suits_on : (transponders : ℕ) (rows : List (List ℕ)) → Suits transponders rows → (outcome : Outcome) → PrintsWhereItSuits transponders rows outcome → PrintsPart transponders rows outcome
+suits_on transponders rows suits outcome (inl fault) = absurd (never_suits transponders rows outcome fault suits)
+suits_on transponders rows suits outcome (inr (here, so)) = so
 
 status_of : (a b : Outcome) → a ≡ b → a.status ≡ b.status
 status_of a b same = ap (λ (o : Outcome). o.status) same
@@ -234,5 +239,12 @@ all_served laws input output stored (TimeSends net traffic plan delays) end stea
     ends.1
 all_served laws input output stored (PlanDrawn beams seed) end steady ends =
     done output (Reports input.told (FilesFailed input) (PlanDrawn beams seed)) end.status steady.sink (λ outcome is. status_of outcome _ is.1.printed) ends.1
+all_served laws input output stored (PlanPart transponders matrix) end steady ends = λ rows of_matrix suits.
+    let failed = FilesFailed input in
+    done output (Reports input.told failed (PlanPart transponders matrix)) end.status steady.sink
+    (λ outcome is.
+    let on = goes_on matrix_file input.told failed matrix rows (λ of_rows. PrintsWhereItSuits transponders of_rows) steady.files of_matrix outcome is in
+    status_of outcome _ (suits_on transponders rows suits outcome on).printed)
+    ends.1
 all_served laws input output stored (RunScript net script _) end steady ends = files_done laws input output stored net script end steady ends
 all_served laws input output stored (ReplayJournal net _) end steady ends = replay_done laws input output stored net end.status steady ends.ends

@@ -12,6 +12,7 @@ pub mod Misspelt
 pub mod Named
 pub mod CommandWords
 pub mod Timed
+pub mod Suited
 pub mod Runs
 pub mod Alone
 pub mod PrintedPlans

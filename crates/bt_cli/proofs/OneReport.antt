@@ -24,7 +24,8 @@ use Rattle.bt_cli.specs.Outcome.{Outcome, Kind, text_alone, IsContent, IsLoaded,
 use Rattle.bt_cli.specs.Kinds.{matrix_file, schedule_file, network_file, demand_file, plan_file, delay_file}
 use Rattle.bt_cli.specs.Check.{ChecksSchedule, Judges, verdict_status}
 use Rattle.bt_cli.specs.Modes.{PrintsSchedule}
-use Rattle.bt_cli.specs.Request.{Request, Faulty, CheckModes, CheckPlan, PlanModes, PlanDemand, RunScript, ReplayJournal, PlanDrawn, TimeSends}
+use Rattle.bt_cli.specs.Request.{Request, Faulty, CheckModes, CheckPlan, PlanModes, PlanDemand, RunScript, ReplayJournal, PlanDrawn, TimeSends, PlanPart}
+use Rattle.bt_cli.specs.Trans.{NamesSize, PrintsWhereItSuits, Suits}
 use Rattle.bt_cli.specs.Top.{Reports, IsTold, AreTold, IsOneReport}
 
 -- a told file has one content
@@ -215,6 +216,17 @@ TimesDemand-same laws told traffic plan delays of_traffic of_plan of_delays net 
     Loads-same IsOne is_one (demand_file net) told traffic of_traffic.0 of_traffic.1 (λ links. WhereItFits net links (TimesPlanText told ⊥ plan delays net links))
     (λ links. WhereItFits-same laws.line laws.sum IsOne is_one net links (TimesPlanText told ⊥ plan delays net links) (TimesPlanText-same laws told plan delays of_plan of_delays net links))
 
+-- transponders do not suit a matrix whose size is at fault
+pub never_suits : (transponders : ℕ) (rows : List (List ℕ)) (outcome : Outcome) → NamesSize transponders rows outcome → Suits transponders rows → ⊥
+never_suits transponders rows outcome (inl many, says) suits = absurd (omega (arith, many, suits.1))
+never_suits transponders rows outcome (inr few, says) suits = absurd (omega (arith, few, suits.0))
+
+PrintsWhereItSuits-same : (transponders : ℕ) (rows : List (List ℕ)) (a b : Outcome) → PrintsWhereItSuits transponders rows a → PrintsWhereItSuits transponders rows b → AreAlike a b
+PrintsWhereItSuits-same transponders rows a b (inl one) (inl other) = same_alike a b (one.1 ∙ sym other.1)
+PrintsWhereItSuits-same transponders rows a b (inl one) (inr (suits, so)) = absurd (never_suits transponders rows a one suits)
+PrintsWhereItSuits-same transponders rows a b (inr (suits, so)) (inl other) = absurd (never_suits transponders rows b other suits)
+PrintsWhereItSuits-same transponders rows a b (inr one) (inr other) = done_alike a b (ap (λ (o : Outcome). o.status) one.1.printed) (ap (λ (o : Outcome). o.status) other.1.printed)
+
 -- what is asked has one report, where it asks for no store; of several good schedules or plans any may be printed
 pub Reports-same : Laws → (told : List ℕ → Option (List ℕ)) (request : Request) → AreTold told request → (a b : Outcome) → Reports told ⊥ request a → Reports told ⊥ request b → IsOneReport request a b
 Reports-same laws told Faulty _ a b first second = first ∙ sym second
@@ -229,5 +241,7 @@ Reports-same laws told (PlanDemand net traffic) (of_net, of_traffic) a b first s
 Reports-same laws told (TimeSends net traffic plan delays) (of_net, of_traffic, of_plan, of_delays) a b first second =
     Loads-same IsOne is_one network_file told net of_net.0 of_net.1 (λ network. TimesDemand told ⊥ traffic plan delays network) (TimesDemand-same laws told traffic plan delays of_traffic of_plan of_delays) a b first second
 Reports-same laws told (PlanDrawn _ _) of_files a b one other = done_alike a b (ap (λ (o : Outcome). o.status) one.1.printed) (ap (λ (o : Outcome). o.status) other.1.printed)
+Reports-same laws told (PlanPart transponders matrix) of_matrix a b first second =
+    Loads-same AreAlike same_alike matrix_file told matrix of_matrix.0 of_matrix.1 (λ rows. PrintsWhereItSuits transponders rows) (λ rows. PrintsWhereItSuits-same transponders rows) a b first second
 Reports-same laws told (RunScript _ _ _) of_files a b first second = absurd first
 Reports-same laws told (ReplayJournal net _) of_net a b first second = absurd first

@@ -2,7 +2,7 @@
 use Rattle.std.proofs.Common.{ℕ, List, Option}
 use Rattle.bt_centre.specs.Stored.{Stored}
 use Rattle.bt_cli.specs.Outcome.{Outcome}
-use Rattle.bt_cli.specs.Request.{Request, Faulty, CheckModes, CheckPlan, PlanModes, PlanDemand, RunScript, ReplayJournal, PlanDrawn, TimeSends}
+use Rattle.bt_cli.specs.Request.{Request, Faulty, CheckModes, CheckPlan, PlanModes, PlanDemand, RunScript, ReplayJournal, PlanDrawn, TimeSends, PlanPart}
 use Rattle.bt_cli.specs.Top.{ReportsWith, AreOneStore, AreTold, IsOneReport}
 use Rattle.bt_cli.proofs.OneReport.{Reports-same, Laws}
 use Rattle.bt_cli.proofs.OneJournal as journal
@@ -18,5 +18,6 @@ ReportsWith-same laws journals told one other (PlanModes matrix) of_files kept a
 ReportsWith-same laws journals told one other (PlanDemand net traffic) of_files kept a b first second = Reports-same laws told (PlanDemand net traffic) of_files a b first second
 ReportsWith-same laws journals told one other (TimeSends net traffic plan delays) of_files kept a b first second = Reports-same laws told (TimeSends net traffic plan delays) of_files a b first second
 ReportsWith-same laws journals told one other (PlanDrawn beams seed) of_files kept a b first second = Reports-same laws told (PlanDrawn beams seed) of_files a b first second
+ReportsWith-same laws journals told one other (PlanPart transponders matrix) of_files kept a b first second = Reports-same laws told (PlanPart transponders matrix) of_files a b first second
 ReportsWith-same laws journals told one other (RunScript net script _) of_files kept a b first second = one_run journals told net script one other of_files.0 of_files.1 kept a b first second
 ReportsWith-same laws journals told one other (ReplayJournal net _) of_files kept a b first second = one_replay journals told net one other of_files kept a b first second

@@ -14,7 +14,7 @@ use Rattle.bt_centre.specs.Run.{EndsFrom, RunsFrom, RunsNothing, RunsTo, RunsToR
 use Rattle.bt_centre.specs.Stored.{Stored}
 use Rattle.bt_cli.specs.Kinds.{network_file, script_file}
 use Rattle.bt_cli.specs.Outcome.{Outcome, Input, FilesFailed, IsLoaded, StopsAtLoad, PrintsOneOf, text_alone}
-use Rattle.bt_cli.specs.Request.{Request, Faulty, CheckModes, CheckPlan, PlanModes, PlanDemand, RunScript, ReplayJournal, PlanDrawn, TimeSends}
+use Rattle.bt_cli.specs.Request.{Request, Faulty, CheckModes, CheckPlan, PlanModes, PlanDemand, RunScript, ReplayJournal, PlanDrawn, TimeSends, PlanPart}
 use Rattle.bt_cli.specs.Replay.{EndsReplay, NamesRecoverFault, PrintsState, Replays}
 use Rattle.bt_cli.specs.Run.{End, EndsRun, EndsScript, PrintsRun, Runs, RunsScript, sink_with}
 use Rattle.bt_cli.specs.Top.{ReportsWith, Ends}
@@ -162,5 +162,6 @@ ends_reported input output stored (PlanModes matrix) ended so = inr so.1
 ends_reported input output stored (PlanDemand net traffic) ended so = inr so.1
 ends_reported input output stored (TimeSends net traffic plan delays) ended so = inr so.1
 ends_reported input output stored (PlanDrawn beams seed) ended so = inr so.1
+ends_reported input output stored (PlanPart transponders matrix) ended so = inr so.1
 ends_reported input output stored (RunScript net script journal) ended so = runs_reported input output stored net script ended so
 ends_reported input output stored (ReplayJournal net journal) ended so = inr (replay_reported input output stored net ended.status so.ends)

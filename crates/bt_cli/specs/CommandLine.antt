@@ -2,7 +2,7 @@
 use Rattle.std.specs.Prelude.{ℕ, List, codes, Option, Some, None}
 use Rattle.bt_cli.specs.declared.command_line.CommandLine.{CommandLine}
 use Rattle.bt_cli.specs.declared.command_line.CommandLine.TheVariants as command
-use Rattle.bt_cli.specs.Request.{Request, Faulty, CheckModes, CheckPlan, PlanModes, PlanDemand, RunScript, ReplayJournal, PlanDrawn, TimeSends}
+use Rattle.bt_cli.specs.Request.{Request, Faulty, CheckModes, CheckPlan, PlanModes, PlanDemand, RunScript, ReplayJournal, PlanDrawn, TimeSends, PlanPart}
 
 -- what the command line asks for
 abbrev pub asked : CommandLine → Request
@@ -15,6 +15,7 @@ asked (command.RunScript net script journal) = RunScript net.now script.now jour
 asked (command.ReplayJournal net journal) = ReplayJournal net.now journal.now
 asked (command.PlanDrawn beams seed) = PlanDrawn beams.count seed
 asked (command.TimeSends net traffic plan delays) = TimeSends net.now traffic.now plan.now delays.now
+asked (command.PlanPart transponders matrix) = PlanPart transponders.count matrix.now
 
 -- the name of its command
 abbrev pub name_of : CommandLine → Option (List ℕ)
@@ -27,3 +28,4 @@ name_of (command.RunScript _ _ _) = Some (codes "run")
 name_of (command.ReplayJournal _ _) = Some (codes "replay")
 name_of (command.PlanDrawn _ _) = Some (codes "make")
 name_of (command.TimeSends _ _ _ _) = Some (codes "timing")
+name_of (command.PlanPart _ _) = Some (codes "trans")

@@ -19,7 +19,8 @@ use Rattle.bt_cli.specs.Check.{verdict_status}
 use Rattle.bt_cli.specs.Fitting.{Fits}
 use Rattle.bt_cli.specs.Kinds.{matrix_file, schedule_file, network_file, demand_file, plan_file, script_file, delay_file}
 use Rattle.bt_cli.specs.Outcome.{Input, FilesFailed, Kind}
-use Rattle.bt_cli.specs.Request.{Request, Faulty, CheckModes, CheckPlan, PlanModes, PlanDemand, RunScript, ReplayJournal, PlanDrawn, TimeSends}
+use Rattle.bt_cli.specs.Trans.{Suits}
+use Rattle.bt_cli.specs.Request.{Request, Faulty, CheckModes, CheckPlan, PlanModes, PlanDemand, RunScript, ReplayJournal, PlanDrawn, TimeSends, PlanPart}
 
 -- neither a file nor the output nor the store failed in the call: no count of faults rose or stands at its last value
 pub record NothingFails (input : Input) (output : Output) (stored : Stored) : Type 0 where
@@ -48,7 +49,7 @@ abbrev pub IsJudged : (Verdict → Type 0) → ℕ → Type 0
 IsJudged Is status = ((verdict : Verdict) × Is verdict × (status ≡ verdict_status verdict)) ⊎ (status ≡ OUT_OF_MEMORY)
 
 -- With which status a command ends in a call in which nothing fails, where its files spell what it asks for, the demand
--- fits where that is asked, and the store tells changes where it is read. Nothing is said of words that are no command's.
+-- fits and the transponders suit the matrix where that is asked, and the store tells changes where it is read. Nothing is said of words that are no command's.
 abbrev pub Serves : (List ℕ → Option (List ℕ)) → Stored → Request → ℕ → Type 0
 Serves told stored Faulty status = Unit {0}
 Serves told stored (CheckModes matrix modes) status =
@@ -65,6 +66,7 @@ Serves told stored (TimeSends net traffic plan delays) status =
     (network : Net) (links : List Link) (read : Plan) (times : Times) → Spells network_file told net network → Spells (demand_file network) told traffic links
     → Fits network links → Spells (plan_file network) told plan read → Spells (delay_file network) told delays times → IsJudged (IsPlanVerdict network links read) status
 Serves told stored (PlanDrawn _ _) status = IsDone status
+Serves told stored (PlanPart transponders matrix) status = (rows : List (List ℕ)) → Spells matrix_file told matrix rows → Suits transponders rows → IsDone status
 Serves told stored (RunScript net script _) status =
     (network : Net) (read : Script) → Spells network_file told net network → Spells (script_file network) told script read
     → TellsChanges network stored → IsDone status

@@ -8,6 +8,7 @@ pub mod Request
 pub mod CommandLine
 pub mod Check
 pub mod Modes
+pub mod Trans
 pub mod Make
 pub mod Fitting
 pub mod Plans

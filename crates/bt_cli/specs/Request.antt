@@ -3,6 +3,7 @@ use Rattle.std.specs.Prelude.{ℕ, ◌-◌, ◌^◌, ◌&&◌, if◌then◌else�
 use Rattle.std.specs.Str.{bytes_eq}
 use Rattle.bt_frame.specs.declared.limits.TheConstants.{MOST_NUMBERED_BEAMS}
 use Rattle.bt_text.specs.Text.{number_of}
+use Rattle.bt_trans.specs.declared.part.TheConstants.{MOST_PART_BEAMS}
 
 -- a command with its words, or words of no command
 pub data Request : Type 0 where
@@ -15,6 +16,7 @@ pub data Request : Type 0 where
   ReplayJournal : List ℕ → List ℕ → Request
   PlanDrawn : ℕ → ℕ → Request
   TimeSends : List ℕ → List ℕ → List ℕ → List ℕ → Request
+  PlanPart : ℕ → List ℕ → Request
 
 -- `check MATRIX MODES`; a word that names a file is not empty
 abbrev pub check_request : List ℕ → List ℕ → Request
@@ -69,6 +71,19 @@ drawn_request _ _ = Faulty
 abbrev pub make_request : List ℕ → List ℕ → Request
 make_request beams seed = drawn_request (beam_count_of beams) (seed_of seed)
 
+-- the number of transponders that a word is, where a schedule is made for so few
+abbrev pub transponders_of : List ℕ → Option ℕ
+transponders_of word = option_and_then (within 1 MOST_PART_BEAMS) (number_of word)
+
+-- a schedule for so many transponders, where the word is such a number
+abbrev pub part_request : Option ℕ → List ℕ → Request
+part_request (Some transponders) matrix = if nat_lt 0 (length matrix) then PlanPart transponders matrix else Faulty
+part_request None matrix = Faulty
+
+-- `trans K MATRIX`
+abbrev pub trans_request : List ℕ → List ℕ → Request
+trans_request transponders matrix = part_request (transponders_of transponders) matrix
+
 -- what a command with one word asks for
 abbrev pub asked_with_one : List ℕ → List ℕ → Request
 asked_with_one command first = if bytes_eq command (codes "modes") then modes_request first else Faulty
@@ -79,7 +94,8 @@ asked_with_two command first second =
     if bytes_eq command (codes "check") then check_request first second
     else (if bytes_eq command (codes "plan") then plan_request first second
     else (if bytes_eq command (codes "replay") then replay_request first second
-    else (if bytes_eq command (codes "make") then make_request first second else Faulty)))
+    else (if bytes_eq command (codes "make") then make_request first second
+    else (if bytes_eq command (codes "trans") then trans_request first second else Faulty))))
 
 -- what a command with three words asks for
 abbrev pub asked_with_three : List ℕ → List ℕ → List ℕ → List ℕ → Request

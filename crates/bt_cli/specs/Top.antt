@@ -2,13 +2,14 @@
 use Rattle.std.specs.Prelude.{◌≡◌, ℕ, ◌⊎◌, List, [], ◌∷◌, codes, Option, Some}
 use Rattle.bt_centre.specs.Output.{Output}
 use Rattle.bt_cli.specs.Outcome.{Outcome, Input, FilesFailed, Says, PrintsOneOf}
-use Rattle.bt_cli.specs.Request.{Request, Faulty, CheckModes, CheckPlan, PlanModes, PlanDemand, RunScript, ReplayJournal, PlanDrawn, TimeSends}
+use Rattle.bt_cli.specs.Request.{Request, Faulty, CheckModes, CheckPlan, PlanModes, PlanDemand, RunScript, ReplayJournal, PlanDrawn, TimeSends, PlanPart}
 use Rattle.bt_cli.specs.Check.{ChecksModes}
 use Rattle.bt_cli.specs.CheckPlan.{ChecksPlan}
 use Rattle.bt_cli.specs.Make.{PrintsSummary}
 use Rattle.bt_cli.specs.Modes.{PrintsModes}
 use Rattle.bt_cli.specs.Plans.{Plans}
 use Rattle.bt_cli.specs.Timing.{TimesSends}
+use Rattle.bt_cli.specs.Trans.{PlansPart}
 use Rattle.bt_centre.specs.Stored.{IsSteady, Stored}
 use Rattle.bt_cli.specs.Replay.{HasReplayed, Replays}
 use Rattle.bt_cli.specs.Run.{BeginsNoRun, End, EndsRun, Runs}
@@ -22,6 +23,7 @@ Reports told failed (PlanModes matrix) = PrintsModes told failed matrix
 Reports told failed (PlanDemand net traffic) = Plans told failed net traffic
 Reports told failed (TimeSends net traffic plan delays) = TimesSends told failed net traffic plan delays
 Reports told failed (PlanDrawn beams seed) = PrintsSummary beams seed
+Reports told failed (PlanPart transponders matrix) = PlansPart told failed transponders matrix
 Reports told failed (RunScript _ _ _) = λ _. ⊥
 Reports told failed (ReplayJournal _ _) = λ _. ⊥
 
@@ -34,6 +36,7 @@ ReportsWith told failed stored (PlanModes matrix) = Reports told failed (PlanMod
 ReportsWith told failed stored (PlanDemand net traffic) = Reports told failed (PlanDemand net traffic)
 ReportsWith told failed stored (TimeSends net traffic plan delays) = Reports told failed (TimeSends net traffic plan delays)
 ReportsWith told failed stored (PlanDrawn beams seed) = Reports told failed (PlanDrawn beams seed)
+ReportsWith told failed stored (PlanPart transponders matrix) = Reports told failed (PlanPart transponders matrix)
 ReportsWith told failed stored (RunScript net script _) = Runs told failed stored net script
 ReportsWith told failed stored (ReplayJournal net _) = Replays told failed stored net
 
@@ -60,6 +63,7 @@ Ends input output stored (PlanModes matrix) end = EndsAlone input output stored 
 Ends input output stored (PlanDemand net traffic) end = EndsAlone input output stored (PlanDemand net traffic) end
 Ends input output stored (TimeSends net traffic plan delays) end = EndsAlone input output stored (TimeSends net traffic plan delays) end
 Ends input output stored (PlanDrawn beams seed) end = EndsAlone input output stored (PlanDrawn beams seed) end
+Ends input output stored (PlanPart transponders matrix) end = EndsAlone input output stored (PlanPart transponders matrix) end
 Ends input output stored (RunScript net script _) end = EndsRun input output stored net script end
 Ends input output stored (ReplayJournal net _) end = HasReplayed input output stored net end
 
@@ -76,6 +80,7 @@ AreTold told (PlanModes matrix) = IsTold told matrix
 AreTold told (PlanDemand net traffic) = IsTold told net × IsTold told traffic
 AreTold told (TimeSends net traffic plan delays) = IsTold told net × IsTold told traffic × IsTold told plan × IsTold told delays
 AreTold told (PlanDrawn _ _) = Unit {0}
+AreTold told (PlanPart _ matrix) = IsTold told matrix
 AreTold told (RunScript net script _) = IsTold told net × IsTold told script
 AreTold told (ReplayJournal net _) = IsTold told net
 
@@ -103,5 +108,6 @@ IsOneReport (PlanDemand _ _) a b = (a.status ≡ b.status) × ((a.status ≡ 0) 
 IsOneReport (PlanModes _) a b = (a.status ≡ b.status) × ((a.status ≡ 0) ⊎ (a ≡ b))
 IsOneReport (TimeSends _ _ _ _) a b = a ≡ b
 IsOneReport (PlanDrawn _ _) a b = (a.status ≡ b.status) × ((a.status ≡ 0) ⊎ (a ≡ b))
+IsOneReport (PlanPart _ _) a b = (a.status ≡ b.status) × ((a.status ≡ 0) ⊎ (a ≡ b))
 IsOneReport (RunScript _ _ _) a b = (a.status ≡ b.status) × ((a.status ≡ 0) ⊎ (a ≡ b))
 IsOneReport (ReplayJournal _ _) a b = a ≡ b

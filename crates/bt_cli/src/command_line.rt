@@ -1,10 +1,10 @@
 // What the words after the program's name ask for.
-ghost use Rattle.std.specs.Prelude.{◌≡◌, map, codes, IfSome};
+ghost use Rattle.std.specs.Prelude.{◌≡◌, Some, map, codes, IfSome};
 ghost use Rattle.std.specs.String.{string_bytes};
-ghost use Rattle.bt_cli.specs.Request.{asked_with_four, asked_with_one, asked_with_three, asked_with_two, check_plan_request, check_request, first_word, make_request, modes_request, plan_request, replay_request, request_of, run_request, timing_request};
+ghost use Rattle.bt_cli.specs.Request.{asked_with_four, asked_with_one, asked_with_three, asked_with_two, check_plan_request, check_request, first_word, make_request, modes_request, part_request, plan_request, replay_request, request_of, run_request, timing_request, trans_request};
 ghost use Rattle.bt_cli.specs.CommandLine.{asked, name_of};
 
-use crate::number_word::{BeamCount, seed_of};
+use crate::number_word::{BeamCount, Transponders, seed_of};
 
 /// A command line: a command with its words.
 #[derive(Clone, Copy)]
@@ -54,6 +54,11 @@ pub enum CommandLine<'a> {
         plan: &'a str,
         delays: &'a str,
     },
+    /// `trans K MATRIX`.
+    PlanPart {
+        transponders: Transponders,
+        matrix: &'a str,
+    },
 }
 
 /// The command line that the words are.
@@ -97,6 +102,8 @@ fn with_two<'a>(command: &str, first: &'a str, second: &'a str) -> CommandLine<'
         replay_of(first, second)
     } else if command == "make" {
         make_of(first, second)
+    } else if command == "trans" {
+        trans_of(first, second)
     } else {
         CommandLine::Faulty
     }
@@ -211,6 +218,30 @@ fn make_of(beams: &str, seed: &str) -> CommandLine<'static>
     match (BeamCount::of(beams), seed_of(seed)) {
         (Some(beams), Some(seed)) => CommandLine::PlanDrawn { beams, seed },
         _ => CommandLine::Faulty,
+    }
+}
+
+fn trans_of<'a>(transponders: &str, matrix: &'a str) -> CommandLine<'a>
+    ensures asked { asked result ≡ trans_request transponders.now matrix.now }
+    ensures named { IfSome (name_of result) (λ name. name ≡ codes "trans") }
+{
+    match Transponders::of(transponders) {
+        Some(transponders) => part_of(transponders, matrix),
+        None => CommandLine::Faulty,
+    }
+}
+
+fn part_of(transponders: Transponders, matrix: &str) -> CommandLine<'_>
+    ensures asked { asked result ≡ part_request (Some transponders.count) matrix.now }
+    ensures named { IfSome (name_of result) (λ name. name ≡ codes "trans") }
+{
+    if matrix.is_empty() {
+        CommandLine::Faulty
+    } else {
+        CommandLine::PlanPart {
+            transponders,
+            matrix,
+        }
     }
 }
 

@@ -26,6 +26,7 @@ mod stops;
 mod summary;
 mod timing;
 mod top;
+mod trans;
 
 pub use bt_centre::{
     DONE, FAULTY_JOURNAL, FAULTY_TEXT, FAULTY_WORDS, Histories, History, NO_NETWORK, NOT_GOOD,
@@ -42,3 +43,4 @@ pub use plan::plan_command;
 pub use replay::replay_command;
 pub use timing::timing_command;
 pub use top::{Ended, centre_main};
+pub use trans::trans_command;

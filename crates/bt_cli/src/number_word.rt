@@ -2,10 +2,12 @@
 ghost use Rattle.std.specs.Prelude.{◌≡◌, option_map};
 ghost use Rattle.bt_frame.specs.Range.{IsWithin};
 ghost use Rattle.bt_frame.specs.declared.limits.TheConstants.{MOST_NUMBERED_BEAMS};
-ghost use Rattle.bt_cli.specs.Request.{beam_count_of, seed_of};
+ghost use Rattle.bt_trans.specs.declared.part.TheConstants.{MOST_PART_BEAMS};
+ghost use Rattle.bt_cli.specs.Request.{beam_count_of, seed_of, transponders_of};
 
 use bt_frame::MOST_NUMBERED_BEAMS;
 use bt_text::number;
+use bt_trans::MOST_PART_BEAMS;
 
 /// The last number of 64 bits, as a word.
 const LAST_SEED: &str = "18446744073709551615";
@@ -24,6 +26,27 @@ impl BeamCount {
     {
         match number(word.as_bytes()) {
             Some(count @ 1..=16) => Some(BeamCount {
+                count: count as u32,
+            }),
+            _ => None,
+        }
+    }
+}
+
+/// How many transponders a satellite has, and so how many connections it makes at once.
+#[derive(Clone, Copy)]
+pub struct Transponders {
+    pub count: u32,
+    ghost in_range: { IsWithin 1 MOST_PART_BEAMS count },
+}
+
+impl Transponders {
+    /// The number of transponders that a word is; None where no schedule is made for so many, or the word is no number.
+    pub fn of(word: &str) -> Option<Transponders>
+        ensures count { option_map (λ transponders. transponders.count) result ≡ transponders_of word.now }
+    {
+        match number(word.as_bytes()) {
+            Some(count @ 1..=16) => Some(Transponders {
                 count: count as u32,
             }),
             _ => None,

@@ -13,6 +13,7 @@ use crate::plan::plan_command;
 use crate::replay::replay_command;
 use crate::run::run_files;
 use crate::timing::timing_command;
+use crate::trans::trans_command;
 use bt_air::Event;
 use bt_centre::{Histories, RunEnd};
 use bt_outside::{Files, Keeper, Sink};
@@ -122,6 +123,7 @@ fn report<F: Files, O: Sink>(alloc: Global, words: &[String], files: &mut F, out
         CommandLine::PlanModes { .. } => modes_command(alloc, words, files, out),
         CommandLine::PlanDemand { .. } => plan_command(alloc, words, files, out),
         CommandLine::TimeSends { .. } => timing_command(alloc, words, files, out),
+        CommandLine::PlanPart { .. } => trans_command(alloc, words, files, out),
         CommandLine::PlanDrawn { .. } => make_command(alloc, words, out).status,
         CommandLine::RunScript { .. } | CommandLine::ReplayJournal { .. } => unreachable!(),
     }

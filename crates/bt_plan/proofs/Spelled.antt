@@ -1,5 +1,5 @@
 -- A text spells only traffic matrices.
-use Rattle.std.proofs.Common.{◌≡◌, ℕ, zero, suc, ◌+◌, ◌*◌, ◌≤◌, Bool, true, false, cond, leb, eqb, ◌&&◌, List, [], ◌∷◌, length, get_or, sum, All, Option, Some, None, Ok, Err, refl, sym, ap, subst, ◌∙◌, arith}
+use Rattle.std.proofs.Common.{◌≡◌, ℕ, zero, suc, ◌+◌, ◌*◌, ◌<◌, ◌≤◌, Bool, true, false, cond, leb, eqb, ◌&&◌, List, [], ◌∷◌, length, get_or, sum, All, Option, Some, None, Ok, Err, refl, sym, ap, subst, ◌∙◌, arith}
 use Rattle.std.specs.List.{list_all, AllByRecursion}
 use Rattle.std.proofs.lemmas.Bool.{and_parts, leb-true, eqb-true}
 use Rattle.std.proofs.lemmas.List.Elements.{All-from_recursion}
@@ -7,7 +7,7 @@ use Rattle.std.proofs.lemmas.List.Sums.{sum_by-cons}
 use Rattle.bt_text.specs.Text.{words, lines, numbers_of}
 use Rattle.bt_frame.specs.declared.schedule.Critical.{Critical}
 use Rattle.bt_frame.specs.declared.schedule.Critical.TheVariants.{Row, Column}
-use Rattle.bt_matrix.specs.Traffic.{IsTraffic, IsLine, row_of, column_sum, line_sum}
+use Rattle.bt_matrix.specs.Traffic.{IsTraffic, IsLine, row_of, row_sum, column_sum, line_sum}
 use Rattle.bt_plan.specs.declared.text_fault.TextCode.{TextCode}
 use Rattle.bt_plan.specs.declared.text_fault.TextCode.TheVariants.{X1, X2}
 use Rattle.bt_text.specs.Reading.{◌>>=◌}
@@ -106,6 +106,13 @@ matrix_in-sized (first ∷ next ∷ rest) rows e =
     let size = bind_ok (size_in (numbers_of (words first))) (λ size. rows_in size size 2 (next ∷ rest)) rows e in
     let range = size_in-ok (numbers_of (words first)) size.0 size.1 in
     record { size = size.0; some = range.0; few = range.1; are = rows_in-ok size.0 size.0 2 (next ∷ rest) rows size.2 }
+
+-- no row that a text spells asks for more than so many entries may
+pub row_sum-small : (text : List ℕ) (rows : List (List ℕ)) → matrix_of text ≡ Ok rows → (up : ℕ) → up < length rows → row_sum rows up ≤ length rows * 4096
+row_sum-small text rows e up within =
+    let sized = matrix_in-sized (lines text) rows e in
+    let row = All-from_recursion (IsRow sized.size) rows sized.are.each up [] within in
+    omega (arith, sum-small (row_of rows up) row.small, row.len, sized.are.count_is)
 
 -- the rows that a text spells are a traffic matrix
 pub matrix_of-IsTraffic : (text : List ℕ) (rows : List (List ℕ)) → matrix_of text ≡ Ok rows → IsTraffic rows

@@ -29,6 +29,14 @@ commands
       MATRIX in the least length, as `check` reads it.
       example: nozgurt modes examples/two-beams.matrix
 
+  trans K MATRIX
+      The same for a satellite with K transponders, 1 to 16, which makes K
+      connections at once at most. The length is the greater of the greatest line
+      sum and of all slots shared among K, rounded up; `bound` says which it is.
+      An uplink beam that is silent in a mode is printed `-`. The matrix has 16
+      beams at most and K at least: else `fault X3`.
+      example: nozgurt trans 2 examples/three-beams.matrix
+
   plan NET TRAFFIC
       Prints a burst time plan, as edition 1, that carries the traffic of the
       terminals in the file TRAFFIC on the network in the file NET in the least
@@ -104,6 +112,7 @@ exit status
   2   the words are none of a command      fault words
   3   a network file is no network         fault CODE PLACE
   4   a file leaves its text's grammar     fault CODE LINE
+      the transponders do not suit a size  fault X3
       the traffic does not fit the frame   fault T6 row BEAM SUM
   5   a file could not be read             fault read NAME
   6   the output could not be written
@@ -140,7 +149,7 @@ pub fn reason_of(status: u8) -> Option<&'static str> {
             "the network file is no network; the last line has the fault, whose code begins with N, and its place in the file; docs/formats.md explains each",
         ),
         FAULTY_TEXT => Some(
-            "a file leaves its grammar or its limits, or the traffic does not fit the frame; the last line has the fault, and the letter of its code names the file: X the matrix, M the modes, T the traffic, P the plan, G the delays, S the script; docs/formats.md explains each",
+            "a file leaves its grammar or its limits, the traffic does not fit the frame, or the transponders do not suit the matrix; the last line has the fault, and the letter of its code names the file: X the matrix, M the modes, T the traffic, P the plan, G the delays, S the script; docs/formats.md explains each",
         ),
         READ_FAILED => Some("a file could not be read; the last line names it"),
         WRITE_FAILED => Some(

@@ -1,0 +1,33 @@
+-- `trans K MATRIX`: the matrix is loaded, and a schedule that is good for it with so many transponders is printed, where these
+-- suit its size.
+use Rattle.std.specs.Prelude.{◌≡◌, ◌⊎◌, ℕ, ◌<◌, ◌≤◌, List, [], ◌∷◌, length, codes, Option}
+use Rattle.bt_trans.specs.declared.part.TheConstants.{MOST_PART_BEAMS}
+use Rattle.bt_trans.specs.declared.part.PartSchedule.{PartSchedule}
+use Rattle.bt_trans.specs.Part.{IsGoodPart, IsNamed}
+use Rattle.bt_trans.specs.PartText.{part_spelling}
+use Rattle.bt_cli.specs.Kinds.{matrix_file}
+use Rattle.bt_cli.specs.Outcome.{Outcome, Loads, Says, text_alone}
+
+-- the matrix has as many beams as there are transponders at least, and no more than a schedule is made for
+abbrev pub Suits : ℕ → List (List ℕ) → Type 0
+Suits transponders rows = (transponders ≤ length rows) × (length rows ≤ MOST_PART_BEAMS)
+
+-- it has too many beams, or too few, and that is said
+abbrev pub NamesSize : ℕ → List (List ℕ) → Outcome → Type 0
+NamesSize transponders rows outcome = ((MOST_PART_BEAMS < length rows) ⊎ (length rows < transponders)) × Says (codes "fault" ∷ codes "X3" ∷ []) 4 outcome
+
+-- The text of a schedule that is good for the matrix, with its heaviest line as the bound where that is as long, and nothing
+-- else.
+pub record PrintsPart (transponders : ℕ) (rows : List (List ℕ)) (outcome : Outcome) : Type 0 where
+  pub schedule : PartSchedule
+  pub good : IsGoodPart rows transponders schedule
+  pub named : IsNamed rows schedule.length schedule.bound
+  pub printed : outcome ≡ text_alone (part_spelling rows schedule) 0
+
+-- the transponders suit the matrix, and a schedule is printed; or its size is at fault
+abbrev pub PrintsWhereItSuits : ℕ → List (List ℕ) → Outcome → Type 0
+PrintsWhereItSuits transponders rows outcome = NamesSize transponders rows outcome ⊎ (Suits transponders rows × PrintsPart transponders rows outcome)
+
+-- the matrix is loaded, and then a schedule for it is printed
+abbrev pub PlansPart : (List ℕ → Option (List ℕ)) → Type 0 → ℕ → List ℕ → Outcome → Type 0
+PlansPart told failed transponders matrix = Loads matrix_file told failed matrix (λ rows. PrintsWhereItSuits transponders rows)
