@@ -7,7 +7,7 @@ use crate::ending::Ending;
 use bt_base::{Fail, Files, MemFiles, MemKeeper, MemSink, Sink, SureKeeper, SureSink};
 use bt_cli::{
     History, WRITE_FAILED, centre_main, check_command, make_command, modes_command, plan_command,
-    replay_command, timing_command,
+    replay_command, timing_command, trans_command,
 };
 use bt_sheet::{CaseFault, Part, Result, Shelf, number_of};
 use std::alloc::Global;
@@ -464,6 +464,7 @@ fn status_alone<F: Files, O: Sink>(
     match *words {
         ["check", first, second] => check_alone(alloc, files, sink, first, second),
         ["modes", first] => modes_alone(alloc, files, sink, first),
+        ["trans", first, second] => trans_alone(alloc, files, sink, first, second),
         ["plan", first, second] => plan_alone(alloc, files, sink, first, second),
         ["make", first, second] => make_alone(alloc, sink, first, second),
         ["timing", net, traffic, plan, delays] => {
@@ -495,6 +496,17 @@ fn modes_alone<F: Files, O: Sink>(
         String::from_str(alloc, name)?,
     ]?;
     Ok(modes_command(alloc, &words, files, sink))
+}
+
+fn trans_alone<F: Files, O: Sink>(
+    alloc: Global,
+    files: &mut F,
+    sink: &mut O,
+    count: &str,
+    name: &str,
+) -> Result<u8> {
+    let words = words_of(alloc, "trans", count, name)?;
+    Ok(trans_command(alloc, &words, files, sink))
 }
 
 fn plan_alone<F: Files, O: Sink>(

@@ -2,6 +2,7 @@
 use crate::outside::{Outside, set_meeting};
 use crate::pieces::{append, cut, put_keeps, put_reads, put_store, put_writes};
 use bt_machine_cases::Machines;
+use bt_part_cases::show_parts;
 use bt_sheet::{CaseFault, Result, Shelf, number_of, set_files};
 use bt_text_cases::Texts;
 use std::alloc::Global;
@@ -102,6 +103,9 @@ impl Stage {
     /// Shows what the line asks for, where it is not of messages and machines.
     fn show(&mut self, alloc: Global, words: &[&str], out: &mut String) -> Result<bool> {
         if self.show_outside(alloc, words, out)? {
+            return Ok(true);
+        }
+        if show_parts(alloc, &self.shelf, words, out)? {
             return Ok(true);
         }
         self.texts.show(alloc, &self.shelf, words, out)
