@@ -1,0 +1,246 @@
+-- Which parts the picture of a plan has. All places and sizes are in twips, from the left and from the top.
+use Rattle.std.specs.Prelude.{ℕ, ◌+◌, ◌-◌, ◌*◌, ◌/◌, ◌%◌, ◌++◌, ◌==◌, ◌&&◌, ◌||◌, not, max, min, nat_lt, nat_le, Bool, true, false, if◌then◌else◌, List, [], ◌∷◌, length, map, flat_map, codes, decimal, sum_by, unwrap_or, slice_get}
+use Rattle.std.specs.List.{list_all, list_any, range_with_len, slice_index_or}
+use Rattle.bt_frame.specs.declared.mode.Mode.{Mode}
+use Rattle.bt_frame.specs.declared.schedule.Critical.{Critical}
+use Rattle.bt_frame.specs.declared.schedule.Critical.TheVariants.{Row, Column}
+use Rattle.bt_net.specs.Network.{Net}
+use Rattle.bt_net.specs.Terminals.{name_at}
+use Rattle.bt_demand.specs.Plan.{begin_of}
+use Rattle.bt_demand.specs.declared.burst.Burst.{Burst}
+use Rattle.bt_demand.specs.declared.plan.Plan.{Plan}
+use Rattle.bt_picture.specs.Picture.{Part, Picture, Shape, Rectangle, Line, Label, Alone, Titled}
+use Rattle.bt_picture.specs.declared.shape.Anchor.TheVariants.{Start, Middle, End}
+use Rattle.bt_picture.specs.declared.shape.Point.{Point}
+use Rattle.bt_picture.specs.declared.shape.Rect.{Rect}
+use Rattle.bt_picture.specs.declared.style.Style.{Style}
+use Rattle.bt_picture.specs.declared.style.Style.TheVariants as style
+use Rattle.bt_plan_chart.specs.declared.bursts.TheConstants.{ARROW}
+use Rattle.bt_plan_chart.specs.declared.heading.TheConstants.{STEPS, LAST_STEP, TICKS}
+use Rattle.bt_plan_chart.specs.declared.scale.Direction.{Direction}
+use Rattle.bt_plan_chart.specs.declared.scale.Direction.TheVariants.{Up, Down}
+use Rattle.bt_plan_chart.specs.declared.scale.Scale.{Scale}
+use Rattle.bt_plan_chart.specs.declared.scale.TheConstants.{LEFT}
+use Rattle.bt_plan_chart.specs.Parts.{text_of}
+use Rattle.bt_plan_chart.specs.Scale.{terminal_of, beam_number, end_of, scale_of, x_of, lane_top, slots_box, legend_top, height_of, width_of}
+
+-- a place
+abbrev pub at : ℕ → ℕ → Point
+at across down = record { x = across; y = down }
+
+-- the name of a beam, and nothing where the network has none of that number
+abbrev pub name_of_beam : Net → ℕ → List ℕ
+name_of_beam net beam = unwrap_or (slice_get net.beams beam) []
+
+-- the words for the lines of a direction
+abbrev pub direction_name : Direction → List ℕ
+direction_name Up = codes "uplink"
+direction_name Down = codes "downlink"
+
+abbrev pub direction_head : Direction → List ℕ
+direction_head Up = codes "Uplinks"
+direction_head Down = codes "Downlinks"
+
+-- the direction and the beam of the fullest line
+abbrev pub critical_direction : Critical → Direction
+critical_direction (Row _) = Up
+critical_direction (Column _) = Down
+
+abbrev pub critical_beam : Critical → ℕ
+critical_beam (Row up) = up.0
+critical_beam (Column down) = down.0
+
+-- whether a lane is that of the fullest line
+abbrev pub is_critical : Critical → Direction → ℕ → Bool
+is_critical (Row up) Up beam = up.0 == beam
+is_critical (Row up) Down beam = false
+is_critical (Column down) Up beam = false
+is_critical (Column down) Down beam = down.0 == beam
+
+-- the heading
+abbrev pub title_part : ℕ → Part
+title_part edition = Alone (Label (at 320 480) Start style.Title (text_of (codes "Plan of edition " ∷ decimal edition ∷ [])))
+
+abbrev pub counts_part : ℕ → ℕ → ℕ → List ℕ → List ℕ → ℕ → Part
+counts_part slots modes bursts line name frame = Alone (Label (at 320 880) Start style.Text (text_of (
+    decimal slots ∷ codes " slots, " ∷ decimal modes ∷ codes " modes, " ∷ decimal bursts ∷ codes " bursts; the fullest line is "
+    ∷ line ∷ codes " " ∷ name ∷ codes " (frame of " ∷ decimal frame ∷ codes " slots)" ∷ [])))
+
+abbrev pub heading_parts : Net → Plan → List Part
+heading_parts net plan = title_part plan.edition.0
+    ∷ counts_part plan.schedule.length (length plan.schedule.modes) (length plan.bursts) (direction_name (critical_direction plan.schedule.critical)) (name_of_beam net (critical_beam plan.schedule.critical)) net.slots ∷ []
+
+-- the first of some steps that leaves few enough ticks
+abbrev pub step_among : List ℕ → ℕ → ℕ
+step_among [] span = LAST_STEP
+step_among (step ∷ rest) span = if nat_lt (span / TICKS) step then step else step_among rest span
+
+-- the slots between two ticks
+unfoldable pub step_of : ℕ → ℕ
+step_of span = step_among STEPS span
+
+-- a tick of the ruler at a slot
+abbrev pub tick_part : ℕ → ℕ → Part
+tick_part slot x = Titled (text_of (codes "slot " ∷ decimal slot ∷ []))
+    (Line (at x 1400) (at x 1520) style.Line ∷ Label (at x 1340) Middle style.Text (text_of (decimal slot ∷ [])) ∷ [])
+
+-- the tick there, unless it is past the slots that are shown
+abbrev pub tick_parts : Scale → ℕ → List Part
+tick_parts scale slot = if nat_le slot scale.span then tick_part slot (x_of scale slot) ∷ [] else []
+
+-- ticks with so many slots from one to the next, and those of a scale
+abbrev pub ticks_parts : Scale → ℕ → List Part
+ticks_parts scale step = flat_map (λ tick. tick_parts scale (tick * step)) (range_with_len 0 TICKS)
+
+abbrev pub ruler_parts : Scale → List Part
+ruler_parts scale = ticks_parts scale (step_of scale.span)
+
+-- no two of the downlinks are the same
+abbrev pub are_distinct : List ℕ → Bool
+are_distinct [] = true
+are_distinct (down ∷ rest) = not (list_any (λ other. other == down) rest) && are_distinct rest
+
+-- each of the downlinks is one of so many beams
+abbrev pub are_below : ℕ → List ℕ → Bool
+are_below beams perm = list_all (λ down. nat_lt down beams) perm
+
+-- whether a mode sends each beam to a beam of its own
+abbrev pub is_permutation : ℕ → List ℕ → Bool
+is_permutation beams perm = length perm == beams && are_below beams perm && are_distinct perm
+
+-- the band of a mode from a slot to another, cut where the picture ends
+abbrev pub band_of : Scale → ℕ → ℕ → Rect
+band_of scale begin end = record { x = x_of scale (min begin scale.span); y = 1520; width = (min end scale.span - min begin scale.span) * scale.unit; height = 280 }
+
+-- what the title of a mode says of its slots
+abbrev pub mode_ending : Bool → List ℕ
+mode_ending true = codes " slots"
+mode_ending false = codes " slots: no permutation of the beams"
+
+-- a mode in its band, with its duration where there is room, and a broken edge where it is no permutation
+abbrev pub mode_part : ℕ → ℕ → Bool → Rect → Part
+mode_part place duration good band = Titled (text_of (codes "mode " ∷ decimal place ∷ codes ", " ∷ decimal duration ∷ mode_ending good ∷ []))
+    (Rectangle band style.Band ∷ (if good then [] else Rectangle band style.Fault ∷ []) ++ (if nat_lt band.width 500 then [] else Label (at (band.x + band.width / 2) 1740) Middle style.Text (text_of (decimal duration ∷ [])) ∷ []))
+
+-- a mode of a list, which begins where those before it end
+abbrev pub mode_part_from : Scale → ℕ → ℕ → Mode → Part
+mode_part_from scale place begin mode = mode_part place mode.duration (is_permutation scale.beams mode.perm) (band_of scale begin (begin + mode.duration))
+
+-- what stands in no list
+abbrev pub no_mode : Mode
+no_mode = record { duration = 0; perm = [] }
+
+abbrev pub mode_part_at : Scale → List Mode → ℕ → Part
+mode_part_at scale modes place = mode_part_from scale place (begin_of modes place) (slice_index_or modes place no_mode)
+
+-- what stands beside the bands, and the bands
+abbrev pub modes_head : Part
+modes_head = Alone (Label (at 1560 1740) End style.Text (text_of (codes "modes" ∷ [])))
+
+abbrev pub modes_parts : Scale → List Mode → List Part
+modes_parts scale modes = modes_head ∷ map (mode_part_at scale modes) (range_with_len 0 (length modes))
+
+-- the slots of the bursts in a lane
+abbrev pub slots_in_lane : Net → Direction → List Burst → ℕ → ℕ
+slots_in_lane net direction bursts beam = sum_by (λ burst. if beam_number net (terminal_of direction burst) == beam then burst.length else 0) bursts
+
+-- how a lane, its numbers and its name look; long names are small
+abbrev pub lane_style : Bool → Style
+lane_style true = style.Heavy
+lane_style false = style.Lane
+
+abbrev pub lane_letters : Bool → Style
+lane_letters true = style.Head
+lane_letters false = style.Text
+
+abbrev pub name_letters : Bool → ℕ → Style
+name_letters heavy letters = if nat_lt 11 letters then style.Small else lane_letters heavy
+
+-- a lane: its box, its name on the left, and how full it is on the right
+abbrev pub lane_part : Direction → List ℕ → ℕ → ℕ → Bool → Rect → ℕ → Part
+lane_part direction name slots whole heavy lane right = Titled (text_of (direction_name direction ∷ codes " " ∷ name ∷ codes ": " ∷ decimal slots ∷ codes " of " ∷ decimal whole ∷ codes " slots" ∷ []))
+    (Rectangle lane (lane_style heavy) ∷ Label (at 1560 (lane.y + 320)) End (name_letters heavy (length name)) (text_of (name ∷ []))
+    ∷ Label (at right (lane.y + 320)) Start (lane_letters heavy) (text_of (decimal slots ∷ codes "/" ∷ decimal whole ∷ [])) ∷ [])
+
+-- the lane of a beam
+abbrev pub lane_part_at : Net → Scale → Plan → Direction → ℕ → Part
+lane_part_at net scale plan direction beam = lane_part direction (name_of_beam net beam) (slots_in_lane net direction plan.bursts beam) scale.length
+    (is_critical plan.schedule.critical direction beam) (slots_box scale direction beam 0 scale.length) (x_of scale scale.span + 160)
+
+-- what stands over the lanes of a direction, and the lanes
+abbrev pub lanes_head : Scale → Direction → Part
+lanes_head scale direction = Alone (Label (at 320 (lane_top scale direction 0 - 160)) Start style.Head (text_of (direction_head direction ∷ [])))
+
+abbrev pub lanes_parts : Net → Scale → Plan → Direction → List Part
+lanes_parts net scale plan direction = lanes_head scale direction ∷ map (lane_part_at net scale plan direction) (range_with_len 0 scale.beams)
+
+-- the title of a burst: who sends to whom in which slots
+abbrev pub burst_title : List ℕ → List ℕ → ℕ → ℕ → List ℕ
+burst_title from to start slots = if slots == 1
+    then text_of (from ∷ codes " to " ∷ to ∷ codes ", slot " ∷ decimal start ∷ [])
+    else text_of (from ∷ codes " to " ∷ to ∷ codes ", slots " ∷ decimal start ∷ codes " to " ∷ decimal (start + slots - 1) ∷ [])
+
+-- both names have room in a box of that width
+abbrev pub has_room : ℕ → List ℕ → List ℕ → Bool
+has_room width from to = nat_lt (length from) (width / 260) && nat_lt (length to) (width / 260)
+
+-- letters on a fill: light ones where it is green, blue, vermilion or black
+abbrev pub letters_on : ℕ → Style
+letters_on fill = if (fill % 8 == 2 || fill % 8 == 4) || (fill % 8 == 5 || fill % 8 == 7) then style.Light else style.Text
+
+-- the names of a burst in one of its boxes
+abbrev pub names_in : Rect → ℕ → List ℕ → List ℕ → Shape
+names_in box fill from to = Label (at (box.x + box.width / 2) (box.y + 320)) Middle (letters_on fill) (text_of (from ∷ ARROW.now ∷ to ∷ []))
+
+-- the two boxes of a burst, each with the fill of the beam at the other end, and the names where there is room
+abbrev pub burst_shapes : Rect → Rect → ℕ → ℕ → List ℕ → List ℕ → List Shape
+burst_shapes up down up_beam down_beam from to = Rectangle up (style.Fill down_beam) ∷ Rectangle down (style.Fill up_beam)
+    ∷ (if has_room up.width from to then names_in up down_beam from to ∷ names_in down up_beam from to ∷ [] else [])
+
+-- a burst between two beams
+abbrev pub burst_part : Scale → Burst → ℕ → List ℕ → ℕ → List ℕ → Part
+burst_part scale burst up_beam from down_beam to = Titled (burst_title from to burst.start burst.length)
+    (burst_shapes (slots_box scale Up up_beam burst.start burst.length) (slots_box scale Down down_beam burst.start burst.length) up_beam down_beam from to)
+
+-- a burst of a network
+abbrev pub burst_part_of : Net → Scale → Burst → Part
+burst_part_of net scale burst = burst_part scale burst (beam_number net burst.from) (name_at net burst.from) (beam_number net burst.to) (name_at net burst.to)
+
+-- the slots of a burst that lie past the length, in both of its lanes
+abbrev pub overrun_part : Scale → ℕ → ℕ → ℕ → ℕ → Part
+overrun_part scale up_beam down_beam start slots = Titled (text_of (codes "past the length" ∷ []))
+    (Rectangle (slots_box scale Up up_beam start slots) style.Fault ∷ Rectangle (slots_box scale Down down_beam start slots) style.Fault ∷ [])
+
+-- the mark of a burst that runs past the length
+abbrev pub overrun_parts : Net → Scale → Burst → List Part
+overrun_parts net scale burst = if nat_lt scale.length (end_of burst)
+    then overrun_part scale (beam_number net burst.from) (beam_number net burst.to) (max burst.start scale.length) (end_of burst - max burst.start scale.length) ∷ [] else []
+
+-- an item of the legend, seven to a line
+abbrev pub item_part : ℕ → ℕ → Style → List ℕ → Part
+item_part top place look name = Titled (text_of (name ∷ []))
+    (Rectangle (record { x = LEFT + place % 7 * 2400; y = top + place / 7 * 440; width = 280; height = 280 }) look
+    ∷ Label (at (LEFT + place % 7 * 2400 + 380) (top + place / 7 * 440 + 230)) Start style.Text (text_of (name ∷ [])) ∷ [])
+
+-- what stands beside the legend, the fill of a beam, and what a lane looks like where it is silent
+abbrev pub legend_head : Scale → Part
+legend_head scale = Alone (Label (at 1560 (legend_top scale + 230)) End style.Text (text_of (codes "other beam" ∷ [])))
+
+abbrev pub fill_part_at : Net → Scale → ℕ → Part
+fill_part_at net scale beam = item_part (legend_top scale) beam (style.Fill beam) (name_of_beam net beam)
+
+abbrev pub silent_part : Scale → Part
+silent_part scale = item_part (legend_top scale) scale.beams style.Lane (codes "silent")
+
+abbrev pub legend_parts : Net → Scale → List Part
+legend_parts net scale = legend_head scale ∷ map (fill_part_at net scale) (range_with_len 0 scale.beams) ++ silent_part scale ∷ []
+
+-- all parts, each of which lies over those before it
+abbrev pub chart_parts : Net → Scale → Plan → List Part
+chart_parts net scale plan = heading_parts net plan ++ ruler_parts scale ++ modes_parts scale plan.schedule.modes
+    ++ lanes_parts net scale plan Up ++ lanes_parts net scale plan Down
+    ++ map (burst_part_of net scale) plan.bursts ++ flat_map (overrun_parts net scale) plan.bursts ++ legend_parts net scale
+
+-- the picture of a plan
+abbrev pub plan_picture : Net → Plan → Picture
+plan_picture net plan = let scale = scale_of net plan in record { width = width_of scale; height = height_of scale; parts = chart_parts net scale plan }

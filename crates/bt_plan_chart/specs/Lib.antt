@@ -1,0 +1,4 @@
+pub mod Parts
+pub mod Scale
+pub mod Chart
+pub mod Overlap

@@ -1,0 +1,30 @@
+-- When two boxes share more than an edge.
+use Rattle.std.specs.Prelude.{ℕ, ◌+◌, ◌<◌, ◌≤◌, List, AllPairs}
+use Rattle.bt_net.specs.Network.{Net}
+use Rattle.bt_demand.specs.declared.burst.Burst.{Burst}
+use Rattle.bt_plan_chart.specs.declared.scale.Direction.{Direction}
+use Rattle.bt_plan_chart.specs.declared.scale.Scale.{Scale}
+use Rattle.bt_plan_chart.specs.Scale.{box_of}
+use Rattle.bt_picture.specs.declared.shape.Rect.{Rect}
+
+-- the twip at that place, which reaches to the right and down from there, is in the box
+pub record IsIn (box : Rect) (x y : ℕ) : Type 0 where
+  pub from_left : box.x ≤ x
+  pub to_right : x < box.x + box.width
+  pub from_top : box.y ≤ y
+  pub to_bottom : y < box.y + box.height
+
+-- some twip is in both boxes
+pub record Overlap (a b : Rect) : Type 0 where
+  pub x : ℕ
+  pub y : ℕ
+  pub first : IsIn a x y
+  pub second : IsIn b x y
+
+-- the boxes of two bursts in the lanes of a direction overlap
+abbrev pub OverlapIn : Net → Scale → Direction → Burst → Burst → Type 0
+OverlapIn net scale direction a b = Overlap (box_of net scale direction a) (box_of net scale direction b)
+
+-- no two of the bursts have boxes that overlap, whatever lanes the boxes are in
+abbrev pub AreDrawnApart : Net → Scale → List Burst → Type 0
+AreDrawnApart net scale bursts = AllPairs (λ a b. (one other : Direction) → ¬ (Overlap (box_of net scale one a) (box_of net scale other b))) bursts

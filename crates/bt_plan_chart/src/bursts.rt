@@ -1,0 +1,264 @@
+// The bursts in the lanes.
+ghost use Rattle.std.specs.Prelude.{◌≡◌, ◌++◌, ◌<◌, ◌≤◌, ◌^◌, [], ◌∷◌, length, map, flat_map, OnOk};
+ghost use Rattle.bt_frame.specs.declared.limits.TheConstants.{MOST_BEAMS};
+ghost use Rattle.bt_demand.specs.Apart.{AreBetweenTerminals};
+ghost use Rattle.bt_net.specs.Terminals.{name_at, IsTerminal};
+ghost use Rattle.bt_picture.specs.Picture.{words_text, Titled};
+ghost use Rattle.bt_plan_chart.specs.Chart.{burst_part, burst_part_of, burst_shapes, has_room, letters_on, overrun_part, overrun_parts};
+ghost use Rattle.bt_plan_chart.specs.Parts.{parts_text};
+ghost use Rattle.bt_plan_chart.specs.Scale.{beam_number, IsScale};
+
+use crate::fullness::beam_number;
+use crate::part::add_titled;
+use crate::scale::slots_box;
+use crate::{Direction, Scale};
+use bt_demand::Burst;
+use bt_frame::{OutOfMemory, TermNo};
+use bt_net::Network;
+use bt_picture::{Anchor, Point, Rect, Shape, Style};
+use bt_words::Word;
+use std::alloc::Global;
+
+/// What stands between the names of a burst.
+pub const ARROW: &str = "→";
+
+/// One end of a burst: its beam, and the name of its terminal.
+#[derive(Clone, Copy)]
+struct End<'a> {
+    beam: u8,
+    name: &'a str,
+}
+
+/// Appends all bursts.
+pub(crate) fn add_bursts(
+    alloc: Global,
+    net: &Network,
+    scale: Scale,
+    bursts: &[Burst],
+    out: &mut Vec<u8>,
+) -> Result<(), OutOfMemory>
+    requires scale { IsScale scale }
+    requires terminals { AreBetweenTerminals net.now bursts.now }
+    ensures { OnOk result (out.new.items ≡ out.old.items ++ parts_text (map (burst_part_of net.now scale) bursts.now)) }
+{
+    for burst in bursts {
+        add_burst_of(alloc, net, scale, *burst, out)?;
+    }
+    Ok(())
+}
+
+/// Appends a burst of the network.
+fn add_burst_of(
+    alloc: Global,
+    net: &Network,
+    scale: Scale,
+    burst: Burst,
+    out: &mut Vec<u8>,
+) -> Result<(), OutOfMemory>
+    requires scale { IsScale scale }
+    requires from { IsTerminal net.now burst.from }
+    requires to { IsTerminal net.now burst.to }
+    ensures { OnOk result (out.new.items ≡ out.old.items ++ parts_text (burst_part_of net.now scale burst ∷ [])) }
+{
+    add_burst(
+        alloc,
+        scale,
+        burst,
+        end_at(net, burst.from),
+        end_at(net, burst.to),
+        out,
+    )
+}
+
+/// The end of a burst at a terminal.
+fn end_at(net: &Network, terminal: TermNo) -> End<'_>
+    requires { IsTerminal net.now terminal }
+    ensures beam { result.beam ≡ beam_number net.now terminal }
+    ensures few { result.beam < MOST_BEAMS }
+    ensures name { result.name.now ≡ name_at net.now terminal }
+{
+    End {
+        beam: beam_number(net, terminal),
+        name: net.name_of(terminal),
+    }
+}
+
+/// Appends a burst between two ends.
+fn add_burst<'a>(
+    alloc: Global,
+    scale: Scale,
+    burst: Burst,
+    from: End<'a>,
+    to: End<'a>,
+    out: &mut Vec<u8>,
+) -> Result<(), OutOfMemory>
+    requires scale { IsScale scale }
+    requires from { from.beam < MOST_BEAMS }
+    requires to { to.beam < MOST_BEAMS }
+    ensures { OnOk result (out.new.items ≡ out.old.items ++ parts_text (burst_part scale burst from.entry.beam from.entry.name.now to.entry.beam to.entry.name.now ∷ [])) }
+{
+    let start = u64::from(burst.start);
+    let slots = u64::from(burst.length);
+    let up = slots_box(scale, Direction::Up, u64::from(from.beam), start, slots);
+    let down = slots_box(scale, Direction::Down, u64::from(to.beam), start, slots);
+    if burst.length == 1 {
+        let title = [
+            Word::Text(from.name),
+            Word::Text(" to "),
+            Word::Text(to.name),
+            Word::Text(", slot "),
+            Word::Number(start),
+        ];
+        add_boxes(alloc, &title, up, down, from, to, out)
+    } else {
+        let title = [
+            Word::Text(from.name),
+            Word::Text(" to "),
+            Word::Text(to.name),
+            Word::Text(", slots "),
+            Word::Number(start),
+            Word::Text(" to "),
+            Word::Number((start + slots).saturating_sub(1)),
+        ];
+        add_boxes(alloc, &title, up, down, from, to, out)
+    }
+}
+
+/// Appends the boxes of a burst under a title, with the names of its ends where there is room.
+fn add_boxes<'a>(
+    alloc: Global,
+    title: &[Word<'_>],
+    up: Rect,
+    down: Rect,
+    from: End<'a>,
+    to: End<'a>,
+    out: &mut Vec<u8>,
+) -> Result<(), OutOfMemory>
+    requires up_across { up.x ≤ 2 ^ 48 }
+    requires up_wide { up.width ≤ 2 ^ 48 }
+    requires up_down { up.y ≤ 2 ^ 16 }
+    requires down_across { down.x ≤ 2 ^ 48 }
+    requires down_wide { down.width ≤ 2 ^ 48 }
+    requires down_down { down.y ≤ 2 ^ 16 }
+    ensures { OnOk result (out.new.items ≡ out.old.items
+        ++ parts_text (Titled (words_text title.now) (burst_shapes up down from.entry.beam to.entry.beam from.entry.name.now to.entry.name.now) ∷ [])) }
+{
+    let up_box = Shape::Rectangle(up, Style::Fill(to.beam));
+    let down_box = Shape::Rectangle(down, Style::Fill(from.beam));
+    if has_room(up.width, from.name, to.name) {
+        let words = [
+            Word::Text(from.name),
+            Word::Text(ARROW),
+            Word::Text(to.name),
+        ];
+        let up_at = Point {
+            x: up.x + up.width / 2,
+            y: up.y + 320,
+        };
+        let down_at = Point {
+            x: down.x + down.width / 2,
+            y: down.y + 320,
+        };
+        let up_names = Shape::Label(up_at, Anchor::Middle, letters_on(to.beam), &words);
+        let down_names = Shape::Label(down_at, Anchor::Middle, letters_on(from.beam), &words);
+        add_titled(alloc, title, &[up_box, down_box, up_names, down_names], out)
+    } else {
+        add_titled(alloc, title, &[up_box, down_box], out)
+    }
+}
+
+/// Whether both names have room in a box of that width.
+fn has_room(width: u64, from: &str, to: &str) -> bool
+    ensures { result ≡ has_room width from.now to.now }
+{
+    (from.len() as u64) < width / 260 && (to.len() as u64) < width / 260
+}
+
+/// How letters look on a fill.
+fn letters_on(fill: u8) -> Style
+    ensures { result ≡ letters_on fill }
+{
+    let colour = fill % 8;
+    if colour == 2 || colour == 4 || (colour == 5 || colour == 7) {
+        Style::Light
+    } else {
+        Style::Text
+    }
+}
+
+/// Appends the marks of all bursts that run past the length.
+pub(crate) fn add_overruns(
+    alloc: Global,
+    net: &Network,
+    scale: Scale,
+    bursts: &[Burst],
+    out: &mut Vec<u8>,
+) -> Result<(), OutOfMemory>
+    requires scale { IsScale scale }
+    requires terminals { AreBetweenTerminals net.now bursts.now }
+    ensures { OnOk result (out.new.items ≡ out.old.items ++ parts_text (flat_map (overrun_parts net.now scale) bursts.now)) }
+{
+    for burst in bursts {
+        add_overrun_of(alloc, net, scale, *burst, out)?;
+    }
+    Ok(())
+}
+
+/// Appends the mark of a burst, where it runs past the length.
+fn add_overrun_of(
+    alloc: Global,
+    net: &Network,
+    scale: Scale,
+    burst: Burst,
+    out: &mut Vec<u8>,
+) -> Result<(), OutOfMemory>
+    requires scale { IsScale scale }
+    requires from { IsTerminal net.now burst.from }
+    requires to { IsTerminal net.now burst.to }
+    ensures { OnOk result (out.new.items ≡ out.old.items ++ parts_text (overrun_parts net.now scale burst)) }
+{
+    let end = u64::from(burst.start) + u64::from(burst.length);
+    if scale.length < end {
+        let start = u64::from(burst.start).max(scale.length);
+        let up = u64::from(beam_number(net, burst.from));
+        let down = u64::from(beam_number(net, burst.to));
+        add_overrun(
+            alloc,
+            scale,
+            up,
+            down,
+            start,
+            end.saturating_sub(start),
+            out,
+        )
+    } else {
+        Ok(())
+    }
+}
+
+/// Appends the mark of slots past the length, in the lanes of two beams.
+fn add_overrun(
+    alloc: Global,
+    scale: Scale,
+    up: u64,
+    down: u64,
+    start: u64,
+    slots: u64,
+    out: &mut Vec<u8>,
+) -> Result<(), OutOfMemory>
+    requires scale { IsScale scale }
+    requires up { up < MOST_BEAMS }
+    requires down { down < MOST_BEAMS }
+    requires start { start ≤ 2 ^ 33 }
+    requires slots { slots ≤ 2 ^ 33 }
+    ensures { OnOk result (out.new.items ≡ out.old.items ++ parts_text (overrun_part scale up down start slots ∷ [])) }
+{
+    let title = [Word::Text("past the length")];
+    let up_box = slots_box(scale, Direction::Up, up, start, slots);
+    let down_box = slots_box(scale, Direction::Down, down, start, slots);
+    let shapes = [
+        Shape::Rectangle(up_box, Style::Fault),
+        Shape::Rectangle(down_box, Style::Fault),
+    ];
+    add_titled(alloc, &title, &shapes, out)
+}

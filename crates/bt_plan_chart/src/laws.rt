@@ -1,0 +1,27 @@
+// What the boxes of bursts show: where two of them overlap, the bursts meet, and only there.
+ghost use Rattle.std.specs.Prelude.{◌↔◌, ◌⊎◌, List, AllPairs};
+ghost use Rattle.bt_net.specs.Network.{Net, IsSound};
+ghost use Rattle.bt_net.specs.Terminals.{IsBetweenTerminals};
+ghost use Rattle.bt_demand.specs.declared.burst.Burst.{Burst};
+ghost use Rattle.bt_demand.specs.declared.demand.Link.{Link};
+ghost use Rattle.bt_demand.specs.declared.plan.Plan.{Plan};
+ghost use Rattle.bt_demand.specs.Apart.{AreApart, AreBetweenTerminals, Collide};
+ghost use Rattle.bt_demand.specs.Plan.{IsGoodPlan};
+ghost use Rattle.bt_plan_chart.specs.Overlap.{AreDrawnApart, OverlapIn};
+ghost use Rattle.bt_plan_chart.specs.Scale.{scale_of};
+ghost use Rattle.bt_plan_chart.specs.declared.scale.Direction.TheVariants.{Up, Down};
+
+/// Two bursts meet exactly where their boxes overlap in a lane of the uplinks or in one of the downlinks.
+pub fn meeting_bursts_overlap()
+    ensures { (net : Net) (plan : Plan) (a b : Burst) → IsBetweenTerminals net a.from a.to → IsBetweenTerminals net b.from b.to
+        → Collide net a b ↔ (OverlapIn net (scale_of net plan) Up a b ⊎ OverlapIn net (scale_of net plan) Down a b) }
+{}
+
+/// In the picture of a plan whose bursts do not meet, as those of a good plan do not, no two bursts have boxes that overlap,
+/// whatever lanes the boxes are in.
+pub fn good_plans_have_no_overlap()
+    ensures apart { (net : Net) (plan : Plan) → IsSound net → AreBetweenTerminals net plan.bursts → AreApart net plan.bursts
+        → AreDrawnApart net (scale_of net plan) plan.bursts }
+    ensures good { (net : Net) (links : List Link) (plan : Plan) → IsSound net → AreBetweenTerminals net plan.bursts → IsGoodPlan net links plan
+        → AreDrawnApart net (scale_of net plan) plan.bursts }
+{}
