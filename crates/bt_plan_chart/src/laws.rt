@@ -1,5 +1,5 @@
 // What the boxes of bursts show: where two of them overlap, the bursts meet, and only there.
-ghost use Rattle.std.specs.Prelude.{◌↔◌, ◌⊎◌, List, AllPairs};
+ghost use Rattle.std.specs.Prelude.{◌≡◌, ◌↔◌, ◌⊎◌, ℕ, true, List};
 ghost use Rattle.bt_net.specs.Network.{Net, IsSound};
 ghost use Rattle.bt_net.specs.Terminals.{IsBetweenTerminals};
 ghost use Rattle.bt_demand.specs.declared.burst.Burst.{Burst};
@@ -7,6 +7,8 @@ ghost use Rattle.bt_demand.specs.declared.demand.Link.{Link};
 ghost use Rattle.bt_demand.specs.declared.plan.Plan.{Plan};
 ghost use Rattle.bt_demand.specs.Apart.{AreApart, AreBetweenTerminals, Collide};
 ghost use Rattle.bt_demand.specs.Plan.{IsGoodPlan};
+ghost use Rattle.bt_matrix.specs.Good.{IsPermutation};
+ghost use Rattle.bt_plan_chart.specs.Chart.{is_permutation};
 ghost use Rattle.bt_plan_chart.specs.Overlap.{AreDrawnApart, OverlapIn};
 ghost use Rattle.bt_plan_chart.specs.Scale.{scale_of};
 ghost use Rattle.bt_plan_chart.specs.declared.scale.Direction.TheVariants.{Up, Down};
@@ -24,4 +26,9 @@ pub fn good_plans_have_no_overlap()
         → AreDrawnApart net (scale_of net plan) plan.bursts }
     ensures good { (net : Net) (links : List Link) (plan : Plan) → IsSound net → AreBetweenTerminals net plan.bursts → IsGoodPlan net links plan
         → AreDrawnApart net (scale_of net plan) plan.bursts }
+{}
+
+/// A mode has no mark exactly where it is a permutation of the beams.
+pub fn permutations_are_told()
+    ensures { (beams : ℕ) (perm : List ℕ) → (is_permutation beams perm ≡ true) ↔ IsPermutation beams perm }
 {}

@@ -25,5 +25,5 @@ mod part;
 mod scale;
 
 pub use chart::plan_picture;
-pub use laws::{good_plans_have_no_overlap, meeting_bursts_overlap};
+pub use laws::{good_plans_have_no_overlap, meeting_bursts_overlap, permutations_are_told};
 pub use scale::{Direction, Scale};
