@@ -5,6 +5,7 @@ mod form;
 mod output;
 mod printed;
 mod reader;
+mod token;
 
 pub use form::Form;
 pub use output::{OutputCode, check_output};
