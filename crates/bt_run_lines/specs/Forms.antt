@@ -6,10 +6,9 @@ use Rattle.bt_run_lines.specs.declared.form.Form.TheVariants as form
 use Rattle.bt_run_lines.specs.declared.token.Token.{Token}
 use Rattle.bt_run_lines.specs.declared.token.Token.TheVariants as token
 
--- What may stand at a place of a line: this word alone, a number, a count, the number of a desk, a frame, the name of a
--- beam or of a terminal, and what the satellite or a terminal did with a message.
+-- What may stand at a place of a line: a number, a count, the number of a desk, a frame, the name of a beam or of a
+-- terminal, what the satellite or a terminal did with a message, and this word alone.
 pub data Part : Type 0 where
-  Text : List ℕ → Part
   Number : Part
   Count : Part
   Desk : Part
@@ -18,10 +17,10 @@ pub data Part : Type 0 where
   Terminal : Part
   Taken : Part
   Heard : Part
+  Text : List ℕ → Part
 
 -- what a token of the code stands for
 abbrev pub part_of : Token → Part
-part_of (token.Text text) = Text text.now
 part_of token.Number = Number
 part_of token.Count = Count
 part_of token.Desk = Desk
@@ -30,6 +29,7 @@ part_of token.Beam = Beam
 part_of token.Terminal = Terminal
 part_of token.Taken = Taken
 part_of token.Heard = Heard
+part_of (token.Text text) = Text text.now
 
 -- the place has one word alone
 abbrev pub is_fixed : Part → Bool

@@ -1,1 +1,4 @@
 pub mod Forms
+pub mod Words
+pub mod Lines
+pub mod Spelled

@@ -6,6 +6,7 @@ mod output;
 mod printed;
 mod reader;
 mod token;
+mod word;
 
 pub use form::Form;
 pub use output::{OutputCode, check_output};

@@ -1,7 +1,11 @@
 // The output of a run, line by line.
+ghost use Rattle.std.specs.Prelude.{◌-◌, ◌^◌, ◌<◌, length};
+ghost use Rattle.bt_text.specs.Reading.{Gives};
+ghost use Rattle.bt_run_lines.specs.Lines.{gone_over, numbered_line, output_of};
 
+use crate::reader::read_line;
 use bt_net::Network;
-use bt_text::LineFault;
+use bt_text::{LineFault, fault_at, first_line};
 
 /// What is wrong with a line of a run's output.
 #[derive(Clone, Copy)]
@@ -12,6 +16,30 @@ pub enum OutputCode {
 
 /// Goes over the output of a run, and says which of its lines is the first that no run prints, counted from 1. Bytes
 /// behind the last newline are such a line.
-pub fn check_output(_net: &Network, _text: &[u8]) -> Result<(), LineFault<OutputCode>> {
-    Ok(())
+pub fn check_output(net: &Network, text: &[u8]) -> Result<(), LineFault<OutputCode>>
+    requires short { length text.now < 2 ^ 32 - 1 }
+    ensures reading { Gives (λ unit. unit) result (gone_over (output_of net.now text.now)) }
+{
+    let mut rest = text;
+    let mut at = 1;
+    while let Some((line, after)) = first_line(rest) {
+        check_line(net, at, line)?;
+        rest = after;
+        at += 1;
+    }
+    if rest.is_empty() {
+        Ok(())
+    } else {
+        Err(fault_at(OutputCode::R1, at))
+    }
+}
+
+// Goes over the line of that number.
+fn check_line(net: &Network, at: u32, line: &[u8]) -> Result<(), LineFault<OutputCode>>
+    ensures { Gives (λ unit. unit) result (gone_over (numbered_line net.now at line.now)) }
+{
+    match read_line(net, line) {
+        Some(_) => Ok(()),
+        None => Err(fault_at(OutputCode::R1, at)),
+    }
 }

@@ -1,9 +1,61 @@
 // A printed line from its bytes.
+ghost use Rattle.std.specs.Prelude.{◌≡◌, ◌≤◌, All, IfSome, length, map, option_map};
+ghost use Rattle.bt_text.specs.Text.{words};
+ghost use Rattle.bt_run_lines.specs.declared.printed.TheConstants.{MOST_VALUES};
+ghost use Rattle.bt_run_lines.specs.Forms.{part_of, open_places};
+ghost use Rattle.bt_run_lines.specs.Lines.{IsOf, first_of_forms, line_in, printed_as, values_in};
 
-use crate::printed::Printed;
+use crate::form::Form;
+use crate::printed::{Printed, Values};
+use crate::token::{Token, forms_from, tokens_of};
+use crate::word::add_said;
 use bt_net::Network;
+use bt_text::WordReader;
 
-/// The line that the bytes spell, their newline left out; None where no run prints it.
-pub fn read_line(_net: &Network, _line: &[u8]) -> Option<Printed> {
+/// The printed line that the bytes spell, its newline left out; None where no run prints such a line.
+pub fn read_line(net: &Network, line: &[u8]) -> Option<Printed>
+    ensures line { result ≡ line_in net.now line.now }
+{
+    let Some(head) = WordReader::of(line).next() else {
+        return None;
+    };
+    first_of_forms(net, forms_from(head), line)
+}
+
+// The line as one of the first of these forms that it has.
+fn first_of_forms(net: &Network, forms: &[Form], line: &[u8]) -> Option<Printed>
+    ensures { result ≡ first_of_forms net.now forms.now (words line.now) }
+{
+    for form in forms {
+        if let Some(printed) = printed_as(net, *form, line) {
+            return Some(printed);
+        }
+    }
     None
+}
+
+// The line as one of this form.
+fn printed_as(net: &Network, form: Form, line: &[u8]) -> Option<Printed>
+    ensures { result ≡ printed_as net.now form (words line.now) }
+{
+    let said = values_in(net, tokens_of(form), line)?;
+    Some(Printed { form, said })
+}
+
+// What the words of a line say at these places.
+fn values_in(net: &Network, tokens: &[Token], line: &[u8]) -> Option<Values>
+    requires few { open_places (map part_of tokens.now) ≤ MOST_VALUES }
+    ensures values { result ≡ values_in net.now (map part_of tokens.now) (words line.now) }
+{
+    let mut words = WordReader::of(line);
+    let mut said = Values::none();
+    for token in tokens {
+        let Some(word) = words.next() else {
+            return None;
+        };
+        if !add_said(net, *token, word, &mut said) {
+            return None;
+        }
+    }
+    if words.is_done() { Some(said) } else { None }
 }

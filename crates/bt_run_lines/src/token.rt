@@ -9,8 +9,6 @@ use bt_text::is_word;
 /// What may stand at a place of a printed line.
 #[derive(Clone, Copy)]
 pub(crate) enum Token {
-    /// This word alone.
-    Text(&'static str),
     /// A number of a u32.
     Number,
     /// A number of at most 19 digits.
@@ -27,6 +25,8 @@ pub(crate) enum Token {
     Taken,
     /// What a terminal does with a message that is for it.
     Heard,
+    /// This word alone.
+    Text(&'static str),
 }
 
 /// The places of a form, in order.
