@@ -1,3 +1,5 @@
 pub mod First
 pub mod Places
 pub mod Outputs
+pub mod Spelling
+pub mod Printing

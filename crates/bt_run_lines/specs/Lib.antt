@@ -2,3 +2,4 @@ pub mod Forms
 pub mod Words
 pub mod Lines
 pub mod Spelled
+pub mod Printers

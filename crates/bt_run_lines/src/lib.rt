@@ -2,6 +2,7 @@
 #![tactic(auto)]
 
 mod form;
+mod laws;
 mod output;
 mod printed;
 mod reader;
@@ -9,6 +10,9 @@ mod token;
 mod word;
 
 pub use form::Form;
+pub use laws::{
+    events_are_printed_lines, messages_are_printed_lines, printed_lines_have_one_spelling,
+};
 pub use output::{OutputCode, check_output};
 pub use printed::{Printed, Value};
 pub use reader::read_line;

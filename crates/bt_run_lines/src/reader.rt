@@ -15,6 +15,14 @@ use bt_text::WordReader;
 /// The printed line that the bytes spell, its newline left out; None where no run prints such a line.
 pub fn read_line(net: &Network, line: &[u8]) -> Option<Printed>
     ensures line { result ≡ line_in net.now line.now }
+    ensures range { IfSome result (λ printed. All (IsOf net.now) printed.said) }
+{
+    line_in(net, line)
+}
+
+// The same; `read_line` says too what follows for its values.
+fn line_in(net: &Network, line: &[u8]) -> Option<Printed>
+    ensures { result ≡ line_in net.now line.now }
 {
     let Some(head) = WordReader::of(line).next() else {
         return None;

@@ -1,0 +1,6 @@
+-- the law of the spelling
+use Rattle.bt_run_lines.proofs.Spelling.{line_spelled}
+use Rattle.bt_run_lines.proofs.laws.printed_lines_have_one_spelling.Goals as goal
+
+pub returns : goal.returns
+returns c = record { spelled = line_spelled }

@@ -1,0 +1,64 @@
+// Laws of the printed lines: each has one spelling, and what a run prints is such lines.
+ghost use Rattle.std.specs.Prelude.{◌≡◌, ℕ, List, [], ◌∷◌, length, codes, decimal, Option, Some, IfSome};
+ghost use Rattle.bt_frame.specs.declared.numbers.EditionNo.{EditionNo};
+ghost use Rattle.bt_frame.specs.declared.numbers.Mark.{Mark};
+ghost use Rattle.bt_frame.specs.declared.numbers.TermNo.{TermNo};
+ghost use Rattle.bt_net.specs.Network.{Net};
+ghost use Rattle.bt_demand.specs.declared.burst.Burst.{Burst};
+ghost use Rattle.bt_demand.specs.declared.plan.Plan.{Plan};
+ghost use Rattle.bt_air.specs.declared.order.Order.{Order};
+ghost use Rattle.bt_air.specs.declared.sent.Answer.{Answer};
+ghost use Rattle.bt_air.specs.declared.sent.Place.{Place};
+ghost use Rattle.bt_air.specs.declared.sent.Sent.{Sent};
+ghost use Rattle.bt_journal.specs.declared.call.Call.{Call};
+ghost use Rattle.bt_journal.specs.declared.reply.Reply.{Reply};
+ghost use Rattle.bt_words.specs.Lines.{desk_name, frame_name, line_of};
+ghost use Rattle.bt_timeline.specs.Air as air;
+ghost use Rattle.bt_timeline.specs.Timeline as timeline;
+ghost use Rattle.bt_run_lines.specs.declared.form.Form.TheVariants as form;
+ghost use Rattle.bt_run_lines.specs.declared.printed.Printed.{Printed};
+ghost use Rattle.bt_run_lines.specs.declared.printed.Value.TheVariants as value;
+ghost use Rattle.bt_run_lines.specs.Lines.{line_in};
+ghost use Rattle.bt_run_lines.specs.Spelled.{spelled};
+ghost use Rattle.bt_run_lines.specs.Printers.{printed_line, line, numbers, sent_printed, got_printed, burst_printed, order_printed, edit_printed, plan_printed, unplaced_printed};
+
+/// Of the lines that are read as a printed line, it has one spelling.
+pub fn printed_lines_have_one_spelling()
+    ensures spelled { (net : Net) → (bytes : List ℕ) → (printed : Printed)
+        → line_in net bytes ≡ Some printed → bytes ≡ spelled net printed }
+{}
+
+/// The messages that were sent, their deliveries, and the bursts on the air or of a plan are printed lines.
+pub fn messages_are_printed_lines()
+    ensures sent { (net : Net) → (number : ℕ) → (sent : Sent)
+        → air.sent_line net number sent ≡ printed_line net (sent_printed number sent) }
+    ensures got { (net : Net) → (number : ℕ) → (place : Place) → (answer : Answer)
+        → IfSome (got_printed number place answer) (λ printed. air.got_line net number place answer ≡ printed_line net printed) }
+    ensures on_air { (net : Net) → (burst : Burst)
+        → timeline.burst_line net (codes "air") burst ≡ printed_line net (burst_printed form.Air burst) }
+    ensures of_plan { (net : Net) → (burst : Burst)
+        → timeline.burst_line net (codes "burst") burst ≡ printed_line net (burst_printed form.Burst burst) }
+{}
+
+/// What else happens on the air is printed lines.
+pub fn events_are_printed_lines()
+    ensures frame { (net : Net) → (mark : Mark) → (number : ℕ) → (fore : EditionNo)
+        → line_of (codes "frame" ∷ frame_name mark number ∷ codes "fore" ∷ decimal fore.0 ∷ [])
+        ≡ printed_line net (line form.Frame (value.Frame mark number ∷ value.Number fore.0 ∷ [])) }
+    ensures over { (net : Net) → (mark : Mark) → air.over_line mark ≡ printed_line net (line form.Over (numbers (mark.0 ∷ []))) }
+    ensures tick { (net : Net) → (mark : Mark) → air.tick_line mark ≡ printed_line net (line form.Tick (numbers (mark.0 ∷ []))) }
+    ensures last_tick { (net : Net) → air.last_tick_line ≡ printed_line net (line form.LastTick []) }
+    ensures turn { (net : Net) → (mark : Mark) → (newest : EditionNo)
+        → air.turn_line mark newest ≡ printed_line net (line form.Turn (numbers (mark.0 ∷ newest.0 ∷ []))) }
+    ensures back_turn { (net : Net) → (mark : Mark) → (edition : EditionNo)
+        → air.back_turn_line mark edition ≡ printed_line net (line form.BackTurn (numbers (mark.0 ∷ edition.0 ∷ []))) }
+    ensures back { (net : Net) → (edition : EditionNo) → air.back_line edition ≡ printed_line net (line form.Back (numbers (edition.0 ∷ []))) }
+    ensures not_installed { (net : Net) → (edition : EditionNo)
+        → air.not_installed_line edition ≡ printed_line net (line form.NotInstalled (numbers (edition.0 ∷ []))) }
+    ensures ahead { (net : Net) → air.ahead_line ≡ printed_line net (line form.Ahead []) }
+    ensures flow { (net : Net) → air.flow_line ≡ printed_line net (line form.Flow []) }
+    ensures lost { (net : Net) → (count : ℕ) → air.lost_line count ≡ printed_line net (line form.Lost (numbers (count ∷ []))) }
+    ensures not_sent { (net : Net) → (number : ℕ) → air.not_sent_line number ≡ printed_line net (line form.NotSent (numbers (number ∷ []))) }
+    ensures reset { (net : Net) → (terminal : TermNo)
+        → air.reset_line net terminal ≡ printed_line net (line form.Reset (value.Terminal terminal ∷ [])) }
+{}
