@@ -5,7 +5,6 @@ use Rattle.bt_frame.specs.declared.numbers.Mark.{Mark}
 use Rattle.bt_net.specs.Network.{Net}
 use Rattle.bt_demand.specs.declared.burst.Burst.{Burst}
 use Rattle.bt_air.specs.declared.order.Armed.{Armed}
-use Rattle.bt_air.specs.declared.order.Order.{Order}
 use Rattle.bt_air.specs.declared.order.Status.{Status}
 use Rattle.bt_air.specs.declared.sent.Answer.{Answer}
 use Rattle.bt_air.specs.declared.sent.Answer.TheVariants as answer
@@ -17,11 +16,16 @@ use Rattle.bt_air.specs.declared.sent.Sent.TheVariants as sends
 use Rattle.bt_air.specs.declared.sent.Taken.TheVariants as taken
 use Rattle.bt_text.specs.Text.{spaced}
 use Rattle.bt_text.proofs.TextLines.{spaced-cons}
-use Rattle.bt_words.specs.Lines.{line_of}
-use Rattle.bt_timeline.specs.Air.{sent_line, status_words, got_line, armed_or_none}
-use Rattle.bt_timeline.specs.Timeline.{burst_line}
+use Rattle.bt_journal.specs.declared.call.Call.{Call}
+use Rattle.bt_journal.specs.declared.reply.Reply.{Reply}
+use Rattle.bt_journal.specs.declared.reply.Reply.TheVariants as reply
+use Rattle.bt_air.specs.declared.order.Order.{Order}
+use Rattle.bt_air.specs.declared.order.Order.TheVariants.{Load, Arm}
+use Rattle.bt_words.specs.Lines.{line_of, desk_name}
+use Rattle.bt_timeline.specs.Air.{sent_line, got_line, armed_or_none, order_line, unplaced_line}
+use Rattle.bt_timeline.specs.Timeline.{answer_line}
 use Rattle.bt_run_lines.specs.declared.form.Form.TheVariants as form
-use Rattle.bt_run_lines.specs.Printers.{printed_line, sent_printed, status_printed, got_printed}
+use Rattle.bt_run_lines.specs.Printers.{printed_line, sent_printed, status_printed, got_printed, edit_printed, plan_printed, order_printed, unplaced_printed}
 
 -- a line of words is they with single spaces between, and a newline
 line_of-spaced : (first : List ℕ) (rest : List (List ℕ)) → line_of (first ∷ rest) ≡ spaced (first ∷ rest) ++ 10 ∷ []
@@ -75,3 +79,33 @@ got_lines net number (Terminal terminal) (answer.Heard heard.Older) = simp appen
 got_lines net number (Terminal terminal) (answer.Heard heard.InUse) = simp append_assoc
 got_lines net number (Terminal terminal) (answer.Heard heard.NotForMe) = simp append_assoc
 got_lines net number (Terminal terminal) _ = tt
+
+pub edit_lines : (net : Net) (desk : ℕ) (asked : Call) (reply : Reply) → IfSome (edit_printed desk reply) (λ printed. answer_line net (desk_name desk) asked reply ≡ printed_line net printed)
+edit_lines net desk asked (reply.Done edition length) = simp append_assoc
+edit_lines net desk asked reply.SameTerminal = simp append_assoc
+edit_lines net desk asked (reply.NotThere held) = simp append_assoc
+edit_lines net desk asked (reply.RowFull beam sum) = simp append_assoc
+edit_lines net desk asked (reply.ColumnFull beam sum) = simp append_assoc
+edit_lines net desk asked (reply.BookFull length) = simp append_assoc
+edit_lines net desk asked reply.StoreFault = simp append_assoc
+edit_lines net desk asked reply.Stopped = simp append_assoc
+edit_lines net desk asked _ = tt
+
+pub plan_lines : (net : Net) (asked : Call) (reply : Reply) → IfSome (plan_printed reply) (λ printed. answer_line net (codes "plan") asked reply ≡ printed_line net printed)
+plan_lines net asked (reply.BookFull length) = simp append_assoc
+plan_lines net asked reply.StoreFault = simp append_assoc
+plan_lines net asked reply.Stopped = simp append_assoc
+plan_lines net asked (reply.Demand edition newest demand) = simp append_assoc
+plan_lines net asked _ = tt
+
+pub order_lines : (net : Net) (order : Order) → order_line order ≡ printed_line net (order_printed order)
+order_lines net (Load command edition) = simp append_assoc
+order_lines net (Arm command edition due) = simp append_assoc
+
+pub unplaced_lines : (net : Net) (reply : Reply) → IfSome (unplaced_printed reply) (λ printed. unplaced_line reply ≡ printed_line net printed)
+unplaced_lines net (reply.BookFull length) = simp append_assoc
+unplaced_lines net (reply.OutOfTurn last) = simp append_assoc
+unplaced_lines net (reply.NotInstalled newest) = simp append_assoc
+unplaced_lines net reply.StoreFault = simp append_assoc
+unplaced_lines net reply.Stopped = simp append_assoc
+unplaced_lines net _ = tt

@@ -10,6 +10,7 @@ ghost use Rattle.bt_air.specs.declared.order.Order.{Order};
 ghost use Rattle.bt_air.specs.declared.sent.Answer.{Answer};
 ghost use Rattle.bt_air.specs.declared.sent.Place.{Place};
 ghost use Rattle.bt_air.specs.declared.sent.Sent.{Sent};
+ghost use Rattle.bt_standby.specs.declared.standby.Noticed.{Noticed};
 ghost use Rattle.bt_journal.specs.declared.call.Call.{Call};
 ghost use Rattle.bt_journal.specs.declared.reply.Reply.{Reply};
 ghost use Rattle.bt_words.specs.Lines.{desk_name, frame_name, line_of};
@@ -61,4 +62,40 @@ pub fn events_are_printed_lines()
     ensures not_sent { (net : Net) → (number : ℕ) → air.not_sent_line number ≡ printed_line net (line form.NotSent (numbers (number ∷ []))) }
     ensures reset { (net : Net) → (terminal : TermNo)
         → air.reset_line net terminal ≡ printed_line net (line form.Reset (value.Terminal terminal ∷ [])) }
+{}
+
+/// The replies to desks and to the planner, and the orders, are printed lines.
+pub fn replies_are_printed_lines()
+    ensures edits { (net : Net) → (desk : ℕ) → (asked : Call) → (reply : Reply)
+        → IfSome (edit_printed desk reply) (λ printed. timeline.answer_line net (desk_name desk) asked reply ≡ printed_line net printed) }
+    ensures plans { (net : Net) → (asked : Call) → (reply : Reply)
+        → IfSome (plan_printed reply) (λ printed. timeline.answer_line net (codes "plan") asked reply ≡ printed_line net printed) }
+    ensures installed { (net : Net) → (plan : Plan) → (edition : EditionNo)
+        → timeline.answer_line net (codes "plan") (Call.Install plan) (Reply.Installed edition)
+        ≡ printed_line net (line form.Planned (numbers (edition.0 ∷ plan.schedule.length ∷ length plan.schedule.modes ∷ length plan.bursts ∷ []))) }
+    ensures orders { (net : Net) → (order : Order) → air.order_line order ≡ printed_line net (order_printed order) }
+    ensures unplaced { (net : Net) → (reply : Reply)
+        → IfSome (unplaced_printed reply) (λ printed. air.unplaced_line reply ≡ printed_line net printed) }
+{}
+
+/// What a run prints between its rounds, of what a desk is shown, and of the standby is printed lines.
+pub fn marks_are_printed_lines()
+    ensures start { (net : Net) → (edition : ℕ) → (plan : ℕ) → (mark : ℕ)
+        → timeline.start_line edition plan mark ≡ printed_line net (line form.Start (numbers (edition ∷ plan ∷ mark ∷ []))) }
+    ensures restart { (net : Net) → timeline.restart_line ≡ printed_line net (line form.Restart []) }
+    ensures round { (net : Net) → (number : ℕ) → timeline.round_line number ≡ printed_line net (line form.Round (numbers (number ∷ []))) }
+    ensures total { (net : Net) → (done : ℕ) → (refused : ℕ) → (failed : ℕ)
+        → timeline.total_line done refused failed ≡ printed_line net (line form.Total (numbers (done ∷ refused ∷ failed ∷ []))) }
+    ensures shown { (net : Net) → (desk : ℕ) → (terminal : TermNo) → (edition : EditionNo) → (slots : ℕ) → (modes : ℕ)
+        → timeline.show_lines net desk terminal edition slots modes []
+        ≡ printed_line net (line form.Shows (numbers (desk ∷ edition.0 ∷ slots ∷ modes ∷ []))) }
+    ensures noted { (net : Net) → (number : ℕ)
+        → air.noticed_line number Noticed.Noted ≡ printed_line net (line form.StandbyNoted (numbers (number ∷ []))) }
+    ensures wrong_mark { (net : Net) → (number : ℕ)
+        → air.noticed_line number Noticed.WrongMark ≡ printed_line net (line form.StandbyWrongMark (numbers (number ∷ []))) }
+    ensures not_for_me { (net : Net) → (number : ℕ)
+        → air.unnoticed_line number ≡ printed_line net (line form.StandbyNotForMe (numbers (number ∷ []))) }
+    ensures not_sent { (net : Net) → (number : ℕ)
+        → air.unsent_line number ≡ printed_line net (line form.StandbyNotSent (numbers (number ∷ []))) }
+    ensures burst { (net : Net) → air.standby_burst_line ≡ printed_line net (line form.StandbyBurst []) }
 {}

@@ -11,7 +11,8 @@ mod word;
 
 pub use form::Form;
 pub use laws::{
-    events_are_printed_lines, messages_are_printed_lines, printed_lines_have_one_spelling,
+    events_are_printed_lines, marks_are_printed_lines, messages_are_printed_lines,
+    printed_lines_have_one_spelling, replies_are_printed_lines,
 };
 pub use output::{OutputCode, check_output};
 pub use printed::{Printed, Value};
