@@ -1,0 +1,107 @@
+// What happens in a run, as far as it is drawn.
+use bt_frame::{Mark, TermNo};
+
+/// Who sends and hears. Each has a lane of its own.
+#[derive(Clone, Copy, PartialEq, Eq)]
+pub enum Station {
+    Centre,
+    Standby,
+    Satellite,
+    Terminal(TermNo),
+}
+
+/// A change for which the satellite is armed.
+#[derive(Clone, Copy)]
+pub struct Change {
+    pub edition: u64,
+    pub due: u64,
+}
+
+/// What the satellite says of itself.
+#[derive(Clone, Copy)]
+pub struct Status {
+    pub mark: u64,
+    pub fore: u64,
+    pub back: u64,
+    pub armed: Option<Change>,
+    pub last: u64,
+}
+
+/// What a message says.
+#[derive(Clone, Copy)]
+pub enum Said {
+    Load { edition: u64 },
+    Arm(Change),
+    Status(Status),
+    Bursts { edition: u64, to: TermNo },
+    Confirm { edition: u64, from: TermNo },
+    Reference { mark: u64, edition: Option<u64> },
+    Lost { from: TermNo },
+}
+
+/// A message with its number, from 0 in the order of sending.
+#[derive(Clone, Copy)]
+pub struct Message {
+    pub number: u64,
+    pub sender: Station,
+    pub said: Said,
+}
+
+/// That a message came to a station, and what that did with it.
+#[derive(Clone, Copy)]
+pub struct Delivery {
+    pub number: u64,
+    pub hearer: Station,
+    pub answer: &'static str,
+    pub refused: bool,
+}
+
+/// What happens to a station, beside messages.
+#[derive(Clone, Copy)]
+pub enum Happening {
+    Restart,
+    Reset,
+    Back(u64),
+    Ahead,
+}
+
+/// A frame that is shown.
+#[derive(Clone, Copy)]
+pub struct Frame {
+    pub mark: Mark,
+    pub number: u32,
+    pub fore: u64,
+}
+
+/// A burst on the air in the frame shown last.
+#[derive(Clone, Copy)]
+pub struct OnAir {
+    pub start: u64,
+    pub length: u64,
+    pub from: TermNo,
+    pub to: TermNo,
+}
+
+/// One step of a run.
+#[derive(Clone, Copy)]
+pub enum Step {
+    /// This superframe begins.
+    Begin(u64),
+    Sent(Message),
+    Got(Delivery),
+    Happened(Station, Happening),
+    Shown(Frame),
+    Burst(OnAir),
+}
+
+impl Step {
+    /// The station that sends, hears or is struck here.
+    pub fn station(&self) -> Option<Station> {
+        match self {
+            Step::Sent(message) => Some(message.sender),
+            Step::Got(delivery) => Some(delivery.hearer),
+            Step::Happened(station, _) => Some(*station),
+            _ => None,
+        }
+    }
+}

@@ -1,0 +1,131 @@
+// The whole picture.
+ghost use Rattle.std.specs.Prelude.{All, OnOk};
+ghost use Rattle.bt_net.specs.Terminals.{IsTerminal};
+ghost use Rattle.bt_run_chart.specs.RunPicture.{IsPictureBehind};
+
+use crate::air::{draw_air, draw_silences};
+use crate::drawing::{Pen, write_drawings};
+use crate::ladder::{Ladder, TOP};
+use crate::lanes::{Lanes, draw_lanes};
+use crate::messages::{draw_deliveries, draw_senders};
+use crate::reading::read_steps;
+use crate::spans::{draw_fronts, draw_superframes};
+use crate::step::Step;
+use crate::totals::draw_totals;
+use bt_frame::{OutOfMemory, TermNo};
+use bt_net::Network;
+use bt_picture::{Anchor, Point, Style, write_foot, write_head};
+use bt_words::Word;
+use std::alloc::Global;
+
+// Twips from the left to the right edge of a picture.
+const WIDTH: u64 = 20_000;
+
+// The most messages that are drawn one by one.
+const MOST_MESSAGES: usize = 400;
+
+/// Appends the picture of what a run printed, as SVG.
+///
+/// `text` is the run's output; lines that no run prints are passed over. `chosen` are the terminals that have lanes; where
+/// none are chosen, the first twelve that send or hear have some. Want of memory leaves `out` with a first part of the
+/// picture.
+pub fn run_picture(
+    alloc: Global,
+    net: &Network,
+    text: &[u8],
+    chosen: &[TermNo],
+    out: &mut Vec<u8>,
+) -> Result<(), OutOfMemory>
+    requires chosen { All (IsTerminal net.now) chosen.now }
+    ensures picture { OnOk result (IsPictureBehind out.old.items out.new.items) }
+{
+    let steps = read_steps(alloc, net, text)?;
+    let mut pen = Pen::new(alloc);
+    let height = draw_run(alloc, net, steps.as_slice(), chosen, &mut pen)?;
+    write_picture(alloc, height, &pen, out)
+}
+
+// Appends a picture of that height.
+fn write_picture(
+    alloc: Global,
+    height: u64,
+    pen: &Pen<'_>,
+    out: &mut Vec<u8>,
+) -> Result<(), OutOfMemory>
+    ensures { OnOk result (IsPictureBehind out.old.items out.new.items) }
+{
+    write_head(alloc, WIDTH, height, out)?;
+    write_drawings(alloc, pen.drawings(), out)?;
+    write_foot(out)?;
+    Ok(())
+}
+
+// Draws a run, and says how high its picture is.
+fn draw_run<'a>(
+    alloc: Global,
+    net: &'a Network,
+    steps: &[Step],
+    chosen: &[TermNo],
+    pen: &mut Pen<'a>,
+) -> Result<u64, OutOfMemory> {
+    if count_messages(steps) > MOST_MESSAGES {
+        draw_totals(alloc, steps, pen)
+    } else {
+        let lanes = Lanes::of(alloc, steps, chosen)?;
+        draw_ladder(alloc, &Ladder::of(alloc, net, lanes, steps)?, pen)
+    }
+}
+
+fn count_messages(steps: &[Step]) -> usize {
+    steps
+        .iter()
+        .filter(|step| matches!(step, Step::Sent(_)))
+        .count()
+}
+
+// Draws a run from lane to lane.
+fn draw_ladder<'a>(
+    alloc: Global,
+    ladder: &Ladder<'a>,
+    pen: &mut Pen<'a>,
+) -> Result<u64, OutOfMemory> {
+    write_heading(pen)?;
+    draw_superframes(alloc, ladder, pen)?;
+    draw_fronts(alloc, ladder, pen)?;
+    draw_lanes(ladder, pen)?;
+    draw_air(ladder, pen)?;
+    draw_deliveries(ladder, pen)?;
+    draw_silences(alloc, ladder, pen)?;
+    draw_senders(alloc, ladder, pen)?;
+    let bottom = ladder
+        .staves()
+        .last()
+        .map_or(TOP, |stave| ladder.bottom(stave));
+    Ok(bottom.saturating_add(300))
+}
+
+// Says how the picture is read.
+fn write_heading(pen: &mut Pen<'_>) -> Result<(), OutOfMemory> {
+    let lines = [
+        (480, Style::Title, "What the run printed"),
+        (
+            820,
+            Style::Text,
+            "A circle: a message with its number. An arrow: it was heard. A grey line: its hearer refused it. A cross: nobody heard it. A dot: a restart or an order.",
+        ),
+        (
+            1120,
+            Style::Text,
+            "Below the lanes: the edition in front on board, and the bursts on the air by uplink beam. A ring: the terminal holds its bursts and is silent.",
+        ),
+    ];
+    for (y, style, text) in lines {
+        pen.label(
+            Point { x: 320, y },
+            Anchor::Start,
+            style,
+            &[Word::Text(text)],
+        )?;
+    }
+    Ok(())
+}
