@@ -1,11 +1,12 @@
 // The frames that were shown: the bursts on the air, and who was silent.
-use crate::drawing::{Pen, name_of};
-use crate::ladder::{COLUMN, FRAME_COLUMNS, Ladder, Placed, Stave};
+use crate::drawing::{Drawn, Pen, name_of, place, rectangle};
+use crate::ladder::{COLUMN, FRAME_COLUMNS, Ladder, Placed};
 use crate::step::{Delivery, Frame, Happening, OnAir, Said, Station, Step};
-use bt_frame::{OutOfMemory, TermNo};
+use bt_frame::TermNo;
 use bt_net::Network;
-use bt_picture::{Anchor, Point, Rect, Shape, Style};
+use bt_picture::{Anchor, Point, Shape, Style};
 use bt_words::Word;
+use bt_words::Word::{Number, Text};
 use std::alloc::Global;
 
 // Twips from the left edge of a frame's columns to its first slot, and the twips of its slots.
@@ -14,111 +15,64 @@ const MARGIN: u64 = 60;
 const BREADTH: u64 = FRAME_COLUMNS * COLUMN - 2 * MARGIN;
 
 /// Draws the frames that were shown, with the bursts in a row for each uplink beam.
-pub fn draw_air<'a>(ladder: &Ladder<'a>, pen: &mut Pen<'a>) -> Result<(), OutOfMemory> {
-    for placed in ladder.placed() {
-        let Some(stave) = ladder.stave(placed.stave) else {
-            continue;
-        };
+pub fn draw_air<'a>(ladder: &Ladder<'a>, pen: &mut Pen<'a>) -> Drawn {
+    for placed in &ladder.placed {
         match placed.step {
-            Step::Shown(frame) => draw_frame(ladder, &stave, placed.x, frame, pen)?,
-            Step::Burst(burst) => draw_burst(ladder, &stave, placed.x, burst, pen)?,
+            Step::Shown(frame) => draw_frame(ladder, placed, frame, pen)?,
+            Step::Burst(burst) => draw_burst(ladder, placed, burst, pen)?,
             _ => (),
         }
     }
     Ok(())
 }
 
-// Draws a frame, with a row for each beam.
-fn draw_frame<'a>(
-    ladder: &Ladder<'a>,
-    stave: &Stave,
-    x: u64,
-    frame: Frame,
-    pen: &mut Pen<'a>,
-) -> Result<(), OutOfMemory> {
-    let x = x.saturating_add(MARGIN);
-    for beam in 0..ladder.net().beam_count() {
-        let y = ladder.row_y(stave, u64::from(beam));
-        let rect = Rect {
-            x,
-            y,
-            width: BREADTH,
-            height: ladder.row_height(),
-        };
-        pen.shape(Shape::Rectangle(rect, Style::Lane))?;
-    }
-    let bottom = ladder.row_y(stave, u64::from(ladder.net().beam_count()));
-    let at = Point {
-        x: x.saturating_add(BREADTH / 2),
-        y: bottom.saturating_add(200),
+// Where the row of a beam has its first slot.
+fn row_of(ladder: &Ladder<'_>, placed: &Placed, beam: u32) -> Point {
+    let y = match ladder.stave(placed.stave) {
+        Some(stave) => ladder.heights.row_y(&stave, u64::from(beam)),
+        None => 0,
     };
-    pen.label(
-        at,
-        Anchor::Middle,
-        Style::Small,
-        &[Word::Text("frame "), Word::Frame(frame.mark, frame.number)],
-    )
+    place(placed.x.saturating_add(MARGIN), y)
+}
+
+// Draws a frame, with a row for each beam.
+fn draw_frame<'a>(ladder: &Ladder<'a>, placed: &Placed, frame: Frame, pen: &mut Pen<'a>) -> Drawn {
+    let beams = ladder.net.beam_count();
+    for beam in 0..beams {
+        let corner = row_of(ladder, placed, beam);
+        pen.shape(rectangle(corner, BREADTH, ladder.heights.row(), Style::Lane))?;
+    }
+    let below = row_of(ladder, placed, beams);
+    let at = place(
+        below.x.saturating_add(BREADTH / 2),
+        below.y.saturating_add(200),
+    );
+    let words = pen.phrase("frame #", &[Word::Frame(frame.mark, frame.number)])?;
+    pen.label(at, Anchor::Middle, Style::Small, words)
 }
 
 // Draws a burst in the row of its uplink beam, in the fill of its downlink beam.
-fn draw_burst<'a>(
-    ladder: &Ladder<'a>,
-    stave: &Stave,
-    x: u64,
-    burst: OnAir,
-    pen: &mut Pen<'a>,
-) -> Result<(), OutOfMemory> {
-    let net = ladder.net();
+fn draw_burst<'a>(ladder: &Ladder<'a>, placed: &Placed, burst: OnAir, pen: &mut Pen<'a>) -> Drawn {
+    let net = ladder.net;
     let end = burst.start.saturating_add(burst.length);
-    let left = x
-        .saturating_add(MARGIN)
-        .saturating_add(slot_x(net, burst.start));
-    let right = x.saturating_add(MARGIN).saturating_add(slot_x(net, end));
-    let y = ladder.row_y(stave, u64::from(beam_of(net, burst.from)));
-    let width = right.saturating_sub(left);
-    let height = ladder.row_height();
-    let style = Style::Fill(beam_of(net, burst.to));
-    let shape = Shape::Rectangle(
-        Rect {
-            x: left,
-            y,
-            width,
-            height,
-        },
-        style,
-    );
-    let (from, to) = (
-        Word::Text(name_of(net, burst.from)),
-        Word::Text(name_of(net, burst.to)),
-    );
-    let last = Word::Number(end.saturating_sub(1));
-    let title = [
-        from,
-        Word::Text(" to "),
-        to,
-        Word::Text(", slots "),
-        Word::Number(burst.start),
-        Word::Text(" to "),
-        last,
-    ];
-    let at = Point {
-        x: left.saturating_add(width / 2),
-        y: y.saturating_add(height / 2).saturating_add(60),
-    };
-    let letters = name_of(net, burst.from)
-        .len()
-        .saturating_add(name_of(net, burst.to).len()) as u64;
-    if letters.saturating_add(2).saturating_mul(105) <= width {
-        pen.marked(
-            shape,
-            at,
-            Style::Small,
-            &[from, Word::Text("→"), to],
-            &title,
-        )
-    } else {
-        pen.titled(shape, &title)
+    let row = row_of(ladder, placed, u32::from(beam_of(net, burst.from)));
+    let (left, right) = (slot_x(net, burst.start), slot_x(net, end));
+    let (width, height) = (right.saturating_sub(left), ladder.heights.row());
+    let corner = place(row.x.saturating_add(left), row.y);
+    let bar = rectangle(corner, width, height, Style::Fill(beam_of(net, burst.to)));
+    let (from, to) = (name_of(net, burst.from), name_of(net, burst.to));
+    let (first, last) = (Number(burst.start), Number(end.saturating_sub(1)));
+    let title = pen.phrase("# to #, slots # to #", &[Text(from), Text(to), first, last])?;
+    let letters = from.len().saturating_add(to.len()).saturating_add(2) as u64;
+    if letters.saturating_mul(105) > width {
+        return pen.titled(bar, title);
     }
+    let at = place(
+        corner.x.saturating_add(width / 2),
+        row.y.saturating_add(height / 2).saturating_add(60),
+    );
+    let words = pen.phrase("#→#", &[Text(from), Text(to)])?;
+    pen.marked(bar, at, Style::Small, words, title)
 }
 
 // Twips from the first slot of a frame to this one.
@@ -145,25 +99,20 @@ struct Holding {
     older: Option<u64>,
 }
 
+impl Holding {
+    fn has(self, edition: u64) -> bool {
+        self.newer == Some(edition) || self.older == Some(edition)
+    }
+}
+
 /// Draws a ring on the lane of each terminal that holds its bursts of the edition in front and is silent in a frame.
-pub fn draw_silences<'a>(
-    alloc: Global,
-    ladder: &Ladder<'a>,
-    pen: &mut Pen<'a>,
-) -> Result<(), OutOfMemory> {
+pub fn draw_silences<'a>(alloc: Global, ladder: &Ladder<'a>, pen: &mut Pen<'a>) -> Drawn {
     let mut holdings = Vec::new(alloc);
-    for (number, placed) in ladder.placed().iter().enumerate() {
+    for (number, placed) in ladder.placed.iter().enumerate() {
         match placed.step {
             Step::Got(delivery) => take_answer(ladder, delivery, &mut holdings)?,
             Step::Happened(station, Happening::Reset) => forget(station, &mut holdings),
-            Step::Shown(frame) => draw_silent(
-                ladder,
-                number,
-                *placed,
-                frame,
-                holdings.as_slice(),
-                pen,
-            )?,
+            Step::Shown(frame) => draw_silent(ladder, number, frame, holdings.as_slice(), pen)?,
             _ => (),
         }
     }
@@ -171,11 +120,7 @@ pub fn draw_silences<'a>(
 }
 
 // A terminal says that it holds its bursts of an edition.
-fn take_answer(
-    ladder: &Ladder<'_>,
-    delivery: Delivery,
-    holdings: &mut Vec<Holding>,
-) -> Result<(), OutOfMemory> {
+fn take_answer(ladder: &Ladder<'_>, delivery: Delivery, holdings: &mut Vec<Holding>) -> Drawn {
     let Some(posted) = ladder.posted_as(delivery.number) else {
         return Ok(());
     };
@@ -187,7 +132,8 @@ fn take_answer(
     }
 }
 
-fn hold(terminal: TermNo, edition: u64, holdings: &mut Vec<Holding>) -> Result<(), OutOfMemory> {
+// A terminal holds its bursts of an edition, and still those that it stored before.
+fn hold(terminal: TermNo, edition: u64, holdings: &mut Vec<Holding>) -> Drawn {
     let newer = Some(edition);
     for holding in holdings.iter_mut() {
         if holding.terminal == terminal {
@@ -198,10 +144,11 @@ fn hold(terminal: TermNo, edition: u64, holdings: &mut Vec<Holding>) -> Result<(
             return Ok(());
         }
     }
+    let older = None;
     holdings.push(Holding {
         terminal,
         newer,
-        older: None,
+        older,
     })?;
     Ok(())
 }
@@ -216,45 +163,9 @@ fn forget(station: Station, holdings: &mut Vec<Holding>) {
     }
 }
 
-// Draws the rings of a frame, which is the step of that number.
-fn draw_silent<'a>(
-    ladder: &Ladder<'a>,
-    number: usize,
-    placed: Placed,
-    frame: Frame,
-    holdings: &[Holding],
-    pen: &mut Pen<'a>,
-) -> Result<(), OutOfMemory> {
-    let Some(stave) = ladder.stave(placed.stave) else {
-        return Ok(());
-    };
-    for holding in holdings {
-        let holds = holding.newer == Some(frame.fore) || holding.older == Some(frame.fore);
-        if !holds || is_sending(ladder, number, holding.terminal) {
-            continue;
-        }
-        if let Some(lane) = ladder.lanes().find(Station::Terminal(holding.terminal)) {
-            let at = Point {
-                x: placed.x.saturating_add(MARGIN + BREADTH / 2),
-                y: ladder.lane_y(&stave, lane),
-            };
-            let name = Word::Text(name_of(ladder.net(), holding.terminal));
-            let title = [
-                name,
-                Word::Text(" is silent in frame "),
-                Word::Frame(frame.mark, frame.number),
-                Word::Text(": it holds its bursts of edition "),
-                Word::Number(frame.fore),
-            ];
-            pen.titled(Shape::Dot(at, 110, Style::Edge), &title)?;
-        }
-    }
-    Ok(())
-}
-
 // The terminal sends in the frame that is the step of that number: its bursts are the next steps.
 fn is_sending(ladder: &Ladder<'_>, number: usize, terminal: TermNo) -> bool {
-    for placed in ladder.placed().iter().skip(number.saturating_add(1)) {
+    for placed in ladder.placed.iter().skip(number.saturating_add(1)) {
         match placed.step {
             Step::Burst(burst) if burst.from == terminal => return true,
             Step::Burst(_) => (),
@@ -262,4 +173,51 @@ fn is_sending(ladder: &Ladder<'_>, number: usize, terminal: TermNo) -> bool {
         }
     }
     false
+}
+
+// Draws the rings of a frame, which is the step of that number.
+fn draw_silent<'a>(
+    ladder: &Ladder<'a>,
+    number: usize,
+    frame: Frame,
+    holdings: &[Holding],
+    pen: &mut Pen<'a>,
+) -> Drawn {
+    let Some(placed) = ladder.placed.get(number).copied() else {
+        return Ok(());
+    };
+    for holding in holdings {
+        if holding.has(frame.fore) && !is_sending(ladder, number, holding.terminal) {
+            draw_silence(ladder, &placed, frame, holding.terminal, pen)?;
+        }
+    }
+    Ok(())
+}
+
+// Draws the ring of a terminal in a frame.
+fn draw_silence<'a>(
+    ladder: &Ladder<'a>,
+    placed: &Placed,
+    frame: Frame,
+    terminal: TermNo,
+    pen: &mut Pen<'a>,
+) -> Drawn {
+    let (Some(stave), Some(lane)) = (
+        ladder.stave(placed.stave),
+        ladder.lanes.find(Station::Terminal(terminal)),
+    ) else {
+        return Ok(());
+    };
+    let y = ladder.heights.lane_y(&stave, lane);
+    let at = place(placed.x.saturating_add(MARGIN + BREADTH / 2), y);
+    let shown = Word::Frame(frame.mark, frame.number);
+    let title = pen.phrase(
+        "# is silent in frame #: it holds its bursts of edition #",
+        &[
+            Text(name_of(ladder.net, terminal)),
+            shown,
+            Number(frame.fore),
+        ],
+    )?;
+    pen.titled(Shape::Dot(at, 110, Style::Edge), title)
 }

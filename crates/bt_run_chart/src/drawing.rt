@@ -4,9 +4,12 @@ ghost use Rattle.bt_run_chart.specs.RunPicture.{AddsParts};
 
 use bt_frame::{OutOfMemory, TermNo};
 use bt_net::Network;
-use bt_picture::{Anchor, Point, Shape, Style, write_alone, write_titled};
+use bt_picture::{Anchor, Point, Rect, Shape, Style, write_alone, write_titled};
 use bt_words::Word;
 use std::alloc::Global;
+
+/// What drawing comes to.
+pub type Drawn = Result<(), OutOfMemory>;
 
 /// Words with nothing between them, at their place.
 #[derive(Drop)]
@@ -15,13 +18,6 @@ pub struct Label<'a> {
     pub anchor: Anchor,
     pub style: Style,
     pub words: Vec<Word<'a>>,
-}
-
-impl Label<'_> {
-    // The shape of a label.
-    fn shape(&self) -> Shape<'_> {
-        Shape::Label(self.at, self.anchor, self.style, self.words.as_slice())
-    }
 }
 
 /// One thing of a picture.
@@ -39,25 +35,32 @@ pub enum Drawing<'a> {
 #[derive(Drop)]
 pub struct Pen<'a> {
     alloc: Global,
-    drawings: Vec<Drawing<'a>>,
+    pub drawings: Vec<Drawing<'a>>,
 }
 
 impl<'a> Pen<'a> {
     /// Nothing yet.
     pub fn new(alloc: Global) -> Pen<'a> {
-        Pen {
-            alloc,
-            drawings: Vec::new(alloc),
-        }
+        let drawings = Vec::new(alloc);
+        Pen { alloc, drawings }
     }
 
-    /// What was drawn.
-    pub fn drawings(&self) -> &[Drawing<'a>] {
-        self.drawings.as_slice()
+    /// A text in which each `#` is one of the words, in order.
+    pub fn phrase(&self, text: &'a str, words: &[Word<'a>]) -> Result<Vec<Word<'a>>, OutOfMemory> {
+        let mut phrase = Vec::new(self.alloc);
+        let mut rest = text;
+        for word in words {
+            let (before, behind) = parted(rest);
+            phrase.push(Word::Text(before))?;
+            phrase.push(*word)?;
+            rest = behind;
+        }
+        phrase.push(Word::Text(rest))?;
+        Ok(phrase)
     }
 
     /// Draws a shape.
-    pub fn shape(&mut self, shape: Shape<'a>) -> Result<(), OutOfMemory> {
+    pub fn shape(&mut self, shape: Shape<'a>) -> Drawn {
         self.drawings.push(Drawing::Plain(shape))?;
         Ok(())
     }
@@ -68,39 +71,37 @@ impl<'a> Pen<'a> {
         at: Point,
         anchor: Anchor,
         style: Style,
-        words: &[Word<'a>],
-    ) -> Result<(), OutOfMemory> {
-        let words = Vec::from_slice(self.alloc, words)?;
-        self.drawings.push(Drawing::Written(Label {
+        words: Vec<Word<'a>>,
+    ) -> Drawn {
+        let label = Label {
             at,
             anchor,
             style,
             words,
-        }))?;
+        };
+        self.drawings.push(Drawing::Written(label))?;
         Ok(())
     }
 
     /// Draws a shape with a title.
-    pub fn titled(&mut self, shape: Shape<'a>, title: &[Word<'a>]) -> Result<(), OutOfMemory> {
-        let title = Vec::from_slice(self.alloc, title)?;
+    pub fn titled(&mut self, shape: Shape<'a>, title: Vec<Word<'a>>) -> Drawn {
         self.drawings.push(Drawing::Titled(shape, title))?;
         Ok(())
     }
 
-    /// Draws a shape with a label about its middle, and with a title.
+    /// Draws a shape with words about its middle, and with a title.
     pub fn marked(
         &mut self,
         shape: Shape<'a>,
         at: Point,
         style: Style,
-        words: &[Word<'a>],
-        title: &[Word<'a>],
-    ) -> Result<(), OutOfMemory> {
-        let words = Vec::from_slice(self.alloc, words)?;
-        let title = Vec::from_slice(self.alloc, title)?;
+        words: Vec<Word<'a>>,
+        title: Vec<Word<'a>>,
+    ) -> Drawn {
+        let anchor = Anchor::Middle;
         let label = Label {
             at,
-            anchor: Anchor::Middle,
+            anchor,
             style,
             words,
         };
@@ -109,63 +110,29 @@ impl<'a> Pen<'a> {
     }
 }
 
-/// Appends drawings in order.
-#[tactic(auto, using(crate::proofs::Parts::adds_none))]
-pub fn write_drawings(
-    alloc: Global,
-    drawings: &[Drawing<'_>],
-    out: &mut Vec<u8>,
-) -> Result<(), OutOfMemory>
-    ensures { OnOk result (AddsParts out.old.items out.new.items) }
-{
-    for drawing in drawings {
-        write_drawing(alloc, drawing, out)?;
-    }
-    Ok(())
-}
-
-// Appends a drawing.
-fn write_drawing(alloc: Global, drawing: &Drawing<'_>, out: &mut Vec<u8>) -> Result<(), OutOfMemory>
-    ensures { OnOk result (AddsParts out.old.items out.new.items) }
-{
-    match drawing {
-        Drawing::Plain(shape) => write_plain(alloc, *shape, out),
-        Drawing::Written(label) => write_plain(alloc, label.shape(), out),
-        Drawing::Titled(shape, title) => write_group(alloc, title.as_slice(), &[*shape], out),
-        Drawing::Marked(shape, label, title) => {
-            write_group(alloc, title.as_slice(), &[*shape, label.shape()], out)
-        }
+// What stands before and behind the first `#` of a text.
+fn parted(text: &str) -> (&str, &str) {
+    match text.split_once('#') {
+        Some(parts) => parts,
+        None => (text, ""),
     }
 }
 
-// Appends a shape.
-fn write_plain(alloc: Global, shape: Shape<'_>, out: &mut Vec<u8>) -> Result<(), OutOfMemory>
-    ensures { OnOk result (AddsParts out.old.items out.new.items) }
-{
-    write_alone(alloc, shape, out)?;
-    Ok(())
+/// The place of these twips from the left and from the top.
+pub fn place(x: u64, y: u64) -> Point {
+    Point { x, y }
 }
 
-// Appends shapes with a title.
-fn write_group(
-    alloc: Global,
-    title: &[Word<'_>],
-    shapes: &[Shape<'_>],
-    out: &mut Vec<u8>,
-) -> Result<(), OutOfMemory>
-    ensures { OnOk result (AddsParts out.old.items out.new.items) }
-{
-    write_titled(alloc, title, shapes, out)?;
-    Ok(())
-}
-
-/// The name of a terminal, and nothing where the network has none of that number.
-pub fn name_of(net: &Network, terminal: TermNo) -> &str {
-    if u32::from(terminal.0) < net.terminal_count() {
-        net.name_of(terminal)
-    } else {
-        ""
-    }
+/// A rectangle from its upper left corner.
+pub fn rectangle(at: Point, width: u64, height: u64, style: Style) -> Shape<'static> {
+    let (x, y) = (at.x, at.y);
+    let rect = Rect {
+        x,
+        y,
+        width,
+        height,
+    };
+    Shape::Rectangle(rect, style)
 }
 
 /// The fill of an edition.
@@ -179,4 +146,59 @@ pub fn letters_upon(edition: u64) -> Style {
         4 | 7 => Style::Light,
         _ => Style::Text,
     }
+}
+
+/// The name of a terminal, and nothing where the network has none of that number.
+pub fn name_of(net: &Network, terminal: TermNo) -> &str {
+    if u32::from(terminal.0) < net.terminal_count() {
+        net.name_of(terminal)
+    } else {
+        ""
+    }
+}
+
+/// Appends drawings in order.
+#[tactic(auto, using(crate::proofs::Parts::adds_none))]
+pub fn write_drawings(alloc: Global, drawings: &[Drawing<'_>], out: &mut Vec<u8>) -> Drawn
+    ensures { OnOk result (AddsParts out.old.items out.new.items) }
+{
+    for drawing in drawings {
+        write_drawing(alloc, drawing, out)?;
+    }
+    Ok(())
+}
+
+// Appends a drawing.
+fn write_drawing(alloc: Global, drawing: &Drawing<'_>, out: &mut Vec<u8>) -> Drawn
+    ensures { OnOk result (AddsParts out.old.items out.new.items) }
+{
+    match drawing {
+        Drawing::Plain(shape) => write_plain(alloc, *shape, out),
+        Drawing::Written(label) => write_plain(alloc, shape_of(label), out),
+        Drawing::Titled(shape, title) => write_group(alloc, title.as_slice(), &[*shape], out),
+        Drawing::Marked(shape, label, title) => {
+            write_group(alloc, title.as_slice(), &[*shape, shape_of(label)], out)
+        }
+    }
+}
+
+// The shape of a label.
+fn shape_of<'a>(label: &'a Label<'_>) -> Shape<'a> {
+    Shape::Label(label.at, label.anchor, label.style, label.words.as_slice())
+}
+
+// Appends a shape.
+fn write_plain(alloc: Global, shape: Shape<'_>, out: &mut Vec<u8>) -> Drawn
+    ensures { OnOk result (AddsParts out.old.items out.new.items) }
+{
+    write_alone(alloc, shape, out)?;
+    Ok(())
+}
+
+// Appends shapes with a title.
+fn write_group(alloc: Global, title: &[Word<'_>], shapes: &[Shape<'_>], out: &mut Vec<u8>) -> Drawn
+    ensures { OnOk result (AddsParts out.old.items out.new.items) }
+{
+    write_titled(alloc, title, shapes, out)?;
+    Ok(())
 }

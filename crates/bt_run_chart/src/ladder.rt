@@ -1,4 +1,5 @@
 // Where each step stands: columns go from left to right, and what does not fit goes on in a further stave below.
+use crate::drawing::Drawn;
 use crate::lanes::Lanes;
 use crate::step::{Delivery, Message, Step};
 use bt_frame::OutOfMemory;
@@ -60,14 +61,64 @@ pub struct Stave {
     pub has_frames: bool,
 }
 
+/// How high the parts of a stave are, by the number of its lanes and of the network's beams.
+#[derive(Clone, Copy)]
+pub struct Heights {
+    lanes: u64,
+    beams: u64,
+}
+
+impl Heights {
+    /// Where a lane of a stave runs: lanes lie closer where there are many.
+    pub fn lane_y(self, stave: &Stave, lane: usize) -> u64 {
+        let apart = if self.lanes <= 6 { 1060 } else { 760 };
+        let below = (lane as u64).saturating_mul(apart);
+        stave.top.saturating_add(ABOVE_LANES).saturating_add(below)
+    }
+
+    /// Where the band of the edition in front begins.
+    pub fn front_y(self, stave: &Stave) -> u64 {
+        let last = self.lanes.saturating_sub(1);
+        self.lane_y(stave, last as usize)
+            .saturating_add(BELOW_LANES)
+    }
+
+    /// How high a row of the air is: lower where there are many beams.
+    pub fn row(self) -> u64 {
+        match self.beams {
+            0..=8 => 280,
+            9..=16 => 220,
+            _ => 180,
+        }
+    }
+
+    /// Where a row of the air begins.
+    pub fn row_y(self, stave: &Stave, row: u64) -> u64 {
+        let below = row.saturating_mul(self.row());
+        self.front_y(stave)
+            .saturating_add(FRONT)
+            .saturating_add(below)
+    }
+
+    /// Where a stave ends: with the rows of the air and the names of frames below them, where it has some.
+    pub fn bottom(self, stave: &Stave) -> u64 {
+        if stave.has_frames {
+            self.row_y(stave, self.beams).saturating_add(280)
+        } else {
+            self.row_y(stave, 0)
+        }
+    }
+}
+
 /// A run in columns and lanes.
 #[derive(Drop)]
 pub struct Ladder<'a> {
-    net: &'a Network,
-    lanes: Lanes,
-    placed: Vec<Placed>,
+    pub net: &'a Network,
+    pub lanes: Lanes,
+    pub heights: Heights,
+    pub placed: Vec<Placed>,
     posted: Vec<Posted>,
-    staves: Vec<Stave>,
+    pub staves: Vec<Stave>,
     // The next column of the last stave, the place of the step before it, and the message that came there.
     column: u64,
     x: u64,
@@ -82,16 +133,7 @@ impl<'a> Ladder<'a> {
         lanes: Lanes,
         steps: &[Step],
     ) -> Result<Ladder<'a>, OutOfMemory> {
-        let mut ladder = Ladder {
-            net,
-            lanes,
-            placed: Vec::new(alloc),
-            posted: Vec::new(alloc),
-            staves: Vec::new(alloc),
-            column: 0,
-            x: LEFT,
-            heard: None,
-        };
+        let mut ladder = Ladder::empty(alloc, net, lanes);
         ladder.begin_stave()?;
         for step in steps {
             ladder.add(*step)?;
@@ -100,26 +142,46 @@ impl<'a> Ladder<'a> {
         Ok(ladder)
     }
 
+    // No steps and no stave.
+    fn empty(alloc: Global, net: &'a Network, lanes: Lanes) -> Ladder<'a> {
+        let heights = Heights {
+            lanes: lanes.stations.len() as u64,
+            beams: u64::from(net.beam_count()),
+        };
+        Ladder {
+            net,
+            lanes,
+            heights,
+            placed: Vec::new(alloc),
+            posted: Vec::new(alloc),
+            staves: Vec::new(alloc),
+            column: 0,
+            x: LEFT,
+            heard: None,
+        }
+    }
+
     // Goes on in a stave below.
-    fn begin_stave(&mut self) -> Result<(), OutOfMemory> {
-        self.staves.push(Stave {
+    fn begin_stave(&mut self) -> Drawn {
+        let stave = Stave {
             top: 0,
             has_frames: false,
-        })?;
+        };
+        self.staves.push(stave)?;
         self.column = 0;
         Ok(())
     }
 
     // Puts a step behind the others, unless it is of a station without a lane.
-    fn add(&mut self, step: Step) -> Result<(), OutOfMemory> {
+    fn add(&mut self, step: Step) -> Drawn {
         let columns = self.columns_of(step);
         if let Some(columns) = columns {
             self.put(step, columns)?;
         }
         match step {
-            Step::Sent(message) => self.post(message, columns.is_some()),
+            Step::Sent(message) => self.post(message),
             Step::Got(delivery) => {
-                self.hear(delivery, columns.is_some());
+                self.hear(delivery);
                 Ok(())
             }
             _ => Ok(()),
@@ -141,97 +203,74 @@ impl<'a> Ladder<'a> {
     fn columns_of_delivery(&self, delivery: Delivery) -> Option<u64> {
         self.lanes.find(delivery.hearer)?;
         self.posted_as(delivery.number)?.lane?;
-        if self.heard == Some(delivery.number) {
-            Some(0)
-        } else {
-            Some(1)
-        }
+        let is_same = self.heard == Some(delivery.number);
+        Some(if is_same { 0 } else { 1 })
     }
 
     // Puts a step at the next place.
-    fn put(&mut self, step: Step, columns: u64) -> Result<(), OutOfMemory> {
+    fn put(&mut self, step: Step, columns: u64) -> Drawn {
         if self.column.saturating_add(columns) > COLUMNS {
             self.begin_stave()?;
         }
         let edge = LEFT.saturating_add(self.column.saturating_mul(COLUMN));
         let x = match step {
-            Step::Begin(_) => edge,
-            Step::Shown(_) => edge,
+            Step::Begin(_) | Step::Shown(_) => edge,
             _ if columns == 0 => self.x,
             _ => edge.saturating_add(COLUMN / 2),
         };
-        if columns > 0 {
-            self.x = x;
-        }
         self.column = self.column.saturating_add(columns);
-        self.heard = None;
-        if let Step::Got(delivery) = step {
-            self.heard = Some(delivery.number);
-        }
-        if let (Step::Shown(_), Some(stave)) = (step, self.staves.last_mut()) {
-            stave.has_frames = true;
-        }
+        self.keep(step, x);
         let stave = self.staves.len().saturating_sub(1);
         self.placed.push(Placed { step, stave, x })?;
         Ok(())
     }
 
-    // Remembers where a message was sent.
-    fn post(&mut self, message: Message, has_lane: bool) -> Result<(), OutOfMemory> {
-        let lane = if has_lane {
-            self.lanes.find(message.sender)
-        } else {
-            None
-        };
+    // Remembers what the next step may go on from.
+    fn keep(&mut self, step: Step, x: u64) {
+        self.heard = None;
+        match step {
+            Step::Begin(_) => return,
+            Step::Got(delivery) => self.heard = Some(delivery.number),
+            Step::Shown(_) => {
+                if let Some(stave) = self.staves.last_mut() {
+                    stave.has_frames = true;
+                }
+            }
+            _ => (),
+        }
+        self.x = x;
+    }
+
+    // Remembers where a message was sent, behind those before it.
+    fn post(&mut self, message: Message) -> Drawn {
+        let (lane, x) = (self.lanes.find(message.sender), self.x);
         let stave = self.staves.len().saturating_sub(1);
+        let is_heard = false;
         self.posted.push(Posted {
             message,
             lane,
             stave,
-            x: self.x,
-            is_heard: false,
+            x,
+            is_heard,
         })?;
         Ok(())
     }
 
     // Remembers that a message was heard.
-    fn hear(&mut self, delivery: Delivery, _drawn: bool) {
+    fn hear(&mut self, delivery: Delivery) {
         if let Some(posted) = self.posted.get_mut(delivery.number as usize) {
-            if posted.message.number == delivery.number {
-                posted.is_heard = true;
-            }
+            posted.is_heard = true;
         }
     }
 
     // Puts the staves below each other.
     fn stack(&mut self) {
+        let heights = self.heights;
         let mut top = TOP;
-        let lanes = self.lanes.stations().len() as u64;
-        let beams = u64::from(self.net.beam_count());
         for stave in self.staves.iter_mut() {
             stave.top = top;
-            top = bottom_of(*stave, lanes, beams).saturating_add(BETWEEN);
+            top = heights.bottom(stave).saturating_add(BETWEEN);
         }
-    }
-
-    /// The network of the run.
-    pub fn net(&self) -> &'a Network {
-        self.net
-    }
-
-    /// Its lanes.
-    pub fn lanes(&self) -> &Lanes {
-        &self.lanes
-    }
-
-    /// The steps at their places, in order.
-    pub fn placed(&self) -> &[Placed] {
-        self.placed.as_slice()
-    }
-
-    /// The staves from the top.
-    pub fn staves(&self) -> &[Stave] {
-        self.staves.as_slice()
     }
 
     /// The stave of a step.
@@ -241,80 +280,6 @@ impl<'a> Ladder<'a> {
 
     /// The message of that number at its place.
     pub fn posted_as(&self, number: u64) -> Option<Posted> {
-        let posted = self.posted.get(number as usize).copied()?;
-        if posted.message.number == number {
-            Some(posted)
-        } else {
-            None
-        }
-    }
-
-    /// Where a lane of a stave runs.
-    pub fn lane_y(&self, stave: &Stave, lane: usize) -> u64 {
-        let lanes = self.lanes.stations().len() as u64;
-        lane_y(*stave, lanes, lane as u64)
-    }
-
-    /// Where the band of the edition in front begins.
-    pub fn front_y(&self, stave: &Stave) -> u64 {
-        front_y(*stave, self.lanes.stations().len() as u64)
-    }
-
-    /// Where a row of the air begins.
-    pub fn row_y(&self, stave: &Stave, row: u64) -> u64 {
-        let height = row_height(u64::from(self.net.beam_count()));
-        self.front_y(stave)
-            .saturating_add(FRONT)
-            .saturating_add(row.saturating_mul(height))
-    }
-
-    /// How high a row of the air is.
-    pub fn row_height(&self) -> u64 {
-        row_height(u64::from(self.net.beam_count()))
-    }
-
-    /// Where a stave ends.
-    pub fn bottom(&self, stave: &Stave) -> u64 {
-        bottom_of(
-            *stave,
-            self.lanes.stations().len() as u64,
-            u64::from(self.net.beam_count()),
-        )
-    }
-}
-
-// Where a lane of a stave runs: lanes lie closer where there are many.
-fn lane_y(stave: Stave, lanes: u64, lane: u64) -> u64 {
-    let apart = if lanes <= 6 { 1060 } else { 760 };
-    stave
-        .top
-        .saturating_add(ABOVE_LANES)
-        .saturating_add(lane.saturating_mul(apart))
-}
-
-fn front_y(stave: Stave, lanes: u64) -> u64 {
-    lane_y(stave, lanes, lanes.saturating_sub(1)).saturating_add(BELOW_LANES)
-}
-
-// Rows of the air are lower where there are many beams.
-fn row_height(beams: u64) -> u64 {
-    if beams <= 8 {
-        280
-    } else if beams <= 16 {
-        220
-    } else {
-        180
-    }
-}
-
-// Where a stave ends: with the rows of the air and the name of a frame below them, where it has some.
-fn bottom_of(stave: Stave, lanes: u64, beams: u64) -> u64 {
-    let front = front_y(stave, lanes).saturating_add(FRONT);
-    if stave.has_frames {
-        front
-            .saturating_add(beams.saturating_mul(row_height(beams)))
-            .saturating_add(280)
-    } else {
-        front
+        self.posted.get(number as usize).copied()
     }
 }

@@ -1,11 +1,11 @@
 // The lanes: who has one, in which order, and how they are drawn.
-use crate::drawing::{Pen, name_of};
+use crate::drawing::{Drawn, Pen, name_of, place};
 use crate::ladder::{LEFT, Ladder, RIGHT, Stave};
 use crate::step::{Station, Step};
 use bt_frame::{BeamNo, OutOfMemory, TermNo};
 use bt_net::Network;
-use bt_picture::{Anchor, Point, Shape, Style};
-use bt_words::Word;
+use bt_picture::{Anchor, Shape, Style};
+use bt_words::Word::Text;
 use std::alloc::Global;
 
 /// The most terminals that get a lane where none are chosen.
@@ -14,16 +14,15 @@ pub const MOST_LANES: usize = 12;
 /// The stations that have lanes, from the top.
 #[derive(Drop)]
 pub struct Lanes {
-    stations: Vec<Station>,
+    pub stations: Vec<Station>,
 }
 
 impl Lanes {
     /// The lanes of a run: the centre, the standby where the run has one, the satellite, and the terminals that are chosen;
     /// where none are, the first that send or hear.
     pub fn of(alloc: Global, steps: &[Step], chosen: &[TermNo]) -> Result<Lanes, OutOfMemory> {
-        let mut lanes = Lanes {
-            stations: Vec::new(alloc),
-        };
+        let stations = Vec::new(alloc);
+        let mut lanes = Lanes { stations };
         lanes.add(Station::Centre)?;
         if steps
             .iter()
@@ -40,7 +39,7 @@ impl Lanes {
         Ok(lanes)
     }
 
-    fn add_terminals(&mut self, terminals: &[TermNo]) -> Result<(), OutOfMemory> {
+    fn add_terminals(&mut self, terminals: &[TermNo]) -> Drawn {
         for terminal in terminals {
             self.add(Station::Terminal(*terminal))?;
         }
@@ -48,7 +47,7 @@ impl Lanes {
     }
 
     // Adds a lane, where the station has none.
-    fn add(&mut self, station: Station) -> Result<(), OutOfMemory> {
+    fn add(&mut self, station: Station) -> Drawn {
         if self.find(station).is_none() {
             self.stations.push(station)?;
         }
@@ -59,11 +58,6 @@ impl Lanes {
     pub fn find(&self, station: Station) -> Option<usize> {
         self.stations.iter().position(|other| *other == station)
     }
-
-    /// The stations from the top.
-    pub fn stations(&self) -> &[Station] {
-        self.stations.as_slice()
-    }
 }
 
 // The first terminals that send or hear, in the network's order.
@@ -71,7 +65,8 @@ fn heard_terminals(alloc: Global, steps: &[Step]) -> Result<Vec<TermNo>, OutOfMe
     let mut terminals: Vec<TermNo> = Vec::new(alloc);
     for step in steps {
         if let Some(Station::Terminal(terminal)) = step.station() {
-            if terminals.len() < MOST_LANES && !terminals.iter().any(|other| *other == terminal) {
+            let is_new = !terminals.iter().any(|other| *other == terminal);
+            if is_new && terminals.len() < MOST_LANES {
                 terminals.push(terminal)?;
             }
         }
@@ -81,62 +76,44 @@ fn heard_terminals(alloc: Global, steps: &[Step]) -> Result<Vec<TermNo>, OutOfMe
 }
 
 /// Draws the lanes of each stave with their names.
-pub fn draw_lanes<'a>(ladder: &Ladder<'a>, pen: &mut Pen<'a>) -> Result<(), OutOfMemory> {
-    for stave in ladder.staves() {
+pub fn draw_lanes<'a>(ladder: &Ladder<'a>, pen: &mut Pen<'a>) -> Drawn {
+    for stave in &ladder.staves {
         draw_stave(ladder, stave, pen)?;
-        draw_rows(ladder, stave, pen)?;
+        if stave.has_frames {
+            name_rows(ladder, stave, pen)?;
+        }
     }
     Ok(())
 }
 
 // Draws the lanes of a stave.
-fn draw_stave<'a>(
-    ladder: &Ladder<'a>,
-    stave: &Stave,
-    pen: &mut Pen<'a>,
-) -> Result<(), OutOfMemory> {
-    for (lane, station) in ladder.lanes().stations().iter().enumerate() {
-        let y = ladder.lane_y(stave, lane);
-        pen.shape(Shape::Line(Point { x: LEFT, y }, Point { x: RIGHT, y }, Style::Thin))?;
+fn draw_stave<'a>(ladder: &Ladder<'a>, stave: &Stave, pen: &mut Pen<'a>) -> Drawn {
+    for (lane, station) in ladder.lanes.stations.iter().enumerate() {
+        let y = ladder.heights.lane_y(stave, lane);
+        pen.shape(Shape::Line(place(LEFT, y), place(RIGHT, y), Style::Thin))?;
         write_name(
             pen,
             y.saturating_add(75),
             Style::Text,
-            station_name(ladder.net(), *station),
+            station_name(ladder.net, *station),
         )?;
     }
-    write_name(
-        pen,
-        ladder.front_y(stave).saturating_add(210),
-        Style::Text,
-        "in front",
-    )
+    let y = ladder.heights.front_y(stave);
+    write_name(pen, y.saturating_add(210), Style::Text, "in front")
 }
 
 // Writes what stands before a row.
-fn write_name<'a>(
-    pen: &mut Pen<'a>,
-    y: u64,
-    style: Style,
-    name: &'a str,
-) -> Result<(), OutOfMemory> {
-    pen.label(
-        Point { x: LEFT - 140, y },
-        Anchor::End,
-        style,
-        &[Word::Text(name)],
-    )
+fn write_name<'a>(pen: &mut Pen<'a>, y: u64, style: Style, name: &'a str) -> Drawn {
+    let words = pen.phrase("#", &[Text(name)])?;
+    pen.label(place(LEFT - 140, y), Anchor::End, style, words)
 }
 
 // Writes the names of the beams before the rows of the air.
-fn draw_rows<'a>(ladder: &Ladder<'a>, stave: &Stave, pen: &mut Pen<'a>) -> Result<(), OutOfMemory> {
-    if !stave.has_frames {
-        return Ok(());
-    }
-    let net = ladder.net();
-    for beam in 0..net.beam_count() {
-        let y = ladder.row_y(stave, u64::from(beam)).saturating_add(150);
-        write_name(pen, y, Style::Small, net.beam_name(BeamNo(beam as u8)))?;
+fn name_rows<'a>(ladder: &Ladder<'a>, stave: &Stave, pen: &mut Pen<'a>) -> Drawn {
+    for beam in 0..ladder.net.beam_count() {
+        let y = ladder.heights.row_y(stave, u64::from(beam));
+        let name = ladder.net.beam_name(BeamNo(beam as u8));
+        write_name(pen, y.saturating_add(150), Style::Small, name)?;
     }
     Ok(())
 }

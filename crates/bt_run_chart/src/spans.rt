@@ -1,10 +1,10 @@
 // What lasts over columns: superframes, and the edition in front.
-use crate::drawing::{Pen, fill_of, letters_upon};
-use crate::ladder::{COLUMN, LEFT, Ladder, Placed, RIGHT};
+use crate::drawing::{Drawn, Pen, fill_of, letters_upon, place, rectangle};
+use crate::ladder::{COLUMN, LEFT, Ladder, Placed, RIGHT, Stave};
 use crate::step::{Said, Step};
 use bt_frame::OutOfMemory;
-use bt_picture::{Anchor, Point, Rect, Shape, Style};
-use bt_words::Word;
+use bt_picture::{Anchor, Shape, Style};
+use bt_words::Word::Number;
 use std::alloc::Global;
 
 // What lasts.
@@ -34,105 +34,48 @@ impl Span {
 }
 
 /// Draws the superframes, each over its columns, every second one upon a shade.
-pub fn draw_superframes<'a>(
-    alloc: Global,
-    ladder: &Ladder<'a>,
-    pen: &mut Pen<'a>,
-) -> Result<(), OutOfMemory> {
-    let spans = spans_of(alloc, ladder, Lasting::Superframe)?;
-    for span in &spans {
-        draw_superframe(ladder, *span, pen)?;
+pub fn draw_superframes<'a>(alloc: Global, ladder: &Ladder<'a>, pen: &mut Pen<'a>) -> Drawn {
+    for span in &spans_of(alloc, ladder, Lasting::Superframe)? {
+        if let Some(stave) = ladder.stave(span.stave) {
+            let height = ladder.heights.bottom(&stave).saturating_sub(stave.top);
+            draw_superframe(&stave, *span, height, pen)?;
+        }
     }
     Ok(())
 }
 
-fn draw_superframe<'a>(
-    ladder: &Ladder<'a>,
-    span: Span,
-    pen: &mut Pen<'a>,
-) -> Result<(), OutOfMemory> {
-    let Some(stave) = ladder.stave(span.stave) else {
-        return Ok(());
-    };
-    let height = ladder.bottom(&stave).saturating_sub(stave.top);
+fn draw_superframe(stave: &Stave, span: Span, height: u64, pen: &mut Pen<'_>) -> Drawn {
+    let edge = place(span.from, stave.top);
     if span.number % 2 == 1 {
-        let rect = Rect {
-            x: span.from,
-            y: stave.top,
-            width: span.width(),
-            height,
-        };
-        pen.shape(Shape::Rectangle(rect, Style::Shade))?;
+        pen.shape(rectangle(edge, span.width(), height, Style::Shade))?;
     }
-    let edge = Point {
-        x: span.from,
-        y: stave.top,
-    };
-    let foot = Point {
-        x: span.from,
-        y: stave.top.saturating_add(height),
-    };
+    let foot = place(span.from, stave.top.saturating_add(height));
     pen.shape(Shape::Line(edge, foot, Style::Thin))?;
-    let number = Word::Number(span.number);
-    let at = Point {
-        x: span.middle(),
-        y: stave.top.saturating_add(260),
-    };
-    if span.width() >= 4 * COLUMN {
-        pen.label(
-            at,
-            Anchor::Middle,
-            Style::Text,
-            &[Word::Text("superframe "), number],
-        )
-    } else {
-        pen.label(at, Anchor::Middle, Style::Text, &[number])
-    }
+    let is_wide = span.width() >= 4 * COLUMN;
+    let text = if is_wide { "superframe #" } else { "#" };
+    let words = pen.phrase(text, &[Number(span.number)])?;
+    let at = place(span.middle(), stave.top.saturating_add(260));
+    pen.label(at, Anchor::Middle, Style::Text, words)
 }
 
 /// Draws the edition in front in the band below the lanes.
-pub fn draw_fronts<'a>(
-    alloc: Global,
-    ladder: &Ladder<'a>,
-    pen: &mut Pen<'a>,
-) -> Result<(), OutOfMemory> {
-    let spans = spans_of(alloc, ladder, Lasting::InFront)?;
-    for span in &spans {
-        draw_front(ladder, *span, pen)?;
+pub fn draw_fronts<'a>(alloc: Global, ladder: &Ladder<'a>, pen: &mut Pen<'a>) -> Drawn {
+    for span in &spans_of(alloc, ladder, Lasting::InFront)? {
+        if let Some(stave) = ladder.stave(span.stave) {
+            draw_front(ladder.heights.front_y(&stave), *span, pen)?;
+        }
     }
     Ok(())
 }
 
-fn draw_front<'a>(ladder: &Ladder<'a>, span: Span, pen: &mut Pen<'a>) -> Result<(), OutOfMemory> {
-    let Some(stave) = ladder.stave(span.stave) else {
-        return Ok(());
-    };
-    let y = ladder.front_y(&stave);
-    let shape = Shape::Rectangle(
-        Rect {
-            x: span.from,
-            y,
-            width: span.width(),
-            height: 280,
-        },
-        fill_of(span.number),
-    );
-    let at = Point {
-        x: span.middle(),
-        y: y.saturating_add(215),
-    };
-    let style = letters_upon(span.number);
-    let number = Word::Number(span.number);
-    let title = [
-        Word::Text("edition "),
-        number,
-        Word::Text(" is in front on board"),
-    ];
-    if span.width() >= 3 * COLUMN {
-        pen.marked(shape, at, style, &[Word::Text("edition "), number], &title)
-    } else {
-        pen.marked(shape, at, style, &[number], &title)
-    }
+fn draw_front(y: u64, span: Span, pen: &mut Pen<'_>) -> Drawn {
+    let band = rectangle(place(span.from, y), span.width(), 280, fill_of(span.number));
+    let is_wide = span.width() >= 3 * COLUMN;
+    let text = if is_wide { "edition #" } else { "#" };
+    let words = pen.phrase(text, &[Number(span.number)])?;
+    let title = pen.phrase("edition # is in front on board", &[Number(span.number)])?;
+    let at = place(span.middle(), y.saturating_add(215));
+    pen.marked(band, at, letters_upon(span.number), words, title)
 }
 
 // What a step tells of what lasts.
@@ -164,7 +107,7 @@ fn spans_of(
 ) -> Result<Vec<Span>, OutOfMemory> {
     let mut spans = Vec::new(alloc);
     let mut open: Option<Span> = None;
-    for placed in ladder.placed() {
+    for placed in &ladder.placed {
         open = carried(open, placed.stave, &mut spans)?;
         if let Some(number) = told(&placed.step, lasting) {
             open = changed(open, number, placed, &mut spans)?;
@@ -187,12 +130,7 @@ fn carried(
         return Ok(open);
     }
     close(open, RIGHT, spans)?;
-    Ok(Some(Span {
-        number: span.number,
-        stave,
-        from: LEFT,
-        to: LEFT,
-    }))
+    Ok(Some(begun(span.number, stave, LEFT)))
 }
 
 // Something else begins to last here, unless it is the same.
@@ -202,23 +140,27 @@ fn changed(
     placed: &Placed,
     spans: &mut Vec<Span>,
 ) -> Result<Option<Span>, OutOfMemory> {
-    if let Some(span) = open {
-        if span.number == number {
-            return Ok(open);
-        }
+    if open.is_some_and(|span| span.number == number) {
+        return Ok(open);
     }
-    let from = edge_of(placed);
-    close(open, from, spans)?;
-    Ok(Some(Span {
+    let edge = edge_of(placed);
+    close(open, edge, spans)?;
+    Ok(Some(begun(number, placed.stave, edge)))
+}
+
+// What begins to last at an edge.
+fn begun(number: u64, stave: usize, from: u64) -> Span {
+    let to = from;
+    Span {
         number,
-        stave: placed.stave,
+        stave,
         from,
-        to: from,
-    }))
+        to,
+    }
 }
 
 // Keeps what lasted up to here, unless that is nothing.
-fn close(open: Option<Span>, to: u64, spans: &mut Vec<Span>) -> Result<(), OutOfMemory> {
+fn close(open: Option<Span>, to: u64, spans: &mut Vec<Span>) -> Drawn {
     if let Some(span) = open {
         if span.from < to {
             spans.push(Span { to, ..span })?;

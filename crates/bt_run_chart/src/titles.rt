@@ -1,52 +1,110 @@
 // What is written at a message: short above its circle, in whole words beside the mouse.
-use crate::drawing::name_of;
-use crate::step::{Happening, Message, Said, Station, Status};
+use crate::drawing::{Pen, name_of};
+use crate::step::{Delivery, Happening, Message, Said, Station, Status};
 use bt_frame::OutOfMemory;
 use bt_net::Network;
 use bt_words::Word;
-use std::alloc::Global;
-
-// No word.
-const NOTHING: Word<'static> = Word::Text("");
+use bt_words::Word::{Number, Text};
 
 /// What stands above a message.
-pub fn label_words(said: Said) -> [Word<'static>; 4] {
+#[rattlefmt::skip]
+pub fn label_of<'a>(said: Said, pen: &Pen<'a>) -> Result<Vec<Word<'a>>, OutOfMemory> {
     match said {
-        Said::Load { edition } => numbered("load ", edition),
-        Said::Arm(change) => [
-            Word::Text("arm "),
-            Word::Number(change.edition),
-            Word::Text(" @"),
-            Word::Number(change.due),
-        ],
-        Said::Status(status) => numbered("status ", status.fore),
-        Said::Bursts { edition, .. } => numbered("bursts ", edition),
-        Said::Confirm { edition, .. } => numbered("confirm ", edition),
-        Said::Reference {
-            edition: Some(edition),
-            ..
-        } => numbered("ref ", edition),
-        Said::Reference { edition: None, .. } => worded("ref none"),
-        Said::Lost { .. } => worded("lost"),
+        Said::Load { edition }                           => pen.phrase("load #", &[Number(edition)]),
+        Said::Arm(change)                                => pen.phrase("arm # @#", &[Number(change.edition), Number(change.due)]),
+        Said::Status(status)                             => pen.phrase("status #", &[Number(status.fore)]),
+        Said::Bursts { edition, .. }                     => pen.phrase("bursts #", &[Number(edition)]),
+        Said::Confirm { edition, .. }                    => pen.phrase("confirm #", &[Number(edition)]),
+        Said::Reference { edition: Some(edition), .. }   => pen.phrase("ref #", &[Number(edition)]),
+        Said::Reference { edition: None, .. }            => pen.phrase("ref none", &[]),
+        Said::Lost { .. }                                => pen.phrase("lost", &[]),
     }
 }
 
 /// What stands above what happens to a station.
-pub fn happening_words(happening: Happening) -> [Word<'static>; 4] {
+#[rattlefmt::skip]
+pub fn happening_label<'a>(happening: Happening, pen: &Pen<'a>) -> Result<Vec<Word<'a>>, OutOfMemory> {
     match happening {
-        Happening::Restart => worded("restart"),
-        Happening::Reset => worded("reset"),
-        Happening::Back(edition) => numbered("back ", edition),
-        Happening::Ahead => worded("ahead"),
+        Happening::Restart       => pen.phrase("restart", &[]),
+        Happening::Reset         => pen.phrase("reset", &[]),
+        Happening::Back(edition) => pen.phrase("back #", &[Number(edition)]),
+        Happening::Ahead         => pen.phrase("ahead", &[]),
     }
 }
 
-fn numbered(text: &'static str, number: u64) -> [Word<'static>; 4] {
-    [Word::Text(text), Word::Number(number), NOTHING, NOTHING]
+/// What happens to a station, in words.
+#[rattlefmt::skip]
+pub fn happening_title<'a>(name: &'a str, happening: Happening, pen: &Pen<'a>) -> Result<Vec<Word<'a>>, OutOfMemory> {
+    match happening {
+        Happening::Restart       => pen.phrase("the # restarts", &[Text(name)]),
+        Happening::Reset         => pen.phrase("# restarts and holds nothing", &[Text(name)]),
+        Happening::Back(edition) => pen.phrase("the # is to go back to edition #", &[Text(name), Number(edition)]),
+        Happening::Ahead         => pen.phrase("the # is to bring the newest edition to the front again", &[Text(name)]),
+    }
 }
 
-fn worded(text: &'static str) -> [Word<'static>; 4] {
-    [Word::Text(text), NOTHING, NOTHING, NOTHING]
+/// What a message says, in words.
+#[rattlefmt::skip]
+pub fn message_title<'a>(net: &'a Network, message: Message, pen: &Pen<'a>) -> Result<Vec<Word<'a>>, OutOfMemory> {
+    let number = Number(message.number);
+    match message.said {
+        Said::Load { edition }          => pen.phrase("message #, load: the modes of edition # into the background", &[number, Number(edition)]),
+        Said::Arm(change)               => pen.phrase("message #, arm: edition # in front from superframe #", &[number, Number(change.edition), Number(change.due)]),
+        Said::Status(status)            => status_title(number, status, pen),
+        Said::Bursts { edition, to }    => pen.phrase("message #, bursts: those of edition # for #", &[number, Number(edition), Text(name_of(net, to))]),
+        Said::Confirm { edition, from } => pen.phrase("message #, confirm: # holds its bursts of edition #", &[number, Text(name_of(net, from)), Number(edition)]),
+        Said::Reference { .. } if message.sender == Station::Standby => reference_title("message #, reference burst of the standby, superframe #: edition # in force", message, pen),
+        Said::Reference { .. }          => reference_title("message #, reference burst of superframe #: edition # in force", message, pen),
+        Said::Lost { from }             => pen.phrase("message #, lost: # has restarted", &[number, Text(name_of(net, from))]),
+    }
+}
+
+// What the satellite says of itself, in words.
+#[rattlefmt::skip]
+fn status_title<'a>(number: Word<'a>, status: Status, pen: &Pen<'a>) -> Result<Vec<Word<'a>>, OutOfMemory> {
+    let (mark, fore, back, last) = (Number(status.mark), Number(status.fore), Number(status.back), Number(status.last));
+    match status.armed {
+        Some(change) => pen.phrase(
+            "message #, status of superframe #: edition # in front, # in the background, armed for edition # from superframe #, last command #",
+            &[number, mark, fore, back, Number(change.edition), Number(change.due), last],
+        ),
+        None => pen.phrase(
+            "message #, status of superframe #: edition # in front, # in the background, not armed, last command #",
+            &[number, mark, fore, back, last],
+        ),
+    }
+}
+
+// What a reference burst says, in the words for a known edition.
+fn reference_title<'a>(
+    text: &'a str,
+    message: Message,
+    pen: &Pen<'a>,
+) -> Result<Vec<Word<'a>>, OutOfMemory> {
+    let number = Number(message.number);
+    match message.said {
+        Said::Reference {
+            mark,
+            edition: Some(edition),
+        } => pen.phrase(text, &[number, Number(mark), Number(edition)]),
+        Said::Reference {
+            mark,
+            edition: None,
+        } => pen.phrase(text, &[number, Number(mark), Text("none")]),
+        _ => pen.phrase("message #", &[number]),
+    }
+}
+
+/// What came to a station, in words.
+pub fn delivery_title<'a>(
+    name: &'a str,
+    delivery: Delivery,
+    pen: &Pen<'a>,
+) -> Result<Vec<Word<'a>>, OutOfMemory> {
+    pen.phrase(
+        "message # came to #: #",
+        &[Number(delivery.number), Text(name), Text(delivery.answer)],
+    )
 }
 
 /// About how many twips wide words in small letters are.
@@ -61,128 +119,10 @@ pub fn width_of(words: &[Word<'_>]) -> u64 {
 // About how many letters a word has.
 fn letters_of(word: &Word<'_>) -> u64 {
     match word {
-        Word::Text(text) => text.len() as u64,
-        Word::Number(number) if *number < 10 => 1,
-        Word::Number(number) if *number < 100 => 2,
-        Word::Number(number) if *number < 1000 => 3,
+        Text(text) => text.len() as u64,
+        Number(number) if *number < 10 => 1,
+        Number(number) if *number < 100 => 2,
+        Number(number) if *number < 1000 => 3,
         _ => 7,
     }
-}
-
-/// All that a message says, in words.
-pub fn message_title<'a>(
-    alloc: Global,
-    net: &'a Network,
-    message: Message,
-    is_heard: bool,
-) -> Result<Vec<Word<'a>>, OutOfMemory> {
-    let mut title = Vec::from_slice(
-        alloc,
-        &[Word::Text("message "), Word::Number(message.number)],
-    )?;
-    add_said(net, message, &mut title)?;
-    if !is_heard {
-        title.push(Word::Text("; nobody heard it"))?;
-    }
-    Ok(title)
-}
-
-// Adds what a message says.
-fn add_said<'a>(
-    net: &'a Network,
-    message: Message,
-    title: &mut Vec<Word<'a>>,
-) -> Result<(), OutOfMemory> {
-    match message.said {
-        Said::Load { edition } => {
-            title.extend_from_slice(&[
-                Word::Text(", load: the modes of edition "),
-                Word::Number(edition),
-                Word::Text(" into the background"),
-            ])?;
-        }
-        Said::Arm(change) => {
-            title.extend_from_slice(&[
-                Word::Text(", arm: edition "),
-                Word::Number(change.edition),
-                Word::Text(" in front from superframe "),
-                Word::Number(change.due),
-            ])?;
-        }
-        Said::Status(status) => add_status(status, title)?,
-        Said::Bursts { edition, to } => {
-            title.extend_from_slice(&[
-                Word::Text(", bursts: those of edition "),
-                Word::Number(edition),
-                Word::Text(" for "),
-                Word::Text(name_of(net, to)),
-            ])?;
-        }
-        Said::Confirm { edition, from } => {
-            title.extend_from_slice(&[
-                Word::Text(", confirm: "),
-                Word::Text(name_of(net, from)),
-                Word::Text(" holds its bursts of edition "),
-                Word::Number(edition),
-            ])?;
-        }
-        Said::Reference { mark, edition } => add_reference(message.sender, mark, edition, title)?,
-        Said::Lost { from } => {
-            title.extend_from_slice(&[
-                Word::Text(", lost: "),
-                Word::Text(name_of(net, from)),
-                Word::Text(" has restarted"),
-            ])?;
-        }
-    }
-    Ok(())
-}
-
-// Adds what the satellite says of itself.
-fn add_status(status: Status, title: &mut Vec<Word<'_>>) -> Result<(), OutOfMemory> {
-    title.extend_from_slice(&[
-        Word::Text(", status of superframe "),
-        Word::Number(status.mark),
-        Word::Text(": edition "),
-        Word::Number(status.fore),
-        Word::Text(" in front, "),
-        Word::Number(status.back),
-        Word::Text(" in the background, "),
-    ])?;
-    if let Some(change) = status.armed {
-        title.extend_from_slice(&[
-            Word::Text("armed for edition "),
-            Word::Number(change.edition),
-            Word::Text(" from superframe "),
-            Word::Number(change.due),
-        ])?;
-    } else {
-        title.push(Word::Text("not armed"))?;
-    }
-    title.extend_from_slice(&[Word::Text(", last command "), Word::Number(status.last)])?;
-    Ok(())
-}
-
-// Adds what a reference burst says.
-fn add_reference(
-    sender: Station,
-    mark: u64,
-    edition: Option<u64>,
-    title: &mut Vec<Word<'_>>,
-) -> Result<(), OutOfMemory> {
-    let whose = if sender == Station::Standby {
-        ", reference burst of the standby, superframe "
-    } else {
-        ", reference burst of superframe "
-    };
-    title.extend_from_slice(&[Word::Text(whose), Word::Number(mark)])?;
-    match edition {
-        Some(edition) => title.extend_from_slice(&[
-            Word::Text(": edition "),
-            Word::Number(edition),
-            Word::Text(" in force"),
-        ])?,
-        None => title.push(Word::Text(": no edition known"))?,
-    }
-    Ok(())
 }

@@ -1,9 +1,9 @@
 // A run of many messages, counted by superframes.
-use crate::drawing::{Pen, fill_of, letters_upon};
-use crate::step::{Happening, Message, Said, Step};
+use crate::drawing::{Drawn, Pen, fill_of, letters_upon, place, rectangle};
+use crate::step::{Happening, Said, Step};
 use bt_frame::OutOfMemory;
-use bt_picture::{Anchor, Point, Rect, Shape, Style};
-use bt_words::Word;
+use bt_picture::{Anchor, Point, Style};
+use bt_words::Word::{Number, Text};
 use std::alloc::Global;
 
 // Twips from the left to the first column, of a column, and of a row.
@@ -23,7 +23,7 @@ const TOP: u64 = 1300;
 
 const BELOW: u64 = 13 * ROW;
 
-// The kinds of message, and what else is counted, from the top.
+// What the rows count, from the top: the kinds of message, and what else happens.
 const ROWS: [&str; 10] = [
     "load",
     "arm",
@@ -37,13 +37,6 @@ const ROWS: [&str; 10] = [
     "frames shown",
 ];
 
-// The row of what is no message.
-const RESTARTS: usize = 7;
-
-const RESETS: usize = 8;
-
-const FRAMES: usize = 9;
-
 // How often something was sent or happened, and how often it was heard.
 #[derive(Clone, Copy)]
 struct Count {
@@ -51,7 +44,7 @@ struct Count {
     heard: u64,
 }
 
-// What happened in some superframes.
+// What happened in some superframes, and the edition in front at their end.
 #[derive(Clone, Copy)]
 struct Total {
     first: u64,
@@ -60,44 +53,19 @@ struct Total {
     counts: [Count; 10],
 }
 
-impl Total {
-    fn of(mark: u64, fore: Option<u64>) -> Total {
-        Total {
-            first: mark,
-            last: mark,
-            fore,
-            counts: [Count { made: 0, heard: 0 }; 10],
-        }
-    }
-
-    // Counts one more.
-    fn made(&mut self, row: usize) {
-        if let Some(count) = self.counts.get_mut(row) {
-            count.made = count.made.saturating_add(1);
-        }
-    }
-
-    fn heard(&mut self, row: usize) {
-        if let Some(count) = self.counts.get_mut(row) {
-            count.heard = count.heard.saturating_add(1);
-        }
-    }
-}
-
-// What was counted so far.
+// What was counted so far: the row of each message, by its number, stands beside it.
 #[derive(Drop)]
 struct Tally {
     totals: Vec<Total>,
-    // The row of each message, by its number, and how many superframes began.
     rows: Vec<usize>,
     begun: usize,
 }
 
 impl Tally {
     // Counts a step; so many superframes share a total.
-    fn add(&mut self, step: Step, shared: usize) -> Result<(), OutOfMemory> {
+    fn add(&mut self, step: &Step, shared: usize) -> Drawn {
         if let Step::Begin(mark) = step {
-            self.begin(mark, shared)?;
+            self.begin(*mark, shared)?;
         }
         if let Step::Sent(message) = step {
             self.rows.push(row_of(message.said))?;
@@ -106,41 +74,64 @@ impl Tally {
             Step::Got(delivery) => self.rows.get(delivery.number as usize).copied(),
             _ => None,
         };
+        let made = made_row(step);
         if let Some(total) = self.totals.last_mut() {
-            make_count(total, step);
-            if let Some(row) = heard {
-                total.heard(row);
-            }
+            total.fore = fore_after(step, total.fore);
+            count_more(total, made, 1, 0);
+            count_more(total, heard, 0, 1);
         }
         Ok(())
     }
 
     // A superframe begins.
-    fn begin(&mut self, mark: u64, shared: usize) -> Result<(), OutOfMemory> {
+    fn begin(&mut self, mark: u64, shared: usize) -> Drawn {
         let fore = self.totals.last().and_then(|total| total.fore);
         let shares = self.begun % shared.max(1) != 0;
         self.begun = self.begun.saturating_add(1);
+        let counts = [Count { made: 0, heard: 0 }; 10];
         match self.totals.last_mut() {
             Some(total) if shares => total.last = mark,
-            _ => self.totals.push(Total::of(mark, fore))?,
+            _ => self.totals.push(Total {
+                first: mark,
+                last: mark,
+                fore,
+                counts,
+            })?,
         }
         Ok(())
     }
 }
 
-// Counts what a step makes.
-fn make_count(total: &mut Total, step: Step) {
+// Counts so many more in a row, where there is one.
+fn count_more(total: &mut Total, row: Option<usize>, made: u64, heard: u64) {
+    let Some(row) = row else {
+        return;
+    };
+    if let Some(counted) = total.counts.get_mut(row) {
+        counted.made = counted.made.saturating_add(made);
+        counted.heard = counted.heard.saturating_add(heard);
+    }
+}
+
+// The edition in front behind a step.
+fn fore_after(step: &Step, before: Option<u64>) -> Option<u64> {
     match step {
-        Step::Sent(Message { said, .. }) => {
-            total.made(row_of(said));
-            if let Said::Status(status) = said {
-                total.fore = Some(status.fore);
-            }
-        }
-        Step::Happened(_, Happening::Restart) => total.made(RESTARTS),
-        Step::Happened(_, Happening::Reset) => total.made(RESETS),
-        Step::Shown(_) => total.made(FRAMES),
-        _ => (),
+        Step::Sent(message) => match message.said {
+            Said::Status(status) => Some(status.fore),
+            _ => before,
+        },
+        _ => before,
+    }
+}
+
+// The row of what a step makes.
+fn made_row(step: &Step) -> Option<usize> {
+    match step {
+        Step::Sent(message) => Some(row_of(message.said)),
+        Step::Happened(_, Happening::Restart) => Some(7),
+        Step::Happened(_, Happening::Reset) => Some(8),
+        Step::Shown(_) => Some(9),
+        _ => None,
     }
 }
 
@@ -158,70 +149,57 @@ fn row_of(said: Said) -> usize {
 }
 
 /// Draws how often each kind of message was sent and heard in each superframe, and says how high the picture is.
-pub fn draw_totals<'a>(
-    alloc: Global,
-    steps: &[Step],
-    pen: &mut Pen<'a>,
-) -> Result<u64, OutOfMemory> {
+pub fn draw_totals(alloc: Global, steps: &[Step], pen: &mut Pen<'_>) -> Result<u64, OutOfMemory> {
+    let tally = tally_of(alloc, steps)?;
+    for (number, total) in tally.totals.iter().enumerate() {
+        let top = TOP.saturating_add(BELOW.saturating_mul((number / COLUMNS) as u64));
+        if number % COLUMNS == 0 {
+            name_rows(top, pen)?;
+        }
+        let left = COLUMN.saturating_mul((number % COLUMNS) as u64);
+        draw_total(total, place(LEFT.saturating_add(left), top), pen)?;
+    }
+    let rows = tally.totals.len().saturating_add(COLUMNS - 1) / COLUMNS;
+    Ok(TOP.saturating_add(BELOW.saturating_mul(rows as u64)))
+}
+
+// Counts the steps of a run.
+fn tally_of(alloc: Global, steps: &[Step]) -> Result<Tally, OutOfMemory> {
     let begun = steps
         .iter()
         .filter(|step| matches!(step, Step::Begin(_)))
         .count();
     let shared = (begun / MOST_COLUMNS).saturating_add(1);
+    let (totals, rows) = (Vec::new(alloc), Vec::new(alloc));
     let mut tally = Tally {
-        totals: Vec::new(alloc),
-        rows: Vec::new(alloc),
+        totals,
+        rows,
         begun: 0,
     };
     for step in steps {
-        tally.add(*step, shared)?;
+        tally.add(step, shared)?;
     }
-    write_heading(pen)?;
-    for (number, total) in tally.totals.iter().enumerate() {
-        draw_total(number, total, pen)?;
-    }
-    let below = tally.totals.len().saturating_add(COLUMNS - 1) / COLUMNS;
-    Ok(TOP.saturating_add(BELOW.saturating_mul(below as u64)))
+    Ok(tally)
 }
 
-// Says how the picture is read.
-fn write_heading(pen: &mut Pen<'_>) -> Result<(), OutOfMemory> {
-    let lines = [
-        (480, Style::Title, "What the run printed, by superframes"),
-        (
-            820,
-            Style::Text,
-            "Of each kind of message, how many were sent / how often one was heard; above them the edition in front on board at the end.",
-        ),
-    ];
-    for (y, style, text) in lines {
-        pen.label(
-            Point { x: 320, y },
-            Anchor::Start,
-            style,
-            &[Word::Text(text)],
-        )?;
+// Writes what each row counts.
+fn name_rows(top: u64, pen: &mut Pen<'_>) -> Drawn {
+    name_row(top, "superframe", pen)?;
+    name_row(top.saturating_add(ROW), "in front", pen)?;
+    for (row, name) in ROWS.iter().enumerate() {
+        name_row(row_y(top, row), name, pen)?;
     }
     Ok(())
 }
 
-// Draws the column of that number, from 0.
-fn draw_total<'a>(number: usize, total: &Total, pen: &mut Pen<'a>) -> Result<(), OutOfMemory> {
-    let y = TOP.saturating_add(BELOW.saturating_mul((number / COLUMNS) as u64));
-    let place = number % COLUMNS;
-    if place == 0 {
-        write_rows(y, pen)?;
-    }
-    let x = LEFT.saturating_add(COLUMN.saturating_mul(place as u64));
-    draw_superframes(total, Point { x, y }, pen)?;
-    for (row, counted) in total.counts.iter().enumerate() {
-        let at = Point {
-            x,
-            y: row_y(y, row),
-        };
-        draw_count(total, row, *counted, at, pen)?;
-    }
-    Ok(())
+fn name_row<'a>(y: u64, name: &'a str, pen: &mut Pen<'a>) -> Drawn {
+    let words = pen.phrase("#", &[Text(name)])?;
+    pen.label(
+        place(LEFT - 140, y.saturating_add(220)),
+        Anchor::End,
+        Style::Text,
+        words,
+    )
 }
 
 // Where a row begins.
@@ -229,130 +207,58 @@ fn row_y(top: u64, row: usize) -> u64 {
     top.saturating_add(ROW.saturating_mul((row as u64).saturating_add(2)))
 }
 
-// Writes what each row counts.
-fn write_rows(y: u64, pen: &mut Pen<'_>) -> Result<(), OutOfMemory> {
-    write_name(y, "superframe", pen)?;
-    write_name(y.saturating_add(ROW), "in front", pen)?;
-    for (row, name) in ROWS.iter().enumerate() {
-        write_name(row_y(y, row), name, pen)?;
+// Draws the column of a total, from its upper left corner.
+fn draw_total(total: &Total, at: Point, pen: &mut Pen<'_>) -> Drawn {
+    let above = place(at.x.saturating_add(COLUMN / 2), at.y.saturating_add(220));
+    let (first, last) = (Number(total.first), Number(total.last));
+    if total.first == total.last {
+        let words = pen.phrase("#", &[last])?;
+        pen.label(above, Anchor::Middle, Style::Head, words)?;
+    } else {
+        let words = pen.phrase("# to #", &[first, last])?;
+        pen.label(above, Anchor::Middle, Style::Small, words)?;
+    }
+    if let Some(fore) = total.fore {
+        draw_front(total.last, fore, place(at.x, at.y.saturating_add(ROW)), pen)?;
+    }
+    for (row, counted) in total.counts.iter().enumerate() {
+        draw_count(total, row, *counted, place(at.x, row_y(at.y, row)), pen)?;
     }
     Ok(())
 }
 
-fn write_name<'a>(y: u64, name: &'a str, pen: &mut Pen<'a>) -> Result<(), OutOfMemory> {
-    let at = Point {
-        x: LEFT - 140,
-        y: y.saturating_add(220),
-    };
-    pen.label(at, Anchor::End, Style::Text, &[Word::Text(name)])
-}
-
-// Draws the superframes of a column, and the edition in front at their end.
-fn draw_superframes<'a>(total: &Total, at: Point, pen: &mut Pen<'a>) -> Result<(), OutOfMemory> {
-    let middle = at.x.saturating_add(COLUMN / 2);
-    let above = Point {
-        x: middle,
-        y: at.y.saturating_add(220),
-    };
-    let (first, last) = (Word::Number(total.first), Word::Number(total.last));
-    if total.first == total.last {
-        pen.label(above, Anchor::Middle, Style::Head, &[first])?;
-    } else {
-        pen.label(
-            above,
-            Anchor::Middle,
-            Style::Small,
-            &[first, Word::Text(" to "), last],
-        )?;
-    }
-    let Some(fore) = total.fore else {
-        return Ok(());
-    };
-    let y = at.y.saturating_add(ROW);
-    let shape = Shape::Rectangle(
-        Rect {
-            x: at.x,
-            y,
-            width: COLUMN,
-            height: ROW,
-        },
-        fill_of(fore),
-    );
-    let inside = Point {
-        x: middle,
-        y: y.saturating_add(225),
-    };
-    let title = [
-        Word::Text("edition "),
-        Word::Number(fore),
-        Word::Text(" is in front at the end of superframe "),
-        last,
-    ];
-    pen.marked(
-        shape,
-        inside,
-        letters_upon(fore),
-        &[Word::Number(fore)],
-        &title,
-    )
+// Draws the edition in front at the end of a superframe.
+fn draw_front(mark: u64, fore: u64, at: Point, pen: &mut Pen<'_>) -> Drawn {
+    let cell = rectangle(at, COLUMN, ROW, fill_of(fore));
+    let inside = place(at.x.saturating_add(COLUMN / 2), at.y.saturating_add(225));
+    let words = pen.phrase("#", &[Number(fore)])?;
+    let title = pen.phrase(
+        "edition # is in front at the end of superframe #",
+        &[Number(fore), Number(mark)],
+    )?;
+    pen.marked(cell, inside, letters_upon(fore), words, title)
 }
 
 // Draws how often something was sent or happened.
-fn draw_count<'a>(
-    total: &Total,
-    row: usize,
-    counted: Count,
-    at: Point,
-    pen: &mut Pen<'a>,
-) -> Result<(), OutOfMemory> {
-    let rect = Rect {
-        x: at.x,
-        y: at.y,
-        width: COLUMN,
-        height: ROW,
-    };
+fn draw_count(total: &Total, row: usize, counted: Count, at: Point, pen: &mut Pen<'_>) -> Drawn {
     if counted.made == 0 && counted.heard == 0 {
-        return pen.shape(Shape::Rectangle(rect, Style::Shade));
+        return pen.shape(rectangle(at, COLUMN, ROW, Style::Shade));
     }
-    let shape = Shape::Rectangle(rect, Style::Band);
-    let inside = Point {
-        x: at.x.saturating_add(COLUMN / 2),
-        y: at.y.saturating_add(210),
-    };
-    let name = Word::Text(row_name(row));
-    let (made, heard) = (Word::Number(counted.made), Word::Number(counted.heard));
-    let (first, last) = (Word::Number(total.first), Word::Number(total.last));
-    if row < RESTARTS {
-        let title = [
-            name,
-            Word::Text(", superframes "),
-            first,
-            Word::Text(" to "),
-            last,
-            Word::Text(": "),
-            made,
-            Word::Text(" sent, heard "),
-            heard,
-            Word::Text(" times"),
-        ];
-        pen.marked(
-            shape,
-            inside,
-            Style::Small,
-            &[made, Word::Text(" / "), heard],
-            &title,
-        )
+    let cell = rectangle(at, COLUMN, ROW, Style::Band);
+    let inside = place(at.x.saturating_add(COLUMN / 2), at.y.saturating_add(210));
+    let (made, heard) = (Number(counted.made), Number(counted.heard));
+    let (name, first, last) = (Text(row_name(row)), Number(total.first), Number(total.last));
+    if row < 7 {
+        let words = pen.phrase("# / #", &[made, heard])?;
+        let title = pen.phrase(
+            "#, superframes # to #: # sent, heard # times",
+            &[name, first, last, made, heard],
+        )?;
+        pen.marked(cell, inside, Style::Small, words, title)
     } else {
-        let title = [
-            name,
-            Word::Text(", superframes "),
-            first,
-            Word::Text(" to "),
-            last,
-            Word::Text(": "),
-            made,
-        ];
-        pen.marked(shape, inside, Style::Small, &[made], &title)
+        let words = pen.phrase("#", &[made])?;
+        let title = pen.phrase("#, superframes # to #: #", &[name, first, last, made])?;
+        pen.marked(cell, inside, Style::Small, words, title)
     }
 }
 

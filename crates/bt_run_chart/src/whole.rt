@@ -4,7 +4,7 @@ ghost use Rattle.bt_net.specs.Terminals.{IsTerminal};
 ghost use Rattle.bt_run_chart.specs.RunPicture.{IsPictureBehind};
 
 use crate::air::{draw_air, draw_silences};
-use crate::drawing::{Pen, write_drawings};
+use crate::drawing::{Drawn, Pen, place, write_drawings};
 use crate::ladder::{Ladder, TOP};
 use crate::lanes::{Lanes, draw_lanes};
 use crate::messages::{draw_deliveries, draw_senders};
@@ -14,9 +14,32 @@ use crate::step::Step;
 use crate::totals::draw_totals;
 use bt_frame::{OutOfMemory, TermNo};
 use bt_net::Network;
-use bt_picture::{Anchor, Point, Style, write_foot, write_head};
-use bt_words::Word;
+use bt_picture::{Anchor, Style, write_foot, write_head};
 use std::alloc::Global;
+
+// The lines above a ladder, and those above totals, with how far from the top they stand.
+const LADDER_HEADING: [(u64, Style, &str); 3] = [
+    (480, Style::Title, "What the run printed"),
+    (
+        820,
+        Style::Text,
+        "A circle: a message with its number. An arrow: it was heard. A grey line: its hearer refused it. A cross: nobody heard it. A dot: a restart or an order.",
+    ),
+    (
+        1120,
+        Style::Text,
+        "Below the lanes: the edition in front on board, and the bursts on the air by uplink beam. A ring: the terminal holds its bursts and is silent.",
+    ),
+];
+
+const TOTALS_HEADING: [(u64, Style, &str); 2] = [
+    (480, Style::Title, "What the run printed, by superframes"),
+    (
+        820,
+        Style::Text,
+        "Of each kind of message, how many were sent / how often one was heard; above them the edition in front on board at the end.",
+    ),
+];
 
 // Twips from the left to the right edge of a picture.
 const WIDTH: u64 = 20_000;
@@ -46,16 +69,11 @@ pub fn run_picture(
 }
 
 // Appends a picture of that height.
-fn write_picture(
-    alloc: Global,
-    height: u64,
-    pen: &Pen<'_>,
-    out: &mut Vec<u8>,
-) -> Result<(), OutOfMemory>
+fn write_picture(alloc: Global, height: u64, pen: &Pen<'_>, out: &mut Vec<u8>) -> Drawn
     ensures { OnOk result (IsPictureBehind out.old.items out.new.items) }
 {
     write_head(alloc, WIDTH, height, out)?;
-    write_drawings(alloc, pen.drawings(), out)?;
+    write_drawings(alloc, pen.drawings.as_slice(), out)?;
     write_foot(out)?;
     Ok(())
 }
@@ -69,11 +87,17 @@ fn draw_run<'a>(
     pen: &mut Pen<'a>,
 ) -> Result<u64, OutOfMemory> {
     if count_messages(steps) > MOST_MESSAGES {
-        draw_totals(alloc, steps, pen)
-    } else {
-        let lanes = Lanes::of(alloc, steps, chosen)?;
-        draw_ladder(alloc, &Ladder::of(alloc, net, lanes, steps)?, pen)
+        write_heading(&TOTALS_HEADING, pen)?;
+        return draw_totals(alloc, steps, pen);
     }
+    write_heading(&LADDER_HEADING, pen)?;
+    let lanes = Lanes::of(alloc, steps, chosen)?;
+    let ladder = Ladder::of(alloc, net, lanes, steps)?;
+    draw_ladder(alloc, &ladder, pen)?;
+    Ok(match ladder.staves.last() {
+        Some(stave) => ladder.heights.bottom(stave).saturating_add(300),
+        None => TOP,
+    })
 }
 
 fn count_messages(steps: &[Step]) -> usize {
@@ -83,49 +107,22 @@ fn count_messages(steps: &[Step]) -> usize {
         .count()
 }
 
-// Draws a run from lane to lane.
-fn draw_ladder<'a>(
-    alloc: Global,
-    ladder: &Ladder<'a>,
-    pen: &mut Pen<'a>,
-) -> Result<u64, OutOfMemory> {
-    write_heading(pen)?;
+// Draws a run from lane to lane: what is drawn later lies upon the rest.
+fn draw_ladder<'a>(alloc: Global, ladder: &Ladder<'a>, pen: &mut Pen<'a>) -> Drawn {
     draw_superframes(alloc, ladder, pen)?;
     draw_fronts(alloc, ladder, pen)?;
     draw_lanes(ladder, pen)?;
     draw_air(ladder, pen)?;
     draw_deliveries(ladder, pen)?;
     draw_silences(alloc, ladder, pen)?;
-    draw_senders(alloc, ladder, pen)?;
-    let bottom = ladder
-        .staves()
-        .last()
-        .map_or(TOP, |stave| ladder.bottom(stave));
-    Ok(bottom.saturating_add(300))
+    draw_senders(alloc, ladder, pen)
 }
 
 // Says how the picture is read.
-fn write_heading(pen: &mut Pen<'_>) -> Result<(), OutOfMemory> {
-    let lines = [
-        (480, Style::Title, "What the run printed"),
-        (
-            820,
-            Style::Text,
-            "A circle: a message with its number. An arrow: it was heard. A grey line: its hearer refused it. A cross: nobody heard it. A dot: a restart or an order.",
-        ),
-        (
-            1120,
-            Style::Text,
-            "Below the lanes: the edition in front on board, and the bursts on the air by uplink beam. A ring: the terminal holds its bursts and is silent.",
-        ),
-    ];
+fn write_heading(lines: &[(u64, Style, &'static str)], pen: &mut Pen<'_>) -> Drawn {
     for (y, style, text) in lines {
-        pen.label(
-            Point { x: 320, y },
-            Anchor::Start,
-            style,
-            &[Word::Text(text)],
-        )?;
+        let words = pen.phrase(text, &[])?;
+        pen.label(place(320, *y), Anchor::Start, *style, words)?;
     }
     Ok(())
 }
