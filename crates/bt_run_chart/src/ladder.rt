@@ -27,8 +27,8 @@ pub const TOP: u64 = 1500;
 // Twips from the top of a stave to its first lane: the superframes and two rows of labels stand there.
 const ABOVE_LANES: u64 = 920;
 
-// Twips below the last lane.
-const BELOW_LANES: u64 = 320;
+// Twips below the last lane: two rows of labels stand there.
+const BELOW_LANES: u64 = 560;
 
 // Twips of the band of the edition in front, with what separates it from the rows of the air.
 const FRONT: u64 = 420;
@@ -71,7 +71,7 @@ pub struct Heights {
 impl Heights {
     /// Where a lane of a stave runs: lanes lie closer where there are many.
     pub fn lane_y(self, stave: &Stave, lane: usize) -> u64 {
-        let apart = if self.lanes <= 6 { 1060 } else { 760 };
+        let apart = if self.lanes <= 6 { 1060 } else { 800 };
         let below = (lane as u64).saturating_mul(apart);
         stave.top.saturating_add(ABOVE_LANES).saturating_add(below)
     }

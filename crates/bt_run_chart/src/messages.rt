@@ -60,26 +60,26 @@ fn draw_delivery<'a>(
 #[derive(Clone, Copy)]
 struct Shelf {
     stave: usize,
-    low: u64,
-    high: u64,
+    near: u64,
+    far: u64,
 }
 
 impl Shelf {
-    // The free row of labels, as twips above the lane; None where both are taken.
+    // The free row of labels, the nearer one first; None where both are taken.
     fn take(&mut self, placed: &Placed, width: u64) -> Option<u64> {
         if self.stave != placed.stave {
             self.stave = placed.stave;
-            self.low = 0;
-            self.high = 0;
+            self.near = 0;
+            self.far = 0;
         }
         let from = placed.x.saturating_sub(width / 2);
         let to = from.saturating_add(width);
-        if self.low <= from {
-            self.low = to;
-            Some(220)
-        } else if self.high <= from {
-            self.high = to;
-            Some(390)
+        if self.near <= from {
+            self.near = to;
+            Some(0)
+        } else if self.far <= from {
+            self.far = to;
+            Some(1)
         } else {
             None
         }
@@ -90,8 +90,8 @@ impl Shelf {
 pub fn draw_senders<'a>(alloc: Global, ladder: &Ladder<'a>, pen: &mut Pen<'a>) -> Drawn {
     let empty = Shelf {
         stave: 0,
-        low: 0,
-        high: 0,
+        near: 0,
+        far: 0,
     };
     let mut shelves = Vec::new(alloc);
     for _ in &ladder.lanes.stations {
@@ -117,41 +117,56 @@ fn draw_sender<'a>(
         return Ok(());
     };
     let at = place(placed.x, ladder.heights.lane_y(stave, lane));
-    let label = match placed.step {
+    let (label, side) = match placed.step {
         Step::Sent(message) => {
             draw_message(ladder, at, message, pen)?;
-            label_of(message.said, pen)?
+            (label_of(message.said, pen)?, side_of(message.said))
         }
         Step::Happened(_, happening) => {
             let title = happening_title(station_name(ladder.net, station), happening, pen)?;
             pen.titled(Shape::Dot(at, 100, Style::Fill(7)), title)?;
-            happening_label(happening, pen)?
+            (happening_label(happening, pen)?, Side::Above)
         }
         _ => return Ok(()),
     };
-    write_label(placed, at, label, shelves.get_mut(lane), pen)
+    let width = width_of(label.as_slice());
+    let row = shelves
+        .get_mut(lane)
+        .and_then(|shelf| shelf.take(placed, width));
+    write_label(at, side, row, label, pen)
 }
 
-// Writes the label of a step above its place, where one of the two rows there is free.
+// Where the label of a message stands. Its way goes to the other side.
+#[derive(Clone, Copy)]
+enum Side {
+    Above,
+    Below,
+}
+
+fn side_of(said: Said) -> Side {
+    match said {
+        Said::Status(_) | Said::Confirm { .. } | Said::Lost { .. } => Side::Below,
+        _ => Side::Above,
+    }
+}
+
+// Writes a label in a row of its lane, where one is free.
 fn write_label<'a>(
-    placed: &Placed,
     at: Point,
+    side: Side,
+    row: Option<u64>,
     words: Vec<Word<'a>>,
-    shelf: Option<&mut Shelf>,
     pen: &mut Pen<'a>,
 ) -> Drawn {
-    let Some(shelf) = shelf else {
+    let Some(row) = row else {
         return Ok(());
     };
-    let Some(row) = shelf.take(placed, width_of(words.as_slice())) else {
-        return Ok(());
+    let far = row.saturating_mul(165);
+    let y = match side {
+        Side::Above => at.y.saturating_sub(far.saturating_add(220)),
+        Side::Below => at.y.saturating_add(far.saturating_add(310)),
     };
-    pen.label(
-        place(at.x, at.y.saturating_sub(row)),
-        Anchor::Middle,
-        Style::Small,
-        words,
-    )
+    pen.label(place(at.x, y), Anchor::Middle, Style::Small, words)
 }
 
 // Draws a message, and its end where nobody heard it.
@@ -175,9 +190,9 @@ fn draw_message<'a>(ladder: &Ladder<'a>, at: Point, message: Message, pen: &mut 
 
 // Draws the way of a message that nobody heard: towards its hearers, with a cross at its end.
 fn draw_unheard(at: Point, message: Message, pen: &mut Pen<'_>) -> Drawn {
-    let y = match message.said {
-        Said::Status(_) | Said::Confirm { .. } | Said::Lost { .. } => at.y.saturating_sub(430),
-        _ => at.y.saturating_add(430),
+    let y = match side_of(message.said) {
+        Side::Above => at.y.saturating_add(430),
+        Side::Below => at.y.saturating_sub(430),
     };
     let end = place(at.x.saturating_add(220), y);
     pen.shape(Shape::Line(at, end, Style::Line))?;
