@@ -2,7 +2,7 @@
 use Rattle.std.proofs.Common.{◌≡◌, ℕ, ◌++◌, List, [], ◌∷◌, flat_map, ap, sym, ◌∙◌, append_assoc}
 use Rattle.std.proofs.lemmas.List.{append-nil}
 use Rattle.std.proofs.lemmas.List.Concat.{flat_map-append}
-use Rattle.bt_picture.specs.Picture.{Part, Picture, part_text, head_text, foot_text}
+use Rattle.bt_picture.specs.Picture.{Part, part_text, head_text, foot_text}
 use Rattle.bt_run_chart.specs.RunPicture.{AddsParts, IsPictureBehind}
 
 -- nothing was added
