@@ -5,7 +5,7 @@ use Rattle.bt_cli.specs.declared.command_line.CommandLine.{CommandLine}
 use Rattle.bt_cli.specs.declared.command_line.CommandLine.TheVariants as command
 use Rattle.bt_cli.specs.CommandLine.{asked}
 use Rattle.bt_centre.specs.Output.{Output}
-use Rattle.bt_cli.specs.Outcome.{Input}
+use Rattle.bt_load.specs.Outcome.{Input}
 use Rattle.bt_cli.specs.Request.{Request, ReplayJournal}
 use Rattle.bt_cli.specs.Replay.{EndsReplayWords}
 use Rattle.bt_cli.specs.Run.{End}

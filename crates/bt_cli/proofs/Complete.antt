@@ -25,9 +25,9 @@ use Rattle.bt_cli.specs.Check.{ChecksSchedule, Judges, verdict_status}
 use Rattle.bt_cli.specs.CheckPlan.{ChecksDemand, ChecksPlanText, JudgesPlan}
 use Rattle.bt_cli.specs.Complete.{IsDone, IsJudged, NothingFails, Serves, Spells, TellsChanges}
 use Rattle.bt_cli.specs.Fitting.{Fits, WhereItFits}
-use Rattle.bt_cli.specs.Kinds.{matrix_file, schedule_file, network_file, demand_file, plan_file, script_file, delay_file}
+use Rattle.bt_load.specs.Kinds.{matrix_file, schedule_file, network_file, demand_file, plan_file, script_file, delay_file}
 use Rattle.bt_cli.specs.Modes.{PrintsSchedule}
-use Rattle.bt_cli.specs.Outcome.{Outcome, Input, FilesFailed, IsContent, IsLoaded, Kind, Loads, PrintsOneOf, StopsAtLoad}
+use Rattle.bt_load.specs.Outcome.{Outcome, Input, FilesFailed, IsContent, IsLoaded, Kind, Loads, PrintsOneOf, StopsAtLoad}
 use Rattle.bt_cli.specs.Plans.{PlansDemand, PrintsPlan}
 use Rattle.bt_cli.specs.Replay.{EndsRecovery, EndsReplay, IsNotRecovered, NamesRecoverFault, PrintsState}
 use Rattle.bt_cli.specs.Request.{Request, Faulty, CheckModes, CheckPlan, PlanModes, PlanDemand, RunScript, ReplayJournal, PlanDrawn, TimeSends, PlanPart}
@@ -36,7 +36,8 @@ use Rattle.bt_cli.specs.Timing.{PrintsSends, TimesDelays, TimesDemand, TimesPlan
 use Rattle.bt_cli.specs.Trans.{PrintsPart, PrintsWhereItSuits, Suits}
 use Rattle.bt_cli.specs.Top.{Ends, Reports}
 use Rattle.bt_cli.proofs.OneJournal.{Laws, told}
-use Rattle.bt_cli.proofs.OneReport.{IsLoaded-same, Misspells-not_loaded, never_both, never_suits, not_longer}
+use Rattle.bt_load.proofs.OneLoad.{IsLoaded-same, Misspells-not_loaded, not_longer}
+use Rattle.bt_cli.proofs.OneReport.{never_both, never_suits}
 use Rattle.bt_cli.proofs.OneRun.{never_failed, whole_ended}
 
 -- ---- files

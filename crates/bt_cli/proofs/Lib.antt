@@ -1,4 +1,4 @@
-pub mod Loads
+pub mod Fitted
 pub mod Others
 pub mod OneReport
 pub mod Kept
@@ -8,7 +8,6 @@ pub mod OneReplay
 pub mod OneRun
 pub mod OneReportWith
 pub mod Printed
-pub mod Misspelt
 pub mod Named
 pub mod CommandWords
 pub mod Timed

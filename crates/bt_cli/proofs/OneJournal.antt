@@ -11,7 +11,7 @@ use Rattle.bt_history.specs.declared.fault.RecoverFault.TheVariants.{J1, J2, Sto
 use Rattle.bt_history.specs.Recovery.{IsFirstNoLine, IsFirstStray, IsRecoverFault, Recovered}
 use Rattle.bt_words.specs.Lines.{line_of}
 use Rattle.bt_centre.specs.Stored.{IsSteady, Stored}
-use Rattle.bt_cli.specs.Outcome.{Outcome, Says, text_alone}
+use Rattle.bt_load.specs.Outcome.{Outcome, Says, text_alone}
 use Rattle.bt_cli.specs.Replay.{NamesRecoverFault}
 
 -- the laws of demands and of journals

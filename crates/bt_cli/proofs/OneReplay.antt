@@ -8,12 +8,12 @@ use Rattle.bt_history.specs.Changes.{edition, newest, orders}
 use Rattle.bt_history.specs.Recovery.{Recovered}
 use Rattle.bt_timeline.specs.Replayed.{replay_lines}
 use Rattle.bt_centre.specs.Stored.{IsSteady, Stored}
-use Rattle.bt_cli.specs.Kinds.{network_file}
-use Rattle.bt_cli.specs.Outcome.{Outcome, Loads, text_alone}
+use Rattle.bt_load.specs.Kinds.{network_file}
+use Rattle.bt_load.specs.Outcome.{IsTold, Loads, Outcome, text_alone}
 use Rattle.bt_cli.specs.Replay.{PrintsJournal, PrintsState, Replays}
-use Rattle.bt_cli.specs.Top.{IsOneStore, IsTold}
-use Rattle.bt_cli.proofs.Loads.{Loads-among}
-use Rattle.bt_cli.proofs.OneReport.{IsOne, Loads-same, is_one}
+use Rattle.bt_cli.specs.Top.{IsOneStore}
+use Rattle.bt_load.proofs.Loads.{Loads-among}
+use Rattle.bt_load.proofs.OneLoad.{IsOne, Loads-same, is_one}
 use Rattle.bt_cli.proofs.OneJournal.{Comes, ComesOn, Laws, fault_comes, one_coming, told}
 
 comes : (net : Net) (held : List ℕ) (stored : Stored) (outcome : Outcome) → stored.before ≡ Some held → IsSteady stored → PrintsJournal stored net outcome → Comes (PrintsState net) net held outcome

@@ -1,6 +1,5 @@
 -- Where the files are told and no read failed, what is asked has one report.
 use Rattle.std.proofs.Common.{◌≡◌, ℕ, ◌<◌, ◌≤◌, ◌⊎◌, inl, inr, List, length, Option, Some, None, Result, Ok, Err, sym, ap, ◌∙◌, subst, arith}
-use Rattle.bt_outside.specs.Told.{Gives, IsLonger}
 use Rattle.bt_frame.specs.declared.schedule.Schedule.{Schedule}
 use Rattle.bt_verdict.specs.declared.verdict.Verdict.{Verdict}
 use Rattle.bt_verdict.specs.declared.verdict.Verdict.TheVariants.{Good}
@@ -20,81 +19,14 @@ use Rattle.bt_cli.specs.Plans.{PrintsPlan, PlansDemand}
 use Rattle.bt_cli.specs.Timing.{NamesVerdict, PrintsSends, TimesDelays, TimesDemand, TimesPlanText, WhereItIsGood}
 use Rattle.bt_words.specs.Lines.{line_of}
 use Rattle.bt_timeline.specs.Verdicts.{verdict_words}
-use Rattle.bt_cli.specs.Outcome.{Outcome, Kind, text_alone, IsContent, IsLoaded, Misspells, Loads}
-use Rattle.bt_cli.specs.Kinds.{matrix_file, schedule_file, network_file, demand_file, plan_file, delay_file}
+use Rattle.bt_load.specs.Outcome.{IsTold, Outcome, text_alone}
+use Rattle.bt_load.proofs.OneLoad.{AreAlike, IsOne, Loads-same, done_alike, is_one, same_alike}
+use Rattle.bt_load.specs.Kinds.{matrix_file, schedule_file, network_file, demand_file, plan_file, delay_file}
 use Rattle.bt_cli.specs.Check.{ChecksSchedule, Judges, verdict_status}
 use Rattle.bt_cli.specs.Modes.{PrintsSchedule}
 use Rattle.bt_cli.specs.Request.{Request, Faulty, CheckModes, CheckPlan, PlanModes, PlanDemand, RunScript, ReplayJournal, PlanDrawn, TimeSends, PlanPart}
 use Rattle.bt_cli.specs.Trans.{NamesSize, PrintsWhereItSuits, Suits}
-use Rattle.bt_cli.specs.Top.{Reports, IsTold, AreTold, IsOneReport}
-
--- a told file has one content
-pub one_content : (told : List ℕ → Option (List ℕ)) (name held bytes : List ℕ) → told name ≡ Some held → IsContent told name bytes → bytes ≡ held
-one_content told name held bytes is content = let P : Option (List ℕ) → Type 0 = λ o. Gives o bytes in subst P is content.0
-
--- a told file is longer than the limit
-pub held_longer : (told : List ℕ → Option (List ℕ)) (name held : List ℕ) → told name ≡ Some held → IsLonger (told name) 4194304 → 4194304 < length held
-held_longer told name held is longer = let P : Option (List ℕ) → Type 0 = λ o. IsLonger o 4194304 in subst P is longer
-
--- or it is within the limit
-pub held_within : (told : List ℕ → Option (List ℕ)) (name held bytes : List ℕ) → told name ≡ Some held → IsContent told name bytes → length held ≤ 4194304
-held_within told name held bytes is content = let P : List ℕ → Type 0 = λ b. length b ≤ 4194304 in subst P (one_content told name held bytes is content) content.1
-
--- what a reading gives for two contents of one told file
-pub one_reading : {Value Fault : Type 0} (reading : List ℕ → Result Value Fault) (told : List ℕ → Option (List ℕ)) (name held a b : List ℕ) → told name ≡ Some held → IsContent told name a → IsContent told name b → reading a ≡ reading b
-one_reading reading told name held a b is first second = ap reading (one_content told name held a is first ∙ sym (one_content told name held b is second))
-
--- equal readings have equal faults
-faults_same : {Value Fault : Type 0} (x y : Result Value Fault) (p q : Fault) → x ≡ Err p → y ≡ Err q → x ≡ y → p ≡ q
-faults_same x y p q first second both = cc
-
--- and equal values
-values_same : {Value Fault : Type 0} (x y : Result Value Fault) (v w : Value) → x ≡ Ok v → y ≡ Ok w → x ≡ y → v ≡ w
-values_same x y v w first second both = cc
-
--- a fault is no value
-fault_no_value : {Value Fault : Type 0} (x y : Result Value Fault) (p : Fault) (v : Value) → x ≡ Err p → y ≡ Ok v → x ≡ y → ⊥
-fault_no_value x y p v first second both = cc
-
--- two first faults of one text are one
-pub Misspells-same : {Value Fault : Type 0} (kind : Kind Value Fault) (told : List ℕ → Option (List ℕ)) (name held : List ℕ) → told name ≡ Some held → (a b : Outcome) → Misspells kind told name a → Misspells kind told name b → a ≡ b
-Misspells-same {Value} {Fault} kind told name held is a b (bytes, fault, content, wrong, says) (others, fault', content', wrong', says') =
-    let same : fault ≡ fault' = faults_same (kind.reading bytes) (kind.reading others) fault fault' wrong wrong' (one_reading kind.reading told name held bytes others is content content') in
-    says ∙ ap (λ (f : Fault). text_alone (line_of (kind.fault_words f)) kind.fault_status) same ∙ sym says'
-
--- a file that spells a value has no first fault
-pub Misspells-not_loaded : {Value Fault : Type 0} (kind : Kind Value Fault) (told : List ℕ → Option (List ℕ)) (name held : List ℕ) → told name ≡ Some held → (a : Outcome) (value : Value) → Misspells kind told name a → IsLoaded kind told name value → ⊥
-Misspells-not_loaded kind told name held is a value (bytes, fault, content, wrong, says) (others, content', right) =
-    fault_no_value (kind.reading bytes) (kind.reading others) fault value wrong right (one_reading kind.reading told name held bytes others is content content')
-
--- two values that one file spells are one
-pub IsLoaded-same : {Value Fault : Type 0} (kind : Kind Value Fault) (told : List ℕ → Option (List ℕ)) (name held : List ℕ) → told name ≡ Some held → (v w : Value) → IsLoaded kind told name v → IsLoaded kind told name w → v ≡ w
-IsLoaded-same kind told name held is v w (bytes, content, right) (others, content', right') =
-    values_same (kind.reading bytes) (kind.reading others) v w right right' (one_reading kind.reading told name held bytes others is content content')
-
--- a file that is too long has no content within the limit
-pub not_longer : (told : List ℕ → Option (List ℕ)) (name held bytes : List ℕ) → told name ≡ Some held → IsLonger (told name) 4194304 → IsContent told name bytes → ⊥
-not_longer told name held bytes is longer content =
-    let over = held_longer told name held is longer in
-    let within = held_within told name held bytes is content in
-    absurd (omega (arith, over, within))
-
--- A load of a told file that did not fail has one outcome, where what comes after it has one. What counts as one
--- outcome may be less than being the same.
-pub Loads-same : {Value Fault : Type 0} (One : Outcome → Outcome → Type 0) → ((a b : Outcome) → a ≡ b → One a b) → (kind : Kind Value Fault) (told : List ℕ → Option (List ℕ)) (name held : List ℕ) → told name ≡ Some held → (after : Value → Outcome → Type 0) → ((v : Value) (a b : Outcome) → after v a → after v b → One a b) → (a b : Outcome) → Loads kind told ⊥ name after a → Loads kind told ⊥ name after b → One a b
-Loads-same One one kind told name held is after same a b (inl (inl (inl failed))) second = absurd failed.0
-Loads-same One one kind told name held is after same a b first (inl (inl (inl failed))) = absurd failed.0
-Loads-same One one kind told name held is after same a b (inl (inl (inr long))) (inl (inl (inr long'))) = one a b (long.1 ∙ sym long'.1)
-Loads-same One one kind told name held is after same a b (inl (inl (inr long))) (inl (inr wrong)) = absurd (not_longer told name held wrong.0 is long.0 wrong.2)
-Loads-same One one kind told name held is after same a b (inl (inl (inr long))) (inr (v, loaded, so)) = absurd (not_longer told name held loaded.0 is long.0 loaded.1)
-Loads-same One one kind told name held is after same a b (inl (inr wrong)) (inl (inl (inr long))) = absurd (not_longer told name held wrong.0 is long.0 wrong.2)
-Loads-same One one kind told name held is after same a b (inl (inr wrong)) (inl (inr wrong')) = one a b (Misspells-same kind told name held is a b wrong wrong')
-Loads-same One one kind told name held is after same a b (inl (inr wrong)) (inr (v, loaded, so)) = absurd (Misspells-not_loaded kind told name held is a v wrong loaded)
-Loads-same One one kind told name held is after same a b (inr (v, loaded, so)) (inl (inl (inr long))) = absurd (not_longer told name held loaded.0 is long.0 loaded.1)
-Loads-same One one kind told name held is after same a b (inr (v, loaded, so)) (inl (inr wrong)) = absurd (Misspells-not_loaded kind told name held is b v wrong loaded)
-Loads-same {Value} One one kind told name held is after same a b (inr (v, loaded, so)) (inr (w, loaded', so')) =
-    let P : Value → Type 0 = λ x. after x b in
-    same v a b so (subst P (IsLoaded-same kind told name held is w v loaded' loaded) so')
+use Rattle.bt_cli.specs.Top.{Reports, AreTold, IsOneReport}
 
 -- a schedule has at most one verdict for a matrix
 abbrev pub OneVerdict : Type 0
@@ -145,29 +77,12 @@ WhereItFits-same lines sums One one net links after same a b (inl over) (inr (fi
 WhereItFits-same lines sums One one net links after same a b (inr (fits, so)) (inl over) = absurd (never_both net links b over fits)
 WhereItFits-same lines sums One one net links after same a b (inr (fits, so)) (inr (fits', so')) = same a b so so'
 
--- two outcomes of which each is as good as the other where its status is 0
-abbrev pub AreAlike : Outcome → Outcome → Type 0
-AreAlike a b = (a.status ≡ b.status) × ((a.status ≡ 0) ⊎ (a ≡ b))
-
-pub same_alike : (a b : Outcome) → a ≡ b → AreAlike a b
-same_alike a b same = (ap (λ (o : Outcome). o.status) same, inr same)
-
-pub done_alike : (a b : Outcome) → a.status ≡ 0 → b.status ≡ 0 → AreAlike a b
-done_alike a b first second = (first ∙ sym second, inl first)
-
 -- the laws of verdicts and of heaviest lines
 pub record Laws : Type 0 where
   pub verdict : OneVerdict
   pub plan_verdict : OnePlanVerdict
   pub line : OneLine
   pub sum : OneSum
-
--- outcomes that are the same are one
-abbrev pub IsOne : Outcome → Outcome → Type 0
-IsOne a b = a ≡ b
-
-pub is_one : (a b : Outcome) → a ≡ b → IsOne a b
-is_one a b same = same
 
 ChecksPlanText-same : Laws → (told : List ℕ → Option (List ℕ)) (plan held : List ℕ) → told plan ≡ Some held → (net : Net) (links : List Link) (a b : Outcome) → ChecksPlanText told ⊥ plan net links a → ChecksPlanText told ⊥ plan net links b → a ≡ b
 ChecksPlanText-same laws told plan held is net links =

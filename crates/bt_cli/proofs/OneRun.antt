@@ -18,13 +18,13 @@ use Rattle.bt_centre.specs.Output.{Output}
 use Rattle.bt_centre.specs.RecoverFaults.{PrintsFault, recover_line, recover_status, recover_words}
 use Rattle.bt_centre.specs.Run.{EndsFrom, RunsTo, RunsToRestart, RunsWhole, lost_in}
 use Rattle.bt_centre.specs.Stored.{IsSteady, Stored}
-use Rattle.bt_cli.specs.Kinds.{network_file, script_file}
-use Rattle.bt_cli.specs.Outcome.{Outcome, Loads, Says, text_alone}
+use Rattle.bt_load.specs.Kinds.{network_file, script_file}
+use Rattle.bt_load.specs.Outcome.{IsTold, Loads, Outcome, Says, text_alone}
 use Rattle.bt_cli.specs.Run.{PrintsRun, Runs, RunsScript, sink_with}
-use Rattle.bt_cli.specs.Top.{IsOneStore, IsTold}
+use Rattle.bt_cli.specs.Top.{IsOneStore}
 use Rattle.bt_cli.proofs.Kept.{kept_status}
-use Rattle.bt_cli.proofs.Loads.{Loads-among}
-use Rattle.bt_cli.proofs.OneReport.{AreAlike, Loads-same, done_alike, same_alike}
+use Rattle.bt_load.proofs.Loads.{Loads-among}
+use Rattle.bt_load.proofs.OneLoad.{AreAlike, Loads-same, done_alike, same_alike}
 use Rattle.bt_cli.proofs.NamedFaults.{named}
 use Rattle.bt_cli.proofs.OneJournal.{Comes, ComesOn, Laws, fault_comes, one_coming, told}
 

@@ -12,13 +12,13 @@ use Rattle.bt_centre.specs.Output.{Output}
 use Rattle.bt_centre.specs.RecoverFaults.{PrintsFault, recover_line, recover_status}
 use Rattle.bt_centre.specs.Run.{EndsFrom, RunsFrom, RunsNothing, RunsTo, RunsToRestart, RunsWhole, first_line, has_lost, status_after, whole_text}
 use Rattle.bt_centre.specs.Stored.{Stored}
-use Rattle.bt_cli.specs.Kinds.{network_file, script_file}
-use Rattle.bt_cli.specs.Outcome.{Outcome, Input, FilesFailed, IsLoaded, StopsAtLoad, PrintsOneOf, text_alone}
+use Rattle.bt_load.specs.Kinds.{network_file, script_file}
+use Rattle.bt_load.specs.Outcome.{Outcome, Input, FilesFailed, IsLoaded, StopsAtLoad, PrintsOneOf, text_alone}
 use Rattle.bt_cli.specs.Request.{Request, Faulty, CheckModes, CheckPlan, PlanModes, PlanDemand, RunScript, ReplayJournal, PlanDrawn, TimeSends, PlanPart}
 use Rattle.bt_cli.specs.Replay.{EndsReplay, NamesRecoverFault, PrintsState, Replays}
 use Rattle.bt_cli.specs.Run.{End, EndsRun, EndsScript, PrintsRun, Runs, RunsScript, sink_with}
 use Rattle.bt_cli.specs.Top.{ReportsWith, Ends}
-use Rattle.bt_cli.proofs.Loads.{PrintsOneOf-among, StopsAtLoad-moved}
+use Rattle.bt_load.proofs.Loads.{PrintsOneOf-among, StopsAtLoad-moved}
 
 -- what the files tell, with their faults from one moment to another
 abbrev input_from : (List ℕ → Option (List ℕ)) → ℕ → ℕ → Input

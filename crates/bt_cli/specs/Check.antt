@@ -5,8 +5,8 @@ use Rattle.bt_verdict.specs.declared.verdict.Verdict.{Verdict}
 use Rattle.bt_verdict.specs.declared.verdict.Verdict.TheVariants.{Good}
 use Rattle.bt_verdict.specs.Verdict.{IsVerdict}
 use Rattle.bt_timeline.specs.Verdicts.{verdict_words}
-use Rattle.bt_cli.specs.Kinds.{matrix_file, schedule_file}
-use Rattle.bt_cli.specs.Outcome.{Outcome, Loads, Says}
+use Rattle.bt_load.specs.Kinds.{matrix_file, schedule_file}
+use Rattle.bt_load.specs.Outcome.{Outcome, Loads, Says}
 
 -- 0 where the verdict is good, and else 9
 abbrev pub verdict_status : Verdict → ℕ

@@ -17,8 +17,8 @@ use Rattle.bt_centre.specs.Stored.{IsSteady, Stored}
 use Rattle.bt_timing.specs.Times.{Times}
 use Rattle.bt_cli.specs.Check.{verdict_status}
 use Rattle.bt_cli.specs.Fitting.{Fits}
-use Rattle.bt_cli.specs.Kinds.{matrix_file, schedule_file, network_file, demand_file, plan_file, script_file, delay_file}
-use Rattle.bt_cli.specs.Outcome.{Input, FilesFailed, Kind}
+use Rattle.bt_load.specs.Kinds.{matrix_file, schedule_file, network_file, demand_file, plan_file, script_file, delay_file}
+use Rattle.bt_load.specs.Outcome.{Input, FilesFailed, Kind}
 use Rattle.bt_cli.specs.Trans.{Suits}
 use Rattle.bt_cli.specs.Request.{Request, Faulty, CheckModes, CheckPlan, PlanModes, PlanDemand, RunScript, ReplayJournal, PlanDrawn, TimeSends, PlanPart}
 

@@ -6,7 +6,7 @@ use Rattle.bt_net.specs.Network.{Net}
 use Rattle.bt_matrix.specs.Traffic.{IsHeaviest}
 use Rattle.bt_demand.specs.declared.demand.Link.{Link}
 use Rattle.bt_demand.specs.Traffic.{matrix_of, HasSumsTo}
-use Rattle.bt_cli.specs.Outcome.{Outcome, Says}
+use Rattle.bt_load.specs.Outcome.{Outcome, Says}
 
 -- no line of the demand's matrix asks for more than the slots of a frame
 abbrev pub Fits : Net → List Link → Type 0

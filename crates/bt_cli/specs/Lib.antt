@@ -1,9 +1,3 @@
-pub mod Lines
-pub mod Outcome
-pub mod Kinds
-pub mod Report
-pub mod Stops
-pub mod Printing
 pub mod Request
 pub mod CommandLine
 pub mod Check

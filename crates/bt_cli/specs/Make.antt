@@ -11,7 +11,7 @@ use Rattle.bt_demand.specs.Traffic.{matrix_of}
 use Rattle.bt_make.specs.Made.{IsMade}
 use Rattle.bt_words.specs.Lines.{line_of}
 use Rattle.bt_centre.specs.Output.{Output}
-use Rattle.bt_cli.specs.Outcome.{Outcome, text_alone, PrintsOneOf}
+use Rattle.bt_load.specs.Outcome.{Outcome, text_alone, PrintsOneOf}
 use Rattle.bt_cli.specs.Request.{Request, PlanDrawn}
 
 -- the slots that all links ask for together

@@ -4,8 +4,8 @@ use Rattle.bt_frame.specs.declared.schedule.Schedule.{Schedule}
 use Rattle.bt_matrix.specs.Traffic.{IsHeaviest}
 use Rattle.bt_matrix.specs.Good.{IsGood}
 use Rattle.bt_plan.specs.ScheduleSpelling.{schedule_spelling}
-use Rattle.bt_cli.specs.Kinds.{matrix_file}
-use Rattle.bt_cli.specs.Outcome.{Outcome, text_alone, Loads}
+use Rattle.bt_load.specs.Kinds.{matrix_file}
+use Rattle.bt_load.specs.Outcome.{Outcome, text_alone, Loads}
 
 -- the text of a schedule that is good for the matrix, with the first of its heaviest lines, and nothing else
 abbrev pub PrintsSchedule : List (List ℕ) → Outcome → Type 0

@@ -9,8 +9,8 @@ use Rattle.bt_demand.specs.Plan.{IsGoodPlan}
 use Rattle.bt_plan.specs.PlanSpelling.{plan_spelling}
 use Rattle.bt_demand.specs.Traffic.{matrix_of}
 use Rattle.bt_cli.specs.Fitting.{WhereItFits}
-use Rattle.bt_cli.specs.Kinds.{network_file, demand_file}
-use Rattle.bt_cli.specs.Outcome.{Outcome, text_alone, Loads}
+use Rattle.bt_load.specs.Kinds.{network_file, demand_file}
+use Rattle.bt_load.specs.Outcome.{Outcome, text_alone, Loads}
 
 -- the text of a good plan of edition 1, with its bursts in order and the first of the heaviest lines, and nothing else
 pub record PrintsPlan (net : Net) (links : List Link) (outcome : Outcome) : Type 0 where

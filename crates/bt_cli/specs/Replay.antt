@@ -11,8 +11,8 @@ use Rattle.bt_timeline.specs.Replayed.{replay_lines}
 use Rattle.bt_centre.specs.Output.{Output}
 use Rattle.bt_centre.specs.RecoverFaults.{recover_status, recover_words}
 use Rattle.bt_centre.specs.Stored.{IsAsGiven, Stored}
-use Rattle.bt_cli.specs.Kinds.{network_file}
-use Rattle.bt_cli.specs.Outcome.{Outcome, Input, FilesFailed, IsLoaded, Loads, PrintsOneOf, Says, StopsAtLoad, text_alone}
+use Rattle.bt_load.specs.Kinds.{network_file}
+use Rattle.bt_load.specs.Outcome.{Outcome, Input, FilesFailed, IsLoaded, Loads, PrintsOneOf, Says, StopsAtLoad, text_alone}
 use Rattle.bt_cli.specs.Request.{Request, ReplayJournal}
 use Rattle.bt_cli.specs.Run.{End}
 

@@ -7,8 +7,8 @@ use Rattle.bt_centre.specs.declared.history.History.{History}
 use Rattle.bt_centre.specs.Output.{Output}
 use Rattle.bt_centre.specs.Run.{RunsTo}
 use Rattle.bt_centre.specs.Stored.{IsAsGiven, Stored}
-use Rattle.bt_cli.specs.Kinds.{network_file, script_file}
-use Rattle.bt_cli.specs.Outcome.{Outcome, Input, FilesFailed, IsLoaded, Loads, StopsAtLoad, PrintsOneOf}
+use Rattle.bt_load.specs.Kinds.{network_file, script_file}
+use Rattle.bt_load.specs.Outcome.{Outcome, Input, FilesFailed, IsLoaded, Loads, StopsAtLoad, PrintsOneOf}
 
 -- what the top call gives back beside the store: the status, and the histories and the events of a run
 pub record End : Type 0 where

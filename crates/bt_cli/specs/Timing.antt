@@ -14,8 +14,8 @@ use Rattle.bt_timing.specs.Times.{Times, AreTimes}
 use Rattle.bt_timing.specs.SendsText.{sends_spelling}
 use Rattle.bt_timeline.specs.Verdicts.{verdict_words}
 use Rattle.bt_cli.specs.Fitting.{WhereItFits}
-use Rattle.bt_cli.specs.Kinds.{network_file, demand_file, plan_file, delay_file}
-use Rattle.bt_cli.specs.Outcome.{Outcome, text_alone, Loads, Says}
+use Rattle.bt_load.specs.Kinds.{network_file, demand_file, plan_file, delay_file}
+use Rattle.bt_load.specs.Outcome.{Outcome, text_alone, Loads, Says}
 
 -- the plan is not good, and what is wrong with it first is named, for links that are a demand
 pub record NamesVerdict (net : Net) (links : List Link) (plan : Plan) (outcome : Outcome) : Type 0 where

@@ -1,7 +1,7 @@
 -- The promise of the whole program: what it prints and the status that it ends with, for each command.
 use Rattle.std.specs.Prelude.{◌≡◌, ℕ, ◌⊎◌, List, [], ◌∷◌, codes, Option, Some}
 use Rattle.bt_centre.specs.Output.{Output}
-use Rattle.bt_cli.specs.Outcome.{Outcome, Input, FilesFailed, Says, PrintsOneOf}
+use Rattle.bt_load.specs.Outcome.{Outcome, Input, FilesFailed, IsTold, Says, PrintsOneOf}
 use Rattle.bt_cli.specs.Request.{Request, Faulty, CheckModes, CheckPlan, PlanModes, PlanDemand, RunScript, ReplayJournal, PlanDrawn, TimeSends, PlanPart}
 use Rattle.bt_cli.specs.Check.{ChecksModes}
 use Rattle.bt_cli.specs.CheckPlan.{ChecksPlan}
@@ -66,10 +66,6 @@ Ends input output stored (PlanDrawn beams seed) end = EndsAlone input output sto
 Ends input output stored (PlanPart transponders matrix) end = EndsAlone input output stored (PlanPart transponders matrix) end
 Ends input output stored (RunScript net script _) end = EndsRun input output stored net script end
 Ends input output stored (ReplayJournal net _) end = HasReplayed input output stored net end
-
--- the file of that name is told
-abbrev pub IsTold : (List ℕ → Option (List ℕ)) → List ℕ → Type 0
-IsTold told name = (held : List ℕ) × (told name ≡ Some held)
 
 -- the files that are asked for are told
 abbrev pub AreTold : (List ℕ → Option (List ℕ)) → Request → Type 0

@@ -5,8 +5,8 @@ use Rattle.bt_trans.specs.declared.part.TheConstants.{MOST_PART_BEAMS}
 use Rattle.bt_trans.specs.declared.part.PartSchedule.{PartSchedule}
 use Rattle.bt_trans.specs.Part.{IsGoodPart, IsNamed}
 use Rattle.bt_trans.specs.PartText.{part_spelling}
-use Rattle.bt_cli.specs.Kinds.{matrix_file}
-use Rattle.bt_cli.specs.Outcome.{Outcome, Loads, Says, text_alone}
+use Rattle.bt_load.specs.Kinds.{matrix_file}
+use Rattle.bt_load.specs.Outcome.{Outcome, Loads, Says, text_alone}
 
 -- the matrix has as many beams as there are transponders at least, and no more than a schedule is made for
 abbrev pub Suits : ℕ → List (List ℕ) → Type 0

@@ -1,14 +1,14 @@
 // Does a demand fit the slots of a frame?
 ghost use Rattle.std.specs.Prelude.{IfErr, OnOk};
 ghost use Rattle.bt_demand.specs.Traffic.{matrix_of, AreOfNetwork, HasSumsTo};
-ghost use Rattle.bt_cli.specs.Report.{StopIs};
+ghost use Rattle.bt_load.specs.Report.{StopIs};
 ghost use Rattle.bt_cli.specs.Fitting.{overload_words, Fits, NamesOverload};
-ghost use Rattle.bt_cli.specs.Outcome.{Says};
+ghost use Rattle.bt_load.specs.Outcome.{Says};
 
-use crate::report::Stop;
 use bt_centre::FAULTY_TEXT;
 use bt_demand::{Demand, traffic_of};
 use bt_frame::Critical;
+use bt_load::Stop;
 use bt_matrix::{MOST_SUM, Traffic};
 use bt_net::Network;
 use bt_words::Word;

@@ -15,7 +15,7 @@ ghost use Rattle.bt_cli.specs.Check.{Judges};
 ghost use Rattle.bt_cli.specs.CheckPlan.{JudgesPlan};
 ghost use Rattle.bt_cli.specs.Complete.{NothingFails, Serves};
 ghost use Rattle.bt_cli.specs.Fitting.{Fits};
-ghost use Rattle.bt_cli.specs.Outcome.{FilesFailed, Input, Outcome, PrintsOneOf, Says, text_alone};
+ghost use Rattle.bt_load.specs.Outcome.{FilesFailed, Input, Outcome, PrintsOneOf, Says, text_alone};
 ghost use Rattle.bt_cli.specs.Plans.{PrintsPlan};
 ghost use Rattle.bt_cli.specs.Request.{Request};
 ghost use Rattle.bt_centre.specs.Output.{Output};

@@ -1,28 +1,23 @@
 //! The commands of the program, and the top call that carries its promise.
 //!
-//! It stands on the readers of files, on the planners and checkers, on the book and what its store tells (`bt_book`), on
-//! the run of scripts over a store (`bt_centre`) and on the printed lines (`bt_timeline`). Promises: `specs/Top.antt` says
-//! how the program ends and what it leaves in the store, case by case in the order of the work, and the files that it names
-//! say so of each command; `specs/Outcome.antt` has their words and `specs/Lines.antt` the lines of faults. For bodies
-//! alone: `Report`, `CommandLine`, `Printing` and `Stops`.
+//! It stands on the loader of files and on what a report is (`bt_load`), on the planners and checkers, on the book and what
+//! its store tells (`bt_book`), on the run of scripts over a store (`bt_centre`) and on the printed lines (`bt_timeline`).
+//! Promises: `specs/Top.antt` says how the program ends and what it leaves in the store, case by case in the order of the
+//! work, and the files that it names say so of each command, in the words of `bt_load`'s `specs/Outcome.antt`. For bodies
+//! alone: `CommandLine`.
 #![tactic(auto)]
 
 mod check;
 mod check_plan;
 mod command_line;
-mod faulty;
 mod fit;
 mod laws;
-mod load;
 mod make;
 mod modes;
 mod number_word;
 mod plan;
-mod print;
 mod replay;
-mod report;
 mod run;
-mod stops;
 mod summary;
 mod timing;
 mod top;

@@ -2,18 +2,18 @@
 ghost use Rattle.std.specs.Prelude.{◌≡◌, map, codes, IfOk};
 ghost use Rattle.std.specs.String.{string_bytes};
 ghost use Rattle.bt_cli.specs.Make.{AnswersPlan, PrintsSummary, Summarizes};
-ghost use Rattle.bt_cli.specs.Outcome.{Input, PrintsOneOf, text_alone};
+ghost use Rattle.bt_load.specs.Outcome.{Input, PrintsOneOf, text_alone};
 ghost use Rattle.bt_cli.specs.Request.{PlanDrawn, first_word, request_of};
 ghost use Rattle.bt_cli.specs.Top.{Reported};
 
 use crate::command_line::{CommandLine, command_line_of};
-use crate::faulty::print_faulty_words;
 use crate::number_word::BeamCount;
 use crate::summary::summary_text;
 use bt_centre::{DONE, OUT_OF_MEMORY, print_text};
 use bt_cut::make_plan_for;
 use bt_demand::Plan;
 use bt_frame::{EditionNo, OutOfMemory};
+use bt_load::print_faulty_words;
 use bt_make::make_demand;
 use bt_net::Network;
 use bt_outside::Sink;

@@ -3,16 +3,13 @@ ghost use Rattle.std.specs.Prelude.{◌≡◌, map, codes};
 ghost use Rattle.std.specs.String.{string_bytes};
 ghost use Rattle.bt_outside.specs.Told.{Rose};
 ghost use Rattle.bt_cli.specs.Modes.{PrintsModes, PrintsSchedule};
-ghost use Rattle.bt_cli.specs.Printing.{CameTo};
+ghost use Rattle.bt_load.specs.Printing.{CameTo};
 ghost use Rattle.bt_cli.specs.Request.{first_word, request_of};
 ghost use Rattle.bt_cli.specs.Top.{Reported, Reports};
 
 use crate::command_line::{CommandLine, command_line_of};
-use crate::faulty::faulty_words;
-use crate::load::load_matrix;
-use crate::print::print;
-use crate::report::{Report, Stop};
 use bt_centre::DONE;
+use bt_load::{Report, Stop, faulty_words, load_matrix, print};
 use bt_matrix::Dense;
 use bt_outside::{Files, Sink};
 use bt_plan::schedule_text;

@@ -3,9 +3,8 @@ ghost use Rattle.std.specs.Prelude.{◌≤◌};
 ghost use Rattle.bt_cli.specs.Run.{EndsRun, EndsScript};
 
 use crate::Ended;
-use crate::load::{load_network, load_script};
-use crate::print::print;
 use bt_centre::{NoGate, run_script};
+use bt_load::{load_network, load_script, print};
 use bt_net::Network;
 use bt_outside::{Files, Keeper, Sink};
 use std::alloc::Global;

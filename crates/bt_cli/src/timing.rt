@@ -9,22 +9,21 @@ ghost use Rattle.bt_timing.specs.Times.{AreTimes};
 ghost use Rattle.bt_verdict.specs.PlanVerdict.{AreBetweenTerminals};
 ghost use Rattle.bt_timeline.specs.Verdicts.{CanName, verdict_words};
 ghost use Rattle.bt_cli.specs.Fitting.{Fits, WhereItFits};
-ghost use Rattle.bt_cli.specs.Outcome.{Says};
-ghost use Rattle.bt_cli.specs.Printing.{CameTo};
-ghost use Rattle.bt_cli.specs.Report.{StopIs};
+ghost use Rattle.bt_load.specs.Outcome.{Says};
+ghost use Rattle.bt_load.specs.Printing.{CameTo};
+ghost use Rattle.bt_load.specs.Report.{StopIs};
 ghost use Rattle.bt_cli.specs.Request.{first_word, request_of};
 ghost use Rattle.bt_cli.specs.Timing.{NamesVerdict, PrintsSends, TimesDelays, TimesDemand, TimesPlanText, TimesSends, WhereItIsGood};
 ghost use Rattle.bt_cli.specs.Top.{Reported, Reports};
 
 use crate::check_plan::verdict_on;
 use crate::command_line::{CommandLine, command_line_of};
-use crate::faulty::faulty_words;
 use crate::fit::test_fit;
-use crate::load::{load_delays, load_demand, load_network, load_plan};
-use crate::print::print;
-use crate::report::{Report, Stop};
 use bt_centre::{DONE, NOT_GOOD};
 use bt_demand::{Demand, Plan};
+use bt_load::{
+    Report, Stop, faulty_words, load_delays, load_demand, load_network, load_plan, print,
+};
 use bt_matrix::MOST_SUM;
 use bt_net::Network;
 use bt_outside::{Files, Sink};

@@ -6,7 +6,6 @@ ghost use Rattle.bt_cli.specs.Top.{AsksNoStore, Ends, Reported};
 
 use crate::check::check_command;
 use crate::command_line::{CommandLine, command_line_of};
-use crate::faulty::print_faulty_words;
 use crate::make::make_command;
 use crate::modes::modes_command;
 use crate::plan::plan_command;
@@ -16,6 +15,7 @@ use crate::timing::timing_command;
 use crate::trans::trans_command;
 use bt_air::Event;
 use bt_centre::{Histories, RunEnd};
+use bt_load::print_faulty_words;
 use bt_outside::{Files, Keeper, Sink};
 use std::alloc::Global;
 use std::sync::Wait;

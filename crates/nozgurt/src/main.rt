@@ -1,17 +1,18 @@
 //! The program: it makes the real files, the output and the store, and hands its words to the top call.
 //!
-//! It stands on the real adapters (`bt_outside`, and `bt_disk` for the store) and on the top call (`bt_cli`).
+//! It stands on the real adapters (`bt_outside`, and `bt_disk` for the store), on the words of a command line (`bt_load`) and
+//! on the top call (`bt_cli`).
 #![tactic(auto)]
 
 mod pages;
 
 use bt_cli::{DONE, OUT_OF_MEMORY, centre_main, print_text};
 use bt_disk::{FileDisk, LineKeeper};
+use bt_load::words_after_name;
 use bt_outside::{DirFiles, StdSink};
 use std::alloc::{AllocError, Global};
 use std::env::Env;
 use std::process::ExitCode;
-use std::{env, io};
 
 fn main(rt: HostRuntime) -> ExitCode {
     let alloc = rt.alloc();
@@ -39,18 +40,9 @@ fn asked<R: Env + Alloc<A = Global>>(
     rt: &R,
     alloc: Global,
 ) -> Result<(Vec<String>, String), AllocError> {
-    let words = words(rt, alloc)?;
+    let words = words_after_name(rt, alloc)?;
     let journal = String::from_str(alloc, journal_of(&words))?;
     Ok((words, journal))
-}
-
-/// The words after the program's name; none where one of them is no text, since no command has such a word.
-fn words<R: Env + Alloc<A = Global>>(rt: &R, alloc: Global) -> Result<Vec<String>, AllocError> {
-    match env::args(rt) {
-        Ok(words) => words.skip(1).collect(alloc),
-        Err(e) if e.kind() == io::ErrorKind::OutOfMemory => Err(AllocError),
-        Err(_) => Ok(Vec::new(alloc)),
-    }
 }
 
 /// The file of the journal that a run or a replay asks for. Any other words have none, which is never opened: the top call

@@ -1,9 +1,9 @@
 -- the second load is told of its own start, which is after the first load
 use Rattle.bt_outside.specs.Told.{Rose}
-use Rattle.bt_cli.specs.Kinds.{matrix_file, schedule_file}
+use Rattle.bt_load.specs.Kinds.{matrix_file, schedule_file}
 use Rattle.std.proofs.Common.{length}
 use Rattle.bt_cli.specs.Check.{ChecksSchedule, Judges}
-use Rattle.bt_cli.proofs.Loads.{CameTo-loaded, CameTo-sooner}
+use Rattle.bt_load.proofs.Loads.{CameTo-loaded, CameTo-sooner}
 use Rattle.bt_cli.proofs.check.check_files.Goals as goal
 
 pub returns : goal.returns

@@ -1,7 +1,7 @@
 -- the demand fits
 use Rattle.bt_outside.specs.Told.{Rose}
 use Rattle.bt_cli.specs.CheckPlan.{ChecksPlanText}
-use Rattle.bt_cli.proofs.Loads.{CameTo-fits}
+use Rattle.bt_cli.proofs.Fitted.{CameTo-fits}
 use Rattle.bt_cli.proofs.check_plan.check_demand.Goals as goal
 
 pub returns : goal.returns

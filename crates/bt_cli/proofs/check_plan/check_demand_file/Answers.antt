@@ -2,8 +2,9 @@
 use Rattle.bt_outside.specs.Told.{Rose}
 use Rattle.bt_cli.specs.CheckPlan.{ChecksPlanText}
 use Rattle.bt_cli.specs.Fitting.{WhereItFits}
-use Rattle.bt_cli.specs.Kinds.{demand_file}
-use Rattle.bt_cli.proofs.Loads.{CameTo-among, CameTo-loaded, WhereItFits-among, plan_text_sooner}
+use Rattle.bt_load.specs.Kinds.{demand_file}
+use Rattle.bt_load.proofs.Loads.{CameTo-among, CameTo-loaded}
+use Rattle.bt_cli.proofs.Fitted.{WhereItFits-among, plan_text_sooner}
 use Rattle.bt_cli.proofs.check_plan.check_demand_file.Goals as goal
 
 pub returns : goal.returns

@@ -1,9 +1,9 @@
 -- the demand is loaded after the network
 use Rattle.bt_outside.specs.Told.{Rose}
 use Rattle.bt_cli.specs.Fitting.{WhereItFits}
-use Rattle.bt_cli.specs.Kinds.{demand_file, network_file}
+use Rattle.bt_load.specs.Kinds.{demand_file, network_file}
 use Rattle.bt_cli.specs.Plans.{PlansDemand, PrintsPlan}
-use Rattle.bt_cli.proofs.Loads.{CameTo-loaded, CameTo-sooner}
+use Rattle.bt_load.proofs.Loads.{CameTo-loaded, CameTo-sooner}
 use Rattle.bt_cli.proofs.plan.plan_files.Goals as goal
 
 pub returns : goal.returns

@@ -1,9 +1,10 @@
 -- the plan and the delays are loaded after the demand
 use Rattle.bt_outside.specs.Told.{Rose}
 use Rattle.bt_cli.specs.Fitting.{WhereItFits}
-use Rattle.bt_cli.specs.Kinds.{demand_file}
+use Rattle.bt_load.specs.Kinds.{demand_file}
 use Rattle.bt_cli.specs.Timing.{TimesPlanText}
-use Rattle.bt_cli.proofs.Loads.{CameTo-among, CameTo-loaded, WhereItFits-among}
+use Rattle.bt_load.proofs.Loads.{CameTo-among, CameTo-loaded}
+use Rattle.bt_cli.proofs.Fitted.{WhereItFits-among}
 use Rattle.bt_cli.proofs.Timed.{timed_plan_sooner}
 use Rattle.bt_cli.proofs.timing.time_demand_file.Goals as goal
 

@@ -1,8 +1,8 @@
 -- the demand, the plan and the delays are loaded after the network
 use Rattle.bt_outside.specs.Told.{Rose}
-use Rattle.bt_cli.specs.Kinds.{network_file}
+use Rattle.bt_load.specs.Kinds.{network_file}
 use Rattle.bt_cli.specs.Timing.{TimesDemand}
-use Rattle.bt_cli.proofs.Loads.{CameTo-among, CameTo-loaded}
+use Rattle.bt_load.proofs.Loads.{CameTo-among, CameTo-loaded}
 use Rattle.bt_cli.proofs.Timed.{timed_demand_sooner}
 use Rattle.bt_cli.proofs.timing.time_files.Goals as goal
 

@@ -1,8 +1,8 @@
 -- the delays are loaded after the plan
 use Rattle.bt_outside.specs.Told.{Rose}
-use Rattle.bt_cli.specs.Kinds.{plan_file}
+use Rattle.bt_load.specs.Kinds.{plan_file}
 use Rattle.bt_cli.specs.Timing.{TimesDelays, WhereItIsGood}
-use Rattle.bt_cli.proofs.Loads.{CameTo-among, CameTo-loaded}
+use Rattle.bt_load.proofs.Loads.{CameTo-among, CameTo-loaded}
 use Rattle.bt_cli.proofs.Timed.{WhereItIsGood-among, delays_sooner}
 use Rattle.bt_cli.proofs.timing.time_plan_file.Goals as goal
 

@@ -1,9 +1,9 @@
 // The report to words that are none of the table.
 ghost use Rattle.std.specs.Prelude.{IfOk, codes, ◌∷◌, []};
-ghost use Rattle.bt_cli.specs.Report.{ReportIs};
-ghost use Rattle.bt_cli.specs.Outcome.{PrintsOneOf, Says};
+ghost use Rattle.bt_load.specs.Report.{ReportIs};
+ghost use Rattle.bt_load.specs.Outcome.{PrintsOneOf, Says};
 
-use crate::print::print;
+use crate::printing::print;
 use crate::report::{Report, Stop};
 use bt_centre::FAULTY_WORDS;
 use bt_frame::OutOfMemory;

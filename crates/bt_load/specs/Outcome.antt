@@ -2,7 +2,7 @@
 --
 -- Possible outcomes are put together from 'what comes after' functions in the order of the work, so that each refusal
 -- stands where its step stands.
-use Rattle.std.specs.Prelude.{◌≡◌, ℕ, ◌≤◌, ◌⊎◌, List, [], ◌∷◌, length, codes, Option, Result, Err, Ok}
+use Rattle.std.specs.Prelude.{◌≡◌, ℕ, ◌≤◌, ◌⊎◌, List, [], ◌∷◌, length, codes, Option, Some, Result, Err, Ok}
 use Rattle.bt_frame.specs.declared.limits.TheConstants.{MOST_FILE_BYTES}
 use Rattle.bt_outside.specs.Told.{Gives, IsLonger, Rose}
 use Rattle.bt_words.specs.Lines.{line_of}
@@ -37,6 +37,10 @@ pub record Kind (Value Fault : Type 0) : Type 0 where
   pub reading : List ℕ → Result Value Fault
   pub fault_words : Fault → List (List ℕ)
   pub fault_status : ℕ
+
+-- the file of that name is told
+abbrev pub IsTold : (List ℕ → Option (List ℕ)) → List ℕ → Type 0
+IsTold told name = (held : List ℕ) × (told name ≡ Some held)
 
 -- the bytes of a file that was read: those told, where they are told, and no more than a file may have
 abbrev pub IsContent : (List ℕ → Option (List ℕ)) → List ℕ → List ℕ → Type 0

@@ -6,8 +6,8 @@ use Rattle.bt_script.specs.declared.fault.ScriptCode.{ScriptCode}
 use Rattle.bt_timing.specs.declared.fault.TimingCode.{TimingCode}
 use Rattle.bt_text.specs.declared.fault.LineFault.{LineFault}
 use Rattle.bt_text.specs.declared.fault.LineFault.TheVariants as line_fault
-use Rattle.bt_cli.specs.Lines as lines
-use Rattle.bt_cli.specs.Outcome.{Outcome, Says}
+use Rattle.bt_load.specs.Lines as lines
+use Rattle.bt_load.specs.Outcome.{Outcome, Says}
 
 -- the fault of a text is named; want of memory is no such fault
 abbrev pub NamesTextFault : LineFault TextCode → Outcome → Type 0

@@ -7,9 +7,9 @@ ghost use Rattle.bt_verdict.specs.PlanVerdict.{AreBetweenTerminals};
 ghost use Rattle.bt_demand.specs.Traffic.{matrix_of, AreOfNetwork, HasSumsTo};
 ghost use Rattle.bt_script.specs.Named.{IsItemFor};
 ghost use Rattle.bt_timing.specs.Times.{AreTimes};
-ghost use Rattle.bt_cli.specs.Outcome.{IsContent, CannotRead, IsLoaded, StopsAtLoad};
-ghost use Rattle.bt_cli.specs.Kinds.{delay_file, demand_file, matrix_file, network_file, plan_file, schedule_file, script_file};
-ghost use Rattle.bt_cli.specs.Report.{StopIs};
+ghost use Rattle.bt_load.specs.Outcome.{IsContent, CannotRead, IsLoaded, StopsAtLoad};
+ghost use Rattle.bt_load.specs.Kinds.{delay_file, demand_file, matrix_file, network_file, plan_file, schedule_file, script_file};
+ghost use Rattle.bt_load.specs.Report.{StopIs};
 
 use crate::report::Stop;
 use crate::stops::{network_stop, script_stop, text_stop, timing_stop};

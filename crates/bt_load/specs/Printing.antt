@@ -1,11 +1,11 @@
 -- Printing what the work came to.
 use Rattle.std.specs.Prelude.{◌≡◌, ℕ, Result, Ok, Err}
-use Rattle.bt_cli.specs.declared.report.Report.{Report}
-use Rattle.bt_cli.specs.declared.report.Stop.{Stop}
-use Rattle.bt_cli.specs.declared.report.Stop.TheVariants.{Early, OutOfMemory}
-use Rattle.bt_cli.specs.Report.{ReportIs, StopIs}
+use Rattle.bt_load.specs.declared.report.Report.{Report}
+use Rattle.bt_load.specs.declared.report.Stop.{Stop}
+use Rattle.bt_load.specs.declared.report.Stop.TheVariants.{Early, OutOfMemory}
+use Rattle.bt_load.specs.Report.{ReportIs, StopIs}
 use Rattle.bt_centre.specs.Output.{Output, PrintsOrNot}
-use Rattle.bt_cli.specs.Outcome.{Outcome}
+use Rattle.bt_load.specs.Outcome.{Outcome}
 
 -- the work came to one of these outcomes, at its end or before it
 abbrev pub CameTo : (Outcome → Type 0) → Result Report Stop → Type 0

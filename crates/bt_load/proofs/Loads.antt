@@ -1,17 +1,12 @@
 -- Loads that follow one another: what a later load says of its own start holds from the first one's start on.
 use Rattle.std.proofs.Common.{◌≡◌, ℕ, ◌≤◌, inl, inr, List, Option, Result, Ok, Err, subst, arith}
 use Rattle.bt_outside.specs.Told.{Rose}
-use Rattle.bt_cli.specs.declared.report.Report.{Report}
-use Rattle.bt_cli.specs.declared.report.Stop.{Stop}
-use Rattle.bt_cli.specs.declared.report.Stop.TheVariants.{Early, OutOfMemory}
-use Rattle.bt_net.specs.Network.{Net}
-use Rattle.bt_demand.specs.declared.demand.Link.{Link}
-use Rattle.bt_cli.specs.Kinds.{demand_file, plan_file}
-use Rattle.bt_cli.specs.Fitting.{Fits, WhereItFits}
-use Rattle.bt_cli.specs.CheckPlan.{ChecksPlanText, ChecksDemand, JudgesPlan}
 use Rattle.bt_centre.specs.Output.{Output}
-use Rattle.bt_cli.specs.Printing.{CameTo, EndsWith}
-use Rattle.bt_cli.specs.Outcome.{Outcome, Kind, IsLoaded, CannotRead, Loads, StopsAtLoad, PrintsOneOf, text_alone}
+use Rattle.bt_load.specs.declared.report.Report.{Report}
+use Rattle.bt_load.specs.declared.report.Stop.{Stop}
+use Rattle.bt_load.specs.declared.report.Stop.TheVariants.{Early, OutOfMemory}
+use Rattle.bt_load.specs.Printing.{CameTo, EndsWith}
+use Rattle.bt_load.specs.Outcome.{Outcome, Kind, IsLoaded, CannotRead, Loads, StopsAtLoad, PrintsOneOf, text_alone}
 
 -- a count that rose since a later moment rose since an earlier one
 pub Rose-sooner : (before between now : ℕ) → before ≤ between → Rose between now → Rose before now
@@ -77,25 +72,3 @@ Loads-moved kind told now before between end name after same sooner outcome so =
 pub Loads-among : {Value Fault : Type 0} (kind : Kind Value Fault) (told : List ℕ → Option (List ℕ)) (failed : Type 0) (name : List ℕ) (after also : Value → Outcome → Type 0) → ((value : Value) (outcome : Outcome) → after value outcome → also value outcome) → (outcome : Outcome) → Loads kind told failed name after outcome → Loads kind told failed name also outcome
 Loads-among kind told failed name after also among outcome (inl stopped) = inl stopped
 Loads-among kind told failed name after also among outcome (inr (value, loaded, so)) = inr (value, loaded, among value outcome so)
-
--- a demand that fits, with fewer outcomes behind that
-pub WhereItFits-among : (net : Net) (links : List Link) (P Q : Outcome → Type 0) → ((outcome : Outcome) → P outcome → Q outcome) → (outcome : Outcome) → WhereItFits net links P outcome → WhereItFits net links Q outcome
-WhereItFits-among net links P Q among outcome (inl over) = inl over
-WhereItFits-among net links P Q among outcome (inr (fits, so)) = inr (fits, among outcome so)
-
--- the demand fits, and what comes after came to one of its outcomes
-pub CameTo-fits : (net : Net) (links : List Link) (after : Outcome → Type 0) → Fits net links → (result : Result Report Stop) → CameTo after result → CameTo (WhereItFits net links after) result
-CameTo-fits net links after fits result came = CameTo-among after (WhereItFits net links after) (λ outcome so. inr (fits, so)) result came
-
--- the last load of a plan's check, from an earlier start
-pub plan_text_sooner : (told now : List ℕ → Option (List ℕ)) (before between end : ℕ) (plan : List ℕ) (net : Net) (links : List Link) → now ≡ told → before ≤ between → (outcome : Outcome) → ChecksPlanText now (Rose between end) plan net links outcome → ChecksPlanText told (Rose before end) plan net links outcome
-plan_text_sooner told now before between end plan net links same sooner outcome so =
-    Loads-moved (plan_file net) told now before between end plan (λ read. JudgesPlan net links read) same sooner outcome so
-
--- the last two loads, from an earlier start
-pub demand_sooner : (told now : List ℕ → Option (List ℕ)) (before between end : ℕ) (traffic plan : List ℕ) (net : Net) → now ≡ told → before ≤ between → (outcome : Outcome) → ChecksDemand now (Rose between end) traffic plan net outcome → ChecksDemand told (Rose before end) traffic plan net outcome
-demand_sooner told now before between end traffic plan net same sooner outcome so =
-    let later : List Link → Outcome → Type 0 = λ links. WhereItFits net links (ChecksPlanText now (Rose between end) plan net links) in
-    let earlier : List Link → Outcome → Type 0 = λ links. WhereItFits net links (ChecksPlanText told (Rose before end) plan net links) in
-    Loads-moved (demand_file net) told now before between end traffic earlier same sooner outcome
-    (Loads-among (demand_file net) now (Rose between end) traffic later earlier (λ links o. WhereItFits-among net links (ChecksPlanText now (Rose between end) plan net links) (ChecksPlanText told (Rose before end) plan net links) (plan_text_sooner told now before between end plan net links same sooner) o) outcome so)

@@ -1,5 +1,5 @@
 // Printing what the work came to.
-ghost use Rattle.bt_cli.specs.Printing.{EndsWith};
+ghost use Rattle.bt_load.specs.Printing.{EndsWith};
 
 use crate::report::{Report, Stop};
 use bt_centre::{OUT_OF_MEMORY, print_text};

@@ -17,8 +17,8 @@ use Rattle.bt_script.specs.declared.script.Script.{Script}
 use Rattle.bt_timing.specs.declared.fault.TimingCode.{TimingCode}
 use Rattle.bt_timing.specs.DelayText.{times_of}
 use Rattle.bt_timing.specs.Times.{Times}
-use Rattle.bt_cli.specs.Lines.{text_fault, network_fault, script_fault, timing_fault}
-use Rattle.bt_cli.specs.Outcome.{Kind}
+use Rattle.bt_load.specs.Lines.{text_fault, network_fault, script_fault, timing_fault}
+use Rattle.bt_load.specs.Outcome.{Kind}
 
 -- a text that is read line by line
 abbrev pub text_file : {Value : Type 0} → (List ℕ → Reading Value) → Kind Value Fault

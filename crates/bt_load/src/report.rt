@@ -1,9 +1,9 @@
 // What is to be printed, and the status that goes with it.
-ghost use Rattle.bt_cli.specs.declared.report.Stop.TheVariants.{OutOfMemory};
+ghost use Rattle.bt_load.specs.declared.report.Stop.TheVariants.{OutOfMemory};
 ghost use Rattle.std.specs.Prelude.{◌≡◌, map, IfOk};
 ghost use Rattle.bt_words.specs.Lines.{word_bytes};
-ghost use Rattle.bt_cli.specs.Report.{ReportIs, StopIs};
-ghost use Rattle.bt_cli.specs.Outcome.{Says};
+ghost use Rattle.bt_load.specs.Report.{ReportIs, StopIs};
+ghost use Rattle.bt_load.specs.Outcome.{Says};
 
 use bt_words::{Word, add_line};
 use std::alloc::{AllocError, Global};

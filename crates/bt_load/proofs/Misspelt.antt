@@ -18,12 +18,12 @@ use Rattle.bt_timing.specs.DelayText.{times_of}
 use Rattle.bt_text.specs.declared.fault.LineFault.{LineFault}
 use Rattle.bt_text.specs.declared.fault.LineFault.TheVariants as line_fault
 use Rattle.bt_script.specs.ScriptText.{script_of}
-use Rattle.bt_cli.specs.declared.report.Stop.{Stop}
-use Rattle.bt_cli.specs.declared.report.Stop.TheVariants as stop
-use Rattle.bt_cli.specs.Report.{StopIs}
-use Rattle.bt_cli.specs.Outcome.{IsContent, StopsAtLoad}
-use Rattle.bt_cli.specs.Kinds.{text_file, demand_file, matrix_file, plan_file, schedule_file, network_file, script_file, delay_file}
-use Rattle.bt_cli.specs.Stops.{NamesTextFault, NamesNetworkFault, NamesScriptFault, NamesTimingFault}
+use Rattle.bt_load.specs.declared.report.Stop.{Stop}
+use Rattle.bt_load.specs.declared.report.Stop.TheVariants as stop
+use Rattle.bt_load.specs.Report.{StopIs}
+use Rattle.bt_load.specs.Outcome.{IsContent, StopsAtLoad}
+use Rattle.bt_load.specs.Kinds.{text_file, demand_file, matrix_file, plan_file, schedule_file, network_file, script_file, delay_file}
+use Rattle.bt_load.specs.Stops.{NamesTextFault, NamesNetworkFault, NamesScriptFault, NamesTimingFault}
 
 text_misspelt : {Value : Type 0} (reading : List ℕ → Reading Value) (told : List ℕ → Option (List ℕ)) (failed : Type 0) (name bytes : List ℕ) (fault : LineFault TextCode) (why : Stop) → IsContent told name bytes → IsFaultOf (reading bytes) fault → StopIs (NamesTextFault fault) why → StopIs (StopsAtLoad (text_file reading) told failed name) why
 text_misspelt reading told failed name bytes fault stop.OutOfMemory content is names = tt

@@ -1,0 +1,16 @@
+// The words of a command line.
+use std::alloc::{AllocError, Global};
+use std::env::Env;
+use std::{env, io};
+
+/// The words after the program's name; none where one of them is no text, since no command has such a word.
+pub fn words_after_name<R: Env + Alloc<A = Global>>(
+    rt: &R,
+    alloc: Global,
+) -> Result<Vec<String>, AllocError> {
+    match env::args(rt) {
+        Ok(words) => words.skip(1).collect(alloc),
+        Err(e) if e.kind() == io::ErrorKind::OutOfMemory => Err(AllocError),
+        Err(_) => Ok(Vec::new(alloc)),
+    }
+}
