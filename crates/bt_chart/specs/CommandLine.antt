@@ -1,0 +1,9 @@
+-- The command line that the code has read off the words, as what is asked.
+use Rattle.bt_chart.specs.declared.command_line.CommandLine.{CommandLine}
+use Rattle.bt_chart.specs.declared.command_line.CommandLine.TheVariants as command
+use Rattle.bt_chart.specs.Request.{Request, Faulty, ChartPlan}
+
+-- what the command line asks for
+abbrev pub asked : CommandLine → Request
+asked command.Faulty = Faulty
+asked (command.ChartPlan net plan) = ChartPlan net.now plan.now

@@ -1,0 +1,12 @@
+// What holds of the program's reports, whatever it does.
+ghost use Rattle.std.specs.Prelude.{ℕ, List, Option};
+ghost use Rattle.bt_load.specs.Outcome.{Outcome};
+ghost use Rattle.bt_chart.specs.Request.{Request};
+ghost use Rattle.bt_chart.specs.Top.{AreTold, Charts, IsOneChart};
+
+/// Where the files that are asked for are told and none of them failed, what is asked has one report: no two cases of the
+/// promise hold together.
+pub fn one_chart()
+    ensures same { (told : List ℕ → Option (List ℕ)) (request : Request) → AreTold told request
+        → (a b : Outcome) → Charts told ⊥ request a → Charts told ⊥ request b → IsOneChart request a b }
+{}

@@ -1,0 +1,48 @@
+// The top call.
+ghost use Rattle.std.specs.Prelude.{map};
+ghost use Rattle.std.specs.String.{string_bytes};
+ghost use Rattle.bt_outside.specs.Told.{Rose};
+ghost use Rattle.bt_load.specs.Printing.{CameTo};
+ghost use Rattle.bt_chart.specs.Request.{chart_request_of};
+ghost use Rattle.bt_chart.specs.Top.{Charted, Charts};
+
+use crate::command_line::{CommandLine, command_line_of};
+use crate::plan::chart_plan;
+use bt_load::{Report, Stop, faulty_words, print};
+use bt_outside::{Files, Sink};
+use std::alloc::Global;
+
+/// Does what the words after the program's name ask for, and gives the status to end with.
+///
+/// | status | when |
+/// |---|---|
+/// | 0 | the picture was drawn |
+/// | 1 | memory ran out |
+/// | 2 | the words are none of a command |
+/// | 3 | the bytes of a network file are no network |
+/// | 4 | a text leaves its grammar or its limits |
+/// | 5 | a file could not be read |
+/// | 6 | the output could not be written |
+/// | 10 | a file is longer than `MOST_FILE_BYTES` |
+pub fn chart_main<F: Files, O: Sink>(
+    alloc: Global,
+    words: &[String],
+    files: &mut F,
+    out: &mut O,
+) -> u8
+    ensures ends { Charted (record { told = F.told files.old; faults_before = F.fault_count files.old; faults_after = F.fault_count files.new })
+        (record { before = O.told out.old; after = O.told out.new; faults_before = O.fault_count out.old; faults_after = O.fault_count out.new })
+        (chart_request_of (map string_bytes words.now)) result }
+{
+    let outcome = chart_words(alloc, words, files);
+    print(alloc, out, outcome)
+}
+
+fn chart_words<F: Files>(alloc: Global, words: &[String], files: &mut F) -> Result<Report, Stop>
+    ensures { CameTo (Charts (F.told files.old) (Rose (F.fault_count files.old) (F.fault_count files.new)) (chart_request_of (map string_bytes words.now))) result }
+{
+    match command_line_of(words) {
+        CommandLine::Faulty => Ok(faulty_words(alloc)?),
+        CommandLine::ChartPlan { net, plan } => chart_plan(alloc, files, net, plan),
+    }
+}
