@@ -1,6 +1,5 @@
 // The lanes of the beams.
-ghost use Rattle.std.specs.Prelude.{◌≡◌, ◌++◌, ◌<◌, ◌≤◌, ◌^◌, [], ◌∷◌, ℕ, codes, length, slice_index, OnOk};
-ghost use Rattle.bt_frame.specs.declared.limits.TheConstants.{MOST_BEAMS};
+ghost use Rattle.std.specs.Prelude.{◌≡◌, ◌++◌, ◌<◌, ◌≤◌, ◌^◌, [], ◌∷◌, codes, length, OnOk};
 ghost use Rattle.bt_demand.specs.Apart.{AreBetweenTerminals};
 ghost use Rattle.bt_picture.specs.Picture.{drawn, words_text, Titled};
 ghost use Rattle.bt_plan_chart.specs.Chart.{direction_head, is_critical, lane_letters, lane_part, lane_part_at, lane_style, lanes_parts, name_letters, slots_in_lane};

@@ -1,5 +1,5 @@
 // Where slots and lanes lie in the picture. All places and sizes are in twips.
-ghost use Rattle.std.specs.Prelude.{◌≡◌, ◌+◌, ◌*◌, ◌^◌, ◌<◌, ◌≤◌, max, length, take};
+ghost use Rattle.std.specs.Prelude.{◌≡◌, ◌+◌, ◌*◌, ◌^◌, ◌≤◌, max, length};
 ghost use Rattle.bt_frame.specs.declared.limits.TheConstants.{MOST_BEAMS};
 ghost use Rattle.bt_plan_chart.specs.Scale.{IsScale, height_of, lane_top, legend_top, scale_of, slots_box, span_of, unit_of, width_of, x_of};
 
