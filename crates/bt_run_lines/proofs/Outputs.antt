@@ -1,5 +1,5 @@
 -- Going over the lines of an output, one after the other, up to the end.
-use Rattle.std.proofs.Common.{◌≡◌, ℕ, ◌+◌, List, [], ◌∷◌, Ok, Err, refl, sym, ap, ◌∙◌}
+use Rattle.std.proofs.Common.{◌≡◌, ℕ, ◌+◌, List, ◌∷◌, Ok, Err, refl, sym, ap, ◌∙◌}
 use Rattle.bt_text.specs.Text.{lines}
 use Rattle.bt_text.specs.Reading.{◌>>=◌, LineReading, IsFaultOf}
 use Rattle.bt_text.specs.declared.fault.LineFault.{LineFault}

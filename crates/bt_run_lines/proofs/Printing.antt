@@ -1,9 +1,6 @@
 -- What a run prints, as printed lines: both are the same words with the same spaces.
 use Rattle.std.proofs.Common.{◌≡◌, ℕ, List, [], ◌∷◌, ◌++◌, codes, decimal, IfSome, Option, Some, None, append_assoc, ap, sym, ◌∙◌}
-use Rattle.bt_frame.specs.declared.numbers.EditionNo.{EditionNo}
-use Rattle.bt_frame.specs.declared.numbers.Mark.{Mark}
 use Rattle.bt_net.specs.Network.{Net}
-use Rattle.bt_demand.specs.declared.burst.Burst.{Burst}
 use Rattle.bt_air.specs.declared.order.Armed.{Armed}
 use Rattle.bt_air.specs.declared.order.Status.{Status}
 use Rattle.bt_air.specs.declared.sent.Answer.{Answer}
@@ -24,7 +21,6 @@ use Rattle.bt_air.specs.declared.order.Order.TheVariants.{Load, Arm}
 use Rattle.bt_words.specs.Lines.{line_of, desk_name}
 use Rattle.bt_timeline.specs.Air.{sent_line, got_line, armed_or_none, order_line, unplaced_line}
 use Rattle.bt_timeline.specs.Timeline.{answer_line}
-use Rattle.bt_run_lines.specs.declared.form.Form.TheVariants as form
 use Rattle.bt_run_lines.specs.Printers.{printed_line, sent_printed, status_printed, got_printed, edit_printed, plan_printed, order_printed, unplaced_printed}
 
 -- a line of words is they with single spaces between, and a newline

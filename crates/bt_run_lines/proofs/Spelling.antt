@@ -1,5 +1,5 @@
 -- What a word says has one spelling, and names what the network has.
-use Rattle.std.proofs.Common.{◌≡◌, ℕ, suc, ◌+◌, ◌-◌, ◌^◌, ◌<◌, ◌≤◌, ◌==◌, Bool, true, false, cond, nat_le, Option, Some, None, List, [], ◌∷◌, ◌++◌, length, get_or, take, drop, decimal, position, option_map, option_and_then, refl, sym, ap, subst, ◌∙◌, arith, add-one, IfSome}
+use Rattle.std.proofs.Common.{◌≡◌, ℕ, ◌+◌, ◌-◌, ◌^◌, ◌<◌, ◌≤◌, ◌==◌, Bool, true, false, cond, nat_le, Option, Some, None, List, [], ◌∷◌, ◌++◌, length, get_or, take, drop, decimal, position, option_map, option_and_then, refl, sym, ap, subst, ◌∙◌, arith, add-one, IfSome}
 use Rattle.std.specs.List.{All}
 use Rattle.std.specs.Str.{bytes_eq}
 use Rattle.std.proofs.lemmas.Bool.Decides.{nat_tests}
@@ -9,7 +9,6 @@ use Rattle.std.proofs.Math.Seq.{split_at}
 use Rattle.std.proofs.lemmas.Slice.Eq.{bytes_eq-Decides}
 use Rattle.bt_frame.specs.declared.limits.TheConstants.{MOST_DESKS}
 use Rattle.bt_frame.specs.declared.numbers.BeamNo.{BeamNo}
-use Rattle.bt_frame.specs.declared.numbers.TermNo.{TermNo}
 use Rattle.bt_text.specs.Text.{is_word, number_of, number_of_digits, capped, words, spaced}
 use Rattle.bt_text.specs.WordReader.{number_to}
 use Rattle.bt_text.proofs.TextNumbers.{decimal_from_number_of, number_of-short}
@@ -28,7 +27,7 @@ use Rattle.bt_run_lines.specs.declared.printed.Value.{Value}
 use Rattle.bt_run_lines.specs.declared.printed.Value.TheVariants as value
 use Rattle.bt_run_lines.specs.Forms as part
 use Rattle.bt_run_lines.specs.Forms.{Part, parts_of, forms_from}
-use Rattle.bt_run_lines.specs.Words.{small_number, desk_number, frame_of, frame_in, beam_of, taken_of, heard_of, value_of, said_by}
+use Rattle.bt_run_lines.specs.Words.{small_number, desk_number, frame_of, beam_of, taken_of, heard_of, value_of, said_by}
 use Rattle.bt_run_lines.specs.Lines.{IsOf, followed, values_in, printed_as, or_else, first_of_forms, printed_in, line_in}
 use Rattle.bt_run_lines.specs.Spelled.{word_of, words_of, spelled}
 

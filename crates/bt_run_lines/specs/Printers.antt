@@ -2,20 +2,17 @@
 use Rattle.std.specs.Prelude.{ℕ, List, [], ◌∷◌, ◌++◌, length, Option, Some, None}
 use Rattle.bt_net.specs.Network.{Net}
 use Rattle.bt_demand.specs.declared.burst.Burst.{Burst}
-use Rattle.bt_demand.specs.declared.plan.Plan.{Plan}
 use Rattle.bt_air.specs.declared.order.Armed.{Armed}
 use Rattle.bt_air.specs.declared.order.Order.{Order}
 use Rattle.bt_air.specs.declared.order.Order.TheVariants.{Load, Arm}
 use Rattle.bt_air.specs.declared.order.Status.{Status}
 use Rattle.bt_air.specs.declared.sent.Answer.{Answer}
 use Rattle.bt_air.specs.declared.sent.Answer.TheVariants as answer
-use Rattle.bt_air.specs.declared.sent.Heard.{Heard}
 use Rattle.bt_air.specs.declared.sent.Heard.TheVariants as heard
 use Rattle.bt_air.specs.declared.sent.Place.{Place}
 use Rattle.bt_air.specs.declared.sent.Place.TheVariants.{Satellite, Centre, Terminal}
 use Rattle.bt_air.specs.declared.sent.Sent.{Sent}
 use Rattle.bt_air.specs.declared.sent.Sent.TheVariants as sends
-use Rattle.bt_air.specs.declared.sent.Taken.{Taken}
 use Rattle.bt_air.specs.declared.sent.Taken.TheVariants as taken
 use Rattle.bt_journal.specs.declared.reply.Reply.{Reply}
 use Rattle.bt_journal.specs.declared.reply.Reply.TheVariants as reply

@@ -1,6 +1,5 @@
 -- What the words of a printed line say.
-use Rattle.std.specs.Prelude.{ℕ, ◌+◌, ◌-◌, ◌^◌, ◌==◌, nat_le, if◌then◌else◌, List, [], ◌∷◌, ◌++◌, codes, decimal, take, drop, position, Option, Some, None, option_map, option_and_then}
-use Rattle.std.specs.List.{slice_index_or}
+use Rattle.std.specs.Prelude.{ℕ, ◌+◌, ◌-◌, ◌^◌, ◌==◌, nat_le, if◌then◌else◌, List, [], ◌∷◌, codes, take, drop, position, Option, Some, None, option_map, option_and_then}
 use Rattle.std.specs.Str.{bytes_eq}
 use Rattle.bt_frame.specs.declared.limits.TheConstants.{MOST_DESKS}
 use Rattle.bt_frame.specs.declared.numbers.BeamNo.{BeamNo}
@@ -12,7 +11,6 @@ use Rattle.bt_air.specs.declared.sent.Heard.{Heard}
 use Rattle.bt_air.specs.declared.sent.Heard.TheVariants as heard
 use Rattle.bt_air.specs.declared.sent.Taken.{Taken}
 use Rattle.bt_air.specs.declared.sent.Taken.TheVariants as taken
-use Rattle.bt_timeline.specs.Air.{taken_name, heard_name}
 use Rattle.bt_run_lines.specs.declared.printed.Value.{Value}
 use Rattle.bt_run_lines.specs.declared.printed.Value.TheVariants as value
 use Rattle.bt_run_lines.specs.Forms as part

@@ -1,9 +1,5 @@
 -- a place without a word, a word that may not stand there, and one word more
-use Rattle.std.proofs.Common.{length, map, arith}
-use Rattle.bt_text.specs.Text.{words}
 use Rattle.bt_run_lines.specs.declared.printed.TheConstants.{MOST_VALUES}
-use Rattle.bt_run_lines.specs.Forms.{part_of}
-use Rattle.bt_run_lines.specs.Lines.{values_in}
 use Rattle.bt_run_lines.proofs.Places.{goes_on, stops, lacks_word, room_left}
 use Rattle.bt_run_lines.proofs.reader.values_in.Goals as goal
 

@@ -1,9 +1,8 @@
 -- the first beam of the name, one more beam that has another, and none
-use Rattle.std.proofs.Common.{◌≡◌, ◌∙◌, ℕ, Bool, true, false, [], ap, sym, arith, get_or, option_map}
+use Rattle.std.proofs.Common.{◌≡◌, ◌∙◌, ℕ, true, false, [], ap, sym, arith, get_or, option_map}
 use Rattle.std.specs.Str.{bytes_eq}
 use Rattle.std.proofs.lemmas.Option.{get_or_from_slice_get}
 use borrow.Author.Count.{below_more}
-use Rattle.bt_frame.specs.declared.numbers.BeamNo.{BeamNo}
 use Rattle.bt_run_lines.proofs.First.{position-first, position-nowhere}
 use Rattle.bt_run_lines.proofs.word.beam_named.Goals as goal
 
