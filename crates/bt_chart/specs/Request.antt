@@ -6,15 +6,22 @@ use Rattle.std.specs.Str.{bytes_eq}
 pub data Request : Type 0 where
   Faulty : Request
   ChartPlan : List ℕ → List ℕ → Request
+  ChartRun : List ℕ → List ℕ → List (List ℕ) → Request
 
 -- `plan NET PLAN`; a word that names a file is not empty, and no word stands behind the two
 abbrev pub plan_request : List ℕ → List ℕ → List (List ℕ) → Request
 plan_request net plan [] = if nat_lt 0 (length net) && nat_lt 0 (length plan) then ChartPlan net plan else Faulty
 plan_request net plan (_ ∷ _) = Faulty
 
+-- `run NET OUTPUT [NAME ..]`
+abbrev pub run_request : List ℕ → List ℕ → List (List ℕ) → Request
+run_request net output names = if nat_lt 0 (length net) && nat_lt 0 (length output) then ChartRun net output names else Faulty
+
 -- what a command asks for with two files, and these words behind them
 abbrev pub asked_with : List ℕ → List ℕ → List ℕ → List (List ℕ) → Request
-asked_with command net file names = if bytes_eq command (codes "plan") then plan_request net file names else Faulty
+asked_with command net file names =
+    if bytes_eq command (codes "plan") then plan_request net file names
+    else (if bytes_eq command (codes "run") then run_request net file names else Faulty)
 
 -- what the words ask for
 abbrev pub chart_request_of : List (List ℕ) → Request

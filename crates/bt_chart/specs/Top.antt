@@ -1,14 +1,16 @@
 -- The promise of the whole program: what it prints and the status that it ends with, for each command.
-use Rattle.std.specs.Prelude.{◌≡◌, ℕ, List, [], ◌∷◌, codes, Option}
+use Rattle.std.specs.Prelude.{◌≡◌, ◌⊎◌, ℕ, List, [], ◌∷◌, codes, Option}
 use Rattle.bt_centre.specs.Output.{Output}
 use Rattle.bt_load.specs.Outcome.{FilesFailed, Input, IsTold, Outcome, PrintsOneOf, Says}
 use Rattle.bt_chart.specs.Plans.{ChartsPlan}
-use Rattle.bt_chart.specs.Request.{Request, Faulty, ChartPlan}
+use Rattle.bt_chart.specs.Request.{Request, Faulty, ChartPlan, ChartRun}
+use Rattle.bt_chart.specs.Runs.{ChartsRun}
 
 -- the outcome of what is asked, by the command
 abbrev pub Charts : (List ℕ → Option (List ℕ)) → Type 0 → Request → Outcome → Type 0
 Charts told failed Faulty = Says (codes "fault" ∷ codes "words" ∷ []) 2
 Charts told failed (ChartPlan net plan) = ChartsPlan told failed net plan
+Charts told failed (ChartRun net output names) = ChartsRun told failed net output names
 
 -- Memory ran out; or what is asked had one of its outcomes, and it was printed.
 abbrev pub Charted : Input → Output → Request → ℕ → Type 0
@@ -18,8 +20,10 @@ Charted input output request status = PrintsOneOf output (Charts input.told (Fil
 abbrev pub AreTold : (List ℕ → Option (List ℕ)) → Request → Type 0
 AreTold told Faulty = Unit {0}
 AreTold told (ChartPlan net plan) = IsTold told net × IsTold told plan
+AreTold told (ChartRun net output _) = IsTold told net × IsTold told output
 
--- the same outcome
+-- the same outcome; of a run any picture may stand in another's place
 abbrev pub IsOneChart : Request → Outcome → Outcome → Type 0
 IsOneChart Faulty a b = a ≡ b
 IsOneChart (ChartPlan _ _) a b = a ≡ b
+IsOneChart (ChartRun _ _ _) a b = (a.status ≡ b.status) × ((a.status ≡ 0) ⊎ (a ≡ b))

@@ -8,6 +8,7 @@ ghost use Rattle.bt_chart.specs.Top.{Charted, Charts};
 
 use crate::command_line::{CommandLine, command_line_of};
 use crate::plan::chart_plan;
+use crate::run::chart_run;
 use bt_load::{Report, Stop, faulty_words, print};
 use bt_outside::{Files, Sink};
 use std::alloc::Global;
@@ -18,7 +19,7 @@ use std::alloc::Global;
 /// |---|---|
 /// | 0 | the picture was drawn |
 /// | 1 | memory ran out |
-/// | 2 | the words are none of a command |
+/// | 2 | the words are none of a command, or a name is that of no terminal |
 /// | 3 | the bytes of a network file are no network |
 /// | 4 | a text leaves its grammar or its limits |
 /// | 5 | a file could not be read |
@@ -44,5 +45,8 @@ fn chart_words<F: Files>(alloc: Global, words: &[String], files: &mut F) -> Resu
     match command_line_of(words) {
         CommandLine::Faulty => Ok(faulty_words(alloc)?),
         CommandLine::ChartPlan { net, plan } => chart_plan(alloc, files, net, plan),
+        CommandLine::ChartRun { net, output, names } => {
+            chart_run(alloc, files, net, output, names)
+        }
     }
 }

@@ -1,0 +1,96 @@
+// `run NET OUTPUT [NAME ..]`.
+ghost use Rattle.std.specs.Prelude.{◌≡◌, All, IfOk, map};
+ghost use Rattle.std.specs.List.{list_all};
+ghost use Rattle.std.specs.String.{string_bytes};
+ghost use Rattle.bt_net.specs.Terminals.{IsTerminal};
+ghost use Rattle.bt_outside.specs.Told.{Rose};
+ghost use Rattle.bt_load.specs.Printing.{CameTo};
+ghost use Rattle.bt_chart.specs.Runs.{ChartsChosen, ChartsOutput, ChartsRun, is_terminal};
+
+use crate::output::load_output;
+use bt_frame::{OutOfMemory, TermNo};
+use bt_load::{DONE, Report, Stop, faulty_words, load_network};
+use bt_net::Network;
+use bt_outside::Files;
+use bt_run_chart::run_picture;
+use std::alloc::Global;
+
+/// The picture of what a run printed, for the network in another file and with lanes for the terminals of these names.
+pub fn chart_run<F: Files>(
+    alloc: Global,
+    files: &mut F,
+    net: &str,
+    output: &str,
+    names: &[String],
+) -> Result<Report, Stop>
+    ensures { CameTo (ChartsRun (F.told files.old) (Rose (F.fault_count files.old) (F.fault_count files.new)) net.now output.now (map string_bytes names.now)) result }
+{
+    let net = load_network(alloc, files, net)?;
+    chart_chosen(alloc, files, &net, output, names)
+}
+
+fn chart_chosen<F: Files>(
+    alloc: Global,
+    files: &mut F,
+    net: &Network,
+    output: &str,
+    names: &[String],
+) -> Result<Report, Stop>
+    ensures { CameTo (ChartsChosen (F.told files.old) (Rose (F.fault_count files.old) (F.fault_count files.new)) output.now (map string_bytes names.now) net.now) result }
+{
+    if !are_terminals(net, names) {
+        return Ok(faulty_words(alloc)?);
+    }
+    let chosen = terminals_named(alloc, net, names)?;
+    chart_output(alloc, files, net, output, &chosen)
+}
+
+/// Whether each word is the name of a terminal.
+fn are_terminals(net: &Network, names: &[String]) -> bool
+    ensures { result ≡ list_all (is_terminal net.now) (map string_bytes names.now) }
+{
+    let mut rest = names;
+    while let [name, after @ ..] = rest {
+        if net.terminal_named(name.as_bytes()).is_none() {
+            return false;
+        }
+        rest = after;
+    }
+    true
+}
+
+/// The terminals of these names, in their order.
+fn terminals_named(
+    alloc: Global,
+    net: &Network,
+    names: &[String],
+) -> Result<Vec<TermNo>, OutOfMemory>
+    ensures { IfOk result (λ chosen. All (IsTerminal net.now) chosen.items) }
+{
+    let mut chosen = Vec::new(alloc);
+    for name in names {
+        if let Some(terminal) = net.terminal_named(name.as_bytes()) {
+            chosen.push(terminal)?;
+        }
+    }
+    Ok(chosen)
+}
+
+fn chart_output<F: Files>(
+    alloc: Global,
+    files: &mut F,
+    net: &Network,
+    output: &str,
+    chosen: &[TermNo],
+) -> Result<Report, Stop>
+    requires { All (IsTerminal net.now) chosen.now }
+    ensures { CameTo (ChartsOutput (F.told files.old) (Rose (F.fault_count files.old) (F.fault_count files.new)) output.now net.now) result }
+{
+    let text = load_output(alloc, files, output, net)?;
+    let mut picture = Vec::new(alloc);
+    run_picture(alloc, net, &text, chosen, &mut picture)?;
+    Ok(Report {
+        text: picture,
+        status: DONE,
+    })
+}
