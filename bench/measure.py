@@ -8,14 +8,14 @@ import tempfile
 import time
 
 ROOT = os.path.dirname(os.path.dirname(os.path.abspath(__file__)))
-PROGRAM = os.path.join(ROOT, "crates", "nozgurt", "out", "nozgurt")
 
 
-def program():
-    """The path of the built program."""
-    if not os.path.exists(PROGRAM):
-        sys.exit("bench: build the program first, by ./nozgurt --version")
-    return PROGRAM
+def program(name="nozgurt"):
+    """The path of the built program of that name."""
+    path = os.path.join(ROOT, "crates", name, "out", name)
+    if not os.path.exists(path):
+        sys.exit(f"bench: build the program first, by ./{name} --version")
+    return path
 
 
 def memory_folder():
