@@ -1,9 +1,9 @@
-// Laws of the printed lines: each has one spelling, and what a run prints is such lines.
+// Laws of the printed lines: each has one spelling and is read back from it, and what a run prints is such lines.
 ghost use Rattle.std.specs.Prelude.{◌≡◌, ℕ, List, [], ◌∷◌, length, codes, decimal, Option, Some, IfSome};
 ghost use Rattle.bt_frame.specs.declared.numbers.EditionNo.{EditionNo};
 ghost use Rattle.bt_frame.specs.declared.numbers.Mark.{Mark};
 ghost use Rattle.bt_frame.specs.declared.numbers.TermNo.{TermNo};
-ghost use Rattle.bt_net.specs.Network.{Net};
+ghost use Rattle.bt_net.specs.Network.{Net, IsSound};
 ghost use Rattle.bt_demand.specs.declared.burst.Burst.{Burst};
 ghost use Rattle.bt_demand.specs.declared.plan.Plan.{Plan};
 ghost use Rattle.bt_air.specs.declared.order.Order.{Order};
@@ -20,13 +20,19 @@ ghost use Rattle.bt_run_lines.specs.declared.form.Form.TheVariants as form;
 ghost use Rattle.bt_run_lines.specs.declared.printed.Printed.{Printed};
 ghost use Rattle.bt_run_lines.specs.declared.printed.Value.TheVariants as value;
 ghost use Rattle.bt_run_lines.specs.Lines.{line_in};
-ghost use Rattle.bt_run_lines.specs.Spelled.{spelled};
+ghost use Rattle.bt_run_lines.specs.Spelled.{Suits, spelled};
 ghost use Rattle.bt_run_lines.specs.Printers.{printed_line, line, numbers, sent_printed, got_printed, burst_printed, order_printed, edit_printed, plan_printed, unplaced_printed};
 
 /// Of the lines that are read as a printed line, it has one spelling.
 pub fn printed_lines_have_one_spelling()
     ensures spelled { (net : Net) → (bytes : List ℕ) → (printed : Printed)
         → line_in net bytes ≡ Some printed → bytes ≡ spelled net printed }
+{}
+
+/// What is spelled by a form and values that suit it is read as these.
+pub fn spelled_lines_are_read()
+    ensures read { (net : Net) → IsSound net → (printed : Printed) → Suits net printed
+        → line_in net (spelled net printed) ≡ Some printed }
 {}
 
 /// The messages that were sent, their deliveries, and the bursts on the air or of a plan are printed lines.

@@ -4,8 +4,8 @@
 //! `specs/Forms.antt` and `token.rt` have the forms as a table, a row a form in the same order. Promises are in
 //! `specs/Forms.antt`, what stands at each place of a form; `specs/Words.antt`, what a word says at a place;
 //! `specs/Lines.antt`, which line the bytes spell, and the first that no run prints; `specs/Spelled.antt`, how a line is
-//! spelled; and `specs/Printers.antt`, what each printer prints, as such lines. `laws.rt` has the laws. A refusal of a plan
-//! that is not good (`E6`, `E7`, `E8`) has no form.
+//! spelled, and which values suit its form; and `specs/Printers.antt`, what each printer prints, as such lines. `laws.rt` has
+//! the laws. A refusal of a plan that is not good (`E6`, `E7`, `E8`) has no form.
 #![tactic(auto)]
 
 mod form;
@@ -19,7 +19,7 @@ mod word;
 pub use form::Form;
 pub use laws::{
     events_are_printed_lines, marks_are_printed_lines, messages_are_printed_lines,
-    printed_lines_have_one_spelling, replies_are_printed_lines,
+    printed_lines_have_one_spelling, replies_are_printed_lines, spelled_lines_are_read,
 };
 pub use output::{OutputCode, check_output};
 pub use printed::{Printed, Value};
