@@ -1,6 +1,6 @@
 -- The forms of a first word exclude each other: what is spelled by one is read by none that is tried before it.
 use Rattle.std.proofs.Common.{◌≡◌, ℕ, ◌+◌, ◌&&◌, ◌||◌, Bool, true, false, cond, not, is_some, Option, Some, None, List, [], ◌∷◌, ◌++◌, get_or, take, drop, position, option_map, refl, sym, ap, ◌∙◌, true≢false}
-use Rattle.std.specs.List.{list_all}
+use Rattle.std.specs.List.{list_all, position_or_len}
 use Rattle.std.specs.Str.{bytes_eq}
 use Rattle.std.proofs.lemmas.Bool.{and_parts, false_from_ne_true, not-true}
 use Rattle.std.proofs.lemmas.List.Quantifiers.{position-Some}
@@ -113,49 +113,6 @@ clash_refused net sound (first ∷ more) (place ∷ places) (one ∷ values) sui
     either_none (said_by net first (word_of net one)) (values_in net more (words_of net places values)) (are_apart first place) (clash more places)
     (value_refused net sound first place one suits.0) (clash_refused net sound more places values suits.1) is
 
--- where the form stands among those of its first word
-abbrev pub place_of : Form → ℕ
-place_of form.SentArm = 1
-place_of form.SentStatus = 2
-place_of form.SentArmedStatus = 3
-place_of form.SentPlan = 4
-place_of form.SentConfirm = 5
-place_of form.SentReference = 6
-place_of form.SentNoReference = 7
-place_of form.SentLost = 8
-place_of form.GotCentre = 1
-place_of form.GotTerminal = 2
-place_of form.NotForSatellite = 3
-place_of form.NotForCentre = 4
-place_of form.NotForTerminal = 5
-place_of form.Over = 1
-place_of form.LastTick = 1
-place_of form.BackTurn = 1
-place_of form.NotInstalled = 1
-place_of form.DeskSameTerminal = 1
-place_of form.DeskNotThere = 2
-place_of form.DeskRowFull = 3
-place_of form.DeskColumnFull = 4
-place_of form.DeskBookFull = 5
-place_of form.DeskStoreFault = 6
-place_of form.DeskStopped = 7
-place_of form.Shows = 8
-place_of form.NothingNew = 1
-place_of form.PlanBookFull = 2
-place_of form.PlanStoreFault = 3
-place_of form.PlanStopped = 4
-place_of form.OrderArm = 1
-place_of form.OrderBookFull = 2
-place_of form.OrderOutOfTurn = 3
-place_of form.OrderNotInstalled = 4
-place_of form.OrderStoreFault = 5
-place_of form.OrderStopped = 6
-place_of form.StandbyWrongMark = 1
-place_of form.StandbyNotForMe = 2
-place_of form.StandbyNotSent = 3
-place_of form.StandbyBurst = 4
-place_of _ = 0
-
 -- the first fixed word of places
 abbrev pub head_of : List Part → List ℕ
 head_of (part.Text text ∷ places) = text
@@ -171,14 +128,19 @@ texts_lack (_ ∷ places) = texts_lack places
 abbrev pub forms_of : Form → List Form
 forms_of one = forms_from (head_of (parts_of one))
 
--- the form begins with a fixed word, no fixed word of it has a space, it stands at its place among the forms of its first
--- word, and clashes with those before it
+-- the place of the first of them that does not clash with the form
+abbrev pub place_of : Form → ℕ
+place_of one = position_or_len (λ other. not (clash (parts_of other) (parts_of one))) (forms_of one)
+
+-- the form begins with a fixed word, no fixed word of it has a space, and of the forms of its first word it is the first that
+-- does not clash with it
 pub record IsReached (one : Form) : Type 0 where
   pub begins : parts_of one ≡ part.Text (head_of (parts_of one)) ∷ drop 1 (parts_of one)
   pub spaceless : texts_lack (parts_of one) ≡ true
   pub stands : forms_of one ≡ take (place_of one) (forms_of one) ++ one ∷ drop (place_of one + 1) (forms_of one)
   pub differs : list_all (λ other. clash (parts_of other) (parts_of one)) (take (place_of one) (forms_of one)) ≡ true
 
+-- each by computation: one form is named, so that the second clause is one for each of the others
 pub reached : (one : Form) → IsReached one
 reached form.SentLoad = record { begins = refl; spaceless = refl; stands = refl; differs = refl }
 reached one = record { begins = refl; spaceless = refl; stands = refl; differs = refl }
