@@ -4,14 +4,14 @@ use Rattle.bt_text.specs.declared.fault.LineFault.{LineFault}
 use Rattle.bt_text.specs.declared.fault.LineFault.TheVariants as line_fault
 use Rattle.bt_net.specs.Network.{Net}
 use Rattle.bt_run_lines.specs.declared.output.OutputCode.{OutputCode}
-use Rattle.bt_run_lines.specs.declared.output.OutputCode.TheVariants.{R1}
+use Rattle.bt_run_lines.specs.declared.output.OutputCode.TheVariants.{O1}
 use Rattle.bt_run_lines.specs.declared.printed.Printed.{Printed}
 use Rattle.bt_run_lines.specs.Lines.{output_of}
 use Rattle.bt_load.specs.Outcome.{IsLoaded, Kind, Outcome, Says}
 
 -- the code of an output's fault
 abbrev pub output_code_name : OutputCode → List ℕ
-output_code_name R1 = codes "R1"
+output_code_name O1 = codes "O1"
 
 -- the words of an output's first fault, with its line
 abbrev pub output_fault : OutputCode → ℕ → List (List ℕ)

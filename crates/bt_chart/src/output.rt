@@ -55,6 +55,6 @@ fn output_code_text(code: OutputCode) -> &'static str
     ensures { result.now ≡ output_code_name code }
 {
     match code {
-        OutputCode::R1 => "R1",
+        OutputCode::O1 => "O1",
     }
 }

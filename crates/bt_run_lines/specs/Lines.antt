@@ -7,7 +7,7 @@ use Rattle.bt_net.specs.Terminals.{IsTerminal}
 use Rattle.bt_timeline.specs.Timeline.{IsBeam}
 use Rattle.bt_run_lines.specs.declared.form.Form.{Form}
 use Rattle.bt_run_lines.specs.declared.output.OutputCode.{OutputCode}
-use Rattle.bt_run_lines.specs.declared.output.OutputCode.TheVariants.{R1}
+use Rattle.bt_run_lines.specs.declared.output.OutputCode.TheVariants.{O1}
 use Rattle.bt_run_lines.specs.declared.printed.Printed.{Printed}
 use Rattle.bt_run_lines.specs.declared.printed.Value.{Value}
 use Rattle.bt_run_lines.specs.declared.printed.Value.TheVariants as value
@@ -57,13 +57,13 @@ IsOf net _ = Unit {0}
 
 -- the line, or the fault of the line of that number
 abbrev pub numbered_line : Net → ℕ → List ℕ → LineReading OutputCode Printed
-numbered_line net at line = or_fault (R1, at) (line_in net line)
+numbered_line net at line = or_fault (O1, at) (line_in net line)
 
 -- the lines, the first of them line `at`; none stands behind the last newline
 abbrev pub lines_from : Net → ℕ → List (List ℕ) → LineReading OutputCode (List Printed)
 lines_from net at (line ∷ next ∷ rest) = numbered_line net at line >>= λ one. lines_from net (at + 1) (next ∷ rest) >>= λ more. Ok (one ∷ more)
 lines_from net at ([] ∷ []) = Ok []
-lines_from net at ((_ ∷ _) ∷ []) = Err (R1, at)
+lines_from net at ((_ ∷ _) ∷ []) = Err (O1, at)
 lines_from net at [] = Ok []
 
 -- the lines that a run's output is, or the first line that no run prints

@@ -11,7 +11,7 @@ use bt_text::{LineFault, fault_at, first_line};
 #[derive(Clone, Copy)]
 pub enum OutputCode {
     /// No run prints it.
-    R1,
+    O1,
 }
 
 /// Goes over the output of a run, and says which of its lines is the first that no run prints, counted from 1. Bytes
@@ -30,7 +30,7 @@ pub fn check_output(net: &Network, text: &[u8]) -> Result<(), LineFault<OutputCo
     if rest.is_empty() {
         Ok(())
     } else {
-        Err(fault_at(OutputCode::R1, at))
+        Err(fault_at(OutputCode::O1, at))
     }
 }
 
@@ -40,6 +40,6 @@ fn check_line(net: &Network, at: u32, line: &[u8]) -> Result<(), LineFault<Outpu
 {
     match read_line(net, line) {
         Some(_) => Ok(()),
-        None => Err(fault_at(OutputCode::R1, at)),
+        None => Err(fault_at(OutputCode::O1, at)),
     }
 }

@@ -42,7 +42,7 @@ exit status
   6   the output could not be written
   10  a file is over 4,194,304 bytes long  fault too long NAME
   The letter of a CODE names the file that is at fault: N the network, P the
-  plan, R the output of a run. docs/formats.md has the texts of all files and
+  plan, O the output of a run. docs/formats.md has the texts of all files and
   explains each code, and docs/pictures.md explains the pictures.
 ";
 
@@ -69,7 +69,7 @@ pub fn reason_of(status: u8) -> Option<&'static str> {
             "the network file is no network; the last line has the fault, whose code begins with N, and its place in the file; docs/formats.md explains each",
         ),
         FAULTY_TEXT => Some(
-            "a file leaves its grammar or its limits; the last line has the fault, the letter of whose code names the file, P the plan and R the output of a run, and the number of the line; docs/formats.md explains each",
+            "a file leaves its grammar or its limits; the last line has the fault, the letter of whose code names the file, P the plan and O the output of a run, and the number of the line; docs/formats.md explains each",
         ),
         READ_FAILED => Some("a file could not be read; the last line names it"),
         WRITE_FAILED => Some(
