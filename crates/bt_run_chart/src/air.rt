@@ -1,7 +1,8 @@
 // The frames that were shown: the bursts on the air, and who was silent.
-use crate::drawing::{Drawn, Pen, name_of, place, rectangle};
+use crate::editions::name_of;
 use crate::ladder::{COLUMN, FRAME_COLUMNS, Ladder, Placed};
 use crate::step::{Delivery, Frame, Happening, OnAir, Said, Station, Step};
+use bt_drawing::{Drawn, Pen, place, rectangle};
 use bt_frame::TermNo;
 use bt_net::Network;
 use bt_picture::{Anchor, Point, Shape, Style};

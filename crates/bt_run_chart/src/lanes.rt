@@ -1,7 +1,8 @@
 // The lanes: who has one, in which order, and how they are drawn.
-use crate::drawing::{Drawn, Pen, name_of, place};
+use crate::editions::name_of;
 use crate::ladder::{LEFT, Ladder, RIGHT, Stave};
 use crate::step::{Station, Step};
+use bt_drawing::{Drawn, Pen, place};
 use bt_frame::{BeamNo, OutOfMemory, TermNo};
 use bt_net::Network;
 use bt_picture::{Anchor, Shape, Style};

@@ -1,11 +1,11 @@
 // Messages from lane to lane, and what happens to stations.
-use crate::drawing::{Drawn, Pen, place};
 use crate::ladder::{LEFT, Ladder, Placed, Stave};
 use crate::lanes::station_name;
 use crate::step::{Delivery, Message, Said, Station, Step};
 use crate::titles::{
     delivery_title, happening_label, happening_title, label_of, message_title, width_of,
 };
+use bt_drawing::{Drawn, Pen, place};
 use bt_picture::{Anchor, Point, Shape, Style};
 use bt_words::Word;
 use bt_words::Word::{Number, Text};

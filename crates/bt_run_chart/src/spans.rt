@@ -1,7 +1,8 @@
 // What lasts over columns: superframes, and the edition in front.
-use crate::drawing::{Drawn, Pen, fill_of, letters_upon, place, rectangle};
+use crate::editions::{fill_of, letters_upon};
 use crate::ladder::{COLUMN, LEFT, Ladder, Placed, RIGHT, Stave};
 use crate::step::{Said, Step};
+use bt_drawing::{Drawn, Pen, place, rectangle};
 use bt_frame::OutOfMemory;
 use bt_picture::{Anchor, Shape, Style};
 use bt_words::Word::Number;

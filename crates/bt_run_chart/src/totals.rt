@@ -1,6 +1,7 @@
 // A run of many messages, counted by superframes.
-use crate::drawing::{Drawn, Pen, fill_of, letters_upon, place, rectangle};
+use crate::editions::{fill_of, letters_upon};
 use crate::step::{Happening, Said, Step};
+use bt_drawing::{Drawn, Pen, place, rectangle};
 use bt_frame::OutOfMemory;
 use bt_picture::{Anchor, Point, Style};
 use bt_words::Word::{Number, Text};

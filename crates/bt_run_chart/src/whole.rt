@@ -1,10 +1,9 @@
 // The whole picture.
 ghost use Rattle.std.specs.Prelude.{All, OnOk};
 ghost use Rattle.bt_net.specs.Terminals.{IsTerminal};
-ghost use Rattle.bt_run_chart.specs.RunPicture.{IsPictureBehind};
+ghost use Rattle.bt_drawing.specs.Drawn.{IsPictureBehind};
 
 use crate::air::{draw_air, draw_silences};
-use crate::drawing::{Drawn, Pen, place, write_drawings};
 use crate::ladder::{Ladder, TOP};
 use crate::lanes::{Lanes, draw_lanes};
 use crate::messages::{draw_deliveries, draw_senders};
@@ -12,9 +11,10 @@ use crate::reading::read_steps;
 use crate::spans::{draw_fronts, draw_superframes};
 use crate::step::Step;
 use crate::totals::draw_totals;
+use bt_drawing::{Drawn, Pen, place, write_picture};
 use bt_frame::{OutOfMemory, TermNo};
 use bt_net::Network;
-use bt_picture::{Anchor, Style, write_foot, write_head};
+use bt_picture::{Anchor, Style};
 use std::alloc::Global;
 
 // The lines above a ladder, and those above totals, with how far from the top they stand.
@@ -65,17 +65,7 @@ pub fn run_picture(
     let steps = read_steps(alloc, net, text)?;
     let mut pen = Pen::new(alloc);
     let height = draw_run(alloc, net, steps.as_slice(), chosen, &mut pen)?;
-    write_picture(alloc, height, &pen, out)
-}
-
-// Appends a picture of that height.
-fn write_picture(alloc: Global, height: u64, pen: &Pen<'_>, out: &mut Vec<u8>) -> Drawn
-    ensures { OnOk result (IsPictureBehind out.old.items out.new.items) }
-{
-    write_head(alloc, WIDTH, height, out)?;
-    write_drawings(alloc, pen.drawings.as_slice(), out)?;
-    write_foot(out)?;
-    Ok(())
+    write_picture(alloc, WIDTH, height, &pen, out)
 }
 
 // Draws a run, and says how high its picture is.

@@ -1,10 +1,6 @@
-// What is to be drawn, in order, and how it is written.
-ghost use Rattle.std.specs.Prelude.{OnOk};
-ghost use Rattle.bt_run_chart.specs.RunPicture.{AddsParts};
-
-use bt_frame::{OutOfMemory, TermNo};
-use bt_net::Network;
-use bt_picture::{Anchor, Point, Rect, Shape, Style, write_alone, write_titled};
+// What is to be drawn, in order.
+use bt_frame::OutOfMemory;
+use bt_picture::{Anchor, Point, Rect, Shape, Style};
 use bt_words::Word;
 use std::alloc::Global;
 
@@ -35,7 +31,7 @@ pub enum Drawing<'a> {
 #[derive(Drop)]
 pub struct Pen<'a> {
     alloc: Global,
-    pub drawings: Vec<Drawing<'a>>,
+    pub(crate) drawings: Vec<Drawing<'a>>,
 }
 
 impl<'a> Pen<'a> {
@@ -133,72 +129,4 @@ pub fn rectangle(at: Point, width: u64, height: u64, style: Style) -> Shape<'sta
         height,
     };
     Shape::Rectangle(rect, style)
-}
-
-/// The fill of an edition.
-pub fn fill_of(edition: u64) -> Style {
-    Style::Fill((edition % 8) as u8)
-}
-
-/// Letters upon the fill of an edition: white upon the dark ones.
-pub fn letters_upon(edition: u64) -> Style {
-    match edition % 8 {
-        4 | 7 => Style::Light,
-        _ => Style::Text,
-    }
-}
-
-/// The name of a terminal, and nothing where the network has none of that number.
-pub fn name_of(net: &Network, terminal: TermNo) -> &str {
-    if u32::from(terminal.0) < net.terminal_count() {
-        net.name_of(terminal)
-    } else {
-        ""
-    }
-}
-
-/// Appends drawings in order.
-#[tactic(auto, using(crate::proofs::Parts::adds_none))]
-pub fn write_drawings(alloc: Global, drawings: &[Drawing<'_>], out: &mut Vec<u8>) -> Drawn
-    ensures { OnOk result (AddsParts out.old.items out.new.items) }
-{
-    for drawing in drawings {
-        write_drawing(alloc, drawing, out)?;
-    }
-    Ok(())
-}
-
-// Appends a drawing.
-fn write_drawing(alloc: Global, drawing: &Drawing<'_>, out: &mut Vec<u8>) -> Drawn
-    ensures { OnOk result (AddsParts out.old.items out.new.items) }
-{
-    match drawing {
-        Drawing::Plain(shape) => write_plain(alloc, *shape, out),
-        Drawing::Written(label) => write_plain(alloc, shape_of(label), out),
-        Drawing::Titled(shape, title) => write_group(alloc, title.as_slice(), &[*shape], out),
-        Drawing::Marked(shape, label, title) => {
-            write_group(alloc, title.as_slice(), &[*shape, shape_of(label)], out)
-        }
-    }
-}
-
-// The shape of a label.
-fn shape_of<'a>(label: &'a Label<'_>) -> Shape<'a> {
-    Shape::Label(label.at, label.anchor, label.style, label.words.as_slice())
-}
-
-// Appends a shape.
-fn write_plain(alloc: Global, shape: Shape<'_>, out: &mut Vec<u8>) -> Drawn
-    ensures { OnOk result (AddsParts out.old.items out.new.items) }
-{
-    write_alone(alloc, shape, out)?;
-    Ok(())
-}
-
-// Appends shapes with a title.
-fn write_group(alloc: Global, title: &[Word<'_>], shapes: &[Shape<'_>], out: &mut Vec<u8>) -> Drawn
-    ensures { OnOk result (AddsParts out.old.items out.new.items) }
-{
-    write_titled(alloc, title, shapes, out)?;
-    Ok(())
 }

@@ -3,7 +3,7 @@ use Rattle.std.proofs.Common.{◌≡◌, ℕ, ◌++◌, List, [], ◌∷◌, fla
 use Rattle.std.proofs.lemmas.List.{append-nil}
 use Rattle.std.proofs.lemmas.List.Concat.{flat_map-append}
 use Rattle.bt_picture.specs.Picture.{Part, part_text, head_text, foot_text}
-use Rattle.bt_run_chart.specs.RunPicture.{AddsParts, IsPictureBehind}
+use Rattle.bt_drawing.specs.Drawn.{AddsParts, IsPictureBehind}
 
 -- nothing was added
 pub adds_none : (text : List ℕ) → AddsParts text text

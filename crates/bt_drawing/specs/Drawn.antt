@@ -1,4 +1,4 @@
--- What the picture of a run adds to a text.
+-- What a picture, or a part of one, adds to a text.
 use Rattle.std.specs.Prelude.{◌≡◌, ℕ, ◌++◌, List, flat_map}
 use Rattle.bt_picture.specs.Picture.{Part, Picture, part_text, picture_text}
 
