@@ -6,6 +6,7 @@ use crate::titles::{
     delivery_title, happening_label, happening_title, label_of, message_title, width_of,
 };
 use bt_drawing::{Drawn, Pen, place};
+use bt_frame::OutOfMemory;
 use bt_picture::{Anchor, Point, Shape, Style};
 use bt_words::Word;
 use bt_words::Word::{Number, Text};
@@ -15,11 +16,13 @@ use std::alloc::Global;
 const RADIUS: u64 = 165;
 
 /// Draws the way of each message to each that heard it.
-pub fn draw_deliveries<'a>(ladder: &Ladder<'a>, pen: &mut Pen<'a>) -> Drawn {
+pub fn draw_deliveries<'a>(alloc: Global, ladder: &Ladder<'a>, pen: &mut Pen<'a>) -> Drawn {
+    let mut shelves = empty_shelves(alloc, ladder)?;
     for placed in &ladder.placed {
         if let Step::Got(delivery) = placed.step {
             if let Some((from, to)) = way_of(ladder, placed, delivery) {
-                draw_delivery(ladder, from, to, delivery, pen)?;
+                draw_way(ladder, from, to, delivery, pen)?;
+                write_answer(ladder, placed, to, delivery, shelves.as_mut_slice(), pen)?;
             }
         }
     }
@@ -37,8 +40,8 @@ fn way_of(ladder: &Ladder<'_>, placed: &Placed, delivery: Delivery) -> Option<(P
     Some((from, place(placed.x, ladder.heights.lane_y(&stave, lane))))
 }
 
-// Draws a delivery: a grey line with the answer below its end where the hearer refuses.
-fn draw_delivery<'a>(
+// Draws the way of a delivery: a grey line where the hearer refuses.
+fn draw_way<'a>(
     ladder: &Ladder<'a>,
     from: Point,
     to: Point,
@@ -47,12 +50,37 @@ fn draw_delivery<'a>(
 ) -> Drawn {
     let name = station_name(ladder.net, delivery.hearer);
     let title = delivery_title(name, delivery, pen)?;
+    let style = if delivery.refused {
+        Style::Thin
+    } else {
+        Style::Arrow
+    };
+    pen.titled(Shape::Line(from, to, style), title)
+}
+
+// Writes the answer of a hearer that refuses below the end of the way, where there is room: the title has it too.
+fn write_answer<'a>(
+    ladder: &Ladder<'a>,
+    placed: &Placed,
+    to: Point,
+    delivery: Delivery,
+    shelves: &mut [Shelf],
+    pen: &mut Pen<'a>,
+) -> Drawn {
     if !delivery.refused {
-        return pen.titled(Shape::Line(from, to, Style::Arrow), title);
+        return Ok(());
     }
-    pen.titled(Shape::Line(from, to, Style::Thin), title)?;
-    let below = place(to.x, to.y.saturating_add(170));
     let words = pen.phrase("#", &[Text(delivery.answer)])?;
+    let width = width_of(words.as_slice());
+    let shelf = ladder
+        .lanes
+        .find(delivery.hearer)
+        .and_then(|lane| shelves.get_mut(lane));
+    let is_free = shelf.is_some_and(|shelf| shelf.take_near(placed, width));
+    if !is_free {
+        return Ok(());
+    }
+    let below = place(to.x, to.y.saturating_add(170));
     pen.label(below, Anchor::Middle, Style::Small, words)
 }
 
@@ -67,27 +95,42 @@ struct Shelf {
 impl Shelf {
     // The free row of labels, the nearer one first; None where both are taken.
     fn take(&mut self, placed: &Placed, width: u64) -> Option<u64> {
-        if self.stave != placed.stave {
-            self.stave = placed.stave;
-            self.near = 0;
-            self.far = 0;
+        if self.take_near(placed, width) {
+            return Some(0);
         }
-        let from = placed.x.saturating_sub(width / 2);
-        let to = from.saturating_add(width);
-        if self.near <= from {
-            self.near = to;
-            Some(0)
-        } else if self.far <= from {
+        let (from, to) = span_of(placed, width);
+        if self.far <= from {
             self.far = to;
             Some(1)
         } else {
             None
         }
     }
+
+    // Takes the nearer row, where it is free.
+    fn take_near(&mut self, placed: &Placed, width: u64) -> bool {
+        if self.stave != placed.stave {
+            self.stave = placed.stave;
+            self.near = 0;
+            self.far = 0;
+        }
+        let (from, to) = span_of(placed, width);
+        let is_free = self.near <= from;
+        if is_free {
+            self.near = to;
+        }
+        is_free
+    }
 }
 
-/// Draws each message on the lane of its sender, and what happens to stations on their lanes.
-pub fn draw_senders<'a>(alloc: Global, ladder: &Ladder<'a>, pen: &mut Pen<'a>) -> Drawn {
+// From where to where a label of that width goes.
+fn span_of(placed: &Placed, width: u64) -> (u64, u64) {
+    let from = placed.x.saturating_sub(width / 2);
+    (from, from.saturating_add(width))
+}
+
+// A shelf for each lane, with nothing on it.
+fn empty_shelves(alloc: Global, ladder: &Ladder<'_>) -> Result<Vec<Shelf>, OutOfMemory> {
     let empty = Shelf {
         stave: 0,
         near: 0,
@@ -97,6 +140,12 @@ pub fn draw_senders<'a>(alloc: Global, ladder: &Ladder<'a>, pen: &mut Pen<'a>) -
     for _ in &ladder.lanes.stations {
         shelves.push(empty)?;
     }
+    Ok(shelves)
+}
+
+/// Draws each message on the lane of its sender, and what happens to stations on their lanes.
+pub fn draw_senders<'a>(alloc: Global, ladder: &Ladder<'a>, pen: &mut Pen<'a>) -> Drawn {
+    let mut shelves = empty_shelves(alloc, ladder)?;
     for placed in &ladder.placed {
         if let (Some(station), Some(stave)) = (placed.step.station(), ladder.stave(placed.stave)) {
             draw_sender(ladder, placed, &stave, station, shelves.as_mut_slice(), pen)?;

@@ -103,7 +103,7 @@ fn draw_ladder<'a>(alloc: Global, ladder: &Ladder<'a>, pen: &mut Pen<'a>) -> Dra
     draw_fronts(alloc, ladder, pen)?;
     draw_lanes(ladder, pen)?;
     draw_air(ladder, pen)?;
-    draw_deliveries(ladder, pen)?;
+    draw_deliveries(alloc, ladder, pen)?;
     draw_silences(alloc, ladder, pen)?;
     draw_senders(alloc, ladder, pen)
 }
