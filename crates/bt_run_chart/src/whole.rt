@@ -47,6 +47,9 @@ const WIDTH: u64 = 20_000;
 // The most messages that are drawn one by one.
 const MOST_MESSAGES: usize = 400;
 
+// The most steps that are drawn one by one: each message may come to 64 terminals, and frames and their bursts stand beside.
+const MOST_STEPS: usize = 40_000;
+
 /// Appends the picture of what a run printed, as SVG.
 ///
 /// `text` is the run's output; lines that no run prints are passed over. `chosen` are the terminals that have lanes; where
@@ -76,7 +79,7 @@ fn draw_run<'a>(
     chosen: &[TermNo],
     pen: &mut Pen<'a>,
 ) -> Result<u64, OutOfMemory> {
-    if count_messages(steps) > MOST_MESSAGES {
+    if is_long(steps) {
         write_heading(&TOTALS_HEADING, pen)?;
         return draw_totals(alloc, steps, pen);
     }
@@ -88,6 +91,11 @@ fn draw_run<'a>(
         Some(stave) => ladder.heights.bottom(stave).saturating_add(300),
         None => TOP,
     })
+}
+
+// Whether a run is too long to be drawn step by step.
+fn is_long(steps: &[Step]) -> bool {
+    steps.len() > MOST_STEPS || count_messages(steps) > MOST_MESSAGES
 }
 
 fn count_messages(steps: &[Step]) -> usize {
