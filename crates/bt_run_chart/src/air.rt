@@ -1,9 +1,10 @@
 // The frames that were shown: the bursts on the air, and who was silent.
 use crate::editions::name_of;
+use crate::holdings::{Holding, Holdings};
 use crate::ladder::{COLUMN, FRAME_COLUMNS, Ladder, Placed};
-use crate::step::{Delivery, Frame, Happening, OnAir, Said, Station, Step};
+use crate::step::{Frame, Happening, OnAir, Station, Step};
 use bt_drawing::{Drawn, Pen, place, rectangle};
-use bt_frame::TermNo;
+use bt_frame::{OutOfMemory, TermNo};
 use bt_net::Network;
 use bt_picture::{Anchor, Point, Shape, Style};
 use bt_words::Word;
@@ -62,8 +63,7 @@ fn draw_burst<'a>(ladder: &Ladder<'a>, placed: &Placed, burst: OnAir, pen: &mut 
     let corner = place(row.x.saturating_add(left), row.y);
     let bar = rectangle(corner, width, height, Style::Fill(beam_of(net, burst.to)));
     let (from, to) = (name_of(net, burst.from), name_of(net, burst.to));
-    let (first, last) = (Number(burst.start), Number(end.saturating_sub(1)));
-    let title = pen.phrase("# to #, slots # to #", &[Text(from), Text(to), first, last])?;
+    let title = burst_title(from, to, burst.start, end, pen)?;
     let letters = from.len().saturating_add(to.len()).saturating_add(2) as u64;
     if letters.saturating_mul(105) > width {
         return pen.titled(bar, title);
@@ -74,6 +74,22 @@ fn draw_burst<'a>(ladder: &Ladder<'a>, placed: &Placed, burst: OnAir, pen: &mut 
     );
     let words = pen.phrase("#→#", &[Text(from), Text(to)])?;
     pen.marked(bar, at, Style::Small, words, title)
+}
+
+// Who sends to whom in which slots.
+fn burst_title<'a>(
+    from: &'a str,
+    to: &'a str,
+    start: u64,
+    end: u64,
+    pen: &Pen<'a>,
+) -> Result<Vec<Word<'a>>, OutOfMemory> {
+    let last = end.saturating_sub(1);
+    if last <= start {
+        return pen.phrase("# to #, slot #", &[Text(from), Text(to), Number(start)]);
+    }
+    let (first, last) = (Number(start), Number(last));
+    pen.phrase("# to #, slots # to #", &[Text(from), Text(to), first, last])
 }
 
 // Twips from the first slot of a frame to this one.
@@ -92,76 +108,19 @@ fn beam_of(net: &Network, terminal: TermNo) -> u8 {
     }
 }
 
-// The editions of which a terminal holds its bursts, as far as its answers tell: it has two banks.
-#[derive(Clone, Copy)]
-struct Holding {
-    terminal: TermNo,
-    newer: Option<u64>,
-    older: Option<u64>,
-}
-
-impl Holding {
-    fn has(self, edition: u64) -> bool {
-        self.newer == Some(edition) || self.older == Some(edition)
-    }
-}
-
 /// Draws a ring on the lane of each terminal that holds its bursts of the edition in front and is silent in a frame.
 pub fn draw_silences<'a>(alloc: Global, ladder: &Ladder<'a>, pen: &mut Pen<'a>) -> Drawn {
-    let mut holdings = Vec::new(alloc);
+    let mut holdings = Holdings::none(alloc);
     for (number, placed) in ladder.placed.iter().enumerate() {
         match placed.step {
-            Step::Got(delivery) => take_answer(ladder, delivery, &mut holdings)?,
-            Step::Happened(station, Happening::Reset) => forget(station, &mut holdings),
+            Step::Sent(message) => holdings.send(message)?,
+            Step::Got(delivery) => holdings.take(ladder, delivery)?,
+            Step::Happened(station, Happening::Reset) => holdings.forget(station),
             Step::Shown(frame) => draw_silent(ladder, number, frame, holdings.as_slice(), pen)?,
             _ => (),
         }
     }
     Ok(())
-}
-
-// A terminal says that it holds its bursts of an edition.
-fn take_answer(ladder: &Ladder<'_>, delivery: Delivery, holdings: &mut Vec<Holding>) -> Drawn {
-    let Some(posted) = ladder.posted_as(delivery.number) else {
-        return Ok(());
-    };
-    match (posted.message.said, delivery.hearer) {
-        (Said::Bursts { edition, .. }, Station::Terminal(terminal)) if !delivery.refused => {
-            hold(terminal, edition, holdings)
-        }
-        _ => Ok(()),
-    }
-}
-
-// A terminal holds its bursts of an edition, and still those that it stored before.
-fn hold(terminal: TermNo, edition: u64, holdings: &mut Vec<Holding>) -> Drawn {
-    let newer = Some(edition);
-    for holding in holdings.iter_mut() {
-        if holding.terminal == terminal {
-            if holding.newer != newer {
-                holding.older = holding.newer;
-                holding.newer = newer;
-            }
-            return Ok(());
-        }
-    }
-    let older = None;
-    holdings.push(Holding {
-        terminal,
-        newer,
-        older,
-    })?;
-    Ok(())
-}
-
-// A terminal that restarted holds nothing.
-fn forget(station: Station, holdings: &mut Vec<Holding>) {
-    for holding in holdings.iter_mut() {
-        if station == Station::Terminal(holding.terminal) {
-            holding.newer = None;
-            holding.older = None;
-        }
-    }
 }
 
 // The terminal sends in the frame that is the step of that number: its bursts are the next steps.

@@ -1,11 +1,11 @@
 // How editions and terminals are shown.
 use bt_frame::TermNo;
 use bt_net::Network;
-use bt_picture::Style;
+use bt_picture::{FILLS, Style};
 
 /// The fill of an edition.
 pub fn fill_of(edition: u64) -> Style {
-    Style::Fill((edition % 8) as u8)
+    Style::Fill((edition % u64::from(FILLS)) as u8)
 }
 
 /// Letters upon the fill of an edition: white upon the dark ones.

@@ -122,7 +122,7 @@ pub struct Ladder<'a> {
     // The next column of the last stave, the place of the step before it, and the message that came there.
     column: u64,
     x: u64,
-    heard: Option<u64>,
+    heard: Option<usize>,
 }
 
 impl<'a> Ladder<'a> {
@@ -202,8 +202,8 @@ impl<'a> Ladder<'a> {
     // Who hears the message that was heard last hears it in the same column.
     fn columns_of_delivery(&self, delivery: Delivery) -> Option<u64> {
         self.lanes.find(delivery.hearer)?;
-        self.posted_as(delivery.number)?.lane?;
-        let is_same = self.heard == Some(delivery.number);
+        self.posted_as(delivery.place)?.lane?;
+        let is_same = self.heard == Some(delivery.place);
         Some(if is_same { 0 } else { 1 })
     }
 
@@ -230,7 +230,7 @@ impl<'a> Ladder<'a> {
         self.heard = None;
         match step {
             Step::Begin(_) => return,
-            Step::Got(delivery) => self.heard = Some(delivery.number),
+            Step::Got(delivery) => self.heard = Some(delivery.place),
             Step::Shown(_) => {
                 if let Some(stave) = self.staves.last_mut() {
                     stave.has_frames = true;
@@ -258,7 +258,7 @@ impl<'a> Ladder<'a> {
 
     // Remembers that a message was heard.
     fn hear(&mut self, delivery: Delivery) {
-        if let Some(posted) = self.posted.get_mut(delivery.number as usize) {
+        if let Some(posted) = self.posted.get_mut(delivery.place) {
             posted.is_heard = true;
         }
     }
@@ -278,8 +278,8 @@ impl<'a> Ladder<'a> {
         self.staves.get(number).copied()
     }
 
-    /// The message of that number at its place.
-    pub fn posted_as(&self, number: u64) -> Option<Posted> {
-        self.posted.get(number as usize).copied()
+    /// The message of that place among those of the text, where it was sent.
+    pub fn posted_as(&self, place: usize) -> Option<Posted> {
+        self.posted.get(place).copied()
     }
 }

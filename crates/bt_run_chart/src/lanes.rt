@@ -92,15 +92,20 @@ fn draw_stave<'a>(ladder: &Ladder<'a>, stave: &Stave, pen: &mut Pen<'a>) -> Draw
     for (lane, station) in ladder.lanes.stations.iter().enumerate() {
         let y = ladder.heights.lane_y(stave, lane);
         pen.shape(Shape::Line(place(LEFT, y), place(RIGHT, y), Style::Thin))?;
-        write_name(
-            pen,
-            y.saturating_add(75),
-            Style::Text,
-            station_name(ladder.net, *station),
-        )?;
+        let name = station_name(ladder.net, *station);
+        write_name(pen, y.saturating_add(75), letters_of(name), name)?;
     }
     let y = ladder.heights.front_y(stave);
     write_name(pen, y.saturating_add(210), Style::Text, "in front")
+}
+
+// The letters of a name: small ones where it is long.
+fn letters_of(name: &str) -> Style {
+    if name.len() > 11 {
+        Style::Small
+    } else {
+        Style::Text
+    }
 }
 
 // Writes what stands before a row.

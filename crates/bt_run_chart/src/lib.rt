@@ -9,9 +9,11 @@
 
 mod air;
 mod editions;
+mod holdings;
 mod ladder;
 mod lanes;
 mod messages;
+mod numbering;
 mod reading;
 mod spans;
 mod step;

@@ -31,7 +31,7 @@ pub fn draw_deliveries<'a>(alloc: Global, ladder: &Ladder<'a>, pen: &mut Pen<'a>
 
 // From where to where a delivery is drawn: from the left edge where its message was sent in an earlier stave.
 fn way_of(ladder: &Ladder<'_>, placed: &Placed, delivery: Delivery) -> Option<(Point, Point)> {
-    let posted = ladder.posted_as(delivery.number)?;
+    let posted = ladder.posted_as(delivery.place)?;
     let stave = ladder.stave(placed.stave)?;
     let here = posted.stave == placed.stave;
     let x = if here { posted.x } else { LEFT };
@@ -221,7 +221,7 @@ fn write_label<'a>(
 // Draws a message, and its end where nobody heard it.
 fn draw_message<'a>(ladder: &Ladder<'a>, at: Point, message: Message, pen: &mut Pen<'a>) -> Drawn {
     let mut title = message_title(ladder.net, message, pen)?;
-    let posted = ladder.posted_as(message.number);
+    let posted = ladder.posted_as(message.place);
     if !posted.is_some_and(|posted| posted.is_heard) {
         title.push(Text("; nobody heard it"))?;
         draw_unheard(at, message, pen)?;

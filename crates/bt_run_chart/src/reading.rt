@@ -1,8 +1,10 @@
 // The steps of a run, from its printed lines.
+use crate::numbering::Numbering;
 use crate::step::{
     Change, Delivery, Frame, Happening, Message, OnAir, Said, Station, Status, Step,
 };
 use bt_air::{Heard, Taken};
+use bt_drawing::Drawn;
 use bt_frame::{OutOfMemory, TermNo};
 use bt_net::Network;
 use bt_run_lines::{Form, Printed, Value, read_line};
@@ -10,77 +12,102 @@ use bt_text::first_line;
 use bt_timeline::{heard_text, taken_text};
 use std::alloc::Global;
 
-/// The steps of a run, in order. Lines that no run prints, and those of which nothing is drawn, are passed over.
+/// The steps of a run, in order. Lines that no run prints, those of which nothing is drawn, and deliveries of messages that
+/// the text does not have are passed over.
 pub fn read_steps(alloc: Global, net: &Network, text: &[u8]) -> Result<Vec<Step>, OutOfMemory> {
     let mut steps = Vec::new(alloc);
+    let mut context = Context {
+        before: None,
+        numbering: Numbering::none(),
+    };
     let mut rest = text;
-    let mut by_standby = false;
     while let Some((line, behind)) = first_line(rest) {
-        by_standby = read_step(net, line, by_standby, &mut steps)?;
+        context.read(net, line, &mut steps)?;
         rest = behind;
     }
-    read_step(net, rest, by_standby, &mut steps)?;
+    context.read(net, rest, &mut steps)?;
     Ok(steps)
 }
 
-// Reads a line behind its fellows, and says whether the next one is a message of the standby.
-fn read_step(
-    net: &Network,
-    line: &[u8],
-    by_standby: bool,
-    steps: &mut Vec<Step>,
-) -> Result<bool, OutOfMemory> {
-    let Some(printed) = read_line(net, line) else {
-        return Ok(false);
-    };
-    if printed.form == Form::StandbyBurst {
-        return Ok(true);
-    }
-    // A run begins in some superframe, and a restart in its midst begins none.
-    if printed.form == Form::Start && !steps.is_empty() {
-        return Ok(false);
-    }
-    if let Some(step) = step_of(&printed, by_standby) {
-        steps.push(step)?;
-    }
-    Ok(false)
+// What a line is read by: the form of the line before it, and the messages so far.
+#[derive(Clone, Copy)]
+struct Context {
+    before: Option<Form>,
+    numbering: Numbering,
 }
 
-// The step that a line tells of.
-fn step_of(line: &Printed, by_standby: bool) -> Option<Step> {
-    if let Some(message) = message_of(line, by_standby) {
-        return Some(Step::Sent(message));
+impl Context {
+    // Reads a line behind its fellows.
+    fn read(&mut self, net: &Network, line: &[u8], steps: &mut Vec<Step>) -> Drawn {
+        let Some(printed) = read_line(net, line) else {
+            self.before = None;
+            return Ok(());
+        };
+        if let Some(step) = self.step_of(&printed) {
+            steps.push(step)?;
+        }
+        self.before = Some(printed.form);
+        Ok(())
     }
-    if let Some(delivery) = delivery_of(line) {
-        return Some(Step::Got(delivery));
-    }
-    happening_of(line)
-}
 
-// The message that was sent.
-fn message_of(line: &Printed, by_standby: bool) -> Option<Message> {
-    let [Value::Number(number), rest @ ..] = line.values() else {
-        return None;
-    };
-    let said = said_of(line.form, rest)?;
-    let sender = match said {
-        Said::Status(_) => Station::Satellite,
-        Said::Confirm { from, .. } | Said::Lost { from } => Station::Terminal(from),
-        Said::Reference { .. } if by_standby => Station::Standby,
-        _ => Station::Centre,
-    };
-    Some(Message {
-        number: *number,
-        sender,
-        said,
-    })
+    // The step that a line tells of.
+    fn step_of(&mut self, line: &Printed) -> Option<Step> {
+        if let Some(message) = self.message_of(line) {
+            return Some(Step::Sent(message));
+        }
+        if let Some(delivery) = self.delivery_of(line) {
+            return Some(Step::Got(delivery));
+        }
+        // A run begins in some superframe, and a restart in its midst begins none.
+        if line.form == Form::Start && self.before == Some(Form::Restart) {
+            return None;
+        }
+        happening_of(line)
+    }
+
+    // The message that was sent.
+    fn message_of(&mut self, line: &Printed) -> Option<Message> {
+        let [Value::Number(number), rest @ ..] = line.values() else {
+            return None;
+        };
+        let said = said_of(line.form, rest)?;
+        let sender = match said {
+            Said::Status(_) => Station::Satellite,
+            Said::Confirm { from, .. } | Said::Lost { from } => Station::Terminal(from),
+            Said::Reference { .. } if self.before == Some(Form::StandbyBurst) => Station::Standby,
+            _ => Station::Centre,
+        };
+        let (number, place) = (*number, self.numbering.send(*number));
+        Some(Message {
+            number,
+            place,
+            sender,
+            said,
+        })
+    }
+
+    // The delivery that was made, of a message that the text has.
+    fn delivery_of(&self, line: &Printed) -> Option<Delivery> {
+        let [Value::Number(number), rest @ ..] = line.values() else {
+            return None;
+        };
+        let (hearer, answer, refused) = answer_of(line.form, rest)?;
+        let (number, place) = (*number, self.numbering.meant(*number)?);
+        Some(Delivery {
+            number,
+            place,
+            hearer,
+            answer,
+            refused,
+        })
+    }
 }
 
 // What a message says, from the values behind its number.
 #[rattlefmt::skip]
 fn said_of(form: Form, values: &[Value]) -> Option<Said> {
     match (form, values) {
-        (Form::SentLoad, [_, Value::Number(edition)]) => Some(Said::Load { edition: *edition }),
+        (Form::SentLoad, [Value::Number(command), Value::Number(edition)]) => Some(Said::Load { command: *command, edition: *edition }),
         (Form::SentArm, [_, Value::Number(edition), Value::Number(due)]) => Some(Said::Arm(Change { edition: *edition, due: *due })),
         (Form::SentStatus | Form::SentArmedStatus, _) => status_of(values),
         (Form::SentPlan, [Value::Number(edition), Value::Terminal(to)]) => Some(Said::Bursts { edition: *edition, to: *to }),
@@ -127,12 +154,9 @@ fn status_of(values: &[Value]) -> Option<Said> {
     }))
 }
 
-// The delivery that was made.
-fn delivery_of(line: &Printed) -> Option<Delivery> {
-    let [Value::Number(number), rest @ ..] = line.values() else {
-        return None;
-    };
-    let (hearer, answer, refused) = match (line.form, rest) {
+// Who heard a message, what that did with it, and whether it refused, from the values behind the number.
+fn answer_of(form: Form, values: &[Value]) -> Option<(Station, &'static str, bool)> {
+    Some(match (form, values) {
         (Form::GotSatellite, [Value::Taken(taken)]) => satellite_answer(*taken),
         (Form::GotCentre, []) => (Station::Centre, "noted", false),
         (Form::GotTerminal, [Value::Terminal(terminal), Value::Heard(heard)]) => {
@@ -147,12 +171,6 @@ fn delivery_of(line: &Printed) -> Option<Delivery> {
         (Form::StandbyWrongMark, []) => (Station::Standby, "wrongmark", true),
         (Form::StandbyNotForMe, []) => (Station::Standby, "notforme", true),
         _ => return None,
-    };
-    Some(Delivery {
-        number: *number,
-        hearer,
-        answer,
-        refused,
     })
 }
 

@@ -30,7 +30,7 @@ pub struct Status {
 /// What a message says.
 #[derive(Clone, Copy)]
 pub enum Said {
-    Load { edition: u64 },
+    Load { command: u64, edition: u64 },
     Arm(Change),
     Status(Status),
     Bursts { edition: u64, to: TermNo },
@@ -39,18 +39,20 @@ pub enum Said {
     Lost { from: TermNo },
 }
 
-/// A message with its number, from 0 in the order of sending.
+/// A message with its number, and its place among the messages of the text, from 0.
 #[derive(Clone, Copy)]
 pub struct Message {
     pub number: u64,
+    pub place: usize,
     pub sender: Station,
     pub said: Said,
 }
 
-/// That a message came to a station, and what that did with it.
+/// That the message of that place came to a station, and what that did with it.
 #[derive(Clone, Copy)]
 pub struct Delivery {
     pub number: u64,
+    pub place: usize,
     pub hearer: Station,
     pub answer: &'static str,
     pub refused: bool,

@@ -11,7 +11,7 @@ use bt_words::Word::{Number, Text};
 #[rattlefmt::skip]
 pub fn label_of<'a>(said: Said, pen: &Pen<'a>) -> Result<Vec<Word<'a>>, OutOfMemory> {
     match said {
-        Said::Load { edition }                           => pen.phrase("load #", &[Number(edition)]),
+        Said::Load { edition, .. }                       => pen.phrase("load #", &[Number(edition)]),
         Said::Arm(change)                                => pen.phrase("arm # @#", &[Number(change.edition), Number(change.due)]),
         Said::Status(status)                             => pen.phrase("status #", &[Number(status.fore)]),
         Said::Bursts { edition, .. }                     => pen.phrase("bursts #", &[Number(edition)]),
@@ -49,7 +49,7 @@ pub fn happening_title<'a>(name: &'a str, happening: Happening, pen: &Pen<'a>) -
 pub fn message_title<'a>(net: &'a Network, message: Message, pen: &Pen<'a>) -> Result<Vec<Word<'a>>, OutOfMemory> {
     let number = Number(message.number);
     match message.said {
-        Said::Load { edition }          => pen.phrase("message #, load: the modes of edition # into the background", &[number, Number(edition)]),
+        Said::Load { edition, .. }      => pen.phrase("message #, load: the modes of edition # into the background", &[number, Number(edition)]),
         Said::Arm(change)               => pen.phrase("message #, arm: edition # in front from superframe #", &[number, Number(change.edition), Number(change.due)]),
         Said::Status(status)            => status_title(number, status, pen),
         Said::Bursts { edition, to }    => pen.phrase("message #, bursts: those of edition # for #", &[number, Number(edition), Text(name_of(net, to))]),

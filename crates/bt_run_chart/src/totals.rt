@@ -32,7 +32,7 @@ const ROWS: [&str; 10] = [
     "bursts",
     "confirm",
     "reference",
-    "lost",
+    "has restarted",
     "restarts",
     "resets",
     "frames shown",
@@ -54,7 +54,7 @@ struct Total {
     counts: [Count; 10],
 }
 
-// What was counted so far: the row of each message, by its number, stands beside it.
+// What was counted so far: the row of each message, by its place, stands beside it.
 #[derive(Drop)]
 struct Tally {
     totals: Vec<Total>,
@@ -72,7 +72,7 @@ impl Tally {
             self.rows.push(row_of(message.said))?;
         }
         let heard = match step {
-            Step::Got(delivery) => self.rows.get(delivery.number as usize).copied(),
+            Step::Got(delivery) => self.rows.get(delivery.place).copied(),
             _ => None,
         };
         let made = made_row(step);

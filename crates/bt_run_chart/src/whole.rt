@@ -23,7 +23,7 @@ const LADDER_HEADING: [(u64, Style, &str); 3] = [
     (
         820,
         Style::Text,
-        "A circle: a message with its number. An arrow: it was heard. A grey line: its hearer refused it. A cross: nobody heard it. A dot: a restart or an order.",
+        "A circle: a message with its number. An arrow: it was heard. A grey line: its hearer refused it. A cross: nobody heard it. A dot: a restart, a reset, back or ahead.",
     ),
     (
         1120,
@@ -37,7 +37,7 @@ const TOTALS_HEADING: [(u64, Style, &str); 2] = [
     (
         820,
         Style::Text,
-        "Of each kind of message, how many were sent / how often one was heard; above them the edition in front on board at the end.",
+        "Of each kind of message, how many were sent / how often one came to a station, refused or not; above them the edition in front on board at the end.",
     ),
 ];
 
