@@ -41,7 +41,7 @@ abbrev pub direction_head : Direction → List ℕ
 direction_head Up = codes "Uplinks"
 direction_head Down = codes "Downlinks"
 
--- the direction and the beam of the fullest line
+-- the direction and the beam of the critical line
 abbrev pub critical_direction : Critical → Direction
 critical_direction (Row _) = Up
 critical_direction (Column _) = Down
@@ -50,12 +50,16 @@ abbrev pub critical_beam : Critical → ℕ
 critical_beam (Row up) = up.0
 critical_beam (Column down) = down.0
 
--- whether a lane is that of the fullest line
+-- whether a lane is that of the critical line
 abbrev pub is_critical : Critical → Direction → ℕ → Bool
 is_critical (Row up) Up beam = up.0 == beam
 is_critical (Row up) Down beam = false
 is_critical (Column down) Up beam = false
 is_critical (Column down) Down beam = down.0 == beam
+
+-- the words for one thing, or those for another number of them
+abbrev pub counted : ℕ → List ℕ → List ℕ → List ℕ
+counted number one many = if number == 1 then one else many
 
 -- the heading
 abbrev pub title_part : ℕ → Part
@@ -63,8 +67,9 @@ title_part edition = Alone (Label (at 320 480) Start style.Title (text_of (codes
 
 abbrev pub counts_part : ℕ → ℕ → ℕ → List ℕ → List ℕ → ℕ → Part
 counts_part slots modes bursts line name frame = Alone (Label (at 320 880) Start style.Text (text_of (
-    decimal slots ∷ codes " slots, " ∷ decimal modes ∷ codes " modes, " ∷ decimal bursts ∷ codes " bursts; the fullest line is "
-    ∷ line ∷ codes " " ∷ name ∷ codes " (frame of " ∷ decimal frame ∷ codes " slots)" ∷ [])))
+    decimal slots ∷ counted slots (codes " slot, ") (codes " slots, ") ∷ decimal modes ∷ counted modes (codes " mode, ") (codes " modes, ")
+    ∷ decimal bursts ∷ counted bursts (codes " burst") (codes " bursts") ∷ codes "; the critical line is " ∷ line ∷ codes " " ∷ name
+    ∷ codes " (frame of " ∷ decimal frame ∷ counted frame (codes " slot)") (codes " slots)") ∷ [])))
 
 abbrev pub heading_parts : Net → Plan → List Part
 heading_parts net plan = title_part plan.edition.0
@@ -112,14 +117,14 @@ is_permutation beams perm = length perm == beams && are_below beams perm && are_
 abbrev pub band_of : Scale → ℕ → ℕ → Rect
 band_of scale begin end = record { x = x_of scale (min begin scale.span); y = 1520; width = (min end scale.span - min begin scale.span) * scale.unit; height = 280 }
 
--- what the title of a mode says of its slots
+-- how the title of a mode ends
 abbrev pub mode_ending : Bool → List ℕ
-mode_ending true = codes " slots"
-mode_ending false = codes " slots: no permutation of the beams"
+mode_ending true = []
+mode_ending false = codes ": no permutation of the beams"
 
 -- a mode in its band, with its duration where there is room, and a broken edge where it is no permutation
 abbrev pub mode_part : ℕ → ℕ → Bool → Rect → Part
-mode_part place duration good band = Titled (text_of (codes "mode " ∷ decimal place ∷ codes ", " ∷ decimal duration ∷ mode_ending good ∷ []))
+mode_part place duration good band = Titled (text_of (codes "mode " ∷ decimal place ∷ codes ", " ∷ decimal duration ∷ counted duration (codes " slot") (codes " slots") ∷ mode_ending good ∷ []))
     (Rectangle band style.Band ∷ (if good then [] else Rectangle band style.Fault ∷ []) ++ (if nat_lt band.width 500 then [] else Label (at (band.x + band.width / 2) 1740) Middle style.Text (text_of (decimal duration ∷ [])) ∷ []))
 
 -- a mode of a list, which begins where those before it end
@@ -158,7 +163,7 @@ name_letters heavy letters = if nat_lt 11 letters then style.Small else lane_let
 
 -- a lane: its box, its name on the left, and how full it is on the right
 abbrev pub lane_part : Direction → List ℕ → ℕ → ℕ → Bool → Rect → ℕ → Part
-lane_part direction name slots whole heavy lane right = Titled (text_of (direction_name direction ∷ codes " " ∷ name ∷ codes ": " ∷ decimal slots ∷ codes " of " ∷ decimal whole ∷ codes " slots" ∷ []))
+lane_part direction name slots whole heavy lane right = Titled (text_of (direction_name direction ∷ codes " " ∷ name ∷ codes ": " ∷ decimal slots ∷ codes " of " ∷ decimal whole ∷ counted whole (codes " slot") (codes " slots") ∷ []))
     (Rectangle lane (lane_style heavy) ∷ Label (at 1560 (lane.y + 320)) End (name_letters heavy (length name)) (text_of (name ∷ []))
     ∷ Label (at right (lane.y + 320)) Start (lane_letters heavy) (text_of (decimal slots ∷ codes "/" ∷ decimal whole ∷ [])) ∷ [])
 
@@ -216,11 +221,15 @@ abbrev pub overrun_parts : Net → Scale → Burst → List Part
 overrun_parts net scale burst = if nat_lt scale.length (end_of burst)
     then overrun_part scale (beam_number net burst.from) (beam_number net burst.to) (max burst.start scale.length) (end_of burst - max burst.start scale.length) ∷ [] else []
 
+-- how a name in the legend looks; long ones are small
+abbrev pub item_letters : ℕ → Style
+item_letters letters = if nat_lt 12 letters then style.Small else style.Text
+
 -- an item of the legend, seven to a line
 abbrev pub item_part : ℕ → ℕ → Style → List ℕ → Part
 item_part top place look name = Titled (text_of (name ∷ []))
     (Rectangle (record { x = LEFT + place % 7 * 2400; y = top + place / 7 * 440; width = 280; height = 280 }) look
-    ∷ Label (at (LEFT + place % 7 * 2400 + 380) (top + place / 7 * 440 + 230)) Start style.Text (text_of (name ∷ [])) ∷ [])
+    ∷ Label (at (LEFT + place % 7 * 2400 + 380) (top + place / 7 * 440 + 230)) Start (item_letters (length name)) (text_of (name ∷ [])) ∷ [])
 
 -- what stands beside the legend, the fill of a beam, and what a lane looks like where it is silent
 abbrev pub legend_head : Scale → Part

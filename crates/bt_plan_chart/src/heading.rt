@@ -1,7 +1,7 @@
 // What stands over the lanes: the heading and the ruler.
 ghost use Rattle.std.specs.Prelude.{◌≡◌, ◌++◌, ◌*◌, ◌≤◌, ◌<◌, ◌^◌, [], ◌∷◌, length, OnOk};
 ghost use Rattle.bt_frame.specs.Critical.{IsOfBeams};
-ghost use Rattle.bt_plan_chart.specs.Chart.{counts_part, critical_beam, critical_direction, direction_name, heading_parts, name_of_beam, ruler_parts, step_among, step_of, tick_part, tick_parts, ticks_parts, title_part};
+ghost use Rattle.bt_plan_chart.specs.Chart.{counted, counts_part, critical_beam, critical_direction, direction_name, heading_parts, name_of_beam, ruler_parts, step_among, step_of, tick_part, tick_parts, ticks_parts, title_part};
 ghost use Rattle.bt_plan_chart.specs.Parts.{parts_text};
 ghost use Rattle.bt_plan_chart.specs.Scale.{IsScale};
 
@@ -88,7 +88,7 @@ fn add_counts(
     )
 }
 
-/// Appends so many slots, modes and bursts, the fullest line, and the slots of a frame.
+/// Appends so many slots, modes and bursts, the critical line, and the slots of a frame.
 fn add_count_line<'x>(
     alloc: Global,
     slots: u64,
@@ -103,17 +103,18 @@ fn add_count_line<'x>(
 {
     let words = [
         Word::Number(slots),
-        Word::Text(" slots, "),
+        Word::Text(counted(slots, " slot, ", " slots, ")),
         Word::Number(modes),
-        Word::Text(" modes, "),
+        Word::Text(counted(modes, " mode, ", " modes, ")),
         Word::Number(bursts),
-        Word::Text(" bursts; the fullest line is "),
+        Word::Text(counted(bursts, " burst", " bursts")),
+        Word::Text("; the critical line is "),
         Word::Text(line),
         Word::Text(" "),
         Word::Text(name),
         Word::Text(" (frame of "),
         Word::Number(frame),
-        Word::Text(" slots)"),
+        Word::Text(counted(frame, " slot)", " slots)")),
     ];
     let at = Point { x: 320, y: 880 };
     add_alone(
@@ -121,6 +122,13 @@ fn add_count_line<'x>(
         Shape::Label(at, Anchor::Start, Style::Text, &words),
         out,
     )
+}
+
+/// The words for one thing, or those for another number of them.
+pub(crate) fn counted<'x>(number: u64, one: &'x str, many: &'x str) -> &'x str
+    ensures { result.now ≡ counted number one.now many.now }
+{
+    if number == 1 { one } else { many }
 }
 
 /// The direction and the beam of a line.

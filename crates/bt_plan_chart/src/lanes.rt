@@ -7,7 +7,7 @@ ghost use Rattle.bt_plan_chart.specs.Parts.{parts_text};
 ghost use Rattle.bt_plan_chart.specs.Scale.{IsScale};
 
 use crate::fullness::fullness;
-use crate::heading::{direction_name, name_of_beam};
+use crate::heading::{counted, direction_name, name_of_beam};
 use crate::part::{add_alone, add_titled};
 use crate::scale::{lane_top, slots_box, x_of};
 use crate::{Direction, Scale};
@@ -68,7 +68,7 @@ fn direction_head(direction: Direction) -> &'static str
     }
 }
 
-/// Whether a lane is that of the fullest line.
+/// Whether a lane is that of the critical line.
 fn is_critical(critical: Critical, direction: Direction, beam: u64) -> bool
     ensures { result ≡ is_critical critical direction beam }
 {
@@ -158,7 +158,7 @@ fn add_lane(
         Word::Number(slots),
         Word::Text(" of "),
         Word::Number(whole),
-        Word::Text(" slots"),
+        Word::Text(counted(whole, " slot", " slots")),
     ];
     let look = Shape::Rectangle(lane, lane_style(heavy));
     add_three(alloc, &title, look, name_label, numbers, out)

@@ -1,7 +1,7 @@
 // What the fills mean.
 ghost use Rattle.std.specs.Prelude.{◌≡◌, ◌++◌, ◌<◌, ◌≤◌, ◌^◌, [], ◌∷◌, length, OnOk};
 ghost use Rattle.bt_frame.specs.declared.limits.TheConstants.{MOST_BEAMS};
-ghost use Rattle.bt_plan_chart.specs.Chart.{fill_part_at, item_part, legend_parts, silent_part};
+ghost use Rattle.bt_plan_chart.specs.Chart.{fill_part_at, item_letters, item_part, legend_parts, silent_part};
 ghost use Rattle.bt_plan_chart.specs.Parts.{parts_text};
 ghost use Rattle.bt_plan_chart.specs.Scale.{IsScale};
 
@@ -105,7 +105,18 @@ fn add_item(
             },
             look,
         ),
-        Shape::Label(at, Anchor::Start, Style::Text, &words),
+        Shape::Label(at, Anchor::Start, item_letters(name), &words),
     ];
     add_titled(alloc, &words, &shapes, out)
+}
+
+/// How a name in the legend looks: a long one has to be small, to leave room for the next.
+fn item_letters(name: &str) -> Style
+    ensures { result ≡ item_letters (length name.now) }
+{
+    if name.len() > 12 {
+        Style::Small
+    } else {
+        Style::Text
+    }
 }

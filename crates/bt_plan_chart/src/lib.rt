@@ -1,6 +1,6 @@
 //! A burst time plan as a picture: which terminal is on the air in which slot, lane by lane.
 //!
-//!     heading    edition; slots, modes, bursts, the fullest line
+//!     heading    edition; slots, modes, bursts, the critical line
 //!     ruler      slots from the start of the frame
 //!     modes      one band from left to right, the slots of each mode
 //!     Uplinks    a lane for each beam, and in it the bursts that go up in it, each with the fill of its downlink beam

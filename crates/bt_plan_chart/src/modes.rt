@@ -5,6 +5,7 @@ ghost use Rattle.bt_plan_chart.specs.Parts.{parts_text};
 ghost use Rattle.bt_plan_chart.specs.Scale.{IsScale};
 
 use crate::Scale;
+use crate::heading::counted;
 use crate::part::{add_alone, add_titled};
 use crate::scale::x_of;
 use bt_frame::{Mode, OutOfMemory};
@@ -117,6 +118,7 @@ fn add_band(
         Word::Number(place),
         Word::Text(", "),
         Word::Number(duration),
+        Word::Text(counted(duration, " slot", " slots")),
         Word::Text(mode_ending(good)),
     ];
     let words = [Word::Number(duration)];
@@ -135,13 +137,13 @@ fn add_band(
     }
 }
 
-/// What the title of a mode says of its slots.
+/// How the title of a mode ends.
 fn mode_ending(good: bool) -> &'static str
     ensures { result.now ≡ mode_ending good }
 {
     if good {
-        " slots"
+        ""
     } else {
-        " slots: no permutation of the beams"
+        ": no permutation of the beams"
     }
 }
