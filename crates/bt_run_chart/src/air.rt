@@ -4,7 +4,7 @@ use crate::holdings::{Holding, Holdings};
 use crate::ladder::{COLUMN, FRAME_COLUMNS, Ladder, Placed};
 use crate::step::{Frame, Happening, OnAir, Station, Step};
 use bt_drawing::{Drawn, Pen, place, rectangle};
-use bt_frame::{OutOfMemory, TermNo};
+use bt_frame::{MOST_TERMINALS, OutOfMemory, TermNo};
 use bt_net::Network;
 use bt_picture::{Anchor, Point, Shape, Style};
 use bt_words::Word;
@@ -123,16 +123,18 @@ pub fn draw_silences<'a>(alloc: Global, ladder: &Ladder<'a>, pen: &mut Pen<'a>) 
     Ok(())
 }
 
-// The terminal sends in the frame that is the step of that number: its bursts are the next steps.
-fn is_sending(ladder: &Ladder<'_>, number: usize, terminal: TermNo) -> bool {
-    for placed in ladder.placed.iter().skip(number.saturating_add(1)) {
-        match placed.step {
-            Step::Burst(burst) if burst.from == terminal => return true,
-            Step::Burst(_) => (),
-            _ => return false,
+// Which terminals send in a frame, by their numbers: its bursts are the steps behind it.
+fn senders_of(behind: &[Placed]) -> [bool; MOST_TERMINALS] {
+    let mut senders = [false; MOST_TERMINALS];
+    for placed in behind {
+        let Step::Burst(burst) = placed.step else {
+            return senders;
+        };
+        if let Some(sends) = senders.get_mut(usize::from(burst.from.0)) {
+            *sends = true;
         }
     }
-    false
+    senders
 }
 
 // Draws the rings of a frame, which is the step of that number.
@@ -143,12 +145,18 @@ fn draw_silent<'a>(
     holdings: &[Holding],
     pen: &mut Pen<'a>,
 ) -> Drawn {
-    let Some(placed) = ladder.placed.get(number).copied() else {
+    let Some((placed, behind)) = ladder
+        .placed
+        .get(number..)
+        .and_then(|steps| steps.split_first())
+    else {
         return Ok(());
     };
+    let senders = senders_of(behind);
     for holding in holdings {
-        if holding.has(frame.fore) && !is_sending(ladder, number, holding.terminal) {
-            draw_silence(ladder, &placed, frame, holding.terminal, pen)?;
+        let sends = senders.get(usize::from(holding.terminal.0)) == Some(&true);
+        if holding.has(frame.fore) && !sends {
+            draw_silence(ladder, placed, frame, holding.terminal, pen)?;
         }
     }
     Ok(())
