@@ -15,7 +15,7 @@ ghost use Rattle.bt_plan_chart.specs.declared.scale.Direction.TheVariants.{Up, D
 
 /// Two bursts meet exactly where their boxes overlap in a lane of the uplinks or in one of the downlinks.
 pub fn meeting_bursts_overlap()
-    ensures { (net : Net) (plan : Plan) (a b : Burst) → IsBetweenTerminals net a.from a.to → IsBetweenTerminals net b.from b.to
+    ensures meet { (net : Net) (plan : Plan) (a b : Burst) → IsBetweenTerminals net a.from a.to → IsBetweenTerminals net b.from b.to
         → Collide net a b ↔ (OverlapIn net (scale_of net plan) Up a b ⊎ OverlapIn net (scale_of net plan) Down a b) }
 {}
 
@@ -30,5 +30,5 @@ pub fn good_plans_have_no_overlap()
 
 /// A mode has no mark exactly where it is a permutation of the beams.
 pub fn permutations_are_told()
-    ensures { (beams : ℕ) (perm : List ℕ) → (is_permutation beams perm ≡ true) ↔ IsPermutation beams perm }
+    ensures told { (beams : ℕ) (perm : List ℕ) → (is_permutation beams perm ≡ true) ↔ IsPermutation beams perm }
 {}
