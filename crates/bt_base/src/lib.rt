@@ -1,7 +1,7 @@
 //! The outside in memory: files, sinks and stores of records that programs of cases and bodies of proofs are given.
 //!
 //! It stands on `bt_outside`, what the outside promises and the adapters to the real one, on `bt_frame` and `bt_text`,
-//! the words of the field and of texts, and on `bt_steps`, the counter of steps, and gives all four out too. All of
+//! the words of the field and of texts, and gives all three out too. All of
 //! `specs/` is promise: `Held.antt` and `Calls.antt` say what the objects in memory are seen as.
 #![tactic(auto)]
 
@@ -15,13 +15,12 @@ mod sure_keeper;
 mod sure_sink;
 
 pub use bt_frame::{
-    BeamNo, Columns, Command, Critical, EditionNo, Mark, Mode, Modes, OutOfMemory, Schedule,
+    BeamNo, Columns, Command, Critical, EditionNo, Mark, Mode, Modes, OutOfMemory, Schedule, Steps,
     TermNo, TermSet, Units,
 };
 pub use bt_outside::{
     DirFiles, FileFault, FileKeeper, Files, KeepFault, Keeper, Sink, SinkFault, StdSink,
 };
-pub use bt_steps::Steps;
 pub use bt_text::{next_line, number_text};
 pub use fail::Fail;
 pub use mem_files::MemFiles;

@@ -4,9 +4,9 @@
 //! it must get. Where one gets another answer, it is printed with that answer, and the program fails. `docs/cases.md`
 //! has the lines of such a file.
 //!
-//! The crate stands on the top call and on the outside in memory; the lines of texts are those of `bt_text_cases`, those
-//! of schedules for fewer transponders stand in `bt_part_cases`, and those of messages and machines in
-//! `bt_machine_cases`. It promises nothing beyond that each step is safe, and has no `specs/`.
+//! The crate stands on the top call and on the outside in memory; the lines of texts and of schedules are those of
+//! `bt_text_cases`, those of messages and machines of `bt_machine_cases`. It promises nothing beyond that each step is safe,
+//! and has no `specs/`.
 #![tactic(auto)]
 
 mod ending;

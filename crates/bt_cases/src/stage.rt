@@ -2,9 +2,8 @@
 use crate::outside::{Outside, set_meeting};
 use crate::pieces::{append, cut, put_keeps, put_reads, put_store, put_writes};
 use bt_machine_cases::Machines;
-use bt_part_cases::show_parts;
 use bt_sheet::{CaseFault, Result, Shelf, number_of, set_files};
-use bt_text_cases::Texts;
+use bt_text_cases::{Texts, show_parts};
 use std::alloc::Global;
 use std::sync::Wait;
 use std::thread::Threads;

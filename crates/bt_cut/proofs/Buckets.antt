@@ -6,7 +6,7 @@ use Rattle.std.proofs.lemmas.List.{append_assoc, append-nil, take_more}
 use Rattle.std.proofs.lemmas.List.Concat.{flat_map-append}
 use Rattle.std.proofs.lemmas.List.Elements.{All-push, All-append}
 use Rattle.std.proofs.lemmas.List.Sorted.{IsPermutation-refl, IsPermutation-trans, IsPermutation-append, IsPermutation-append_comm, All-permutation}
-use Rattle.bt_lists.proofs.Pairs.{AllPairs-append}
+use Rattle.bt_frame.proofs.Pairs.{AllPairs-append}
 use Rattle.bt_demand.specs.declared.burst.Burst.{Burst}
 use Rattle.bt_demand.specs.Burst.{IsNotAfter}
 use Rattle.bt_cut.specs.Bucket.{bucket_of, all_of, IsBucket}

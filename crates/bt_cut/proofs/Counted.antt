@@ -8,7 +8,7 @@ use Rattle.std.proofs.lemmas.List.{get_or_default, take_all}
 use Rattle.std.proofs.lemmas.Option.{slice_get-get_or}
 use Rattle.std.proofs.lemmas.List.Elements.{All-cons}
 use Rattle.std.proofs.lemmas.List.Sums.{sum_by-cons, sum_by-le, sum_by-take-le}
-use Rattle.bt_lists.proofs.Counts.{sum_by-none}
+use Rattle.bt_frame.proofs.Counts.{sum_by-none}
 use Rattle.bt_frame.proofs.OneNumber.{same_terminal}
 use Rattle.bt_frame.specs.declared.numbers.BeamNo.{BeamNo}
 use Rattle.bt_frame.specs.declared.numbers.TermNo.{TermNo}

@@ -16,8 +16,8 @@ use Rattle.bt_demand.specs.declared.burst.Burst.{Burst}
 use Rattle.bt_demand.specs.Burst.{Covers}
 use Rattle.bt_demand.specs.Plan.{Triple, triples_of, all_triples, occurrences, Meet, IsHeld}
 use Rattle.bt_demand.specs.Apart.{Collide, AreApart, slots_sent}
-use Rattle.bt_lists.proofs.Counts.{sum_by-map, sum_by-zeros}
-use Rattle.bt_lists.proofs.Pairs.{AllPairs-append, All-across, AllPairs-second, All-first, All-second}
+use Rattle.bt_frame.proofs.Counts.{sum_by-map, sum_by-zeros}
+use Rattle.bt_frame.proofs.Pairs.{AllPairs-append, All-across, AllPairs-second, All-first, All-second}
 
 -- the triple of a burst in a slot
 abbrev pub triple_in : Burst → ℕ → Triple

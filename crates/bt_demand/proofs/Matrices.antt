@@ -1,7 +1,7 @@
 -- The traffic matrix of a demand: of no link, after a link gained, and as a walk along the links makes it.
 use Rattle.std.proofs.Common.{◌≡◌, ℕ, ◌+◌, ◌<◌, ◌≤◌, ◌&&◌, if◌then◌else◌, List, [], Some, length, map, replicate, take, get_or, slice_get, option_map, sym, ap, ◌∙◌, arith}
 use Rattle.std.proofs.lemmas.List.Sums.{sum_by-take-le, sum_by_more}
-use Rattle.bt_lists.proofs.Images.{numbers_below, images-replicate}
+use Rattle.bt_frame.proofs.Images.{numbers_below, images-replicate}
 use Rattle.bt_frame.specs.declared.limits.TheConstants.{MOST_SUM}
 use Rattle.bt_frame.specs.declared.numbers.BeamNo.{BeamNo}
 use Rattle.bt_frame.specs.declared.numbers.TermNo.{TermNo}

@@ -3,7 +3,7 @@ use Rattle.std.proofs.Common.{◌≡◌, ℕ, suc, ◌+◌, ◌<◌, List, [], �
 use Rattle.std.specs.declared.cmp.Ordering.{Ordering}
 use Rattle.std.specs.declared.cmp.Ordering.TheVariants.{Less, Equal, Greater}
 use Rattle.std.proofs.lemmas.List.Sums.{sum_by-cons}
-use Rattle.bt_lists.proofs.Counts.{sum_by-none}
+use Rattle.bt_frame.proofs.Counts.{sum_by-none}
 use Rattle.bt_demand.specs.declared.demand.Link.{Link}
 use Rattle.bt_demand.specs.Demand.{Ends, ends_of, IsBefore, IsDemand, units_of}
 use Rattle.bt_demand.proofs.Links.{Says, says, before_trans, units_at, units_at-same, units_at-after}

@@ -2,8 +2,8 @@
 use Rattle.std.proofs.Common.{◌≡◌, ◌≢◌, ℕ, ◌+◌, ◌<◌, ◌≤◌, ◌==◌, ◌&&◌, if◌then◌else◌, Bool, true, false, List, [], Option, Some, None, length, map, slice_index, slice_set, slice_get, sum, unwrap_or, option_map, refl, sym, ap, ◌∙◌, arith, get_or-set_same}
 use Rattle.std.proofs.lemmas.Bool.Decides.{nat_tests}
 use Rattle.std.proofs.lemmas.List.Sums.{sum-map, sum_by-set, sum_by-le-sum_by}
-use Rattle.bt_lists.proofs.Counts.{sum_by-map}
-use Rattle.bt_lists.proofs.Images.{numbers_below, length-images, image_at, same_images, images-set}
+use Rattle.bt_frame.proofs.Counts.{sum_by-map}
+use Rattle.bt_frame.proofs.Images.{numbers_below, length-images, image_at, same_images, images-set}
 use Rattle.bt_frame.specs.declared.numbers.BeamNo.{BeamNo}
 use Rattle.bt_frame.specs.declared.numbers.TermNo.{TermNo}
 use Rattle.bt_net.specs.Network.{Net}

@@ -1,14 +1,20 @@
 //! The words of the field: beams, terminals, editions, marks and commands, each a number with a type of its own, the
-//! modes of the on-board switch, and the schedules that they make up.
+//! modes of the on-board switch, and the schedules that they make up; a counter of steps; and what holds of lists.
 //!
 //! It stands on no other crate of the repository. These are promises: `specs/Critical.antt`, which lines a matrix of so
 //! many beams has, and `specs/Range.antt`, when a number lies in a range.
+//!
+//! Lemmas for all crates stand in `proofs/`, of lists, tables, walks along them and results, whatever they hold:
+//! `Walk.antt` has a walk as far as it has come, `Counts.antt` sums over lists, `Totals.antt` sums over the numbers below a
+//! bound, `Tests.antt` tests of these numbers, `Pairs.antt` what holds of each two items, `Images.antt` what a function
+//! gives at each number below one, `Prefixes.antt` beginnings, `Results.antt` what is said of an error or of a value alone.
 #![tactic(auto)]
 
 mod limits;
 mod mode;
 mod numbers;
 mod schedule;
+mod steps;
 
 pub use limits::{
     LAST_BEAM, LAST_COMMAND, LAST_EDITION, LAST_MARK, LAST_MESSAGE, LAST_SLOT, LAST_TERMINAL,
@@ -21,3 +27,4 @@ pub use limits::{
 pub use mode::{Columns, Mode, Modes};
 pub use numbers::{BeamNo, Command, EditionNo, Mark, OutOfMemory, TermNo, TermSet, Units};
 pub use schedule::{Critical, Schedule};
+pub use steps::Steps;

@@ -10,7 +10,7 @@ use Rattle.bt_text.specs.Text.{words, lines, spaced, lacks}
 use Rattle.bt_text.specs.WordReader.{is_first}
 use Rattle.bt_text.proofs.TextLines.{words-spaced, spaced-words, lacks-spaced, slice_split-next, text_from_first_line}
 use Rattle.bt_text.proofs.TextNumbers.{lacks-decimal}
-use Rattle.bt_names.specs.Name.{is_name_byte}
+use Rattle.bt_net.specs.Name.{is_name_byte}
 use Rattle.bt_net.specs.Network.{Net, IsSound}
 use Rattle.bt_plan.proofs.NamedTerminals.{name_lacks}
 use Rattle.bt_plan.proofs.OneText.{is_word-same}

@@ -16,7 +16,7 @@ use Rattle.bt_frame.specs.declared.mode.Mode.{Mode}
 use Rattle.bt_frame.specs.declared.schedule.Critical.{Critical}
 use Rattle.bt_frame.specs.declared.schedule.Critical.TheVariants.{Row, Column}
 use Rattle.bt_frame.specs.Critical.{IsOfBeams}
-use Rattle.bt_names.specs.Name.{is_name_byte}
+use Rattle.bt_net.specs.Name.{is_name_byte}
 use Rattle.bt_net.specs.Network.{Net, IsSound}
 use Rattle.bt_net.specs.Terminals.{name_at}
 use Rattle.bt_demand.specs.declared.burst.Burst.{Burst}

@@ -6,7 +6,7 @@ use Rattle.std.proofs.lemmas.Bool.{le-leb}
 use Rattle.bt_text.specs.Text.{lacks}
 use Rattle.bt_text.proofs.TextNumbers.{lacks-decimal}
 use Rattle.bt_frame.specs.declared.numbers.TermNo.{TermNo}
-use Rattle.bt_names.specs.Name.{is_name_byte}
+use Rattle.bt_net.specs.Name.{is_name_byte}
 use Rattle.bt_net.specs.Network.{Net, IsSound}
 use Rattle.bt_net.specs.Terminals.{name_at, IsTerminal, IsBetweenTerminals}
 use Rattle.bt_plan.proofs.NamedTerminals.{is_name-name_at, name_lacks, terminal_found}

@@ -4,9 +4,8 @@ ghost use Rattle.bt_matrix.specs.Walk.{IsNextEntry, IsEmptyFrom};
 ghost use Rattle.bt_links.specs.Walk.{column_behind, entries_behind, HasEntry};
 
 use crate::crosslinked::Crosslinked;
-use bt_frame::BeamNo;
+use bt_frame::{BeamNo, Steps};
 use bt_matrix::Traffic;
-use bt_steps::Steps;
 use std::marker::Model;
 use std::sync::ledger::Ledger;
 

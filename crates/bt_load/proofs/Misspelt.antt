@@ -1,10 +1,10 @@
 -- A stop that names the first fault of a file's bytes is one that a load may make.
 use Rattle.std.proofs.Common.{ℕ, List, Option, inr}
 use Rattle.bt_net.specs.Network.{Net}
-use Rattle.bt_names.specs.Walk.{Fails}
+use Rattle.bt_net.specs.Walk.{Fails}
 use Rattle.bt_net.specs.Reading.{network_in}
-use Rattle.bt_names.specs.declared.fault.NetFault.{NetFault}
-use Rattle.bt_names.specs.declared.fault.NetFault.TheVariants.{N1, N2, N3, N4, N5, N6, OutOfMemory}
+use Rattle.bt_net.specs.declared.fault.NetFault.{NetFault}
+use Rattle.bt_net.specs.declared.fault.NetFault.TheVariants.{N1, N2, N3, N4, N5, N6, OutOfMemory}
 use Rattle.bt_plan.specs.Reading.{Reading}
 use Rattle.bt_text.specs.Reading.{IsFaultOf}
 use Rattle.bt_plan.specs.MatrixText.{matrix_of}

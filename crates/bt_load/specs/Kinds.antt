@@ -3,7 +3,7 @@ use Rattle.std.specs.Prelude.{ℕ, List}
 use Rattle.bt_frame.specs.declared.schedule.Schedule.{Schedule}
 use Rattle.bt_net.specs.Network.{Net}
 use Rattle.bt_net.specs.Reading.{network_in}
-use Rattle.bt_names.specs.declared.fault.NetFault.{NetFault}
+use Rattle.bt_net.specs.declared.fault.NetFault.{NetFault}
 use Rattle.bt_plan.specs.Reading.{Fault, Reading}
 use Rattle.bt_demand.specs.declared.demand.Link.{Link}
 use Rattle.bt_demand.specs.declared.plan.Plan.{Plan}

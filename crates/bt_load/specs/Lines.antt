@@ -1,8 +1,8 @@
 -- The lines that name a fault, each as its words.
 use Rattle.std.specs.Prelude.{ℕ, List, [], ◌∷◌, codes, decimal}
-use Rattle.bt_names.specs.declared.fault.NetFault.{NetFault}
-use Rattle.bt_names.specs.declared.fault.NetFault.TheVariants as net_fault
-use Rattle.bt_names.specs.Fault.{path_text}
+use Rattle.bt_net.specs.declared.fault.NetFault.{NetFault}
+use Rattle.bt_net.specs.declared.fault.NetFault.TheVariants as net_fault
+use Rattle.bt_net.specs.Fault.{path_text}
 use Rattle.bt_script.specs.declared.fault.ScriptCode.{ScriptCode}
 use Rattle.bt_script.specs.declared.fault.ScriptCode.TheVariants.{S1, S2, S3, S4, S5}
 use Rattle.bt_timing.specs.declared.fault.TimingCode.{TimingCode}

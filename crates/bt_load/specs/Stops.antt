@@ -1,6 +1,6 @@
 -- Which fault of a file's bytes a report names.
-use Rattle.bt_names.specs.declared.fault.NetFault.{NetFault}
-use Rattle.bt_names.specs.declared.fault.NetFault.TheVariants as net_fault
+use Rattle.bt_net.specs.declared.fault.NetFault.{NetFault}
+use Rattle.bt_net.specs.declared.fault.NetFault.TheVariants as net_fault
 use Rattle.bt_plan.specs.declared.text_fault.TextCode.{TextCode}
 use Rattle.bt_script.specs.declared.fault.ScriptCode.{ScriptCode}
 use Rattle.bt_timing.specs.declared.fault.TimingCode.{TimingCode}

@@ -1,6 +1,6 @@
 // The reports that name the first fault of a file's bytes.
 ghost use Rattle.std.specs.Prelude.{◌≡◌, ◌∷◌, [], codes};
-ghost use Rattle.bt_names.specs.Fault.{path_text};
+ghost use Rattle.bt_net.specs.Fault.{path_text};
 ghost use Rattle.bt_load.specs.Stops.{NamesNetworkFault, NamesScriptFault, NamesTextFault, NamesTimingFault};
 ghost use Rattle.bt_load.specs.Report.{StopIs};
 ghost use Rattle.bt_load.specs.Lines.{code_name, script_code_name, timing_code_name};

@@ -4,7 +4,7 @@ use Rattle.std.specs.List.{slice_index, count_by}
 use Rattle.std.proofs.lemmas.Bool.{cases_eq, cases_lt}
 use Rattle.std.proofs.lemmas.List.{get_or_past, get_or-replicate, length-replicate}
 use Rattle.bt_frame.specs.declared.limits.TheConstants.{MOST_BEAMS}
-use Rattle.bt_lists.proofs.Totals.{total, total-next, sum_by-total}
+use Rattle.bt_frame.proofs.Totals.{total, total-next, sum_by-total}
 use Rattle.bt_matrix.specs.Traffic.{entry, row_of, IsTraffic}
 use Rattle.bt_matrix.specs.Walk.{is_positive, row_entries, positive_entries}
 use Rattle.bt_matrix.proofs.Walks.{entry-past}

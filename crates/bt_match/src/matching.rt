@@ -11,9 +11,8 @@ use crate::partial::Partial;
 use crate::perm::Perm;
 use crate::search::seek;
 use crate::table::{FEW_BEAMS, fill_table};
-use bt_frame::{MOST_BEAMS, OutOfMemory};
+use bt_frame::{MOST_BEAMS, OutOfMemory, Steps};
 use bt_matrix::Walk;
-use bt_steps::Steps;
 use std::alloc::Global;
 use std::sync::ledger::Ledger;
 

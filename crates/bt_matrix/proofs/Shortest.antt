@@ -10,7 +10,7 @@ use Rattle.bt_frame.specs.declared.schedule.Critical.TheVariants.{Row, Column}
 use Rattle.bt_frame.specs.declared.schedule.Schedule.{Schedule}
 use Rattle.bt_matrix.specs.Traffic.{row_of, entry, row_sum, column_sum, line_sum, IsTraffic}
 use Rattle.bt_matrix.specs.Good.{IsPermutation, slots_in, slots_of, total_duration, HasPermutations, CarriesAll, IsGood}
-use Rattle.bt_lists.proofs.Totals.{total, total-le, total-zero, total-add, total-once, sum_by-total}
+use Rattle.bt_frame.proofs.Totals.{total, total-le, total-zero, total-add, total-once, sum_by-total}
 
 -- one mode gives the connections of an uplink its duration once at most
 mode_in_row : (size up : ℕ) (mode : Mode) → total size (λ down. slots_in up down mode) ≤ mode.duration

@@ -1,6 +1,6 @@
 //! Traffic matrices: the slots per frame that each uplink beam asks for to each downlink beam.
 //!
-//! It stands on the words of the field (`bt_frame`), the counter of steps (`bt_steps`) and lemmas of lists (`bt_lists`).
+//! It stands on the words of the field and the counter of steps (`bt_frame`).
 //! Promises are in `specs/Traffic.antt`, what a matrix and its line sums are; `specs/Walk.antt`, how many entries are
 //! positive and which comes next in a row; `specs/Good.antt`, when a switching schedule is good for a matrix; and
 //! `specs/Dense.antt`, line sums that stand beside a matrix, where `KeepsSums` and `IsFirstGreatest` are for bodies

@@ -6,10 +6,9 @@ ghost use Rattle.bt_modes.specs.Decomposition.{DecomposesTo};
 
 use crate::decomposition::decompose;
 use crate::padding::{Padded, pad};
-use bt_frame::{Mode, Modes, OutOfMemory, Schedule};
+use bt_frame::{Mode, Modes, OutOfMemory, Schedule, Steps};
 use bt_links::Crosslinked;
 use bt_matrix::{Dense, Traffic};
-use bt_steps::Steps;
 use std::alloc::Global;
 use std::marker::Brand;
 use std::sync::ledger::{Blank, Ledger};

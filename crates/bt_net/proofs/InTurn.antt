@@ -10,7 +10,7 @@ use Rattle.std.proofs.lemmas.List.FromFn.{length-range_with_len, length-map-rang
 use Rattle.std.proofs.lemmas.Option.{slice_get-get_or}
 use Rattle.bt_frame.specs.declared.numbers.BeamNo.{BeamNo}
 use Rattle.bt_frame.specs.Range.{IsWithin}
-use Rattle.bt_names.specs.Name.{is_name, is_terminal_name}
+use Rattle.bt_net.specs.Name.{is_name, is_terminal_name}
 use Rattle.bt_net.specs.Network.{AreBeams, AreNames, AreTerminals, IsSound, names_of}
 use Rattle.bt_net.specs.Numbered.{numbered_beam, numbered_beams, numbered_network, numbered_terminal, numbered_terminals}
 use Rattle.bt_net.proofs.Names.{absent_before}

@@ -17,7 +17,7 @@ use Rattle.indexmap.specs.IndexSet.{insert_key}
 use Rattle.indexmap.proofs.CallerLemmas.{insert_entry-new}
 use Rattle.bt_frame.specs.declared.numbers.BeamNo.{BeamNo}
 use Rattle.bt_frame.proofs.OneNumber.{numbered}
-use Rattle.bt_names.specs.Name.{is_name, is_reserved, is_terminal_name}
+use Rattle.bt_net.specs.Name.{is_name, is_reserved, is_terminal_name}
 use Rattle.bt_net.specs.Network.{names_of, AreNames, AreTerminals}
 
 module _ {A B : Type 0} (test : B → Bool) (view : A → B) where

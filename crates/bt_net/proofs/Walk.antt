@@ -13,16 +13,16 @@ use Rattle.serde_json.specs.Find.{as_str, as_object}
 use Rattle.serde_json.specs.View.{view}
 use Rattle.serde_json.specs.declared.value.Value.{Value}
 use Rattle.bt_frame.specs.declared.numbers.BeamNo.{BeamNo}
-use Rattle.bt_names.specs.declared.fault.NetFault.{NetFault}
-use Rattle.bt_names.specs.declared.fault.NetFault.TheVariants.{N1, N2, N3, N4, N5, N6, OutOfMemory}
-use Rattle.bt_names.specs.declared.fault.Path.{Path}
-use Rattle.bt_names.specs.declared.fault.Path.TheVariants as path
-use Rattle.bt_names.specs.Name.{is_name, is_terminal_name}
+use Rattle.bt_net.specs.declared.fault.NetFault.{NetFault}
+use Rattle.bt_net.specs.declared.fault.NetFault.TheVariants.{N1, N2, N3, N4, N5, N6, OutOfMemory}
+use Rattle.bt_net.specs.declared.fault.Path.{Path}
+use Rattle.bt_net.specs.declared.fault.Path.TheVariants as path
+use Rattle.bt_net.specs.Name.{is_name, is_terminal_name}
 use Rattle.bt_net.specs.Network.{names_of, AreNames, AreBeams, AreTerminals}
 use Rattle.bt_frame.specs.Range.{IsWithin}
 use Rattle.bt_text.specs.Reading.{◌>>=◌}
 use Rattle.bt_text.proofs.Steps.{bind_ok}
-use Rattle.bt_names.specs.Walk.{checked, Fails}
+use Rattle.bt_net.specs.Walk.{checked, Fails}
 use Rattle.bt_net.specs.Reading.{text_at, numbered, beam_at, with_beam, with_terminal, through}
 
 abbrev done : {A : Type 0} → A → Result A NetFault

@@ -3,7 +3,7 @@ use Rattle.std.specs.Prelude.{◌≢◌, ℕ, ◌<◌, List, length, map, Bool, 
 use Rattle.bt_frame.specs.declared.numbers.BeamNo.{BeamNo}
 use Rattle.bt_frame.specs.declared.limits.TheConstants.{MOST_BEAMS, MOST_TERMINALS, MOST_SLOTS, MOST_FRAMES, LEAST_LEAD, MOST_LEAD, MOST_PATIENCE, LEAST_JOURNAL_BYTES, MOST_BOOK_BYTES}
 use Rattle.bt_frame.specs.Range.{IsWithin}
-use Rattle.bt_names.specs.Name.{is_name, is_terminal_name}
+use Rattle.bt_net.specs.Name.{is_name, is_terminal_name}
 
 -- A network: the names of its beams, and the name and the beam of each terminal, both in the order of the file.
 pub record Net : Type 0 where

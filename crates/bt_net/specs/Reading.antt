@@ -10,13 +10,13 @@ use Rattle.bt_text.specs.Reading.{◌>>=◌}
 use Rattle.bt_frame.specs.declared.limits.TheConstants.{MOST_BEAMS, MOST_TERMINALS, MOST_SLOTS, MOST_FRAMES, LEAST_LEAD, MOST_LEAD, MOST_PATIENCE, LEAST_JOURNAL_BYTES, MOST_JOURNAL_BYTES, MOST_BOOK_BYTES}
 use Rattle.bt_frame.specs.declared.numbers.BeamNo.{BeamNo}
 use Rattle.bt_frame.specs.Range.{IsWithin}
-use Rattle.bt_names.specs.declared.fault.NetFault.{NetFault}
-use Rattle.bt_names.specs.declared.fault.NetFault.TheVariants.{N1, N2, N3, N6}
-use Rattle.bt_names.specs.declared.fault.Path.{Path}
-use Rattle.bt_names.specs.declared.fault.Path.TheVariants as path
+use Rattle.bt_net.specs.declared.fault.NetFault.{NetFault}
+use Rattle.bt_net.specs.declared.fault.NetFault.TheVariants.{N1, N2, N3, N6}
+use Rattle.bt_net.specs.declared.fault.Path.{Path}
+use Rattle.bt_net.specs.declared.fault.Path.TheVariants as path
 use Rattle.bt_net.specs.declared.reading.Numbers.{Numbers}
-use Rattle.bt_names.specs.Name.{is_name, is_terminal_name}
-use Rattle.bt_names.specs.Walk.{checked}
+use Rattle.bt_net.specs.Name.{is_name, is_terminal_name}
+use Rattle.bt_net.specs.Walk.{checked}
 use Rattle.bt_net.specs.Network.{Net, names_of}
 
 -- the entries of an array, in order

@@ -1,7 +1,7 @@
 // A network, as the rest of the centre asks it.
 ghost use Rattle.std.specs.Prelude.{◌≡◌, ◌<◌, Some, IfSome, IfNone, IfOk, IsTrue, length, position, slice_get, Contains};
 ghost use Rattle.std.specs.Option.{option_map};
-ghost use Rattle.bt_names.specs.Name.{is_name as is_name_of, is_terminal_name};
+ghost use Rattle.bt_net.specs.Name.{is_name as is_name_of, is_terminal_name};
 ghost use Rattle.std.specs.Str.{bytes_eq};
 ghost use Rattle.bt_frame.specs.declared.limits.TheConstants.{MOST_BEAMS, MOST_TERMINALS, MOST_SLOTS, MOST_FRAMES, LEAST_LEAD, MOST_LEAD, MOST_PATIENCE, LEAST_JOURNAL_BYTES, MOST_BOOK_BYTES};
 ghost use Rattle.bt_net.specs.Network.{IsSound, names_of};
@@ -9,9 +9,9 @@ ghost use Rattle.bt_net.specs.Terminals.{terminal_of, IsTerminal};
 ghost use Rattle.bt_frame.specs.Range.{IsWithin};
 
 use crate::beams::Beams;
+use crate::is_name;
 use crate::terminals::Terminals;
 use bt_frame::{BeamNo, OutOfMemory, TermNo};
-use bt_names::is_name;
 use std::alloc::Global;
 use std::marker::Model;
 

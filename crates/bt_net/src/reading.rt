@@ -3,20 +3,20 @@ ghost use Rattle.std.specs.Prelude.{◌≡◌, ◌+◌, ◌<◌, ◌≤◌, ◌�
 ghost use Rattle.std.specs.Option.{ok_or};
 ghost use Rattle.serde_json.specs.Errors.{IsMemory};
 ghost use Rattle.serde_json.specs.View.{view};
-ghost use Rattle.bt_names.specs.declared.fault.NetFault.TheVariants.{N1};
-ghost use Rattle.bt_names.specs.Walk.{Gives};
+ghost use Rattle.bt_net.specs.declared.fault.NetFault.TheVariants.{N1};
+ghost use Rattle.bt_net.specs.Walk.{Gives};
 ghost use Rattle.bt_net.specs.Network.{AreBeams, AreTerminals};
 ghost use Rattle.bt_frame.specs.Range.{IsWithin};
 ghost use Rattle.bt_net.specs.Reading.{array_at, text_at, entries_at, number_at, journal_of, beam_at, with_beam, through, beams_of, with_terminal, terminals_of, AreInRange, numbers_of, json_of, network_of, network_in};
 
-use crate::Network;
 use crate::beams::Beams;
+use crate::check::check_name;
 use crate::terminals::Terminals;
+use crate::{NetFault, Network, Path, is_name, is_terminal_name};
 use bt_frame::{
     BeamNo, LEAST_JOURNAL_BYTES, LEAST_LEAD, MOST_BEAMS, MOST_BOOK_BYTES, MOST_FRAMES,
     MOST_JOURNAL_BYTES, MOST_LEAD, MOST_PATIENCE, MOST_SLOTS, MOST_TERMINALS,
 };
-use bt_names::{NetFault, Path, check_name, is_name, is_terminal_name};
 use serde_json::{Error, Value};
 use std::alloc::Global;
 

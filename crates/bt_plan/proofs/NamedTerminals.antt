@@ -15,7 +15,7 @@ use Rattle.bt_text.specs.Text.{lacks}
 use Rattle.bt_frame.specs.declared.limits.TheConstants.{MOST_NAME_BYTES}
 use Rattle.bt_frame.specs.declared.numbers.BeamNo.{BeamNo}
 use Rattle.bt_frame.specs.declared.numbers.TermNo.{TermNo}
-use Rattle.bt_names.specs.Name.{is_name, is_name_byte, is_reserved}
+use Rattle.bt_net.specs.Name.{is_name, is_name_byte, is_reserved}
 use Rattle.bt_net.specs.Network.{Net, names_of, IsSound}
 use Rattle.bt_net.proofs.Names.{found_name, not_found}
 use Rattle.bt_net.specs.Terminals.{name_at, terminal_of}

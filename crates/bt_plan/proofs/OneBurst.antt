@@ -21,7 +21,7 @@ use Rattle.bt_plan.specs.Reading.{Fault}
 use Rattle.bt_text.specs.WordReader.{number_to}
 use Rattle.bt_plan.specs.TerminalNames.{ends_in}
 use Rattle.bt_net.specs.Terminals.{name_at, terminal_of}
-use Rattle.bt_names.specs.Name.{are_names}
+use Rattle.bt_net.specs.Name.{are_names}
 use Rattle.bt_plan.proofs.NamedTerminals.{IsNamed, terminal_named}
 use Rattle.bt_plan.proofs.OneText.{let_through, or_fault_ok, is_word-same, number_to-spelled}
 use Rattle.bt_plan.proofs.PlanLines.{Follows, burst_below-ok}

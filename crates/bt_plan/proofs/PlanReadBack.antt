@@ -10,7 +10,7 @@ use Rattle.bt_frame.specs.declared.mode.Mode.{Mode}
 use Rattle.bt_frame.specs.declared.numbers.EditionNo.{EditionNo}
 use Rattle.bt_text.proofs.TextLines.{words-spaced, lines-ended, lacks-spaced}
 use Rattle.bt_text.proofs.TextNumbers.{lacks-decimal}
-use Rattle.bt_names.specs.Name.{is_name_byte}
+use Rattle.bt_net.specs.Name.{is_name_byte}
 use Rattle.bt_net.specs.Network.{Net, IsSound}
 use Rattle.bt_demand.specs.declared.burst.Burst.{Burst}
 use Rattle.bt_demand.specs.declared.plan.Plan.{Plan}

@@ -21,7 +21,7 @@ use Rattle.bt_text.specs.declared.fault.LineFault.{LineFault}
 use Rattle.bt_text.specs.declared.fault.LineFault.TheVariants.{At, OutOfMemory}
 use Rattle.bt_demand.specs.Demand.{ends_of, IsBefore, IsLink, IsDemand, units_of, Gains}
 use Rattle.bt_net.specs.Terminals.{beam_at}
-use Rattle.bt_names.specs.Name.{are_names}
+use Rattle.bt_net.specs.Name.{are_names}
 use Rattle.bt_plan.specs.Reading.{Fault, Reading}
 use Rattle.bt_demand.specs.Traffic.{matrix_of}
 use Rattle.bt_plan.specs.TrafficText.{belongs_before, with_link, row_fits, column_fits, fitting, links_with, line_with, links_in, units_in, link_between, link_with, named_link, AreRead}

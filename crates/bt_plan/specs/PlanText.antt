@@ -15,7 +15,7 @@ use Rattle.bt_plan.specs.Reading.{Reading}
 use Rattle.bt_plan.specs.ScheduleText.{length_in, critical_in, mode_in}
 use Rattle.bt_text.specs.WordReader.{number_to}
 use Rattle.bt_plan.specs.TerminalNames.{ends_in}
-use Rattle.bt_names.specs.Name.{are_names}
+use Rattle.bt_net.specs.Name.{are_names}
 
 -- `plan E`
 abbrev pub edition_in : List (List ℕ) → Option EditionNo

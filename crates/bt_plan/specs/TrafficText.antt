@@ -10,7 +10,7 @@ use Rattle.bt_demand.specs.declared.demand.Link.{Link}
 use Rattle.bt_plan.specs.declared.text_fault.TextCode.TheVariants.{T1, T2, T3, T4, T5}
 use Rattle.bt_demand.specs.Demand.{Ends, IsDemand, units_of}
 use Rattle.bt_net.specs.Terminals.{beam_at, IsTerminal}
-use Rattle.bt_names.specs.Name.{are_names}
+use Rattle.bt_net.specs.Name.{are_names}
 use Rattle.bt_plan.specs.Reading.{Reading}
 use Rattle.bt_plan.specs.TerminalNames.{ends_in}
 use Rattle.bt_demand.specs.Traffic.{matrix_of, AreOfNetwork}

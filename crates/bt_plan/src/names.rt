@@ -3,7 +3,7 @@ ghost use Rattle.std.specs.Prelude.{IfOk, IsTrue};
 ghost use Rattle.bt_text.specs.Reading.{Gives};
 ghost use Rattle.bt_plan.specs.TerminalNames.{ends_in};
 ghost use Rattle.bt_net.specs.Terminals.{IsBetweenTerminals};
-ghost use Rattle.bt_names.specs.Name.{are_names};
+ghost use Rattle.bt_net.specs.Name.{are_names};
 
 use crate::{TextCode, TextFault};
 use bt_frame::TermNo;

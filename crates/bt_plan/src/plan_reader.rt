@@ -11,7 +11,7 @@ ghost use Rattle.bt_frame.specs.Critical.{IsOfBeams};
 ghost use Rattle.bt_plan.specs.PlanText.{edition_in, burst_with, burst_between, burst_behind, burst_in, in_order, burst_below, bursts_in, is_mode, modes_and_bursts, critical_behind, length_behind, plan_of};
 ghost use Rattle.bt_verdict.specs.PlanVerdict.{AreBetweenTerminals};
 ghost use Rattle.bt_plan.specs.ScheduleText.{mode_in};
-ghost use Rattle.bt_names.specs.Name.{are_names};
+ghost use Rattle.bt_net.specs.Name.{are_names};
 
 use crate::names::ends_of;
 use crate::schedule_reader::{read_critical, read_length, read_mode};

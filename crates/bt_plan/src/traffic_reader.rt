@@ -2,7 +2,7 @@
 ghost use Rattle.std.specs.Prelude.{◌≡◌, ◌+◌, ◌<◌, ◌≤◌, ◌≢◌, length, IfOk, IsTrue, OnOk};
 ghost use Rattle.bt_text.specs.Text.{words, lines};
 ghost use Rattle.bt_text.specs.Reading.{Gives};
-ghost use Rattle.bt_names.specs.Name.{are_names};
+ghost use Rattle.bt_net.specs.Name.{are_names};
 ghost use Rattle.bt_demand.specs.Traffic.{matrix_of, AreOfNetwork, HasSumsTo};
 ghost use Rattle.bt_frame.specs.declared.limits.TheConstants.{MOST_TERMINALS, MOST_UNITS};
 ghost use Rattle.bt_plan.specs.TrafficText.{units_in, link_between, link_with, named_link, link_behind, link_in, links_with, line_with, demand_of, AreRead, IsSpelled};

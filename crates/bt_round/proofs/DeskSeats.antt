@@ -6,7 +6,7 @@ use Rattle.std.proofs.lemmas.Grind.{flat_map-append}
 use Rattle.std.proofs.lemmas.List.{append-nil}
 use Rattle.std.proofs.lemmas.List.Elements.{All-append, All-cons, All-head, All-map, All-nil, All-tail}
 use Rattle.std.proofs.lemmas.List.Kept.{AllPairs-cons}
-use Rattle.bt_lists.proofs.Pairs.{AllPairs-append, AllPairs-second, All-across}
+use Rattle.bt_frame.proofs.Pairs.{AllPairs-append, AllPairs-second, All-across}
 use Rattle.bt_net.specs.Network.{Net}
 use Rattle.bt_demand.specs.declared.plan.Plan.{Plan}
 use Rattle.bt_journal.specs.declared.call.Call.{Call}

@@ -2,8 +2,8 @@
 // PlanFor nor what a reference burst announces.
 use crate::ladder::Ladder;
 use crate::step::{Delivery, Message, Said, Station};
-use bt_drawing::Drawn;
 use bt_frame::TermNo;
+use bt_picture::Drawn;
 use std::alloc::Global;
 
 /// The bursts of an edition, and the command of the last Load of that edition.

@@ -1,9 +1,9 @@
 // Where each step stands: columns go from left to right, and what does not fit goes on in a further stave below.
 use crate::lanes::Lanes;
 use crate::step::{Delivery, Message, Step};
-use bt_drawing::Drawn;
 use bt_frame::OutOfMemory;
 use bt_net::Network;
+use bt_picture::Drawn;
 use std::alloc::Global;
 
 /// Twips from the left to the first column.

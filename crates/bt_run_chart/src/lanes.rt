@@ -2,10 +2,9 @@
 use crate::editions::name_of;
 use crate::ladder::{LEFT, Ladder, RIGHT, Stave};
 use crate::step::{Station, Step};
-use bt_drawing::{Drawn, Pen, place};
 use bt_frame::{BeamNo, OutOfMemory, TermNo};
 use bt_net::Network;
-use bt_picture::{Anchor, Shape, Style};
+use bt_picture::{Anchor, Drawn, Pen, Shape, Style, place};
 use bt_words::Word::Text;
 use std::alloc::Global;
 

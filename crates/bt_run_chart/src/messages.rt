@@ -5,9 +5,8 @@ use crate::step::{Delivery, Message, Said, Station, Step};
 use crate::titles::{
     delivery_title, happening_label, happening_title, label_of, message_title, width_of,
 };
-use bt_drawing::{Drawn, Pen, place};
 use bt_frame::OutOfMemory;
-use bt_picture::{Anchor, Point, Shape, Style};
+use bt_picture::{Anchor, Drawn, Pen, Point, Shape, Style, place};
 use bt_words::Word;
 use bt_words::Word::{Number, Text};
 use std::alloc::Global;

@@ -4,9 +4,9 @@ use crate::step::{
     Change, Delivery, Frame, Happening, Message, OnAir, Said, Station, Status, Step,
 };
 use bt_air::{Heard, Taken};
-use bt_drawing::Drawn;
 use bt_frame::{OutOfMemory, TermNo};
 use bt_net::Network;
+use bt_picture::Drawn;
 use bt_run_lines::{Form, Printed, Value, read_line};
 use bt_text::first_line;
 use bt_timeline::{heard_text, taken_text};

@@ -2,9 +2,8 @@
 use crate::editions::{fill_of, letters_upon};
 use crate::ladder::{COLUMN, LEFT, Ladder, Placed, RIGHT, Stave};
 use crate::step::{Said, Step};
-use bt_drawing::{Drawn, Pen, place, rectangle};
 use bt_frame::OutOfMemory;
-use bt_picture::{Anchor, Shape, Style};
+use bt_picture::{Anchor, Drawn, Pen, Shape, Style, place, rectangle};
 use bt_words::Word::Number;
 use std::alloc::Global;
 

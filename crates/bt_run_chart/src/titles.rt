@@ -1,9 +1,9 @@
 // What is written at a message: short above its circle, in whole words beside the mouse.
 use crate::editions::name_of;
 use crate::step::{Delivery, Happening, Message, Said, Station, Status};
-use bt_drawing::Pen;
 use bt_frame::OutOfMemory;
 use bt_net::Network;
+use bt_picture::Pen;
 use bt_words::Word;
 use bt_words::Word::{Number, Text};
 

@@ -1,9 +1,8 @@
 // A run of many messages, counted by superframes.
 use crate::editions::{fill_of, letters_upon};
 use crate::step::{Happening, Said, Step};
-use bt_drawing::{Drawn, Pen, place, rectangle};
 use bt_frame::OutOfMemory;
-use bt_picture::{Anchor, Point, Style};
+use bt_picture::{Anchor, Drawn, Pen, Point, Style, place, rectangle};
 use bt_words::Word::{Number, Text};
 use std::alloc::Global;
 

@@ -1,7 +1,7 @@
 // The whole picture.
 ghost use Rattle.std.specs.Prelude.{All, OnOk};
 ghost use Rattle.bt_net.specs.Terminals.{IsTerminal};
-ghost use Rattle.bt_drawing.specs.Drawn.{IsPictureBehind};
+ghost use Rattle.bt_picture.specs.Drawn.{IsPictureBehind};
 
 use crate::air::{draw_air, draw_silences};
 use crate::ladder::{Ladder, TOP};
@@ -11,10 +11,9 @@ use crate::reading::read_steps;
 use crate::spans::{draw_fronts, draw_superframes};
 use crate::step::Step;
 use crate::totals::draw_totals;
-use bt_drawing::{Drawn, Pen, place, write_picture};
 use bt_frame::{OutOfMemory, TermNo};
 use bt_net::Network;
-use bt_picture::{Anchor, Style};
+use bt_picture::{Anchor, Drawn, Pen, Style, place, write_picture};
 use std::alloc::Global;
 
 // The lines above a ladder, and those above totals, with how far from the top they stand.

@@ -6,7 +6,7 @@ use Rattle.std.proofs.lemmas.Bool.{and_parts, false_from_ne_true, not-true}
 use Rattle.std.proofs.lemmas.List.Quantifiers.{position-Some}
 use Rattle.std.proofs.lemmas.Slice.Eq.{bytes_eq-Decides}
 use Rattle.bt_frame.specs.declared.numbers.TermNo.{TermNo}
-use Rattle.bt_names.specs.Name.{is_name, is_reserved}
+use Rattle.bt_net.specs.Name.{is_name, is_reserved}
 use Rattle.bt_text.specs.Text.{is_word, is_number, lacks}
 use Rattle.bt_net.specs.Network.{Net, IsSound, names_of}
 use Rattle.bt_net.specs.Terminals.{IsTerminal, name_at, terminal_of}

@@ -3,7 +3,7 @@ use Rattle.std.proofs.Common.{◌≡◌, ℕ, ◌==◌, true, false, List, [], �
 use Rattle.bt_text.specs.Text.{number_of_digits}
 use Rattle.bt_text.specs.WordReader.{first_word}
 use Rattle.bt_text.proofs.Fronts.{front_word, no_word}
-use Rattle.bt_names.specs.Name.{are_names}
+use Rattle.bt_net.specs.Name.{are_names}
 use Rattle.bt_script.specs.declared.shape.AirShape.TheVariants.{Deliver}
 use Rattle.bt_script.specs.declared.shape.LineShape.TheVariants.{Desk}
 use Rattle.bt_script.specs.LineShape.{link_in, links_in, desk_shape, desk_in, receiver_of, deliver_in, several_shape, words_shape}

@@ -3,11 +3,10 @@ ghost use Rattle.std.specs.Prelude.{◌≡◌, ◌+◌, ◌<◌, ◌≤◌, leng
 ghost use Rattle.bt_matrix.specs.Walk.{positive_entries};
 
 use crate::texts::matrix_from;
-use bt_frame::{Mode, OutOfMemory};
+use bt_frame::{Mode, OutOfMemory, Steps};
 use bt_links::Crosslinked;
 use bt_modes::{Padded, decompose, pad};
 use bt_sheet::{CaseFault, Result};
-use bt_steps::Steps;
 use std::alloc::Global;
 use std::sync::ledger::{Blank, Ledger};
 

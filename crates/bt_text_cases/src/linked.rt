@@ -1,11 +1,10 @@
 // The lines of a matrix of linked nodes, of which entries gain and lose slots.
 ghost use Rattle.std.specs.Prelude.{◌≡◌, ◌<◌, length};
 
-use bt_frame::{BeamNo, Critical, MOST_BEAMS};
+use bt_frame::{BeamNo, Critical, MOST_BEAMS, Steps};
 use bt_links::Crosslinked;
 use bt_matrix::{MOST_SUM, Traffic};
 use bt_sheet::{CaseFault, Result, byte_of, number_of};
-use bt_steps::Steps;
 use std::alloc::Global;
 use std::marker::Brand;
 use std::sync::ledger::{Blank, Ledger};

@@ -6,7 +6,7 @@ use Rattle.bt_text.specs.Reading.{◌>>=◌, or_fault, IsFaultOf}
 use Rattle.bt_text.specs.declared.fault.LineFault.{LineFault}
 use Rattle.bt_text.specs.declared.fault.LineFault.TheVariants.{At, OutOfMemory}
 use Rattle.bt_text.proofs.FirstLine.{lines-HasFirst}
-use Rattle.bt_names.specs.Name.{is_name}
+use Rattle.bt_net.specs.Name.{is_name}
 use Rattle.bt_net.specs.Network.{Net}
 use Rattle.bt_net.specs.Terminals.{terminal_of}
 use Rattle.bt_timing.specs.declared.fault.TimingCode.{TimingCode}

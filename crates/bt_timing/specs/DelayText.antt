@@ -4,7 +4,7 @@ use Rattle.std.specs.Prelude.{ℕ, ◌+◌, ◌-◌, ◌*◌, ◌&&◌, if◌the
 use Rattle.std.specs.List.{list_all}
 use Rattle.bt_text.specs.Text.{words, lines, number_of, is_word}
 use Rattle.bt_text.specs.Reading.{◌>>=◌, or_fault}
-use Rattle.bt_names.specs.Name.{is_name}
+use Rattle.bt_net.specs.Name.{is_name}
 use Rattle.bt_frame.specs.declared.numbers.TermNo.{TermNo}
 use Rattle.bt_net.specs.Network.{Net}
 use Rattle.bt_net.specs.Terminals.{terminal_of}

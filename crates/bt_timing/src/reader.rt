@@ -3,7 +3,7 @@
 ghost use Rattle.std.specs.Prelude.{◌≡◌, ◌*◌, ◌<◌, ◌≤◌, length, IfOk, OnOk, All, IsTrue};
 ghost use Rattle.bt_frame.specs.Range.{IsWithin};
 ghost use Rattle.bt_frame.specs.declared.limits.TheConstants.{MOST_TEXT_BYTES};
-ghost use Rattle.bt_names.specs.Name.{is_name};
+ghost use Rattle.bt_net.specs.Name.{is_name};
 ghost use Rattle.bt_net.specs.Terminals.{IsTerminal};
 ghost use Rattle.bt_text.specs.Reading.{Gives};
 ghost use Rattle.bt_text.specs.Text.{words, lines};

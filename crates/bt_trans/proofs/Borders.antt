@@ -7,7 +7,7 @@ use Rattle.bt_matrix.specs.Traffic.{row_of, entry, row_sum, column_sum, IsTraffi
 use Rattle.bt_match.specs.Matching.{HasLineSums}
 use Rattle.bt_modes.specs.Padding.{HasLinesWithin}
 use Rattle.bt_modes.proofs.Sums.{IsSquare, IsSquare-traffic, row_sum-total, column_sum-total, rows_are_columns}
-use Rattle.bt_lists.proofs.Totals.{total}
+use Rattle.bt_frame.proofs.Totals.{total}
 use Rattle.bt_trans.specs.Border.{cut, row_wants, column_wants, AreCells, IsBordered}
 use Rattle.bt_trans.specs.Part.{total_slots}
 use Rattle.bt_trans.proofs.Totals.{total_slots-total}

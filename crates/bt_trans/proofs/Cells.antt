@@ -1,7 +1,7 @@
 -- The line sums of a bordered matrix.
 use Rattle.std.proofs.Common.{◌≡◌, ℕ, zero, suc, ◌+◌, ◌-◌, ◌*◌, ◌<◌, ◌≤◌, min, sym, ap, ◌∙◌, refl, inl, inr, arith}
 use Rattle.std.proofs.lemmas.Bool.{cases_lt}
-use Rattle.bt_lists.proofs.Totals.{total, total-same, total-add}
+use Rattle.bt_frame.proofs.Totals.{total, total-same, total-add}
 use Rattle.bt_trans.specs.Border.{cut, overlap, bordered_cut, AreCells}
 
 -- the next piece

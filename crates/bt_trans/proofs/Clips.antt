@@ -6,7 +6,7 @@ use Rattle.std.proofs.lemmas.List.Recursion.{is_count_by}
 use Rattle.std.proofs.lemmas.List.Sums.{sum_by-cons}
 use Rattle.bt_frame.specs.declared.mode.Mode.{Mode}
 use Rattle.bt_matrix.specs.Good.{IsPermutation, slots_in}
-use Rattle.bt_lists.proofs.Totals.{total, total-le, sum_by-total}
+use Rattle.bt_frame.proofs.Totals.{total, total-le, sum_by-total}
 use Rattle.bt_trans.specs.Part.{IsPartSwitching, connections, part_slots_in}
 use Rattle.bt_trans.specs.Border.{clip_to, clip}
 use Rattle.bt_trans.proofs.Places.{in_first, in_first-one, places-le}

@@ -5,7 +5,7 @@ use Rattle.std.proofs.lemmas.List.Elements.{All-map}
 use Rattle.bt_frame.specs.declared.mode.Mode.{Mode}
 use Rattle.bt_matrix.specs.Good.{IsPermutation, slots_in, total_duration}
 use Rattle.bt_modes.specs.Decomposition.{DecomposesTo}
-use Rattle.bt_lists.proofs.Counts.{sum_by-map, sum_by-le-within}
+use Rattle.bt_frame.proofs.Counts.{sum_by-map, sum_by-le-within}
 use Rattle.bt_trans.specs.declared.part.PartMode.{PartMode}
 use Rattle.bt_trans.specs.declared.part.PartSchedule.{PartSchedule}
 use Rattle.bt_trans.specs.declared.part.Bound.{Bound}

@@ -5,7 +5,7 @@ use Rattle.std.proofs.lemmas.List.Sums.{sum_by-cons}
 use Rattle.bt_frame.specs.declared.mode.Mode.{Mode}
 use Rattle.bt_matrix.specs.Good.{IsPermutation, slots_in, slots_of}
 use Rattle.bt_matrix.proofs.Shortest.{mode_in_column}
-use Rattle.bt_lists.proofs.Totals.{total, total-le, total-swap, part-le-total}
+use Rattle.bt_frame.proofs.Totals.{total, total-le, total-swap, part-le-total}
 use Rattle.bt_trans.proofs.Totals.{total-equal}
 use Rattle.bt_trans.proofs.Cells.{total-split}
 

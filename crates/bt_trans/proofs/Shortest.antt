@@ -5,8 +5,8 @@ use Rattle.std.proofs.lemmas.List.Sums.{sum_by-cons}
 use Rattle.bt_frame.specs.declared.schedule.Critical.{Critical}
 use Rattle.bt_frame.specs.declared.schedule.Critical.TheVariants.{Row, Column}
 use Rattle.bt_matrix.specs.Traffic.{entry, row_sum, column_sum, line_sum, IsLine, IsTraffic}
-use Rattle.bt_lists.proofs.Totals.{total, total-le, total-same, total-zero, total-add, total-once, part-le-total}
-use Rattle.bt_lists.proofs.Counts.{sum_by-le-within, sum_by-places_differ}
+use Rattle.bt_frame.proofs.Totals.{total, total-le, total-same, total-zero, total-add, total-once, part-le-total}
+use Rattle.bt_frame.proofs.Counts.{sum_by-le-within, sum_by-places_differ}
 use Rattle.bt_modes.proofs.Sums.{IsSquare-traffic, row_sum-total, column_sum-total}
 use Rattle.bt_trans.specs.declared.part.PartSchedule.{PartSchedule}
 use Rattle.bt_trans.specs.Allocation.{Grant, goes, lies, IsAllocation}

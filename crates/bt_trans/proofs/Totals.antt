@@ -1,6 +1,6 @@
 -- All entries of a matrix together, by rows.
 use Rattle.std.proofs.Common.{◌≡◌, ℕ, zero, suc, ◌*◌, ◌<◌, ◌≤◌, List, [], length, sum, arith}
-use Rattle.bt_lists.proofs.Totals.{total, total-le, sum_by-total}
+use Rattle.bt_frame.proofs.Totals.{total, total-le, sum_by-total}
 use Rattle.bt_matrix.specs.Traffic.{row_sum}
 use Rattle.bt_trans.specs.Part.{total_slots}
 

@@ -4,7 +4,7 @@ use Rattle.std.proofs.lemmas.Bool.{lt-ltb, ltb-true, false_from_ne_true}
 use Rattle.std.specs.List.{range_with_len}
 use Rattle.std.proofs.lemmas.List.{map_push}
 use Rattle.std.proofs.lemmas.List.FromFn.{map-range_with_len_more}
-use Rattle.bt_lists.proofs.Images.{numbers_below, image_at, length-images}
+use Rattle.bt_frame.proofs.Images.{numbers_below, image_at, length-images}
 use Rattle.bt_matrix.specs.Traffic.{entry, row_sum, IsTraffic}
 use Rattle.bt_modes.specs.Padding.{HasLinesWithin}
 use Rattle.bt_modes.proofs.Sums.{IsSquare}

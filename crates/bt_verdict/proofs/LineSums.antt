@@ -12,7 +12,7 @@ use Rattle.bt_demand.specs.declared.demand.Link.{Link}
 use Rattle.bt_demand.specs.Demand.{units_where}
 use Rattle.bt_net.specs.Terminals.{beam_at, is_in_beam}
 use Rattle.bt_demand.specs.Traffic.{units_between, matrix_of}
-use Rattle.bt_lists.proofs.Counts.{sum_by-map, sum_by-same, sum_by-exchange, sum_by-le-within, sum_by-none_passes, sum_by-one_passes}
+use Rattle.bt_frame.proofs.Counts.{sum_by-map, sum_by-same, sum_by-exchange, sum_by-le-within, sum_by-none_passes, sum_by-one_passes}
 
 -- a terminal is in one beam alone
 one_beam : (found : Option (List ℕ × BeamNo)) (i j : ℕ) → unwrap_or (option_map (λ t. t.1.0 == i) found) false ≡ true

@@ -1,7 +1,7 @@
 -- A plan is good by its modes and its bursts, and a good plan has such modes and bursts.
 use Rattle.std.proofs.Common.{◌⊎◌, ◌<◌, ◌≤◌, ◌==◌, ◌&&◌, if◌then◌else◌, List, length, get_or, All, sym, ◌∙◌, arith, inl, inr}
 use Rattle.std.proofs.lemmas.Bool.{cases_lt}
-use Rattle.bt_lists.proofs.Counts.{sum_by-none}
+use Rattle.bt_frame.proofs.Counts.{sum_by-none}
 use Rattle.bt_frame.specs.declared.numbers.TermNo.{TermNo}
 use Rattle.bt_net.specs.Network.{Net}
 use Rattle.bt_demand.specs.declared.burst.Burst.{Burst}

@@ -14,7 +14,7 @@ use Rattle.bt_demand.specs.Traffic.{matrix_of}
 use Rattle.bt_net.specs.Terminals.{is_in_beam}
 use Rattle.bt_demand.proofs.Links.{not_before_itself, units_of_at}
 use Rattle.bt_demand.proofs.Matrices.{length-matrix_of}
-use Rattle.bt_lists.proofs.Counts.{sum_by-exchange, sum_by-le-within, sum_by-none_passes, sum_by-one_passes, sum_by-places_differ}
+use Rattle.bt_frame.proofs.Counts.{sum_by-exchange, sum_by-le-within, sum_by-none_passes, sum_by-one_passes, sum_by-places_differ}
 use Rattle.bt_verdict.proofs.LineSums.{row_sum-le-units, column_sum-le-units, beam_at-same}
 
 -- the triples whose ends pass a test

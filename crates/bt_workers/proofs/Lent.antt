@@ -6,7 +6,7 @@ use mathlib.Core.List.{IsPrefix}
 use Rattle.bt_demand.specs.declared.plan.Plan.{Plan}
 use Rattle.bt_journal.specs.declared.call.Change.{Change}
 use Rattle.bt_board.specs.Plans.{last_after, last_of, next_edition, next_of}
-use Rattle.bt_lists.proofs.Prefixes.{prefix_self, prefix_trans}
+use Rattle.bt_frame.proofs.Prefixes.{prefix_self, prefix_trans}
 use Rattle.bt_history.specs.Changes.{installs, plan_in}
 use Rattle.bt_workers.specs.Lent.{IsLent, IsNoNewer, Rises}
 

@@ -1,6 +1,6 @@
 use Rattle.std.proofs.Common.{rules, Bool, not, [], ◌∷◌, ◌++◌, ◌∙◌, refl, ap, subst}
 use Rattle.bt_history.specs.Records.{Endures}
-use Rattle.bt_lists.proofs.Results.{if_not_ok, not_ok, on_err}
+use Rattle.bt_frame.proofs.Results.{if_not_ok, not_ok, on_err}
 use Rattle.bt_book.proofs.make.keep_item.Goals as goal
 
 -- where memory runs out all is as before

@@ -1,6 +1,6 @@
 use Rattle.std.proofs.Common.{Err, ap, refl}
 use Rattle.bt_outside.specs.declared.keeper.KeepFault.{KeepFault}
-use Rattle.bt_lists.proofs.Results.{if_not_ok, not_ok, on_err}
+use Rattle.bt_frame.proofs.Results.{if_not_ok, not_ok, on_err}
 use Rattle.bt_book.proofs.make.keep_line.Goals as goal
 
 -- where there is no room the store is not asked

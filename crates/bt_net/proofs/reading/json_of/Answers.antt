@@ -2,7 +2,7 @@ use Rattle.std.proofs.Common.{Option, ap, inl, inr}
 use Rattle.std.specs.Option.{ok_or}
 use Rattle.serde_json.specs.Data.{Data}
 use Rattle.serde_json.specs.View.{view}
-use Rattle.bt_names.specs.declared.fault.NetFault.TheVariants.{N1}
+use Rattle.bt_net.specs.declared.fault.NetFault.TheVariants.{N1}
 use Rattle.bt_net.proofs.Json.{json_found, json_none}
 use Rattle.bt_net.proofs.reading.json_of.Goals as goal
 

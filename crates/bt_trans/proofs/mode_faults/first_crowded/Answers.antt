@@ -1,7 +1,7 @@
 use Rattle.std.proofs.Common.{rules, ◌≤◌}
 use Rattle.bt_trans.specs.declared.part.PartMode.{PartMode}
 use Rattle.bt_trans.specs.Part.{connections}
-use Rattle.bt_lists.proofs.Walk.{All-next, All-whole}
+use Rattle.bt_frame.proofs.Walk.{All-next, All-whole}
 use Rattle.bt_trans.proofs.mode_faults.first_crowded.Goals as goal
 
 pub loop-place-preserved : goal.loop-place-preserved

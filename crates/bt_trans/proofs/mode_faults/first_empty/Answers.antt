@@ -1,6 +1,6 @@
 use Rattle.std.proofs.Common.{rules, ◌<◌}
 use Rattle.bt_trans.specs.declared.part.PartMode.{PartMode}
-use Rattle.bt_lists.proofs.Walk.{All-next, All-whole}
+use Rattle.bt_frame.proofs.Walk.{All-next, All-whole}
 use Rattle.bt_trans.proofs.mode_faults.first_empty.Goals as goal
 
 pub loop-place-preserved : goal.loop-place-preserved

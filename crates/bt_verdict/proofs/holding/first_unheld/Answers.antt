@@ -2,7 +2,7 @@ use Rattle.std.proofs.Common.{◌≡◌, ◌+◌, true, arith, rules}
 use Rattle.std.proofs.lemmas.List.Elements.{All-more}
 use Rattle.bt_demand.specs.Plan.{IsHeld}
 use Rattle.bt_verdict.proofs.LatestEnds.{no_burst}
-use Rattle.bt_lists.proofs.Walk.{All-whole}
+use Rattle.bt_frame.proofs.Walk.{All-whole}
 use Rattle.bt_verdict.proofs.Begins.{is_first_unheld}
 use Rattle.bt_verdict.proofs.holding.first_unheld.Goals as goal
 

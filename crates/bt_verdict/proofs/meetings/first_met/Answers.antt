@@ -1,7 +1,7 @@
 use Rattle.bt_demand.specs.declared.burst.Burst.{Burst}
 use Rattle.bt_verdict.specs.PlanVerdict.{Collide}
 use Rattle.bt_verdict.proofs.LatestEnds.{no_burst}
-use Rattle.bt_lists.proofs.Walk.{All-whole}
+use Rattle.bt_frame.proofs.Walk.{All-whole}
 use Rattle.std.proofs.Common.{◌≡◌, true}
 use Rattle.std.proofs.lemmas.List.Elements.{All-more}
 use Rattle.bt_verdict.proofs.meetings.first_met.Goals as goal

@@ -1,6 +1,6 @@
 use Rattle.std.proofs.Common.{rules, ◌<◌}
 use Rattle.bt_frame.specs.declared.mode.Mode.{Mode}
-use Rattle.bt_lists.proofs.Walk.{All-next, All-whole}
+use Rattle.bt_frame.proofs.Walk.{All-next, All-whole}
 use Rattle.bt_verdict.proofs.mode_faults.first_empty.Goals as goal
 
 pub loop-place-preserved : goal.loop-place-preserved

@@ -10,7 +10,7 @@ use Rattle.bt_history.specs.Machine.{CanMake, ChangeStep, line_behind, state_aft
 use Rattle.bt_history.specs.Records.{CrashStep, Endures, Records, Stores}
 use Rattle.bt_history.proofs.Entries.{kept_lost, kept_made, kept_same, lost_step, made_changes, made_step, tells_made}
 use Rattle.bt_history.proofs.Holding.{asked_step}
-use Rattle.bt_lists.proofs.Results.{if_not_ok, on_err}
+use Rattle.bt_frame.proofs.Results.{if_not_ok, on_err}
 use Rattle.bt_book.proofs.machine.Machine.make_edit.Goals as goal
 
 -- where memory ran out each link has its slots

@@ -11,7 +11,7 @@ use Rattle.bt_history.specs.Machine.{CanMake, ChangeStep, line_behind, state_aft
 use Rattle.bt_history.specs.Records.{CrashStep, Endures, Records, Stores}
 use Rattle.bt_history.proofs.Entries.{kept_again, kept_lost, kept_other, lost_step, made_step}
 use Rattle.bt_history.proofs.Holding.{asked_step}
-use Rattle.bt_lists.proofs.Results.{if_not_ok, on_err}
+use Rattle.bt_frame.proofs.Results.{if_not_ok, on_err}
 use Rattle.bt_book.proofs.machine.Machine.make_install.Goals as goal
 
 -- all is as before where memory ran out

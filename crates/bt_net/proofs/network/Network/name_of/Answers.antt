@@ -1,4 +1,4 @@
-use Rattle.bt_names.specs.Name.{is_terminal_name}
+use Rattle.bt_net.specs.Name.{is_terminal_name}
 use Rattle.bt_net.proofs.Names.{good_name}
 use Rattle.bt_net.proofs.network.Network.name_of.Goals as goal
 

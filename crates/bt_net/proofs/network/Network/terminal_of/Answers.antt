@@ -1,5 +1,5 @@
 -- a name is text
-use Rattle.bt_names.proofs.NameBytes.{utf8_from_name}
+use Rattle.bt_net.proofs.NameBytes.{utf8_from_name}
 use Rattle.bt_net.proofs.network.Network.terminal_of.Goals as goal
 
 pub from_utf8_unchecked-text-requires : goal.from_utf8_unchecked-text-requires

@@ -1,5 +1,0 @@
-use Rattle.bt_drawing.proofs.Parts.{adds_on}
-use Rattle.bt_drawing.proofs.writer.write_drawings.Goals as goal
-
-pub loop-drawing-preserved : goal.loop-drawing-preserved
-loop-drawing-preserved c = adds_on _ _ _ c.loop-drawing.invariant c.in_ok-write_drawing.ensures
