@@ -1,4 +1,5 @@
-// Reading the line of a change.
+// Reading the line of a change, whose words `writer.rt` shows. The kind says how many words follow and what each is; a plan
+// is read as a text, its spaces turned to newlines where a line of it has as many words as its first word asks for.
 ghost use Rattle.std.specs.Prelude.{◌≡◌, ◌≤◌, ◌+◌, ◌∷◌, [], ℕ, List, IfOk, IsErrOf, IfSome, IfNone, drop, length};
 ghost use Rattle.bt_frame.specs.declared.limits.TheConstants.{MOST_BEAMS, MOST_TEXT_BYTES};
 ghost use Rattle.bt_text.specs.Text.{words, lines};

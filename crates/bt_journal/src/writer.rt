@@ -1,4 +1,11 @@
-// Writing the line of a change.
+// Writing the line of a change: its words with a space between each two, and a newline behind the last.
+//
+//     edit EDITION add FROM TO UNITS                      the edition that the edit makes
+//     edit EDITION drop FROM TO UNITS
+//     edit EDITION move FROM TO NEWFROM NEWTO UNITS
+//     plan EDITION length LENGTH .. end                   the text of the plan, a space in the place of each newline in it
+//     load COMMAND EDITION
+//     arm COMMAND EDITION DUE                             the superframe of the change
 ghost use Rattle.std.specs.Prelude.{◌≡◌, ◌++◌, ◌∷◌, IfOk, OnOk, decimal, map};
 ghost use Rattle.bt_text.specs.Text.{spaced};
 ghost use Rattle.bt_net.specs.Terminals.{name_at, IsBetweenTerminals};
