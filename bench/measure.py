@@ -14,7 +14,7 @@ def program(name="nozgurt"):
     """The path of the built program of that name."""
     path = os.path.join(ROOT, "crates", name, "out", name)
     if not os.path.exists(path):
-        sys.exit(f"bench: build the program first, by ./{name} --version")
+        sys.exit(f"bench: build the program first, by ./{name} --build")
     return path
 
 
