@@ -91,13 +91,14 @@ fn show<R: Wait>(rt: &R, writer: BoardWriter, shown: Shown) -> BoardWriter
 fn agree(seen: &Seen<Plan, u64, PlanLog>, reader: &Reader)
     requires board { reader.now.board ≡ seen.now.book }
     requires expected { next_edition reader.now.plans ≡ next_edition seen.now.log }
-    ensures { reader.now.plans ≡ seen.now.log }
+    ensures plans { reader.now.plans ≡ seen.now.log }
+    ensures shown { reader.now.shown ≡ last_of seen.now.log }
 {
     let mut both = seen.again();
     both.learn(&reader.kept.seen);
 }
 
-/// The one that posts plans. Contracts see it as the board and the list of plans that were posted.
+/// The one that posts plans. Contracts see it as the board, the list of plans that were posted, and the plan that the board shows.
 pub struct Publisher {
     head: Word<Plan, u64, PlanLog>,
     seen: Seen<Plan, u64, PlanLog>,
@@ -105,13 +106,18 @@ pub struct Publisher {
 }
 
 impl Model for Publisher {
-    ghost use Rattle.std.specs.Prelude.{◌≡◌, MatchOption, drop, []};
+    ghost use Rattle.std.specs.Prelude.{◌≡◌, MatchOption, drop, [], option_map};
+    ghost use Rattle.std.specs.Arc.{arc_value};
     ghost use Rattle.bt_board.specs.Log.{head_of};
-    ghost use Rattle.bt_board.specs.Posted.{Posted, posted};
+    ghost use Rattle.bt_board.specs.Posted.{Posted};
 
     ghost Value = { Posted };
 
-    ghost view = { λ p. posted p.seen.book p.seen.log };
+    ghost view = { λ p. record {
+      board = p.seen.book;
+      plans = p.seen.log;
+      shown = option_map (λ d. arc_value d.desk.shown.value.plan) p.writer;
+    } };
 
     ghost invariant = { λ p. (p.head ≡ head_of p.seen.book) × MatchOption p.writer ⊥ (λ d. (d.desk.shown.value.seen ≡ p.seen) × (drop d.behind d.log.items ≡ [])) };
 }
@@ -139,6 +145,7 @@ impl Publisher {
         requires newer { next_edition self.old.plans ≤ plan.edition.0 }
         ensures board { self.new.board ≡ self.old.board }
         ensures posted { MatchResult result (λ _. self.new.plans ≡ self.old.plans ++ plan ∷ []) (λ _. self.new ≡ self.old) }
+        ensures shown { MatchResult result (λ _. self.new.shown ≡ Some plan) (λ _. self.new.shown ≡ self.old.shown) }
     {
         let Ok(plan) = Arc::new(alloc, plan) else {
             return Err(OutOfMemory);
@@ -162,6 +169,7 @@ impl Publisher {
     /// The plan that was posted last.
     pub fn newest(&self) -> &Plan
         ensures last { last_of self.now.plans ≡ Some result.now }
+        ensures shown { self.now.shown ≡ Some result.now }
         ensures ascends { Ascends self.now.plans }
     {
         match &self.writer {
@@ -182,9 +190,10 @@ impl Publisher {
         both.learn(&reader.kept.seen);
     }
 
-    /// The edition of the last plan that it has posted.
+    /// The edition of the last plan that it has posted, which is shown.
     pub(crate) fn edition(&self) -> u32
-        ensures { next_edition self.now.plans ≡ result + 1 }
+        ensures edition { next_edition self.now.plans ≡ result + 1 }
+        ensures shown { self.now.shown ≡ last_of self.now.plans }
     {
         self.newest().edition.0
     }

@@ -47,7 +47,7 @@ fn visit(
     }
 }
 
-/// A reader of a board. Contracts see it as the board and the list of plans that it has seen.
+/// A reader of a board. Contracts see it as the board and the list of plans that it has seen, of which it shows the last.
 #[derive(Drop)]
 pub struct Reader {
     seat: Option<Seat>,
