@@ -86,14 +86,16 @@ IsMatching-rows rows table columns same matching = record {
   own_columns = matching.own_columns;
 }
 
-pub IsSpent-table : (rows table : List (List ℕ)) (visited : List Bool) (row : ℕ) → HasEntriesOf table rows → IsSpent 0 table visited row → IsSpent 0 rows visited row
-IsSpent-table rows table visited row same spent = λ down positive. spent down (rw (same row down) positive)
+-- what is spent in the table is spent in a matrix that has no positive entry elsewhere
+pub IsSpent-support : (rows table : List (List ℕ)) (visited : List Bool) (row : ℕ) → ((up down : ℕ) → 0 < entry rows up down → 0 < entry table up down)
+    → IsSpent 0 table visited row → IsSpent 0 rows visited row
+IsSpent-support rows table visited row inside spent = λ down positive. spent down (inside row down positive)
 
-pub IsExplored-table : (rows table : List (List ℕ)) (columns : List (Option ℕ)) (before after : List Bool) → HasEntriesOf table rows
+pub IsExplored-support : (rows table : List (List ℕ)) (columns : List (Option ℕ)) (before after : List Bool) → ((up down : ℕ) → 0 < entry rows up down → 0 < entry table up down)
     → IsExplored 0 table columns before after → IsExplored 0 rows columns before after
-IsExplored-table rows table columns before after same explored = λ down seen. elim (explored down seen) [
+IsExplored-support rows table columns before after inside explored = λ down seen. elim (explored down seen) [
   | inl early ↦ inl early
-  | inr (row, has, spent) ↦ inr (row, has, IsSpent-table rows table after row same spent)
+  | inr (row, has, spent) ↦ inr (row, has, IsSpent-support rows table after row inside spent)
 ]
 
 -- the table has no positive entry past the matrix

@@ -4,7 +4,7 @@ ghost use Rattle.std.specs.Bool.{OnTrue, OnFalse};
 ghost use Rattle.bt_matrix.specs.Good.{IsPermutation};
 ghost use Rattle.bt_matrix.specs.Traffic.{entry};
 ghost use Rattle.bt_matrix.specs.Walk.{positive_entries};
-ghost use Rattle.bt_match.specs.Matching.{column_of, free_rows, HasEqualLineSums, IsPartial, IsWhole, IsInside, IsInsidePerm};
+ghost use Rattle.bt_match.specs.Matching.{column_of, free_rows, HasEqualLineSums, HasSupport, IsPartial, IsWhole, IsInside, IsInsidePerm};
 ghost use Rattle.bt_match.specs.Search.{IsMatching, StaysMatched, AreHolders, HasEntriesOf, HasNoEntry, IsWithin};
 
 use crate::partial::Partial;
@@ -86,7 +86,7 @@ fn match_by_table<M: Walk<L>, L: Ledger>(
     ensures looks { steps.new ≤ steps.old + positive_entries (M.rows matrix.now) }
 {
     fill_table(matrix, table, steps);
-    match_free_rows::<M, L>(matrix, table, columns);
+    match_free_rows(table, columns);
     widen_rows(table, columns);
 }
 
@@ -103,27 +103,21 @@ fn has_free_row(columns: &[Option<u8>]) -> bool
     false
 }
 
-/// Gives every row a column, by the table of the matrix.
-fn match_free_rows<M: Walk<L>, L: Ledger>(
-    matrix: &M,
-    table: &[[u32; MOST_BEAMS]],
-    columns: &mut [Option<u8>],
-)
-    requires equal { HasEqualLineSums (M.rows matrix.now) }
-    requires entries { HasEntriesOf table.now (M.rows matrix.now) }
+/// Gives every row a column, by the table.
+pub(crate) fn match_free_rows(table: &[[u32; MOST_BEAMS]], columns: &mut [Option<u8>])
+    requires support { HasSupport table.now (length columns.old) }
     requires long { length columns.old ≤ length table.now }
-    requires size { length columns.old ≡ length (M.rows matrix.now) }
+    requires within { IsWithin table.now (length columns.old) }
     requires partial { IsPartial columns.old }
     requires matching { IsMatching table.now columns.old }
     ensures size { length columns.new ≡ length columns.old }
     ensures matching { IsMatching table.now columns.new }
     ensures partial { IsPartial columns.new }
     ensures whole { IsWhole columns.new }
-    ensures within { IsWithin table.now (length columns.old) }
 {
     let mut holders = holders_of(columns);
-    for row in 0..matrix.size() as usize {
-        match_row::<M, L>(matrix, table, columns, &mut holders, row);
+    for row in 0..columns.len() {
+        match_row(table, columns, &mut holders, row);
     }
 }
 
@@ -142,18 +136,16 @@ fn holders_of(columns: &[Option<u8>]) -> [u8; MOST_BEAMS]
 }
 
 /// Gives the row a column, if it has none. The search for it cannot fail.
-fn match_row<M: Walk<L>, L: Ledger>(
-    matrix: &M,
+fn match_row(
     table: &[[u32; MOST_BEAMS]],
     columns: &mut [Option<u8>],
     holders: &mut [u8; MOST_BEAMS],
     row: usize,
 )
-    requires equal { HasEqualLineSums (M.rows matrix.now) }
-    requires entries { HasEntriesOf table.now (M.rows matrix.now) }
+    requires support { HasSupport table.now (length columns.old) }
     requires long { length columns.old ≤ length table.now }
     requires within { IsWithin table.now (length columns.old) }
-    requires size { length columns.old ≡ length (M.rows matrix.now) }
+    requires few { length columns.old ≤ MOST_BEAMS }
     requires row { row < length columns.old }
     requires matching { IsMatching table.now columns.old }
     requires holders { AreHolders columns.old holders.old }
@@ -164,14 +156,14 @@ fn match_row<M: Walk<L>, L: Ledger>(
 {
     if columns[row].is_none() {
         let mut visited = [false; MOST_BEAMS];
-        let visited = &mut visited[..matrix.size() as usize];
+        let visited = &mut visited[..columns.len()];
         let found = seek(table, columns, holders, visited, row, 0);
         prove!(found);
     }
 }
 
 /// Moves rows to columns of more slots, as long as the row of fewest slots can be moved.
-fn widen_rows(table: &[[u32; MOST_BEAMS]], columns: &mut [Option<u8>])
+pub(crate) fn widen_rows(table: &[[u32; MOST_BEAMS]], columns: &mut [Option<u8>])
     requires long { length columns.old ≤ length table.now }
     requires within { IsWithin table.now (length columns.old) }
     requires matching { IsMatching table.now columns.old }

@@ -1,11 +1,13 @@
 // The switching schedule of the least length.
-ghost use Rattle.std.specs.Prelude.{◌≡◌, ◌<◌, IfOk};
+ghost use Rattle.std.specs.Prelude.{◌≡◌, ◌+◌, ◌*◌, ◌<◌, ◌≤◌, length, IfOk};
 ghost use Rattle.bt_matrix.specs.Good.{IsGood, total_duration};
 ghost use Rattle.bt_matrix.specs.Traffic.{IsHeaviest};
+ghost use Rattle.bt_matrix.specs.Walk.{positive_entries};
 ghost use Rattle.bt_modes.specs.Decomposition.{DecomposesTo};
 
 use crate::decomposition::decompose;
-use crate::padding::{Padded, pad};
+use crate::padding::Padded;
+use crate::serving::serve;
 use bt_frame::{Mode, Modes, OutOfMemory, Schedule, Steps};
 use bt_links::Crosslinked;
 use bt_matrix::{Dense, Traffic};
@@ -13,15 +15,15 @@ use std::alloc::Global;
 use std::marker::Brand;
 use std::sync::ledger::{Blank, Ledger};
 
-/// A schedule for the matrix, than which none is shorter. The matrix is copied into one of linked nodes, and that is
-/// padded and decomposed.
+/// A schedule for the matrix, than which none is shorter. Each mode serves part of the matrix, and what is left always fits
+/// into the slots that are left.
 pub fn schedule(alloc: Global, matrix: &Dense) -> Result<Schedule, OutOfMemory>
     ensures heaviest { IfOk result (λ schedule. IsHeaviest matrix.now schedule.critical schedule.length) }
     ensures good { IfOk result (λ schedule. IsGood matrix.now schedule) }
+    ensures few { IfOk result (λ schedule. length schedule.modes ≤ positive_entries matrix.now + 2 * length matrix.now) }
 {
     let (critical, length) = matrix.heaviest();
-    let padded = pad(alloc, Crosslinked::of(alloc, matrix)?)?;
-    let modes = modes_of(alloc, padded)?;
+    let modes = serve(alloc, matrix, length)?;
     Ok(Schedule {
         length,
         critical,

@@ -40,14 +40,14 @@ slots-clip size up down mode few inside below long =
     ]
 
 -- how many are not silent, by places
-abbrev speaks : ℕ → ℕ
+abbrev pub speaks : ℕ → ℕ
 speaks down = cond (not (down == 255)) 1 0
 
 count_step : (b : Bool) (n : ℕ) → cond b 1 0 + n ≡ cond b (1 + n) n
 count_step true n = refl
 count_step false n = omega arith
 
-connections-total : (perm : List ℕ) → connections perm ≡ total (length perm) (λ up. speaks (get_or perm up 0))
+pub connections-total : (perm : List ℕ) → connections perm ≡ total (length perm) (λ up. speaks (get_or perm up 0))
 connections-total perm =
     sym (is_count_by (sum_by speaks) (λ down. not (down == 255)) refl (λ x xs. sum_by-cons speaks x xs ∙ count_step (not (x == 255)) (sum_by speaks xs)) perm)
     ∙ sum_by-total speaks perm 0

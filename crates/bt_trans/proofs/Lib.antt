@@ -1,3 +1,4 @@
+pub mod Allocations
 pub mod Borders
 pub mod Cells
 pub mod Clips

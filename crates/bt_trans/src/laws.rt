@@ -13,6 +13,13 @@ pub fn no_allocation_is_shorter()
         → IsGoodPart rows k schedule → IsAllocation rows k slots grants → schedule.length ≤ slots }
 {}
 
+/// Some allocation of the matrix takes just as many slots as a good schedule: slot by slot, what the matrix still wants of
+/// each connection that the slot's mode makes.
+pub fn an_allocation_is_as_short()
+    ensures exists { (rows : List (List ℕ)) (k : ℕ) (schedule : PartSchedule) → IsTraffic rows → IsGoodPart rows k schedule
+        → (grants : List Grant) × IsAllocation rows k schedule.length grants }
+{}
+
 /// A schedule has at most one verdict for a matrix and a number of connections at once.
 pub fn one_part_verdict()
     ensures same { (rows : List (List ℕ)) (k : ℕ) (schedule : PartSchedule) (a b : PartVerdict)

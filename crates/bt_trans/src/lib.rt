@@ -25,7 +25,7 @@ mod shortages;
 mod verdict;
 mod writer;
 
-pub use laws::{no_allocation_is_shorter, one_part_verdict};
+pub use laws::{an_allocation_is_as_short, no_allocation_is_shorter, one_part_verdict};
 pub use part::{Bound, MOST_PART_BEAMS, PartMode, PartModes, PartSchedule, SILENT};
 pub use part_check::check_part;
 pub use planning::part_schedule;
