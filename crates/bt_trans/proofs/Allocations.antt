@@ -7,11 +7,11 @@ use Rattle.std.proofs.lemmas.List.Kept.{AllPairs-cons}
 use Rattle.std.proofs.lemmas.List.Sums.{sum_by-cons}
 use Rattle.bt_frame.proofs.Totals.{total, total-le, total-same, total-zero}
 use Rattle.bt_matrix.specs.Traffic.{entry, row_of, IsTraffic}
+use Rattle.bt_matrix.proofs.Walks.{entry-past}
 use Rattle.bt_trans.specs.declared.part.PartMode.{PartMode}
 use Rattle.bt_trans.specs.declared.part.PartSchedule.{PartSchedule}
 use Rattle.bt_trans.specs.Allocation.{Grant, goes, lies, IsAllocation}
 use Rattle.bt_trans.specs.Part.{IsPartSwitching, connections, part_slots_in, part_slots_of, part_duration, IsGoodPart}
-use Rattle.bt_matrix.proofs.Walks.{entry-past}
 use Rattle.bt_trans.proofs.Cells.{total-split}
 use Rattle.bt_trans.proofs.Clips.{speaks, connections-total}
 use Rattle.bt_trans.proofs.Totals.{total-equal}
@@ -20,7 +20,8 @@ use Rattle.bt_trans.proofs.Totals.{total-equal}
 abbrev one_if : Bool → ℕ
 one_if test = if test then 1 else 0
 
--- The downlinks of each uplink, slot by slot, and what is wanted: what an allocation is made of.
+-- An allocation is made of what is wanted, and of the downlink that each uplink has slot by slot.
+
 -- the slots before this one in which the uplink has the downlink
 abbrev before : (ℕ → ℕ → ℕ) → ℕ → ℕ → ℕ → ℕ
 before perms slot up down = total slot (λ t. one_if (perms t up == down))
@@ -50,6 +51,7 @@ record IsEarlier (perms : ℕ → ℕ → ℕ) (slot up : ℕ) (unit : Grant) : 
   pub earlier : unit.slot ≡ slot → unit.up < up
   pub own : unit.down ≡ perms unit.slot unit.up
 
+-- an item that is put before others where a test passes: what holds of all, of each two, and of a sum
 All-if : {X : Type 0} (P : X → Type 0) (test : Bool) (x : X) (xs : List X) → (test ≡ true → P x) → All P xs → All P (cond test (x ∷ xs) xs)
 All-if P true x xs here all = All-cons P x xs (here refl) all
 All-if P false x xs here all = all
@@ -120,11 +122,13 @@ slot_down_once want perms size k slots slot (suc up) others are in_slots within 
     wanted-loud want perms slot up (are.silent up) more ((same_down ∙ there) ∙ silent))
     (slot_down_once want perms size k slots slot up others are in_slots (omega arith) earlier once)
 
+-- so in none of the first slots
 units_up_once : (want perms : ℕ → ℕ → ℕ) (size slot : ℕ) → AllPairs (λ a b. a.slot ≡ b.slot → a.up ≡ b.up → ⊥) (units want perms size slot)
 units_up_once want perms size zero = λ i j d less within. absurd (omega arith)
 units_up_once want perms size (suc slot) =
     slot_up_once want perms slot size (units want perms size slot) (units_earlier want perms size slot) (units_up_once want perms size slot)
 
+-- nor to one downlink
 units_down_once : (want perms : ℕ → ℕ → ℕ) (size k slots slot : ℕ) → AreSwitched want perms size k slots → slot ≤ slots
     → AllPairs (λ a b. a.slot ≡ b.slot → a.down ≡ b.down → ⊥) (units want perms size slot)
 units_down_once want perms size k slots zero are within = λ i j d less inside. absurd (omega arith)
@@ -250,6 +254,7 @@ units_go want perms size (suc slot) from to below =
     let rest = units_go want perms size slot from to below in
     omega (arith, rest, slot_goes want perms slot size from to (units want perms size slot) below, given_more want perms slot from to)
 
+-- and none from past the matrix
 none_go : (want perms : ℕ → ℕ → ℕ) (size slot from to : ℕ) → size ≤ from → sum_by (goes from to) (units want perms size slot) ≡ 0
 none_go want perms size zero from to past = refl
 none_go want perms size (suc slot) from to past =
