@@ -1,11 +1,11 @@
 -- Commands that ask for no store, and a replay.
 use Rattle.std.proofs.Common.{◌≡◌, ℕ, List, [], Option, Bor, refl, sym, subst}
-use Rattle.bt_centre.specs.Stored.{Stored}
+use Rattle.bt_report.specs.Stored.{Stored}
 use Rattle.bt_cli.specs.declared.command_line.CommandLine.{CommandLine}
 use Rattle.bt_cli.specs.declared.command_line.CommandLine.TheVariants as command
 use Rattle.bt_cli.specs.CommandLine.{asked}
-use Rattle.bt_centre.specs.Output.{Output}
-use Rattle.bt_load.specs.Outcome.{Input}
+use Rattle.bt_report.specs.Output.{Output}
+use Rattle.bt_report.specs.Input.{Input}
 use Rattle.bt_cli.specs.Request.{Request, ReplayJournal}
 use Rattle.bt_cli.specs.Replay.{EndsReplayWords}
 use Rattle.bt_cli.specs.Run.{End}

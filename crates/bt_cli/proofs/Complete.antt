@@ -16,10 +16,11 @@ use Rattle.bt_journal.specs.declared.call.Change.{Change}
 use Rattle.bt_history.specs.declared.fault.RecoverFault.{RecoverFault}
 use Rattle.bt_history.specs.declared.fault.RecoverFault.TheVariants.{J1, J2, StoreFault, TooLong, OutOfMemory}
 use Rattle.bt_history.specs.Recovery.{IsFirstNoLine, IsFirstStray}
+use Rattle.bt_report.specs.declared.status.TheConstants.{DONE, NOT_GOOD}
 use Rattle.bt_centre.specs.declared.history.History.{History}
-use Rattle.bt_centre.specs.Output.{Output, HasFailed, Prints}
+use Rattle.bt_report.specs.Output.{Output, HasFailed, Prints}
 use Rattle.bt_centre.specs.Run.{EndsFrom, RunsTo}
-use Rattle.bt_centre.specs.Stored.{IsSteady, Stored}
+use Rattle.bt_report.specs.Stored.{IsSteady, Stored}
 use Rattle.bt_timing.specs.Times.{Times}
 use Rattle.bt_cli.specs.Check.{ChecksSchedule, Judges, verdict_status}
 use Rattle.bt_cli.specs.CheckPlan.{ChecksDemand, ChecksPlanText, JudgesPlan}
@@ -27,7 +28,9 @@ use Rattle.bt_cli.specs.Complete.{IsDone, IsJudged, NothingFails, Serves, Spells
 use Rattle.bt_cli.specs.Fitting.{Fits, WhereItFits}
 use Rattle.bt_load.specs.Kinds.{matrix_file, schedule_file, network_file, demand_file, plan_file, script_file, delay_file}
 use Rattle.bt_cli.specs.Modes.{PrintsSchedule}
-use Rattle.bt_load.specs.Outcome.{Outcome, Input, FilesFailed, IsContent, IsLoaded, Kind, Loads, PrintsOneOf, StopsAtLoad}
+use Rattle.bt_report.specs.Outcome.{Outcome, PrintsOneOf}
+use Rattle.bt_report.specs.Input.{Input, FilesFailed}
+use Rattle.bt_load.specs.Files.{IsContent, IsLoaded, Kind, Loads, StopsAtLoad}
 use Rattle.bt_cli.specs.Plans.{PlansDemand, PrintsPlan}
 use Rattle.bt_cli.specs.Replay.{EndsRecovery, EndsReplay, IsNotRecovered, NamesRecoverFault, PrintsState}
 use Rattle.bt_cli.specs.Request.{Request, Faulty, CheckModes, CheckPlan, PlanModes, PlanDemand, RunScript, ReplayJournal, PlanDrawn, TimeSends, PlanPart}
@@ -73,7 +76,7 @@ printed_status : (output : Output) (text : List ℕ) (wanted status : ℕ) → �
 printed_status output text wanted status steady (inl (written, is)) = is
 printed_status output text wanted status steady (inr (failed, part, six)) = absurd (steady failed)
 
-done : (output : Output) (Outcomes : Outcome → Type 0) (status : ℕ) → ¬ (HasFailed output) → ((outcome : Outcome) → Outcomes outcome → outcome.status ≡ 0) → PrintsOneOf output Outcomes status → IsDone status
+done : (output : Output) (Outcomes : Outcome → Type 0) (status : ℕ) → ¬ (HasFailed output) → ((outcome : Outcome) → Outcomes outcome → outcome.status ≡ DONE) → PrintsOneOf output Outcomes status → IsDone status
 done output Outcomes status steady so (inl memory) = inr memory
 done output Outcomes status steady so (inr (outcome, is, printed)) = inl (printed_status output outcome.text outcome.status status steady printed ∙ so outcome is)
 
@@ -106,7 +109,7 @@ status_of : (a b : Outcome) → a ≡ b → a.status ≡ b.status
 status_of a b same = ap (λ (o : Outcome). o.status) same
 
 -- the status of a verdict that is not good
-bad_status : (verdict : Verdict) → verdict ≢ Good → 9 ≡ verdict_status verdict
+bad_status : (verdict : Verdict) → verdict ≢ Good → NOT_GOOD ≡ verdict_status verdict
 bad_status Good bad = absurd (bad refl)
 bad_status (V1 _) bad = refl
 bad_status (V2 _) bad = refl

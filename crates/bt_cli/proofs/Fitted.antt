@@ -3,12 +3,13 @@ use Rattle.std.proofs.Common.{◌≡◌, ℕ, ◌≤◌, inl, inr, List, Option,
 use Rattle.bt_outside.specs.Told.{Rose}
 use Rattle.bt_net.specs.Network.{Net}
 use Rattle.bt_demand.specs.declared.demand.Link.{Link}
-use Rattle.bt_load.specs.declared.report.Report.{Report}
-use Rattle.bt_load.specs.declared.report.Stop.{Stop}
+use Rattle.bt_report.specs.declared.report.Report.{Report}
+use Rattle.bt_report.specs.declared.report.Stop.{Stop}
 use Rattle.bt_load.specs.Kinds.{demand_file, plan_file}
-use Rattle.bt_load.specs.Outcome.{Outcome}
-use Rattle.bt_load.specs.Printing.{CameTo}
-use Rattle.bt_load.proofs.Loads.{CameTo-among, Loads-among, Loads-moved}
+use Rattle.bt_report.specs.Outcome.{Outcome}
+use Rattle.bt_report.specs.Printing.{CameTo}
+use Rattle.bt_report.proofs.Reports.{CameTo-among}
+use Rattle.bt_load.proofs.Loads.{Loads-among, Loads-moved}
 use Rattle.bt_cli.specs.Fitting.{Fits, WhereItFits}
 use Rattle.bt_cli.specs.CheckPlan.{ChecksPlanText, ChecksDemand, JudgesPlan}
 

@@ -19,7 +19,8 @@ use Rattle.bt_cli.specs.Plans.{PrintsPlan, PlansDemand}
 use Rattle.bt_cli.specs.Timing.{NamesVerdict, PrintsSends, TimesDelays, TimesDemand, TimesPlanText, WhereItIsGood}
 use Rattle.bt_words.specs.Lines.{line_of}
 use Rattle.bt_timeline.specs.Verdicts.{verdict_words}
-use Rattle.bt_load.specs.Outcome.{IsTold, Outcome, text_alone}
+use Rattle.bt_load.specs.Files.{IsTold}
+use Rattle.bt_report.specs.Outcome.{Outcome, text_alone}
 use Rattle.bt_load.proofs.OneLoad.{AreAlike, IsOne, Loads-same, done_alike, is_one, same_alike}
 use Rattle.bt_load.specs.Kinds.{matrix_file, schedule_file, network_file, demand_file, plan_file, delay_file}
 use Rattle.bt_cli.specs.Check.{ChecksSchedule, Judges, verdict_status}

@@ -1,7 +1,7 @@
 -- What is asked has one report, a run and a replay with the rest.
 use Rattle.std.proofs.Common.{ℕ, List, Option}
-use Rattle.bt_centre.specs.Stored.{Stored}
-use Rattle.bt_load.specs.Outcome.{Outcome}
+use Rattle.bt_report.specs.Stored.{Stored}
+use Rattle.bt_report.specs.Outcome.{Outcome}
 use Rattle.bt_cli.specs.Request.{Request, Faulty, CheckModes, CheckPlan, PlanModes, PlanDemand, RunScript, ReplayJournal, PlanDrawn, TimeSends, PlanPart}
 use Rattle.bt_cli.specs.Top.{ReportsWith, AreOneStore, AreTold, IsOneReport}
 use Rattle.bt_cli.proofs.OneReport.{Reports-same, Laws}

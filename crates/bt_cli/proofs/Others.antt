@@ -3,14 +3,14 @@ use Rattle.std.proofs.Common.{◌≡◌, ℕ, List, [], ◌∷◌, codes, Some, 
 use Rattle.std.specs.Str.{bytes_eq}
 use Rattle.std.proofs.lemmas.Option.{same_Some}
 use Rattle.std.proofs.lemmas.Slice.Eq.{bytes_eq-Decides}
-use Rattle.bt_load.specs.declared.report.Report.{Report}
+use Rattle.bt_report.specs.declared.report.Report.{Report}
 use Rattle.bt_cli.specs.declared.command_line.CommandLine.{CommandLine}
 use Rattle.bt_cli.specs.declared.command_line.CommandLine.TheVariants as command
 use Rattle.bt_cli.specs.declared.number_word.BeamCount.{BeamCount}
 use Rattle.bt_cli.specs.declared.number_word.Transponders.{Transponders}
-use Rattle.bt_load.specs.Report.{ReportIs}
+use Rattle.bt_report.specs.Report.{ReportIs}
 use Rattle.bt_cli.specs.CommandLine.{asked, name_of}
-use Rattle.bt_load.specs.Outcome.{Says}
+use Rattle.bt_report.specs.Outcome.{Says}
 use Rattle.bt_cli.specs.Request.{Request, Faulty}
 use Rattle.bt_cli.specs.Top.{Reports}
 

@@ -9,14 +9,16 @@ use Rattle.bt_demand.specs.Plan.{IsGoodPlan}
 use Rattle.bt_demand.proofs.BurstTriples.{held_within}
 use Rattle.bt_timing.specs.SendsText.{IsTimed}
 use Rattle.bt_timing.specs.Times.{Times}
-use Rattle.bt_load.specs.declared.report.Report.{Report}
-use Rattle.bt_load.specs.declared.report.Stop.{Stop}
+use Rattle.bt_report.specs.declared.report.Report.{Report}
+use Rattle.bt_report.specs.declared.report.Stop.{Stop}
 use Rattle.bt_cli.specs.Fitting.{Fits, WhereItFits}
 use Rattle.bt_load.specs.Kinds.{delay_file, demand_file, plan_file}
-use Rattle.bt_load.specs.Outcome.{Kind, Loads, Outcome}
-use Rattle.bt_load.specs.Printing.{CameTo}
+use Rattle.bt_load.specs.Files.{Kind, Loads}
+use Rattle.bt_report.specs.Outcome.{Outcome}
+use Rattle.bt_report.specs.Printing.{CameTo}
 use Rattle.bt_cli.specs.Timing.{PrintsSends, TimesDelays, TimesDemand, TimesPlanText, WhereItIsGood}
-use Rattle.bt_load.proofs.Loads.{CameTo-among, Loads-among, Loads-moved}
+use Rattle.bt_report.proofs.Reports.{CameTo-among}
+use Rattle.bt_load.proofs.Loads.{Loads-among, Loads-moved}
 use Rattle.bt_cli.proofs.Fitted.{WhereItFits-among}
 
 -- each burst lies in the frame, and its terminal has a delay

@@ -10,7 +10,8 @@ use Rattle.bt_cli.specs.Check.{verdict_status}
 use Rattle.bt_cli.specs.Fitting.{WhereItFits}
 use Rattle.bt_load.specs.Kinds.{network_file, demand_file, plan_file}
 use Rattle.bt_timeline.specs.Verdicts.{verdict_words}
-use Rattle.bt_load.specs.Outcome.{Outcome, Loads, Says}
+use Rattle.bt_report.specs.Outcome.{Outcome, Says}
+use Rattle.bt_load.specs.Files.{Loads}
 
 -- the line of the verdict on the plan, for links that are a demand
 pub record JudgesPlan (net : Net) (links : List Link) (plan : Plan) (outcome : Outcome) : Type 0 where

@@ -11,14 +11,15 @@ use Rattle.bt_verdict.specs.Verdict.{IsVerdict}
 use Rattle.bt_script.specs.declared.script.Script.{Script}
 use Rattle.bt_journal.specs.declared.call.Change.{Change}
 use Rattle.bt_history.specs.Recovery.{Recovered}
-use Rattle.bt_centre.specs.declared.status.TheConstants.{DONE, OUT_OF_MEMORY}
-use Rattle.bt_centre.specs.Output.{Output, HasFailed}
-use Rattle.bt_centre.specs.Stored.{IsSteady, Stored}
+use Rattle.bt_report.specs.declared.status.TheConstants.{DONE, OUT_OF_MEMORY}
+use Rattle.bt_report.specs.Output.{Output, HasFailed}
+use Rattle.bt_report.specs.Stored.{IsSteady, Stored}
 use Rattle.bt_timing.specs.Times.{Times}
 use Rattle.bt_cli.specs.Check.{verdict_status}
 use Rattle.bt_cli.specs.Fitting.{Fits}
 use Rattle.bt_load.specs.Kinds.{matrix_file, schedule_file, network_file, demand_file, plan_file, script_file, delay_file}
-use Rattle.bt_load.specs.Outcome.{Input, FilesFailed, Kind}
+use Rattle.bt_report.specs.Input.{Input, FilesFailed}
+use Rattle.bt_load.specs.Files.{Kind}
 use Rattle.bt_cli.specs.Trans.{Suits}
 use Rattle.bt_cli.specs.Request.{Request, Faulty, CheckModes, CheckPlan, PlanModes, PlanDemand, RunScript, ReplayJournal, PlanDrawn, TimeSends, PlanPart}
 

@@ -6,7 +6,8 @@ use Rattle.bt_net.specs.Network.{Net}
 use Rattle.bt_matrix.specs.Traffic.{IsHeaviest}
 use Rattle.bt_demand.specs.declared.demand.Link.{Link}
 use Rattle.bt_demand.specs.Traffic.{matrix_of, HasSumsTo}
-use Rattle.bt_load.specs.Outcome.{Outcome, Says}
+use Rattle.bt_report.specs.declared.status.TheConstants.{FAULTY_TEXT}
+use Rattle.bt_report.specs.Outcome.{Outcome, Says}
 
 -- no line of the demand's matrix asks for more than the slots of a frame
 abbrev pub Fits : Net → List Link → Type 0
@@ -19,7 +20,7 @@ overload_words (Column down) sum = codes "fault" ∷ codes "T6" ∷ codes "colum
 
 -- the demand does not fit, and its heaviest line is named
 abbrev pub NamesOverload : Net → List Link → Outcome → Type 0
-NamesOverload net links outcome = (line : Critical) × (sum : ℕ) × IsHeaviest (matrix_of net links) line sum × (net.slots < sum) × Says (overload_words line sum) 4 outcome
+NamesOverload net links outcome = (line : Critical) × (sum : ℕ) × IsHeaviest (matrix_of net links) line sum × (net.slots < sum) × Says (overload_words line sum) FAULTY_TEXT outcome
 
 -- the demand fits, and the work goes on; or its heaviest line is named
 abbrev pub WhereItFits : Net → List Link → (Outcome → Type 0) → Outcome → Type 0

@@ -1,7 +1,11 @@
 -- The promise of the whole program: what it prints and the status that it ends with, for each command.
-use Rattle.std.specs.Prelude.{◌≡◌, ℕ, ◌⊎◌, List, [], ◌∷◌, codes, Option, Some}
-use Rattle.bt_centre.specs.Output.{Output}
-use Rattle.bt_load.specs.Outcome.{Outcome, Input, FilesFailed, IsTold, Says, PrintsOneOf}
+use Rattle.std.specs.Prelude.{◌≡◌, ℕ, ◌⊎◌, List, Option, Some}
+use Rattle.bt_report.specs.declared.status.TheConstants.{DONE}
+use Rattle.bt_report.specs.Output.{Output}
+use Rattle.bt_report.specs.Faults.{SaysFaultyWords}
+use Rattle.bt_report.specs.Outcome.{Outcome, PrintsOneOf}
+use Rattle.bt_report.specs.Input.{Input, FilesFailed}
+use Rattle.bt_load.specs.Files.{IsTold}
 use Rattle.bt_cli.specs.Request.{Request, Faulty, CheckModes, CheckPlan, PlanModes, PlanDemand, RunScript, ReplayJournal, PlanDrawn, TimeSends, PlanPart}
 use Rattle.bt_cli.specs.Check.{ChecksModes}
 use Rattle.bt_cli.specs.CheckPlan.{ChecksPlan}
@@ -10,13 +14,13 @@ use Rattle.bt_cli.specs.Modes.{PrintsModes}
 use Rattle.bt_cli.specs.Plans.{Plans}
 use Rattle.bt_cli.specs.Timing.{TimesSends}
 use Rattle.bt_cli.specs.Trans.{PlansPart}
-use Rattle.bt_centre.specs.Stored.{IsSteady, Stored}
+use Rattle.bt_report.specs.Stored.{IsSteady, Stored}
 use Rattle.bt_cli.specs.Replay.{HasReplayed, Replays}
 use Rattle.bt_cli.specs.Run.{BeginsNoRun, End, EndsRun, Runs}
 
 -- the outcome of what is asked, by the command, but for a run and a replay: what comes of those the store tells too
 abbrev pub Reports : (List ℕ → Option (List ℕ)) → Type 0 → Request → Outcome → Type 0
-Reports told failed Faulty = Says (codes "fault" ∷ codes "words" ∷ []) 2
+Reports told failed Faulty = SaysFaultyWords
 Reports told failed (CheckModes matrix modes) = ChecksModes told failed matrix modes
 Reports told failed (CheckPlan net traffic plan) = ChecksPlan told failed net traffic plan
 Reports told failed (PlanModes matrix) = PrintsModes told failed matrix
@@ -100,10 +104,10 @@ abbrev pub IsOneReport : Request → Outcome → Outcome → Type 0
 IsOneReport Faulty a b = a ≡ b
 IsOneReport (CheckModes _ _) a b = a ≡ b
 IsOneReport (CheckPlan _ _ _) a b = a ≡ b
-IsOneReport (PlanDemand _ _) a b = (a.status ≡ b.status) × ((a.status ≡ 0) ⊎ (a ≡ b))
-IsOneReport (PlanModes _) a b = (a.status ≡ b.status) × ((a.status ≡ 0) ⊎ (a ≡ b))
+IsOneReport (PlanDemand _ _) a b = (a.status ≡ b.status) × ((a.status ≡ DONE) ⊎ (a ≡ b))
+IsOneReport (PlanModes _) a b = (a.status ≡ b.status) × ((a.status ≡ DONE) ⊎ (a ≡ b))
 IsOneReport (TimeSends _ _ _ _) a b = a ≡ b
-IsOneReport (PlanDrawn _ _) a b = (a.status ≡ b.status) × ((a.status ≡ 0) ⊎ (a ≡ b))
-IsOneReport (PlanPart _ _) a b = (a.status ≡ b.status) × ((a.status ≡ 0) ⊎ (a ≡ b))
-IsOneReport (RunScript _ _ _) a b = (a.status ≡ b.status) × ((a.status ≡ 0) ⊎ (a ≡ b))
+IsOneReport (PlanDrawn _ _) a b = (a.status ≡ b.status) × ((a.status ≡ DONE) ⊎ (a ≡ b))
+IsOneReport (PlanPart _ _) a b = (a.status ≡ b.status) × ((a.status ≡ DONE) ⊎ (a ≡ b))
+IsOneReport (RunScript _ _ _) a b = (a.status ≡ b.status) × ((a.status ≡ DONE) ⊎ (a ≡ b))
 IsOneReport (ReplayJournal _ _) a b = a ≡ b

@@ -7,15 +7,16 @@ ghost use Rattle.bt_demand.specs.Traffic.{matrix_of, AreOfNetwork, HasSumsTo};
 ghost use Rattle.bt_cli.specs.CheckPlan.{ChecksDemand, ChecksPlan, ChecksPlanText, JudgesPlan};
 ghost use Rattle.bt_cli.specs.Fitting.{WhereItFits};
 ghost use Rattle.bt_timeline.specs.Verdicts.{CanName};
-ghost use Rattle.bt_load.specs.Printing.{CameTo};
+ghost use Rattle.bt_report.specs.Printing.{CameTo};
 
 use crate::check::status_of;
 use crate::fit::test_fit;
 use bt_demand::{Demand, Plan};
-use bt_load::{Report, Stop, load_demand, load_network, load_plan};
+use bt_load::{load_demand, load_network, load_plan};
 use bt_matrix::MOST_SUM;
 use bt_net::Network;
 use bt_outside::Files;
+use bt_report::{Report, Stop};
 use bt_timeline::verdict_text;
 use bt_verdict::{Verdict, check};
 use std::alloc::Global;

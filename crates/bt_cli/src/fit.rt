@@ -1,16 +1,16 @@
 // Does a demand fit the slots of a frame?
 ghost use Rattle.std.specs.Prelude.{IfErr, OnOk};
 ghost use Rattle.bt_demand.specs.Traffic.{matrix_of, AreOfNetwork, HasSumsTo};
-ghost use Rattle.bt_load.specs.Report.{StopIs};
+ghost use Rattle.bt_report.specs.declared.status.TheConstants.{FAULTY_TEXT};
+ghost use Rattle.bt_report.specs.Report.{StopIs};
 ghost use Rattle.bt_cli.specs.Fitting.{overload_words, Fits, NamesOverload};
-ghost use Rattle.bt_load.specs.Outcome.{Says};
+ghost use Rattle.bt_report.specs.Outcome.{Says};
 
-use bt_centre::FAULTY_TEXT;
 use bt_demand::{Demand, traffic_of};
 use bt_frame::Critical;
-use bt_load::Stop;
 use bt_matrix::{MOST_SUM, Traffic};
 use bt_net::Network;
+use bt_report::{FAULTY_TEXT, Stop};
 use bt_words::Word;
 use std::alloc::Global;
 
@@ -31,7 +31,7 @@ pub fn test_fit(alloc: Global, net: &Network, demand: &Demand) -> Result<(), Sto
 
 /// The report that names the heaviest line of a demand that does not fit.
 fn overload_stop(alloc: Global, line: Critical, sum: u32) -> Stop
-    ensures { StopIs (Says (overload_words line sum) 4) result }
+    ensures { StopIs (Says (overload_words line sum) FAULTY_TEXT) result }
 {
     let (name, beam) = match line {
         Critical::Row(up) => ("row", up),

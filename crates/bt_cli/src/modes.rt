@@ -3,16 +3,16 @@ ghost use Rattle.std.specs.Prelude.{◌≡◌, map, codes};
 ghost use Rattle.std.specs.String.{string_bytes};
 ghost use Rattle.bt_outside.specs.Told.{Rose};
 ghost use Rattle.bt_cli.specs.Modes.{PrintsModes, PrintsSchedule};
-ghost use Rattle.bt_load.specs.Printing.{CameTo};
+ghost use Rattle.bt_report.specs.Printing.{CameTo};
 ghost use Rattle.bt_cli.specs.Request.{first_word, request_of};
 ghost use Rattle.bt_cli.specs.Top.{Reported, Reports};
 
 use crate::command_line::{CommandLine, command_line_of};
-use bt_centre::DONE;
-use bt_load::{Report, Stop, faulty_words, load_matrix, print};
+use bt_load::load_matrix;
 use bt_matrix::Dense;
 use bt_outside::{Files, Sink};
 use bt_plan::schedule_text;
+use bt_report::{DONE, Report, Stop, faulty_words, print};
 use std::alloc::Global;
 
 /// Prints a switching schedule of the least length that carries a traffic matrix.

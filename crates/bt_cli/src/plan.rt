@@ -5,21 +5,21 @@ ghost use Rattle.bt_outside.specs.Told.{Rose};
 ghost use Rattle.bt_demand.specs.Traffic.{matrix_of, AreOfNetwork, HasSumsTo};
 ghost use Rattle.bt_cli.specs.Fitting.{Fits, WhereItFits};
 ghost use Rattle.bt_cli.specs.Plans.{Plans, PlansDemand, PrintsPlan};
-ghost use Rattle.bt_load.specs.Printing.{CameTo};
+ghost use Rattle.bt_report.specs.Printing.{CameTo};
 ghost use Rattle.bt_cli.specs.Request.{first_word, request_of};
 ghost use Rattle.bt_cli.specs.Top.{Reported, Reports};
 
 use crate::command_line::{CommandLine, command_line_of};
 use crate::fit::test_fit;
-use bt_centre::DONE;
 use bt_cut::make_plan;
 use bt_demand::Demand;
 use bt_frame::EditionNo;
-use bt_load::{Report, Stop, faulty_words, load_demand, load_network, print};
+use bt_load::{load_demand, load_network};
 use bt_matrix::MOST_SUM;
 use bt_net::Network;
 use bt_outside::{Files, Sink};
 use bt_plan::plan_text;
+use bt_report::{DONE, Report, Stop, faulty_words, print};
 use std::alloc::Global;
 
 /// The edition of a plan that is made for a demand alone.

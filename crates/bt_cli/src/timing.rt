@@ -8,10 +8,11 @@ ghost use Rattle.bt_demand.specs.Traffic.{matrix_of, AreOfNetwork, HasSumsTo};
 ghost use Rattle.bt_timing.specs.Times.{AreTimes};
 ghost use Rattle.bt_verdict.specs.PlanVerdict.{AreBetweenTerminals};
 ghost use Rattle.bt_timeline.specs.Verdicts.{CanName, verdict_words};
+ghost use Rattle.bt_report.specs.declared.status.TheConstants.{NOT_GOOD};
 ghost use Rattle.bt_cli.specs.Fitting.{Fits, WhereItFits};
-ghost use Rattle.bt_load.specs.Outcome.{Says};
-ghost use Rattle.bt_load.specs.Printing.{CameTo};
-ghost use Rattle.bt_load.specs.Report.{StopIs};
+ghost use Rattle.bt_report.specs.Outcome.{Says};
+ghost use Rattle.bt_report.specs.Printing.{CameTo};
+ghost use Rattle.bt_report.specs.Report.{StopIs};
 ghost use Rattle.bt_cli.specs.Request.{first_word, request_of};
 ghost use Rattle.bt_cli.specs.Timing.{NamesVerdict, PrintsSends, TimesDelays, TimesDemand, TimesPlanText, TimesSends, WhereItIsGood};
 ghost use Rattle.bt_cli.specs.Top.{Reported, Reports};
@@ -19,14 +20,12 @@ ghost use Rattle.bt_cli.specs.Top.{Reported, Reports};
 use crate::check_plan::verdict_on;
 use crate::command_line::{CommandLine, command_line_of};
 use crate::fit::test_fit;
-use bt_centre::{DONE, NOT_GOOD};
 use bt_demand::{Demand, Plan};
-use bt_load::{
-    Report, Stop, faulty_words, load_delays, load_demand, load_network, load_plan, print,
-};
+use bt_load::{load_delays, load_demand, load_network, load_plan};
 use bt_matrix::MOST_SUM;
 use bt_net::Network;
 use bt_outside::{Files, Sink};
+use bt_report::{DONE, NOT_GOOD, Report, Stop, faulty_words, print};
 use bt_timeline::verdict_text;
 use bt_timing::{Timing, sends_text};
 use bt_verdict::Verdict;
@@ -168,7 +167,7 @@ fn test_good(alloc: Global, net: &Network, demand: &Demand, plan: &Plan) -> Resu
 /// The report that names a verdict.
 fn verdict_stop(alloc: Global, net: &Network, verdict: &Verdict) -> Stop
     requires { CanName (Some net.now) verdict.now }
-    ensures { StopIs (Says (verdict_words (Some net.now) verdict.now) 9) result }
+    ensures { StopIs (Says (verdict_words (Some net.now) verdict.now) NOT_GOOD) result }
 {
     let mut text = Vec::new(alloc);
     match verdict_text(alloc, Some(net), verdict, &mut text) {

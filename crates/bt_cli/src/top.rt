@@ -15,8 +15,8 @@ use crate::timing::timing_command;
 use crate::trans::trans_command;
 use bt_air::Event;
 use bt_centre::{Histories, RunEnd};
-use bt_load::print_faulty_words;
 use bt_outside::{Files, Keeper, Sink};
+use bt_report::print_faulty_words;
 use std::alloc::Global;
 use std::sync::Wait;
 use std::thread::Threads;
@@ -69,19 +69,7 @@ impl<K> Ended<K> {
 /// Does what the words after the program's name ask for. A run and a replay read the store; any other command hands it back
 /// as it was.
 ///
-/// | status | when |
-/// |---|---|
-/// | 0 | done |
-/// | 1 | memory ran out |
-/// | 2 | the words are none of a command |
-/// | 3 | the bytes of a network file are no network |
-/// | 4 | a text leaves its grammar or its limits, or a demand does not fit the frame |
-/// | 5 | a file could not be read |
-/// | 6 | the output could not be written |
-/// | 7 | the store failed: it could not be read, cut or marked, or a line of a run was not kept |
-/// | 8 | a line of the journal is of no change, or of one that does not follow |
-/// | 9 | the verdict of `check`, or of `timing` on its plan, is not good |
-/// | 10 | a file is longer than `MOST_FILE_BYTES`, or the store than `MOST_JOURNAL_BYTES` |
+/// The status is one of the table in `bt_report`, `meaning.rt`.
 pub fn centre_main<R: Threads + Wait + Sync, F: Files, O: Sink, K: Keeper + Send>(
     rt: &R,
     alloc: Global,

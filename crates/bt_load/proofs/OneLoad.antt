@@ -2,7 +2,9 @@
 use Rattle.std.proofs.Common.{◌≡◌, ℕ, ◌<◌, ◌≤◌, ◌⊎◌, inl, inr, List, length, Option, Some, Result, Ok, Err, sym, ap, ◌∙◌, subst, arith}
 use Rattle.bt_outside.specs.Told.{Gives, IsLonger}
 use Rattle.bt_words.specs.Lines.{line_of}
-use Rattle.bt_load.specs.Outcome.{Outcome, Kind, text_alone, IsContent, IsLoaded, Misspells, Loads}
+use Rattle.bt_report.specs.declared.status.TheConstants.{DONE}
+use Rattle.bt_report.specs.Outcome.{Outcome, text_alone}
+use Rattle.bt_load.specs.Files.{Kind, IsContent, IsLoaded, Misspells, Loads}
 
 -- a told file has one content
 pub one_content : (told : List ℕ → Option (List ℕ)) (name held bytes : List ℕ) → told name ≡ Some held → IsContent told name bytes → bytes ≡ held
@@ -79,12 +81,12 @@ IsOne a b = a ≡ b
 pub is_one : (a b : Outcome) → a ≡ b → IsOne a b
 is_one a b same = same
 
--- two outcomes of which each is as good as the other where its status is 0
+-- two outcomes of which each is as good as the other where the work was done
 abbrev pub AreAlike : Outcome → Outcome → Type 0
-AreAlike a b = (a.status ≡ b.status) × ((a.status ≡ 0) ⊎ (a ≡ b))
+AreAlike a b = (a.status ≡ b.status) × ((a.status ≡ DONE) ⊎ (a ≡ b))
 
 pub same_alike : (a b : Outcome) → a ≡ b → AreAlike a b
 same_alike a b same = (ap (λ (o : Outcome). o.status) same, inr same)
 
-pub done_alike : (a b : Outcome) → a.status ≡ 0 → b.status ≡ 0 → AreAlike a b
+pub done_alike : (a b : Outcome) → a.status ≡ DONE → b.status ≡ DONE → AreAlike a b
 done_alike a b first second = (first ∙ sym second, inl first)

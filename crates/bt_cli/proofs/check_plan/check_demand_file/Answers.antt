@@ -3,7 +3,8 @@ use Rattle.bt_outside.specs.Told.{Rose}
 use Rattle.bt_cli.specs.CheckPlan.{ChecksPlanText}
 use Rattle.bt_cli.specs.Fitting.{WhereItFits}
 use Rattle.bt_load.specs.Kinds.{demand_file}
-use Rattle.bt_load.proofs.Loads.{CameTo-among, CameTo-loaded}
+use Rattle.bt_report.proofs.Reports.{CameTo-among}
+use Rattle.bt_load.proofs.Loads.{CameTo-loaded}
 use Rattle.bt_cli.proofs.Fitted.{WhereItFits-among, plan_text_sooner}
 use Rattle.bt_cli.proofs.check_plan.check_demand_file.Goals as goal
 

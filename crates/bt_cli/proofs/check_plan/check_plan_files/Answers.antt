@@ -2,7 +2,8 @@
 use Rattle.bt_outside.specs.Told.{Rose}
 use Rattle.bt_cli.specs.CheckPlan.{ChecksDemand}
 use Rattle.bt_load.specs.Kinds.{network_file}
-use Rattle.bt_load.proofs.Loads.{CameTo-among, CameTo-loaded}
+use Rattle.bt_report.proofs.Reports.{CameTo-among}
+use Rattle.bt_load.proofs.Loads.{CameTo-loaded}
 use Rattle.bt_cli.proofs.Fitted.{demand_sooner}
 use Rattle.bt_cli.proofs.check_plan.check_plan_files.Goals as goal
 

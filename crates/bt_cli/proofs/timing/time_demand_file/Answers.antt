@@ -3,7 +3,8 @@ use Rattle.bt_outside.specs.Told.{Rose}
 use Rattle.bt_cli.specs.Fitting.{WhereItFits}
 use Rattle.bt_load.specs.Kinds.{demand_file}
 use Rattle.bt_cli.specs.Timing.{TimesPlanText}
-use Rattle.bt_load.proofs.Loads.{CameTo-among, CameTo-loaded}
+use Rattle.bt_report.proofs.Reports.{CameTo-among}
+use Rattle.bt_load.proofs.Loads.{CameTo-loaded}
 use Rattle.bt_cli.proofs.Fitted.{WhereItFits-among}
 use Rattle.bt_cli.proofs.Timed.{timed_plan_sooner}
 use Rattle.bt_cli.proofs.timing.time_demand_file.Goals as goal

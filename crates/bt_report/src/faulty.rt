@@ -1,11 +1,12 @@
 // The report to words that are none of the table.
-ghost use Rattle.std.specs.Prelude.{IfOk, codes, ◌∷◌, []};
-ghost use Rattle.bt_load.specs.Report.{ReportIs};
-ghost use Rattle.bt_load.specs.Outcome.{PrintsOneOf, Says};
+ghost use Rattle.std.specs.Prelude.{IfOk};
+ghost use Rattle.bt_report.specs.Report.{ReportIs};
+ghost use Rattle.bt_report.specs.Outcome.{PrintsOneOf};
+ghost use Rattle.bt_report.specs.Faults.{SaysFaultyWords};
 
 use crate::printing::print;
 use crate::report::{Report, Stop};
-use bt_centre::FAULTY_WORDS;
+use crate::status::FAULTY_WORDS;
 use bt_frame::OutOfMemory;
 use bt_outside::Sink;
 use bt_words::Word;
@@ -13,7 +14,7 @@ use std::alloc::Global;
 
 /// The report to words that are no command's.
 pub fn faulty_words(alloc: Global) -> Result<Report, OutOfMemory>
-    ensures report { IfOk result (ReportIs (Says (codes "fault" ∷ codes "words" ∷ []) 2)) }
+    ensures report { IfOk result (ReportIs SaysFaultyWords) }
 {
     let words = [Word::Text("fault"), Word::Text("words")];
     Report::says(alloc, &words, FAULTY_WORDS)
@@ -22,7 +23,7 @@ pub fn faulty_words(alloc: Global) -> Result<Report, OutOfMemory>
 /// Prints that report, and gives the status to end with.
 pub fn print_faulty_words<O: Sink>(alloc: Global, out: &mut O) -> u8
     ensures printed { PrintsOneOf (record { before = O.told out.old; after = O.told out.new; faults_before = O.fault_count out.old; faults_after = O.fault_count out.new })
-        (Says (codes "fault" ∷ codes "words" ∷ []) 2) result }
+        SaysFaultyWords result }
 {
     let outcome = faulty_words(alloc).map_err(Stop::from);
     print(alloc, out, outcome)

@@ -1,11 +1,12 @@
 -- Printing what the work came to.
 use Rattle.std.specs.Prelude.{◌≡◌, ℕ, Result, Ok, Err}
-use Rattle.bt_load.specs.declared.report.Report.{Report}
-use Rattle.bt_load.specs.declared.report.Stop.{Stop}
-use Rattle.bt_load.specs.declared.report.Stop.TheVariants.{Early, OutOfMemory}
-use Rattle.bt_load.specs.Report.{ReportIs, StopIs}
-use Rattle.bt_centre.specs.Output.{Output, PrintsOrNot}
-use Rattle.bt_load.specs.Outcome.{Outcome}
+use Rattle.bt_report.specs.declared.status.TheConstants.{OUT_OF_MEMORY}
+use Rattle.bt_report.specs.declared.report.Report.{Report}
+use Rattle.bt_report.specs.declared.report.Stop.{Stop}
+use Rattle.bt_report.specs.declared.report.Stop.TheVariants.{Early, OutOfMemory}
+use Rattle.bt_report.specs.Report.{ReportIs, StopIs}
+use Rattle.bt_report.specs.Output.{Output, PrintsOrNot}
+use Rattle.bt_report.specs.Outcome.{Outcome}
 
 -- the work came to one of these outcomes, at its end or before it
 abbrev pub CameTo : (Outcome → Type 0) → Result Report Stop → Type 0
@@ -20,4 +21,4 @@ EndsAfter output report status = PrintsOrNot output report.text.items report.sta
 abbrev pub EndsWith : Output → Result Report Stop → ℕ → Type 0
 EndsWith output (Ok report) status = EndsAfter output report status
 EndsWith output (Err (Early report)) status = EndsAfter output report status
-EndsWith output (Err OutOfMemory) status = status ≡ 1
+EndsWith output (Err OutOfMemory) status = status ≡ OUT_OF_MEMORY

@@ -1,4 +1,4 @@
--- What a store tells before and after a call, and what a run leaves in it.
+-- What a store tells before and after a call.
 use Rattle.std.specs.Prelude.{◌≡◌, ℕ, List, Option}
 use Rattle.bt_outside.specs.Told.{Rose}
 

@@ -1,10 +1,12 @@
 // What is to be printed, and the status that goes with it.
-ghost use Rattle.bt_load.specs.declared.report.Stop.TheVariants.{OutOfMemory};
+ghost use Rattle.bt_report.specs.declared.report.Stop.TheVariants.{OutOfMemory};
 ghost use Rattle.std.specs.Prelude.{◌≡◌, map, IfOk};
 ghost use Rattle.bt_words.specs.Lines.{word_bytes};
-ghost use Rattle.bt_load.specs.Report.{ReportIs, StopIs};
-ghost use Rattle.bt_load.specs.Outcome.{Says};
+ghost use Rattle.bt_report.specs.Faults.{line_fault_words};
+ghost use Rattle.bt_report.specs.Report.{ReportIs, StopIs};
+ghost use Rattle.bt_report.specs.Outcome.{Says};
 
+use crate::status::FAULTY_TEXT;
 use bt_words::{Word, add_line};
 use std::alloc::{AllocError, Global};
 
@@ -48,6 +50,14 @@ impl Stop {
             Ok(report) => Stop::Early(report),
             Err(_) => Stop::OutOfMemory,
         }
+    }
+
+    /// The report that names a text's fault of this code, with its line.
+    pub fn names(alloc: Global, code: &str, line: u32) -> Stop
+        ensures report { StopIs (Says (line_fault_words code.now line) FAULTY_TEXT) result }
+    {
+        let words = [Word::Text("fault"), Word::Text(code), Word::number(line)];
+        Stop::says(alloc, &words, FAULTY_TEXT)
     }
 }
 

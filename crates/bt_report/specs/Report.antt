@@ -1,8 +1,8 @@
 -- Reports and stops of the code, as outcomes.
-use Rattle.bt_load.specs.Outcome.{Outcome, text_alone}
-use Rattle.bt_load.specs.declared.report.Report.{Report}
-use Rattle.bt_load.specs.declared.report.Stop.{Stop}
-use Rattle.bt_load.specs.declared.report.Stop.TheVariants.{Early, OutOfMemory}
+use Rattle.bt_report.specs.Outcome.{Outcome, text_alone}
+use Rattle.bt_report.specs.declared.report.Report.{Report}
+use Rattle.bt_report.specs.declared.report.Stop.{Stop}
+use Rattle.bt_report.specs.declared.report.Stop.TheVariants.{Early, OutOfMemory}
 
 -- the report is one of these outcomes
 abbrev pub ReportIs : (Outcome → Type 0) → Report → Type 0
