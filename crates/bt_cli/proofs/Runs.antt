@@ -17,10 +17,11 @@ use Rattle.bt_load.specs.Kinds.{network_file, script_file}
 use Rattle.bt_report.specs.Outcome.{Outcome, PrintsOneOf, text_alone}
 use Rattle.bt_report.specs.Input.{Input, FilesFailed}
 use Rattle.bt_load.specs.Files.{IsLoaded, StopsAtLoad}
-use Rattle.bt_cli.specs.Request.{Request, Faulty, CheckModes, CheckPlan, PlanModes, PlanDemand, RunScript, ReplayJournal, PlanDrawn, TimeSends, PlanPart}
+use Rattle.bt_cli.specs.Request.{Request}
 use Rattle.bt_cli.specs.Replay.{EndsReplay, NamesRecoverFault, PrintsState, Replays}
 use Rattle.bt_cli.specs.Run.{End, EndsRun, EndsScript, PrintsRun, Runs, RunsScript, sink_with}
-use Rattle.bt_cli.specs.Top.{ReportsWith, Ends}
+use Rattle.bt_cli.specs.Top.{AsksNoStore, Ends, Reports, ReportsWith}
+use Rattle.bt_cli.proofs.Alone.{alone, by_store}
 use Rattle.bt_report.proofs.Reports.{PrintsOneOf-among}
 use Rattle.bt_load.proofs.Loads.{StopsAtLoad-moved}
 
@@ -157,15 +158,18 @@ replay_reported input output stored net status (inr (network, loaded, (sound, in
     PrintsOneOf-among output (NamesRecoverFault fault) (Replays input.told (FilesFailed input) stored net) (λ outcome so. inr (network, loaded, (sound, inr (fault, failed, so)))) status printed
 
 -- and what any command comes to
+abbrev EndsReported : Input → Output → Stored → End → Request → Type 0
+EndsReported input output stored ended request = Ends input output stored request ended → PrintsOrFails output (ReportsWith input.told (FilesFailed input) stored request) ended.status
+
+alone_reported : (input : Input) (output : Output) (stored : Stored) (ended : End) (request : Request) → AsksNoStore request → EndsReported input output stored ended request
+alone_reported input output stored ended request none so =
+    let is = alone request none in
+    inr (PrintsOneOf-among output (Reports input.told (FilesFailed input) request) (ReportsWith input.told (FilesFailed input) stored request) (is.reported input.told (FilesFailed input) stored) ended.status (is.ends input output stored ended so).1)
+
 pub ends_reported : (input : Input) (output : Output) (stored : Stored) (request : Request) (ended : End) → Ends input output stored request ended
     → (ended.status ≡ WRITE_FAILED) ⊎ PrintsOneOf output (ReportsWith input.told (FilesFailed input) stored request) ended.status
-ends_reported input output stored Faulty ended so = inr so.1
-ends_reported input output stored (CheckModes matrix modes) ended so = inr so.1
-ends_reported input output stored (CheckPlan net traffic plan) ended so = inr so.1
-ends_reported input output stored (PlanModes matrix) ended so = inr so.1
-ends_reported input output stored (PlanDemand net traffic) ended so = inr so.1
-ends_reported input output stored (TimeSends net traffic plan delays) ended so = inr so.1
-ends_reported input output stored (PlanDrawn beams seed) ended so = inr so.1
-ends_reported input output stored (PlanPart transponders matrix) ended so = inr so.1
-ends_reported input output stored (RunScript net script journal) ended so = runs_reported input output stored net script ended so
-ends_reported input output stored (ReplayJournal net journal) ended so = inr (replay_reported input output stored net ended.status so.ends)
+ends_reported input output stored request ended =
+    by_store (EndsReported input output stored ended)
+    (λ net script _ so. runs_reported input output stored net script ended so)
+    (λ net _ so. inr (replay_reported input output stored net ended.status so.ends))
+    (alone_reported input output stored ended) request

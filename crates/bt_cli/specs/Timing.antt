@@ -14,8 +14,8 @@ use Rattle.bt_timing.specs.Times.{Times, AreTimes}
 use Rattle.bt_timing.specs.SendsText.{sends_spelling}
 use Rattle.bt_timeline.specs.Verdicts.{verdict_words}
 use Rattle.bt_report.specs.declared.status.TheConstants.{DONE, NOT_GOOD}
-use Rattle.bt_cli.specs.Fitting.{WhereItFits}
-use Rattle.bt_load.specs.Kinds.{network_file, demand_file, plan_file, delay_file}
+use Rattle.bt_cli.specs.Fitting.{LoadsAsked}
+use Rattle.bt_load.specs.Kinds.{plan_file, delay_file}
 use Rattle.bt_report.specs.Outcome.{Outcome, text_alone, Says}
 use Rattle.bt_load.specs.Files.{Loads}
 
@@ -46,10 +46,6 @@ TimesDelays told failed delays net plan = Loads (delay_file net) told failed del
 abbrev pub TimesPlanText : (List ℕ → Option (List ℕ)) → Type 0 → List ℕ → List ℕ → Net → List Link → Outcome → Type 0
 TimesPlanText told failed plan delays net links = Loads (plan_file net) told failed plan (λ read. WhereItIsGood net links read (TimesDelays told failed delays net read))
 
--- the demand is loaded, and where it fits, then the plan
-abbrev pub TimesDemand : (List ℕ → Option (List ℕ)) → Type 0 → List ℕ → List ℕ → List ℕ → Net → Outcome → Type 0
-TimesDemand told failed traffic plan delays net = Loads (demand_file net) told failed traffic (λ links. WhereItFits net links (TimesPlanText told failed plan delays net links))
-
--- the network is loaded, and then the demand
+-- the network and the demand are loaded, and where it fits, then the plan
 abbrev pub TimesSends : (List ℕ → Option (List ℕ)) → Type 0 → List ℕ → List ℕ → List ℕ → List ℕ → Outcome → Type 0
-TimesSends told failed net traffic plan delays = Loads network_file told failed net (λ network. TimesDemand told failed traffic plan delays network)
+TimesSends told failed net traffic plan delays = LoadsAsked told failed net traffic (TimesPlanText told failed plan delays)

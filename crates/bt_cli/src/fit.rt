@@ -1,5 +1,5 @@
 // Does a demand fit the slots of a frame?
-ghost use Rattle.std.specs.Prelude.{IfErr, OnOk};
+ghost use Rattle.std.specs.Prelude.{◌≡◌, IfErr, IfOk, OnOk};
 ghost use Rattle.bt_demand.specs.Traffic.{matrix_of, AreOfNetwork, HasSumsTo};
 ghost use Rattle.bt_report.specs.declared.status.TheConstants.{FAULTY_TEXT};
 ghost use Rattle.bt_report.specs.Report.{StopIs};
@@ -8,23 +8,24 @@ ghost use Rattle.bt_report.specs.Outcome.{Says};
 
 use bt_demand::{Demand, traffic_of};
 use bt_frame::Critical;
-use bt_matrix::{MOST_SUM, Traffic};
+use bt_matrix::{Dense, MOST_SUM, Traffic};
 use bt_net::Network;
 use bt_report::{FAULTY_TEXT, Stop};
 use bt_words::Word;
 use std::alloc::Global;
 
-/// The demand fits the frame, or the report that names its heaviest line.
-pub fn test_fit(alloc: Global, net: &Network, demand: &Demand) -> Result<(), Stop>
+/// The matrix of a demand that fits the frame, or the report that names its heaviest line.
+pub fn fitting_matrix(alloc: Global, net: &Network, demand: &Demand) -> Result<Dense, Stop>
     requires terminals { AreOfNetwork net.now demand.now }
     requires sums { HasSumsTo MOST_SUM (matrix_of net.now demand.now) }
+    ensures matrix { IfOk result (λ matrix. matrix ≡ matrix_of net.now demand.now) }
     ensures fits { OnOk result (Fits net.now demand.now) }
     ensures stops { IfErr result (StopIs (NamesOverload net.now demand.now)) }
 {
     let matrix = traffic_of(alloc, net, demand)?;
     let (line, sum) = matrix.heaviest();
     if sum <= net.slots() {
-        return Ok(());
+        return Ok(matrix);
     }
     Err(overload_stop(alloc, line, sum))
 }

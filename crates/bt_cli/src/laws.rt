@@ -14,7 +14,7 @@ ghost use Rattle.bt_words.specs.Lines.{line_of};
 ghost use Rattle.bt_report.specs.declared.status.TheConstants.{DONE, WRITE_FAILED};
 ghost use Rattle.bt_cli.specs.Check.{Judges};
 ghost use Rattle.bt_cli.specs.CheckPlan.{JudgesPlan};
-ghost use Rattle.bt_cli.specs.Complete.{NothingFails, Serves};
+ghost use Rattle.bt_cli.specs.Complete.{NothingFails};
 ghost use Rattle.bt_cli.specs.Fitting.{Fits};
 ghost use Rattle.bt_report.specs.Input.{FilesFailed, Input};
 ghost use Rattle.bt_report.specs.Outcome.{Outcome, PrintsOneOf, Says, text_alone};
@@ -23,7 +23,7 @@ ghost use Rattle.bt_cli.specs.Request.{Request};
 ghost use Rattle.bt_report.specs.Output.{Output};
 ghost use Rattle.bt_report.specs.Stored.{Stored};
 ghost use Rattle.bt_cli.specs.Run.{End};
-ghost use Rattle.bt_cli.specs.Top.{AreOneStore, AreTold, Ends, IsOneReport, ReportsWith};
+ghost use Rattle.bt_cli.specs.Top.{AreOneStore, AreTold, Ends, IsOneReport, ReportsWith, Serves};
 
 use bt_book::journals_tell_one_thing;
 use bt_demand::{good_plans_are_flyable, links_tell_demands};
@@ -61,6 +61,7 @@ pub fn sound_input_is_served()
     ensures served { (input : Input) (output : Output) (stored : Stored) (request : Request) (end : End)
         → NothingFails input output stored → Ends input output stored request end → Serves input.told stored request end.status }
 {
+    one_line_is_heaviest();
     links_tell_demands();
     journals_tell_one_thing();
 }

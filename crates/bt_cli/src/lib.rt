@@ -8,9 +8,11 @@
 //! alone: `CommandLine`.
 #![tactic(auto)]
 
+mod asked;
 mod check;
 mod check_plan;
 mod command_line;
+mod commands;
 mod fit;
 mod laws;
 mod make;
@@ -25,15 +27,11 @@ mod top;
 mod trans;
 
 pub use bt_centre::{Histories, History};
-pub use check::check_command;
+pub use commands::{check_command, modes_command, plan_command, timing_command, trans_command};
 pub use laws::{
     ends_are_reports, one_report, printed_plans_are_read_back, printed_schedules_are_read_back,
     sound_input_is_served,
 };
 pub use make::{Made, make_command};
-pub use modes::modes_command;
-pub use plan::plan_command;
 pub use replay::replay_command;
-pub use timing::timing_command;
-pub use top::{Ended, centre_main};
-pub use trans::trans_command;
+pub use top::{Ended, centre_main, journal_of};

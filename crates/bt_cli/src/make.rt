@@ -4,6 +4,7 @@ ghost use Rattle.std.specs.String.{string_bytes};
 ghost use Rattle.bt_report.specs.declared.status.TheConstants.{DONE};
 ghost use Rattle.bt_cli.specs.Make.{AnswersPlan, PrintsSummary, Summarizes};
 ghost use Rattle.bt_report.specs.Input.{Input};
+ghost use Rattle.bt_report.specs.Printing.{CameTo};
 ghost use Rattle.bt_report.specs.Outcome.{PrintsOneOf, text_alone};
 ghost use Rattle.bt_cli.specs.Request.{PlanDrawn, first_word, request_of};
 ghost use Rattle.bt_cli.specs.Top.{Reported};
@@ -17,7 +18,7 @@ use bt_frame::{EditionNo, OutOfMemory};
 use bt_make::make_demand;
 use bt_net::Network;
 use bt_outside::Sink;
-use bt_report::{DONE, OUT_OF_MEMORY, print_faulty_words, print_text};
+use bt_report::{DONE, OUT_OF_MEMORY, Report, Stop, print_faulty_words, print_text};
 use std::alloc::Global;
 
 /// The edition of a plan that is made for a demand alone.
@@ -74,6 +75,17 @@ fn plan_drawn<O: Sink>(alloc: Global, beams: BeamCount, seed: u64, out: &mut O) 
         None
     };
     Made { status, plan }
+}
+
+/// What a drawn demand and its plan come to.
+pub(crate) fn drawn_report(alloc: Global, beams: BeamCount, seed: u64) -> Result<Report, Stop>
+    ensures { CameTo (PrintsSummary beams.count seed) result }
+{
+    let drawn = draw(alloc, beams, seed)?;
+    Ok(Report {
+        text: drawn.text,
+        status: DONE,
+    })
 }
 
 /// The plan of a drawn demand, and what is printed of it.

@@ -42,7 +42,7 @@ pub fn replay_command<F: Files, O: Sink, K: Keeper>(
 }
 
 /// Replays the store over the network in a file.
-fn replay_files<F: Files, O: Sink, K: Keeper>(
+pub(crate) fn replay_files<F: Files, O: Sink, K: Keeper>(
     alloc: Global,
     net: &str,
     files: &mut F,

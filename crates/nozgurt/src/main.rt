@@ -6,7 +6,7 @@
 
 mod pages;
 
-use bt_cli::centre_main;
+use bt_cli::{centre_main, journal_of};
 use bt_disk::{FileDisk, LineKeeper};
 use bt_outside::{DirFiles, StdSink};
 use bt_report::{DONE, OUT_OF_MEMORY, Program, Reason, print_text, words_after_name};
@@ -36,22 +36,13 @@ fn main(rt: HostRuntime) -> ExitCode {
     ExitCode::from(status)
 }
 
-/// The words after the program's name, and the file of the journal that they ask for.
+/// The words after the program's name, and the file of the journal that they ask for. Any other words have none, which is never
+/// opened: the top call hands the store of such words back untouched.
 fn asked<R: Env + Alloc<A = Global>>(
     rt: &R,
     alloc: Global,
 ) -> Result<(Vec<String>, String), AllocError> {
     let words = words_after_name(rt, alloc)?;
-    let journal = String::from_str(alloc, journal_of(&words))?;
+    let journal = String::from_str(alloc, journal_of(&words).unwrap_or(""))?;
     Ok((words, journal))
-}
-
-/// The file of the journal that a run or a replay asks for. Any other words have none, which is never opened: the top call
-/// hands the store of such words back untouched.
-fn journal_of(words: &[String]) -> &str {
-    match words {
-        [command, _, _, journal] if command.as_str() == "run" => journal.as_str(),
-        [command, _, journal] if command.as_str() == "replay" => journal.as_str(),
-        _ => "",
-    }
 }
