@@ -6,9 +6,10 @@ ghost use Rattle.bt_cli.specs.Request.{first_word};
 use crate::ending::Ending;
 use bt_base::{Fail, Files, MemFiles, MemKeeper, MemSink, Sink, SureKeeper, SureSink};
 use bt_cli::{
-    History, WRITE_FAILED, centre_main, check_command, make_command, modes_command, plan_command,
-    replay_command, timing_command, trans_command,
+    History, centre_main, check_command, make_command, modes_command, plan_command, replay_command,
+    timing_command, trans_command,
 };
+use bt_report::WRITE_FAILED;
 use bt_sheet::{CaseFault, Part, Result, Shelf, number_of};
 use std::alloc::Global;
 use std::sync::Wait;

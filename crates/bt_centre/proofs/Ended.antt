@@ -25,7 +25,7 @@ use Rattle.bt_script.specs.declared.script.Item.TheVariants as item
 use Rattle.bt_timeline.specs.Timeline.{restart_line}
 use Rattle.bt_centre.specs.declared.history.History.{History}
 use Rattle.bt_centre.specs.Lines.{total_of}
-use Rattle.bt_centre.specs.Output.{Output, Prints}
+use Rattle.bt_report.specs.Output.{Output, Prints}
 use Rattle.bt_centre.specs.Progress.{Hand, IsBegun, IsLeftAtRestart, IsLeftEarly, IsLeftOf, IsLegalHand, ItemFailed, ItemPlayed, ItemsDone, ItemsWritten, Left, PartsEnded, histories_in, start_of}
 use Rattle.bt_centre.specs.RecoverFaults.{PrintsNamed, recover_line, recover_status}
 use Rattle.bt_centre.specs.Run.{AreLegalTimes, IsRun, LeavesStore, changes_at, entries_of, first_line, lost_in, opening_on, status_after, whole_text}

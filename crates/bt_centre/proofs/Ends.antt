@@ -16,11 +16,11 @@ use Rattle.bt_events.specs.World.{log}
 use Rattle.bt_script.specs.declared.script.Item.{Item}
 use Rattle.bt_script.specs.declared.script.Script.{Script}
 use Rattle.bt_centre.specs.declared.history.History.{History}
-use Rattle.bt_centre.specs.Output.{Output}
+use Rattle.bt_report.specs.Output.{Output}
 use Rattle.bt_centre.specs.Progress.{Hand, IsBegun, IsOpenFault, Left, PartsEnded}
 use Rattle.bt_centre.specs.RecoverFaults.{PrintsNamed}
 use Rattle.bt_centre.specs.Run.{AreLegalTimes, EndsFrom, FramesAreSafe, IsRun, LeavesStore, PlaysItems, RunsFrom, RunsTo, Stand, at_start, lost_in, opening_on}
-use Rattle.bt_centre.specs.Stored.{Stored}
+use Rattle.bt_report.specs.Stored.{Stored}
 use Rattle.bt_centre.proofs.Ended.{only_fault}
 use Rattle.bt_centre.proofs.Restarts.{left_unopened, named_fault, tells_marked}
 use Rattle.bt_centre.proofs.Times.{rose_since}

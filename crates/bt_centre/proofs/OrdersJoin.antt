@@ -23,10 +23,10 @@ use Rattle.bt_workers.specs.AirLines.{AirState, happened, orders_in, restarting}
 use Rattle.bt_workers.proofs.Running.{past-having}
 use Rattle.bt_centre.specs.declared.history.History.{History}
 use Rattle.bt_centre.specs.Joining.{HasOrders, JoinsAsTold, JoinsNone, JoinsOne, JoinsWanted, PartHasOrders, RestartJoins}
-use Rattle.bt_centre.specs.Output.{Output}
+use Rattle.bt_report.specs.Output.{Output}
 use Rattle.bt_centre.specs.Parts.{EachPart, EachPartAtEnd, EachPartOfRun}
 use Rattle.bt_centre.specs.Run.{AreLegalTimes, AreTimes, EndsFrom, IsJoining, IsRun, JoinsOrder, PlaysItem, PlaysItems, PlaysRestart, PlaysRound, Stand, at_start, changes_at, histories_at}
-use Rattle.bt_centre.specs.Stored.{Stored}
+use Rattle.bt_report.specs.Stored.{Stored}
 use Rattle.bt_centre.proofs.Joins.{some_same}
 use Rattle.bt_centre.proofs.Orderly.{AreOrderly, AreOrderly-calls, AreOrderly-first, AreOrderly-second, MakesNone-calls, no_order, none_behind_lost, not_both, one_order, orderly_steps, orders_lost, orders_made, round_asks_none, with_append, with_centre}
 use Rattle.bt_centre.proofs.OrdersPlayed.{Keeps, keeps_lines}

@@ -22,10 +22,10 @@ use Rattle.bt_workers.specs.AirLines.{AirState, newest_in, restarting}
 use Rattle.bt_workers.proofs.Installed.{newest_ascends}
 use Rattle.bt_workers.proofs.Running.{past-having}
 use Rattle.bt_centre.specs.declared.history.History.{History}
-use Rattle.bt_centre.specs.Output.{Output}
+use Rattle.bt_report.specs.Output.{Output}
 use Rattle.bt_centre.specs.Parts.{EachPart, EachPartAtEnd, EachPartOfRun}
 use Rattle.bt_centre.specs.Run.{AreLegalTimes, EndsFrom, IsRun, PlaysItem, PlaysItems, PlaysRestart, PlaysRound, Stand, at_start, changes_at}
-use Rattle.bt_centre.specs.Stored.{Stored}
+use Rattle.bt_report.specs.Stored.{Stored}
 use Rattle.bt_centre.specs.Turns.{IsNewestOf, IsNoNewer, PartIsNoNewer, TurnsKnow}
 use Rattle.bt_centre.proofs.Lawful.{IsLawful, lawful_end, lawful_from, next_more}
 use Rattle.bt_centre.proofs.Orderly.{not_both}

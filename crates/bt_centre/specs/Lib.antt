@@ -1,9 +1,7 @@
 pub mod Joining
 pub mod Lines
-pub mod Output
 pub mod Parts
 pub mod Progress
 pub mod RecoverFaults
 pub mod Run
-pub mod Stored
 pub mod Turns

@@ -7,9 +7,9 @@ use Rattle.bt_air.specs.declared.event.Event.{Event}
 use Rattle.bt_journal.specs.declared.call.Change.{Change}
 use Rattle.bt_script.specs.declared.script.Item.{Item}
 use Rattle.bt_centre.specs.declared.history.History.{History}
-use Rattle.bt_centre.specs.Output.{Output}
+use Rattle.bt_report.specs.Output.{Output}
 use Rattle.bt_centre.specs.Run.{EndsFrom, IsRun, PlaysItem, PlaysItems, Stand, at_start}
-use Rattle.bt_centre.specs.Stored.{Stored}
+use Rattle.bt_report.specs.Stored.{Stored}
 
 -- this holds of each of the parts that were played: of where the run stood before it, of the part and its text, of where it stood behind
 -- it, and of how it came there

@@ -24,7 +24,7 @@ use Rattle.bt_centre.specs.declared.history.History.{History}
 use Rattle.bt_workers.specs.AirLines.{AirState, mark_of, restarting}
 use Rattle.bt_workers.specs.Desks.{IsNotOlder, Sight}
 use Rattle.bt_round.specs.Rounds.{BookRan, RoundDone, newest_at}
-use Rattle.bt_centre.specs.Output.{Output}
+use Rattle.bt_report.specs.Output.{Output}
 use Rattle.bt_centre.specs.Run.{AreTimes, EndsFrom, JoinsOrder, PlaysItems, Stand, at_start, first_line, lost_in, opening_on}
 
 -- What a run has in hand: the histories of the times that are over, how many changes the book had when the present time began, the

@@ -33,9 +33,10 @@ use Rattle.bt_workers.specs.AirLines.{AirState, PlaysAirLines, happened, mark_of
 use Rattle.bt_workers.specs.Desks.{Sight, IsNotOlder, asked_by, desks_text, shown_to, shows_of}
 use Rattle.bt_workers.specs.Planning.{PlaysPlans, planner_text}
 use Rattle.bt_centre.specs.Lines.{total_of}
-use Rattle.bt_centre.specs.Output.{Output, HasFailed}
+use Rattle.bt_report.specs.declared.status.TheConstants.{DONE, STORE_FAILED, WRITE_FAILED}
+use Rattle.bt_report.specs.Output.{Output, HasFailed}
 use Rattle.bt_centre.specs.RecoverFaults.{PrintsFault}
-use Rattle.bt_centre.specs.Stored.{Stored}
+use Rattle.bt_report.specs.Stored.{Stored}
 
 -- How far a run has come. A time of a run is what lies between two starts of the centre: the histories of the times that are over,
 -- the changes with which the present one began, the entries of its calls, the air, the rounds so far, and what the desks were shown
@@ -192,7 +193,7 @@ has_lost histories = list_any (λ (history : History). list_any (λ (entry : Ent
 
 -- the status of a run with these histories that came to its end
 abbrev pub status_after : List History → ℕ
-status_after histories = if has_lost histories then 7 else 0
+status_after histories = if has_lost histories then STORE_FAILED else DONE
 
 -- A run of these parts of a script, from these changes on: by these histories, one for each time, and these events each part is
 -- played, each installed plan is good, and the lines are just those of these histories and of these events.
@@ -256,7 +257,7 @@ pub record BreaksOff (net : Net) (stored : Stored) (opening : List Change) (stat
   pub count : RoseBy (length (lost_in histories)) stored.faults_before stored.faults_after
   pub status_is : status ≡ 1
 
--- the script was run, and its text written; the status is 7 where the store lost a change, and else 0
+-- the script was run, and its text written; the status says whether the store lost a change
 pub record RunsWhole (net : Net) (items : List Item) (output : Output) (stored : Stored) (opening : List Change) (status : ℕ) (histories : List History) (events : List Event) : Type 0 where
   pub lines : List ℕ
   pub run : IsRun net (is_some stored.before) opening items histories events lines
@@ -280,7 +281,7 @@ pub record RunsPartly (net : Net) (items : List Item) (output : Output) (stored 
   pub left : LeavesStore net stored histories run.end
   pub failed : HasFailed output
   pub written : WritesPart output more (first_line net opening ++ lines) (whole_text net opening lines histories)
-  pub status_is : status ≡ 6
+  pub status_is : status ≡ WRITE_FAILED
 
 -- The recovery at a restart failed: the parts before it were run, and their text was written without the last line, then the line
 -- `restart`, then that of the fault. The store told these bytes before that recovery, and its count of faults was this. A store that

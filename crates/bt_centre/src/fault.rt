@@ -3,11 +3,10 @@ ghost use Rattle.std.specs.Prelude.{◌≡◌, ◌≢◌, ◌≤◌, ◌++◌, [
 ghost use Rattle.bt_timeline.specs.Timeline.{restart_line};
 ghost use Rattle.bt_centre.specs.RecoverFaults.{PrintsNamed, recover_line, recover_status};
 
-use crate::print::print_text;
-use crate::status::{FAULTY_JOURNAL, OUT_OF_MEMORY, STORE_FAILED, TOO_LONG};
 use bt_book::RecoverFault;
 use bt_frame::OutOfMemory;
 use bt_outside::Sink;
+use bt_report::{FAULTY_JOURNAL, OUT_OF_MEMORY, STORE_FAILED, TOO_LONG, print_text};
 use bt_timeline::restart_text;
 use bt_words::{Word, add_line};
 use std::alloc::Global;

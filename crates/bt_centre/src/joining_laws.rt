@@ -5,10 +5,10 @@ ghost use Rattle.bt_net.specs.Network.{Net};
 ghost use Rattle.bt_air.specs.declared.event.Event.{Event};
 ghost use Rattle.bt_centre.specs.declared.history.History.{History};
 ghost use Rattle.bt_centre.specs.Joining.{HasOrders, JoinsWanted, PartHasOrders, RestartJoins};
-ghost use Rattle.bt_centre.specs.Output.{Output};
+ghost use Rattle.bt_report.specs.Output.{Output};
 ghost use Rattle.bt_centre.specs.Parts.{EachPartAtEnd};
 ghost use Rattle.bt_centre.specs.Run.{PlaysRestart, RunsFrom, Stand, at_start};
-ghost use Rattle.bt_centre.specs.Stored.{Stored};
+ghost use Rattle.bt_report.specs.Stored.{Stored};
 ghost use Rattle.bt_journal.specs.declared.call.Change.{Change};
 ghost use Rattle.bt_script.specs.declared.script.Script.{Script};
 

@@ -1,9 +1,8 @@
 //! The run of a script: its rounds on the book of changes, and the lines that are printed of them.
 //!
-//! It stands on the outside (`bt_outside`), on the book and its store, on the world, and on the rounds of a script
-//! (`bt_round`). A run begins with the changes that its store tells, and reads them again at each restart of the centre.
-//! `specs/Run.antt`, `specs/Lines.antt`, `specs/Output.antt`, `specs/Stored.antt` and `specs/RecoverFaults.antt` are
-//! promises: what a run is, and how it ends; `Progress` is for bodies alone. `specs/Joining.antt` and
+//! It stands on what a program ends with (`bt_report`), on the book and its store, on the world, and on the rounds of a
+//! script (`bt_round`). A run begins with the changes that its store tells, and reads them again at each restart of the
+//! centre. `specs/Run.antt`, `specs/Lines.antt` and `specs/RecoverFaults.antt` are promises: what a run is, and how it ends; `Progress` is for bodies alone. `specs/Joining.antt` and
 //! `specs/Turns.antt` are promises too: which order joins the world at a restart, and what a turn knows of the plans that
 //! are installed; `joining_laws.rt` and `turn_laws.rt` have what holds of that in all runs, each of their parts by
 //! `specs/Parts.antt`.
@@ -15,12 +14,10 @@ mod joining_laws;
 mod open;
 mod play;
 mod playing;
-mod print;
 mod restart;
 mod run;
 mod script;
 mod station;
-mod status;
 mod total;
 mod turn_laws;
 
@@ -28,10 +25,5 @@ pub use bt_workers::{Gate, NoGate};
 pub use fault::print_fault;
 pub use history::{Histories, History};
 pub use joining_laws::orders_join_as_told;
-pub use print::print_text;
 pub use script::{RunEnd, run_script};
-pub use status::{
-    DONE, FAULTY_JOURNAL, FAULTY_TEXT, FAULTY_WORDS, NO_NETWORK, NOT_GOOD, OUT_OF_MEMORY,
-    READ_FAILED, STORE_FAILED, TOO_LONG, WRITE_FAILED,
-};
 pub use turn_laws::turns_know_the_newest_install;

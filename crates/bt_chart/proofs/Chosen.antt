@@ -2,9 +2,9 @@
 use Rattle.std.proofs.Common.{◌≡◌, ℕ, ◌≤◌, inl, inr, List, Option}
 use Rattle.bt_outside.specs.Told.{Rose}
 use Rattle.bt_net.specs.Network.{Net}
-use Rattle.bt_load.specs.Outcome.{Outcome}
+use Rattle.bt_report.specs.Outcome.{Outcome}
+use Rattle.bt_load.specs.Kinds.{output_file}
 use Rattle.bt_load.proofs.Loads.{Loads-moved}
-use Rattle.bt_chart.specs.Outputs.{output_file}
 use Rattle.bt_chart.specs.Runs.{ChartsChosen, DrawsRun}
 
 pub chosen_sooner : (told now : List ℕ → Option (List ℕ)) (before between end : ℕ) (output : List ℕ) (names : List (List ℕ)) (net : Net) → now ≡ told → before ≤ between → (outcome : Outcome)

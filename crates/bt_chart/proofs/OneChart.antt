@@ -1,10 +1,9 @@
 -- Where the files are told and no read failed, what is asked has one report.
 use Rattle.std.proofs.Common.{◌≡◌, ℕ, inl, inr, List, Option, true, false, sym, ap, ◌∙◌}
 use Rattle.bt_net.specs.Network.{Net}
-use Rattle.bt_load.specs.Kinds.{network_file, plan_file}
-use Rattle.bt_load.specs.Outcome.{Outcome}
+use Rattle.bt_load.specs.Kinds.{network_file, output_file, plan_file}
+use Rattle.bt_report.specs.Outcome.{Outcome}
 use Rattle.bt_load.proofs.OneLoad.{AreAlike, IsOne, Loads-same, done_alike, is_one, same_alike}
-use Rattle.bt_chart.specs.Outputs.{output_file}
 use Rattle.bt_chart.specs.Plans.{ChartsPlanText, DrawsPlan}
 use Rattle.bt_chart.specs.Request.{Request, Faulty, ChartPlan, ChartRun}
 use Rattle.bt_chart.specs.Runs.{ChartsChosen, ChartsOutput, DrawsRun, WhereAllAreTerminals}

@@ -1,6 +1,6 @@
 // What holds of the program's reports, whatever it does.
 ghost use Rattle.std.specs.Prelude.{ℕ, List, Option};
-ghost use Rattle.bt_load.specs.Outcome.{Outcome};
+ghost use Rattle.bt_report.specs.Outcome.{Outcome};
 ghost use Rattle.bt_chart.specs.Request.{Request};
 ghost use Rattle.bt_chart.specs.Top.{AreTold, Charts, IsOneChart};
 

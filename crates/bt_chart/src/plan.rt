@@ -1,12 +1,13 @@
 // `plan NET PLAN`.
 ghost use Rattle.bt_outside.specs.Told.{Rose};
-ghost use Rattle.bt_load.specs.Printing.{CameTo};
+ghost use Rattle.bt_report.specs.Printing.{CameTo};
 ghost use Rattle.bt_chart.specs.Plans.{ChartsPlan, ChartsPlanText};
 
-use bt_load::{DONE, Report, Stop, load_network, load_plan};
+use bt_load::{load_network, load_plan};
 use bt_net::Network;
 use bt_outside::Files;
 use bt_plan_chart::plan_picture;
+use bt_report::{DONE, Report, Stop};
 use std::alloc::Global;
 
 /// The picture of the plan in a file, for the network in another.

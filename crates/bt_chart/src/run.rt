@@ -4,14 +4,14 @@ ghost use Rattle.std.specs.List.{list_all};
 ghost use Rattle.std.specs.String.{string_bytes};
 ghost use Rattle.bt_net.specs.Terminals.{IsTerminal};
 ghost use Rattle.bt_outside.specs.Told.{Rose};
-ghost use Rattle.bt_load.specs.Printing.{CameTo};
+ghost use Rattle.bt_report.specs.Printing.{CameTo};
 ghost use Rattle.bt_chart.specs.Runs.{ChartsChosen, ChartsOutput, ChartsRun, is_terminal};
 
-use crate::output::load_output;
 use bt_frame::{OutOfMemory, TermNo};
-use bt_load::{DONE, Report, Stop, faulty_words, load_network};
+use bt_load::{load_network, load_output};
 use bt_net::Network;
 use bt_outside::Files;
+use bt_report::{DONE, Report, Stop, faulty_words};
 use bt_run_chart::run_picture;
 use std::alloc::Global;
 

@@ -2,29 +2,20 @@
 ghost use Rattle.std.specs.Prelude.{map};
 ghost use Rattle.std.specs.String.{string_bytes};
 ghost use Rattle.bt_outside.specs.Told.{Rose};
-ghost use Rattle.bt_load.specs.Printing.{CameTo};
+ghost use Rattle.bt_report.specs.Printing.{CameTo};
 ghost use Rattle.bt_chart.specs.Request.{chart_request_of};
 ghost use Rattle.bt_chart.specs.Top.{Charted, Charts};
 
 use crate::command_line::{CommandLine, command_line_of};
 use crate::plan::chart_plan;
 use crate::run::chart_run;
-use bt_load::{Report, Stop, faulty_words, print};
 use bt_outside::{Files, Sink};
+use bt_report::{Report, Stop, faulty_words, print};
 use std::alloc::Global;
 
 /// Does what the words after the program's name ask for, and gives the status to end with.
 ///
-/// | status | when |
-/// |---|---|
-/// | 0 | the picture was drawn |
-/// | 1 | memory ran out |
-/// | 2 | the words are none of a command, or a name is that of no terminal |
-/// | 3 | the bytes of a network file are no network |
-/// | 4 | a text leaves its grammar or its limits |
-/// | 5 | a file could not be read |
-/// | 6 | the output could not be written |
-/// | 10 | a file is longer than `MOST_FILE_BYTES` |
+/// The status is one of the table in `bt_report`, `meaning.rt`.
 pub fn chart_main<F: Files, O: Sink>(
     alloc: Global,
     words: &[String],

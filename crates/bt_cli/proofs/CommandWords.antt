@@ -5,7 +5,8 @@ use Rattle.std.proofs.lemmas.Bool.{cases_eq}
 use Rattle.std.proofs.lemmas.Slice.Eq.{bytes_eq-Decides}
 use Rattle.bt_text.specs.Text.{capped, number_of}
 use Rattle.bt_text.proofs.TextNumbers.{decimal_from_number_of}
-use Rattle.bt_cli.specs.Request.{Faulty, request_of, seed_of, within}
+use Rattle.bt_cli.specs.NumberWords.{seed_of, within}
+use Rattle.bt_cli.specs.Request.{Faulty, request_of}
 
 -- no command has less than two words
 pub too_few : {A : Type 0} (word : A → List ℕ) (words : List A) → length words < 2 → Faulty ≡ request_of (map word words)

@@ -6,6 +6,7 @@ use Rattle.bt_net.specs.Network.{Net, IsSound}
 use Rattle.bt_air.specs.declared.event.Event.{Event}
 use Rattle.bt_demand.specs.declared.demand.Link.{Link}
 use Rattle.bt_demand.specs.declared.plan.Plan.{Plan}
+use Rattle.bt_demand.specs.Plan.{IsGoodPlan}
 use Rattle.bt_verdict.specs.declared.verdict.Verdict.{Verdict}
 use Rattle.bt_verdict.specs.declared.verdict.Verdict.TheVariants.{Good, V1, V2, V3, V4, V5, V6, V7, V8}
 use Rattle.bt_verdict.specs.PlanVerdict.{IsPlanVerdict}
@@ -16,29 +17,38 @@ use Rattle.bt_journal.specs.declared.call.Change.{Change}
 use Rattle.bt_history.specs.declared.fault.RecoverFault.{RecoverFault}
 use Rattle.bt_history.specs.declared.fault.RecoverFault.TheVariants.{J1, J2, StoreFault, TooLong, OutOfMemory}
 use Rattle.bt_history.specs.Recovery.{IsFirstNoLine, IsFirstStray}
+use Rattle.bt_report.specs.declared.status.TheConstants.{DONE, NOT_GOOD}
 use Rattle.bt_centre.specs.declared.history.History.{History}
-use Rattle.bt_centre.specs.Output.{Output, HasFailed, Prints}
+use Rattle.bt_report.specs.Output.{Output, HasFailed, Prints}
 use Rattle.bt_centre.specs.Run.{EndsFrom, RunsTo}
-use Rattle.bt_centre.specs.Stored.{IsSteady, Stored}
-use Rattle.bt_timing.specs.Times.{Times}
+use Rattle.bt_report.specs.Stored.{IsSteady, Stored}
 use Rattle.bt_cli.specs.Check.{ChecksSchedule, Judges, verdict_status}
-use Rattle.bt_cli.specs.CheckPlan.{ChecksDemand, ChecksPlanText, JudgesPlan}
-use Rattle.bt_cli.specs.Complete.{IsDone, IsJudged, NothingFails, Serves, Spells, TellsChanges}
-use Rattle.bt_cli.specs.Fitting.{Fits, WhereItFits}
+use Rattle.bt_cli.specs.CheckPlan.{ChecksPlanText, JudgesPlan}
+use Rattle.bt_cli.specs.Complete.{IsDone, IsJudged, IsSpelled, NothingFails, Spells, TellsChanges}
+use Rattle.bt_cli.specs.Fitting.{AreLoaded, Fits, LoadsAsked, StopsAtAsked}
 use Rattle.bt_load.specs.Kinds.{matrix_file, schedule_file, network_file, demand_file, plan_file, script_file, delay_file}
 use Rattle.bt_cli.specs.Modes.{PrintsSchedule}
-use Rattle.bt_load.specs.Outcome.{Outcome, Input, FilesFailed, IsContent, IsLoaded, Kind, Loads, PrintsOneOf, StopsAtLoad}
-use Rattle.bt_cli.specs.Plans.{PlansDemand, PrintsPlan}
+use Rattle.bt_report.specs.Outcome.{Outcome, PrintsOneOf}
+use Rattle.bt_report.specs.Input.{Input, FilesFailed}
+use Rattle.bt_load.specs.Files.{IsContent, IsLoaded, IsTold, Kind, Loads, StopsAtLoad}
+use Rattle.bt_cli.specs.Plans.{PrintsPlan}
 use Rattle.bt_cli.specs.Replay.{EndsRecovery, EndsReplay, IsNotRecovered, NamesRecoverFault, PrintsState}
 use Rattle.bt_cli.specs.Request.{Request, Faulty, CheckModes, CheckPlan, PlanModes, PlanDemand, RunScript, ReplayJournal, PlanDrawn, TimeSends, PlanPart}
 use Rattle.bt_cli.specs.Run.{End, EndsRun, EndsScript}
-use Rattle.bt_cli.specs.Timing.{PrintsSends, TimesDelays, TimesDemand, TimesPlanText, WhereItIsGood}
+use Rattle.bt_cli.specs.Timing.{PrintsSends, TimesDelays, TimesPlanText, WhereItIsGood}
 use Rattle.bt_cli.specs.Trans.{PrintsPart, PrintsWhereItSuits, Suits}
-use Rattle.bt_cli.specs.Top.{Ends, Reports}
+use Rattle.bt_cli.specs.Top.{Ends, Reports, Serves}
 use Rattle.bt_cli.proofs.OneJournal.{Laws, told}
-use Rattle.bt_load.proofs.OneLoad.{IsLoaded-same, Misspells-not_loaded, not_longer}
-use Rattle.bt_cli.proofs.OneReport.{never_both, never_suits}
+use Rattle.bt_report.proofs.Works as works
+use Rattle.bt_load.proofs.OneLoad.{IsLoaded-same, one_file}
+use Rattle.bt_cli.proofs.LoadsAsked.{OneLine, OneSum, one_asked}
+use Rattle.bt_cli.proofs.OneReport.{never_suits}
 use Rattle.bt_cli.proofs.OneRun.{never_failed, whole_ended}
+
+-- a matrix has one heaviest line and one greatest sum
+pub record Lines : Type 0 where
+  pub line : OneLine
+  pub sum : OneSum
 
 -- ---- files
 
@@ -50,21 +60,30 @@ is_content held_by name held is short = let P : Option (List ℕ) → Type 0 = �
 spelled : {Value Fault : Type 0} (kind : Kind Value Fault) (held_by : List ℕ → Option (List ℕ)) (name : List ℕ) (value : Value) → Spells kind held_by name value → IsLoaded kind held_by name value
 spelled kind held_by name value (held, is, short, reads) = (held, is_content held_by name held is short, reads)
 
+-- so that it is told
+is_told : {Value Fault : Type 0} (kind : Kind Value Fault) (held_by : List ℕ → Option (List ℕ)) (name : List ℕ) (value : Value) → Spells kind held_by name value → IsTold held_by name
+is_told kind held_by name value (held, is, short, reads) = (held, is)
+
 -- and its load does not stop
 never_stops : {Value Fault : Type 0} (kind : Kind Value Fault) (held_by : List ℕ → Option (List ℕ)) (failed : Type 0) (name : List ℕ) (value : Value) → ¬ failed → Spells kind held_by name value
     → (outcome : Outcome) → StopsAtLoad kind held_by failed name outcome → ⊥
-never_stops kind held_by failed name value steady (held, is, short, reads) outcome (inl (inl fault)) = steady fault.0
-never_stops kind held_by failed name value steady (held, is, short, reads) outcome (inl (inr long)) = not_longer held_by name held held is long.0 (is_content held_by name held is short)
-never_stops kind held_by failed name value steady (held, is, short, reads) outcome (inr wrong) =
-    Misspells-not_loaded kind held_by name held is outcome value wrong (held, is_content held_by name held is short, reads)
+never_stops kind held_by failed name value steady spells outcome stopped =
+    (one_file kind held_by failed name steady (is_told kind held_by name value spells)).never outcome value stopped (spelled kind held_by name value spells)
 
 -- so that the work goes on with the value
 goes_on : {Value Fault : Type 0} (kind : Kind Value Fault) (held_by : List ℕ → Option (List ℕ)) (failed : Type 0) (name : List ℕ) (value : Value) (after : Value → Outcome → Type 0) → ¬ failed
     → Spells kind held_by name value → (outcome : Outcome) → Loads kind held_by failed name after outcome → after value outcome
-goes_on kind held_by failed name value after steady spells outcome (inl stopped) = absurd (never_stops kind held_by failed name value steady spells outcome stopped)
-goes_on {Value} kind held_by failed name value after steady spells outcome (inr (other, loaded, so)) =
-    let P : Value → Type 0 = λ v. after v outcome in
-    subst P (IsLoaded-same kind held_by name spells.0 spells.1 other value loaded (spelled kind held_by name value spells)) so
+goes_on kind held_by failed name value after steady spells =
+    works.goes_on (StopsAtLoad kind held_by failed name) (IsLoaded kind held_by name) (one_file kind held_by failed name steady (is_told kind held_by name value spells)) after value (spelled kind held_by name value spells)
+
+-- and with the network and the demand
+both_go_on : Lines → (held_by : List ℕ → Option (List ℕ)) (failed : Type 0) (net traffic : List ℕ) (network : Net) (links : List Link) (after : Net → List Link → Outcome → Type 0) → ¬ failed
+    → Spells network_file held_by net network → Spells (demand_file network) held_by traffic links → Fits network links
+    → (outcome : Outcome) → LoadsAsked held_by failed net traffic after outcome → after network links outcome
+both_go_on lines held_by failed net traffic network links after steady of_net of_traffic fits =
+    works.goes_on (StopsAtAsked held_by failed net traffic) (AreLoaded held_by net traffic)
+    (one_asked lines.line lines.sum held_by failed net traffic steady (is_told network_file held_by net network of_net) (is_told (demand_file network) held_by traffic links of_traffic))
+    (λ asked. after asked.0 asked.1) (network, links) (spelled network_file held_by net network of_net, spelled (demand_file network) held_by traffic links of_traffic, fits)
 
 -- ---- the output
 
@@ -73,7 +92,7 @@ printed_status : (output : Output) (text : List ℕ) (wanted status : ℕ) → �
 printed_status output text wanted status steady (inl (written, is)) = is
 printed_status output text wanted status steady (inr (failed, part, six)) = absurd (steady failed)
 
-done : (output : Output) (Outcomes : Outcome → Type 0) (status : ℕ) → ¬ (HasFailed output) → ((outcome : Outcome) → Outcomes outcome → outcome.status ≡ 0) → PrintsOneOf output Outcomes status → IsDone status
+done : (output : Output) (Outcomes : Outcome → Type 0) (status : ℕ) → ¬ (HasFailed output) → ((outcome : Outcome) → Outcomes outcome → outcome.status ≡ DONE) → PrintsOneOf output Outcomes status → IsDone status
 done output Outcomes status steady so (inl memory) = inr memory
 done output Outcomes status steady so (inr (outcome, is, printed)) = inl (printed_status output outcome.text outcome.status status steady printed ∙ so outcome is)
 
@@ -94,10 +113,6 @@ memory_alone output Outcomes status never (inr (outcome, is, printed)) = absurd 
 
 -- ---- the commands
 
-fits_on : (net : Net) (links : List Link) (after : Outcome → Type 0) → Fits net links → (outcome : Outcome) → WhereItFits net links after outcome → after outcome
-fits_on net links after fits outcome (inl over) = absurd (never_both net links outcome over fits)
-fits_on net links after fits outcome (inr (here, so)) = so
-
 suits_on : (transponders : ℕ) (rows : List (List ℕ)) → Suits transponders rows → (outcome : Outcome) → PrintsWhereItSuits transponders rows outcome → PrintsPart transponders rows outcome
 suits_on transponders rows suits outcome (inl fault) = absurd (never_suits transponders rows outcome fault suits)
 suits_on transponders rows suits outcome (inr (here, so)) = so
@@ -106,7 +121,7 @@ status_of : (a b : Outcome) → a ≡ b → a.status ≡ b.status
 status_of a b same = ap (λ (o : Outcome). o.status) same
 
 -- the status of a verdict that is not good
-bad_status : (verdict : Verdict) → verdict ≢ Good → 9 ≡ verdict_status verdict
+bad_status : (verdict : Verdict) → verdict ≢ Good → NOT_GOOD ≡ verdict_status verdict
 bad_status Good bad = absurd (bad refl)
 bad_status (V1 _) bad = refl
 bad_status (V2 _) bad = refl
@@ -117,12 +132,13 @@ bad_status (V6 _) bad = refl
 bad_status (V7 _ _ _ _) bad = refl
 bad_status (V8 _ _ _ _) bad = refl
 
--- the times of a plan come with the status of its verdict, where the delays are told and spelled
-timed_status : (input : Input) (delays : List ℕ) (net : Net) (links : List Link) (plan : Plan) (times : Times) → ¬ (FilesFailed input) → Spells (delay_file net) input.told delays times → (outcome : Outcome)
+-- the times of a plan come with the status of its verdict, where the delays are told and spelled if it is good
+timed_status : (input : Input) (delays : List ℕ) (net : Net) (links : List Link) (plan : Plan) → ¬ (FilesFailed input) → (IsGoodPlan net links plan → IsSpelled (delay_file net) input.told delays) → (outcome : Outcome)
     → WhereItIsGood net links plan (TimesDelays input.told (FilesFailed input) delays net plan) outcome → HasStatus (IsPlanVerdict net links plan) outcome
-timed_status input delays net links plan times steady spells outcome (inl named) = (named.verdict, named.is, status_of outcome _ named.says ∙ bad_status named.verdict named.bad)
-timed_status input delays net links plan times steady spells outcome (inr (good, so)) =
-    (Good, good, status_of outcome _ (goes_on (delay_file net) input.told (FilesFailed input) delays times (λ one. PrintsSends net plan one) steady spells outcome so).printed)
+timed_status input delays net links plan steady spells outcome (inl named) = (named.verdict, named.is, status_of outcome _ named.says ∙ bad_status named.verdict named.bad)
+timed_status input delays net links plan steady spells outcome (inr (good, so)) =
+    let of_delays = spells good in
+    (Good, good, status_of outcome _ (goes_on (delay_file net) input.told (FilesFailed input) delays of_delays.0 (λ one. PrintsSends net plan one) steady of_delays.1 outcome so).printed)
 
 -- ---- the store
 
@@ -194,10 +210,10 @@ files_done laws input output stored net script end steady (inr (other, loaded, e
 
 -- ---- what is asked
 
-pub all_served : Laws → (input : Input) (output : Output) (stored : Stored) (request : Request) (end : End) → NothingFails input output stored → Ends input output stored request end
+pub all_served : Lines → Laws → (input : Input) (output : Output) (stored : Stored) (request : Request) (end : End) → NothingFails input output stored → Ends input output stored request end
     → Serves input.told stored request end.status
-all_served laws input output stored Faulty end steady ends = tt
-all_served laws input output stored (CheckModes matrix modes) end steady ends = λ rows schedule of_matrix of_modes.
+all_served lines laws input output stored Faulty end steady ends = tt
+all_served lines laws input output stored (CheckModes matrix modes) end steady ends = λ rows schedule of_matrix of_modes.
     let failed = FilesFailed input in
     judged output (Reports input.told failed (CheckModes matrix modes)) (IsVerdict rows schedule) end.status steady.sink
     (λ outcome is.
@@ -205,47 +221,41 @@ all_served laws input output stored (CheckModes matrix modes) end steady ends = 
     let found = goes_on (schedule_file (length rows)) input.told failed modes schedule (λ one. Judges rows one) steady.files of_modes outcome read in
     (found.0, found.1, status_of outcome _ found.2))
     ends.1
-all_served laws input output stored (CheckPlan net traffic plan) end steady ends = λ network links read of_net of_traffic fits of_plan.
+all_served lines laws input output stored (CheckPlan net traffic plan) end steady ends = λ network links read of_net of_traffic fits of_plan.
     let failed = FilesFailed input in
     judged output (Reports input.told failed (CheckPlan net traffic plan)) (IsPlanVerdict network links read) end.status steady.sink
     (λ outcome is.
-    let on = goes_on network_file input.told failed net network (λ n. ChecksDemand input.told failed traffic plan n) steady.files of_net outcome is in
-    let asked = goes_on (demand_file network) input.told failed traffic links (λ some. WhereItFits network some (ChecksPlanText input.told failed plan network some)) steady.files of_traffic outcome on in
-    let fitting = fits_on network links (ChecksPlanText input.told failed plan network links) fits outcome asked in
+    let fitting = both_go_on lines input.told failed net traffic network links (ChecksPlanText input.told failed plan) steady.files of_net of_traffic fits outcome is in
     let found = goes_on (plan_file network) input.told failed plan read (λ one. JudgesPlan network links one) steady.files of_plan outcome fitting in
     (found.verdict, found.is, status_of outcome _ found.says))
     ends.1
-all_served laws input output stored (PlanModes matrix) end steady ends = λ rows of_matrix.
+all_served lines laws input output stored (PlanModes matrix) end steady ends = λ rows of_matrix.
     let failed = FilesFailed input in
     done output (Reports input.told failed (PlanModes matrix)) end.status steady.sink
     (λ outcome is. status_of outcome _ (goes_on matrix_file input.told failed matrix rows (λ of_rows. PrintsSchedule of_rows) steady.files of_matrix outcome is).3)
     ends.1
-all_served laws input output stored (PlanDemand net traffic) end steady ends = λ network links of_net of_traffic fits.
+all_served lines laws input output stored (PlanDemand net traffic) end steady ends = λ network links of_net of_traffic fits.
     let failed = FilesFailed input in
     done output (Reports input.told failed (PlanDemand net traffic)) end.status steady.sink
     (λ outcome is.
-    let on = goes_on network_file input.told failed net network (λ n. PlansDemand input.told failed traffic n) steady.files of_net outcome is in
-    let asked = goes_on (demand_file network) input.told failed traffic links (λ some. WhereItFits network some (PrintsPlan network some)) steady.files of_traffic outcome on in
-    status_of outcome _ (fits_on network links (PrintsPlan network links) fits outcome asked).printed)
+    status_of outcome _ (both_go_on lines input.told failed net traffic network links PrintsPlan steady.files of_net of_traffic fits outcome is).printed)
     ends.1
-all_served laws input output stored (TimeSends net traffic plan delays) end steady ends = λ network links read times of_net of_traffic fits of_plan of_delays.
+all_served lines laws input output stored (TimeSends net traffic plan delays) end steady ends = λ network links read of_net of_traffic fits of_plan of_delays.
     let failed = FilesFailed input in
     judged output (Reports input.told failed (TimeSends net traffic plan delays)) (IsPlanVerdict network links read) end.status steady.sink
     (λ outcome is.
-    let on = goes_on network_file input.told failed net network (λ n. TimesDemand input.told failed traffic plan delays n) steady.files of_net outcome is in
-    let asked = goes_on (demand_file network) input.told failed traffic links (λ some. WhereItFits network some (TimesPlanText input.told failed plan delays network some)) steady.files of_traffic outcome on in
-    let fitting = fits_on network links (TimesPlanText input.told failed plan delays network links) fits outcome asked in
+    let fitting = both_go_on lines input.told failed net traffic network links (TimesPlanText input.told failed plan delays) steady.files of_net of_traffic fits outcome is in
     let found = goes_on (plan_file network) input.told failed plan read (λ one. WhereItIsGood network links one (TimesDelays input.told failed delays network one)) steady.files of_plan outcome fitting in
-    timed_status input delays network links read times steady.files of_delays outcome found)
+    timed_status input delays network links read steady.files of_delays outcome found)
     ends.1
-all_served laws input output stored (PlanDrawn beams seed) end steady ends =
+all_served lines laws input output stored (PlanDrawn beams seed) end steady ends =
     done output (Reports input.told (FilesFailed input) (PlanDrawn beams seed)) end.status steady.sink (λ outcome is. status_of outcome _ is.1.printed) ends.1
-all_served laws input output stored (PlanPart transponders matrix) end steady ends = λ rows of_matrix suits.
+all_served lines laws input output stored (PlanPart transponders matrix) end steady ends = λ rows of_matrix suits.
     let failed = FilesFailed input in
     done output (Reports input.told failed (PlanPart transponders matrix)) end.status steady.sink
     (λ outcome is.
     let on = goes_on matrix_file input.told failed matrix rows (λ of_rows. PrintsWhereItSuits transponders of_rows) steady.files of_matrix outcome is in
     status_of outcome _ (suits_on transponders rows suits outcome on).printed)
     ends.1
-all_served laws input output stored (RunScript net script _) end steady ends = files_done laws input output stored net script end steady ends
-all_served laws input output stored (ReplayJournal net _) end steady ends = replay_done laws input output stored net end.status steady ends.ends
+all_served lines laws input output stored (RunScript net script _) end steady ends = files_done laws input output stored net script end steady ends
+all_served lines laws input output stored (ReplayJournal net _) end steady ends = replay_done laws input output stored net end.status steady ends.ends

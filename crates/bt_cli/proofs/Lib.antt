@@ -1,5 +1,4 @@
-pub mod Fitted
-pub mod Others
+pub mod LoadsAsked
 pub mod OneReport
 pub mod Kept
 pub mod NamedFaults

@@ -2,9 +2,9 @@
 use Rattle.std.proofs.Common.{◌≢◌, ℕ, inl, inr, [], refl}
 use Rattle.bt_history.specs.declared.fault.RecoverFault.{RecoverFault}
 use Rattle.bt_history.specs.declared.fault.RecoverFault.TheVariants.{J1, J2, StoreFault, TooLong, OutOfMemory}
-use Rattle.bt_centre.specs.Output.{Output}
+use Rattle.bt_report.specs.Output.{Output}
 use Rattle.bt_centre.specs.RecoverFaults.{PrintsNamed, recover_line, recover_status, recover_words}
-use Rattle.bt_load.specs.Outcome.{Outcome, PrintsOneOf, Says, text_alone}
+use Rattle.bt_report.specs.Outcome.{Outcome, PrintsOneOf, Says, text_alone}
 use Rattle.bt_cli.specs.Replay.{NamesRecoverFault}
 
 -- a fault that is none of memory is named by its line

@@ -10,8 +10,8 @@ use Rattle.bt_history.specs.declared.fault.RecoverFault.{RecoverFault}
 use Rattle.bt_history.specs.declared.fault.RecoverFault.TheVariants.{J1, J2, StoreFault, TooLong, OutOfMemory}
 use Rattle.bt_history.specs.Recovery.{IsFirstNoLine, IsFirstStray, IsRecoverFault, Recovered}
 use Rattle.bt_words.specs.Lines.{line_of}
-use Rattle.bt_centre.specs.Stored.{IsSteady, Stored}
-use Rattle.bt_load.specs.Outcome.{Outcome, Says, text_alone}
+use Rattle.bt_report.specs.Stored.{IsSteady, Stored}
+use Rattle.bt_report.specs.Outcome.{Outcome, Says, text_alone}
 use Rattle.bt_cli.specs.Replay.{NamesRecoverFault}
 
 -- the laws of demands and of journals

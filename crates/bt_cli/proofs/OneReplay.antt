@@ -7,9 +7,10 @@ use Rattle.bt_journal.specs.declared.call.Change.{Change}
 use Rattle.bt_history.specs.Changes.{edition, newest, orders}
 use Rattle.bt_history.specs.Recovery.{Recovered}
 use Rattle.bt_timeline.specs.Replayed.{replay_lines}
-use Rattle.bt_centre.specs.Stored.{IsSteady, Stored}
+use Rattle.bt_report.specs.Stored.{IsSteady, Stored}
 use Rattle.bt_load.specs.Kinds.{network_file}
-use Rattle.bt_load.specs.Outcome.{IsTold, Loads, Outcome, text_alone}
+use Rattle.bt_load.specs.Files.{IsTold, Loads}
+use Rattle.bt_report.specs.Outcome.{Outcome, text_alone}
 use Rattle.bt_cli.specs.Replay.{PrintsJournal, PrintsState, Replays}
 use Rattle.bt_cli.specs.Top.{IsOneStore}
 use Rattle.bt_load.proofs.Loads.{Loads-among}

@@ -3,30 +3,29 @@ use Rattle.std.proofs.Common.{◌≡◌, ℕ, ◌<◌, ◌≤◌, ◌⊎◌, inl
 use Rattle.bt_frame.specs.declared.schedule.Schedule.{Schedule}
 use Rattle.bt_verdict.specs.declared.verdict.Verdict.{Verdict}
 use Rattle.bt_verdict.specs.declared.verdict.Verdict.TheVariants.{Good}
-use Rattle.bt_frame.specs.declared.schedule.Critical.{Critical}
-use Rattle.bt_matrix.specs.Traffic.{IsHeaviest}
 use Rattle.bt_net.specs.Network.{Net}
 use Rattle.bt_demand.specs.declared.demand.Link.{Link}
 use Rattle.bt_demand.specs.declared.plan.Plan.{Plan}
 use Rattle.bt_demand.specs.Demand.{IsDemand}
 use Rattle.bt_demand.specs.Plan.{IsGoodPlan}
 use Rattle.bt_verdict.specs.PlanVerdict.{IsPlanVerdict}
-use Rattle.bt_demand.specs.Traffic.{matrix_of}
 use Rattle.bt_verdict.specs.Verdict.{IsVerdict}
-use Rattle.bt_cli.specs.CheckPlan.{JudgesPlan, ChecksPlanText, ChecksDemand}
-use Rattle.bt_cli.specs.Fitting.{overload_words, Fits, NamesOverload, WhereItFits}
-use Rattle.bt_cli.specs.Plans.{PrintsPlan, PlansDemand}
-use Rattle.bt_cli.specs.Timing.{NamesVerdict, PrintsSends, TimesDelays, TimesDemand, TimesPlanText, WhereItIsGood}
+use Rattle.bt_cli.specs.CheckPlan.{ChecksPlanText, JudgesPlan}
+use Rattle.bt_cli.specs.Plans.{PrintsPlan}
+use Rattle.bt_cli.specs.Timing.{NamesVerdict, PrintsSends, TimesDelays, TimesPlanText, WhereItIsGood}
 use Rattle.bt_words.specs.Lines.{line_of}
 use Rattle.bt_timeline.specs.Verdicts.{verdict_words}
-use Rattle.bt_load.specs.Outcome.{IsTold, Outcome, text_alone}
+use Rattle.bt_load.specs.Files.{IsTold}
+use Rattle.bt_report.specs.declared.status.TheConstants.{NOT_GOOD}
+use Rattle.bt_report.specs.Outcome.{Outcome, text_alone}
 use Rattle.bt_load.proofs.OneLoad.{AreAlike, IsOne, Loads-same, done_alike, is_one, same_alike}
-use Rattle.bt_load.specs.Kinds.{matrix_file, schedule_file, network_file, demand_file, plan_file, delay_file}
+use Rattle.bt_load.specs.Kinds.{matrix_file, schedule_file, plan_file, delay_file}
 use Rattle.bt_cli.specs.Check.{ChecksSchedule, Judges, verdict_status}
 use Rattle.bt_cli.specs.Modes.{PrintsSchedule}
 use Rattle.bt_cli.specs.Request.{Request, Faulty, CheckModes, CheckPlan, PlanModes, PlanDemand, RunScript, ReplayJournal, PlanDrawn, TimeSends, PlanPart}
 use Rattle.bt_cli.specs.Trans.{NamesSize, PrintsWhereItSuits, Suits}
 use Rattle.bt_cli.specs.Top.{Reports, AreTold, IsOneReport}
+use Rattle.bt_cli.proofs.LoadsAsked.{LoadsAsked-same, OneLine, OneSum}
 
 -- a schedule has at most one verdict for a matrix
 abbrev pub OneVerdict : Type 0
@@ -48,35 +47,6 @@ JudgesPlan-same law net links plan a b one other =
     let same : one.verdict ≡ other.verdict = law net links plan one.verdict other.verdict one.demand one.is other.is in
     one.says ∙ ap (λ v. text_alone (line_of (verdict_words (Some net) v)) (verdict_status v)) same ∙ sym other.says
 
--- a matrix has one heaviest line
-abbrev pub OneLine : Type 0
-OneLine = (rows : List (List ℕ)) (a b : Critical) (m n : ℕ) → IsHeaviest rows a m → IsHeaviest rows b n → a ≡ b
-
--- and one greatest sum
-abbrev pub OneSum : Type 0
-OneSum = (rows : List (List ℕ)) (a b : Critical) (m n : ℕ) → IsHeaviest rows a m → IsHeaviest rows b n → m ≡ n
-
--- a demand does not fit in one way
-overload_same : OneLine → OneSum → (net : Net) (links : List Link) (a b : Outcome) → NamesOverload net links a → NamesOverload net links b → a ≡ b
-overload_same lines sums net links a b (line, sum, is, over, says) (line', sum', is', over', says') =
-    let rows = matrix_of net links in
-    let same_line : line ≡ line' = lines rows line line' sum sum' is is' in
-    let same_sum : sum ≡ sum' = sums rows line line' sum sum' is is' in
-    says ∙ ap (λ (l : Critical). text_alone (line_of (overload_words l sum)) 4) same_line ∙ ap (λ (n : ℕ). text_alone (line_of (overload_words line' n)) 4) same_sum ∙ sym says'
-
--- and one that does not fit does not fit
-pub never_both : (net : Net) (links : List Link) (a : Outcome) → NamesOverload net links a → Fits net links → ⊥
-never_both net links a (line, sum, is, over, says) fits =
-    let most = fits line is.on_matrix in
-    absurd (omega (arith, most, over, is.reached))
-
--- what comes after a test of fit has one outcome where what comes after it has one
-pub WhereItFits-same : OneLine → OneSum → (One : Outcome → Outcome → Type 0) → ((a b : Outcome) → a ≡ b → One a b) → (net : Net) (links : List Link) (after : Outcome → Type 0) → ((a b : Outcome) → after a → after b → One a b) → (a b : Outcome) → WhereItFits net links after a → WhereItFits net links after b → One a b
-WhereItFits-same lines sums One one net links after same a b (inl over) (inl over') = one a b (overload_same lines sums net links a b over over')
-WhereItFits-same lines sums One one net links after same a b (inl over) (inr (fits, so)) = absurd (never_both net links a over fits)
-WhereItFits-same lines sums One one net links after same a b (inr (fits, so)) (inl over) = absurd (never_both net links b over fits)
-WhereItFits-same lines sums One one net links after same a b (inr (fits, so)) (inr (fits', so')) = same a b so so'
-
 -- the laws of verdicts and of heaviest lines
 pub record Laws : Type 0 where
   pub verdict : OneVerdict
@@ -88,21 +58,11 @@ ChecksPlanText-same : Laws → (told : List ℕ → Option (List ℕ)) (plan hel
 ChecksPlanText-same laws told plan held is net links =
     Loads-same IsOne is_one (plan_file net) told plan held is (λ read. JudgesPlan net links read) (λ read. JudgesPlan-same laws.plan_verdict net links read)
 
-ChecksDemand-same : Laws → (told : List ℕ → Option (List ℕ)) (traffic plan : List ℕ) → IsTold told traffic → IsTold told plan → (net : Net) (a b : Outcome) → ChecksDemand told ⊥ traffic plan net a → ChecksDemand told ⊥ traffic plan net b → a ≡ b
-ChecksDemand-same laws told traffic plan of_traffic of_plan net =
-    Loads-same IsOne is_one (demand_file net) told traffic of_traffic.0 of_traffic.1 (λ links. WhereItFits net links (ChecksPlanText told ⊥ plan net links))
-    (λ links. WhereItFits-same laws.line laws.sum IsOne is_one net links (ChecksPlanText told ⊥ plan net links) (ChecksPlanText-same laws told plan of_plan.0 of_plan.1 net links))
-
-PlansDemand-same : Laws → (told : List ℕ → Option (List ℕ)) (traffic : List ℕ) → IsTold told traffic → (net : Net) (a b : Outcome) → PlansDemand told ⊥ traffic net a → PlansDemand told ⊥ traffic net b → AreAlike a b
-PlansDemand-same laws told traffic of_traffic net =
-    Loads-same AreAlike same_alike (demand_file net) told traffic of_traffic.0 of_traffic.1 (λ links. WhereItFits net links (PrintsPlan net links))
-    (λ links. WhereItFits-same laws.line laws.sum AreAlike same_alike net links (PrintsPlan net links) (λ a b one other. done_alike a b (ap (λ (o : Outcome). o.status) one.printed) (ap (λ (o : Outcome). o.status) other.printed)))
-
 -- a plan is not good in one way
 verdict_same : OnePlanVerdict → (net : Net) (links : List Link) (plan : Plan) (a b : Outcome) → NamesVerdict net links plan a → NamesVerdict net links plan b → a ≡ b
 verdict_same law net links plan a b one other =
     let same : one.verdict ≡ other.verdict = law net links plan one.verdict other.verdict one.demand one.is other.is in
-    one.says ∙ ap (λ v. text_alone (line_of (verdict_words (Some net) v)) 9) same ∙ sym other.says
+    one.says ∙ ap (λ v. text_alone (line_of (verdict_words (Some net) v)) NOT_GOOD) same ∙ sym other.says
 
 -- and one that is not good is not good
 never_good : OnePlanVerdict → (net : Net) (links : List Link) (plan : Plan) (a : Outcome) → NamesVerdict net links plan a → IsGoodPlan net links plan → ⊥
@@ -125,12 +85,6 @@ TimesPlanText-same laws told plan delays of_plan of_delays net links =
     Loads-same IsOne is_one (plan_file net) told plan of_plan.0 of_plan.1 (λ read. WhereItIsGood net links read (TimesDelays told ⊥ delays net read))
     (λ read. WhereItIsGood-same laws.plan_verdict net links read (TimesDelays told ⊥ delays net read) (TimesDelays-same told delays of_delays net read))
 
-TimesDemand-same : Laws → (told : List ℕ → Option (List ℕ)) (traffic plan delays : List ℕ) → IsTold told traffic → IsTold told plan → IsTold told delays → (net : Net) (a b : Outcome)
-    → TimesDemand told ⊥ traffic plan delays net a → TimesDemand told ⊥ traffic plan delays net b → a ≡ b
-TimesDemand-same laws told traffic plan delays of_traffic of_plan of_delays net =
-    Loads-same IsOne is_one (demand_file net) told traffic of_traffic.0 of_traffic.1 (λ links. WhereItFits net links (TimesPlanText told ⊥ plan delays net links))
-    (λ links. WhereItFits-same laws.line laws.sum IsOne is_one net links (TimesPlanText told ⊥ plan delays net links) (TimesPlanText-same laws told plan delays of_plan of_delays net links))
-
 -- transponders do not suit a matrix whose size is at fault
 pub never_suits : (transponders : ℕ) (rows : List (List ℕ)) (outcome : Outcome) → NamesSize transponders rows outcome → Suits transponders rows → ⊥
 never_suits transponders rows outcome (inl many, says) suits = absurd (omega (arith, many, suits.1))
@@ -148,13 +102,13 @@ Reports-same laws told Faulty _ a b first second = first ∙ sym second
 Reports-same laws told (CheckModes matrix modes) (of_matrix, of_modes) a b first second =
     Loads-same IsOne is_one matrix_file told matrix of_matrix.0 of_matrix.1 (λ rows. ChecksSchedule told ⊥ modes rows) (λ rows. Loads-same IsOne is_one (schedule_file (length rows)) told modes of_modes.0 of_modes.1 (λ schedule. Judges rows schedule) (λ schedule. Judges-same laws.verdict rows schedule)) a b first second
 Reports-same laws told (CheckPlan net traffic plan) (of_net, of_traffic, of_plan) a b first second =
-    Loads-same IsOne is_one network_file told net of_net.0 of_net.1 (λ network. ChecksDemand told ⊥ traffic plan network) (ChecksDemand-same laws told traffic plan of_traffic of_plan) a b first second
+    LoadsAsked-same laws.line laws.sum IsOne is_one told net traffic of_net of_traffic (ChecksPlanText told ⊥ plan) (ChecksPlanText-same laws told plan of_plan.0 of_plan.1) a b first second
 Reports-same laws told (PlanModes matrix) of_matrix a b first second =
     Loads-same AreAlike same_alike matrix_file told matrix of_matrix.0 of_matrix.1 (λ rows. PrintsSchedule rows) (λ rows a b one other. done_alike a b (ap (λ (o : Outcome). o.status) one.3) (ap (λ (o : Outcome). o.status) other.3)) a b first second
 Reports-same laws told (PlanDemand net traffic) (of_net, of_traffic) a b first second =
-    Loads-same AreAlike same_alike network_file told net of_net.0 of_net.1 (λ network. PlansDemand told ⊥ traffic network) (PlansDemand-same laws told traffic of_traffic) a b first second
+    LoadsAsked-same laws.line laws.sum AreAlike same_alike told net traffic of_net of_traffic PrintsPlan (λ network links a b one other. done_alike a b (ap (λ (o : Outcome). o.status) one.printed) (ap (λ (o : Outcome). o.status) other.printed)) a b first second
 Reports-same laws told (TimeSends net traffic plan delays) (of_net, of_traffic, of_plan, of_delays) a b first second =
-    Loads-same IsOne is_one network_file told net of_net.0 of_net.1 (λ network. TimesDemand told ⊥ traffic plan delays network) (TimesDemand-same laws told traffic plan delays of_traffic of_plan of_delays) a b first second
+    LoadsAsked-same laws.line laws.sum IsOne is_one told net traffic of_net of_traffic (TimesPlanText told ⊥ plan delays) (TimesPlanText-same laws told plan delays of_plan of_delays) a b first second
 Reports-same laws told (PlanDrawn _ _) of_files a b one other = done_alike a b (ap (λ (o : Outcome). o.status) one.1.printed) (ap (λ (o : Outcome). o.status) other.1.printed)
 Reports-same laws told (PlanPart transponders matrix) of_matrix a b first second =
     Loads-same AreAlike same_alike matrix_file told matrix of_matrix.0 of_matrix.1 (λ rows. PrintsWhereItSuits transponders rows) (λ rows. PrintsWhereItSuits-same transponders rows) a b first second

@@ -13,13 +13,15 @@ use Rattle.bt_history.specs.declared.fault.RecoverFault.{RecoverFault}
 use Rattle.bt_history.specs.declared.fault.RecoverFault.TheVariants.{StoreFault}
 use Rattle.bt_history.specs.Recovery.{IsRecoverFault, Recovered}
 use Rattle.bt_history.specs.Store.{RoseBy}
+use Rattle.bt_report.specs.declared.status.TheConstants.{DONE, OUT_OF_MEMORY}
 use Rattle.bt_centre.specs.declared.history.History.{History}
-use Rattle.bt_centre.specs.Output.{Output}
+use Rattle.bt_report.specs.Output.{Output}
 use Rattle.bt_centre.specs.RecoverFaults.{PrintsFault, recover_line, recover_status, recover_words}
 use Rattle.bt_centre.specs.Run.{EndsFrom, RunsTo, RunsToRestart, RunsWhole, lost_in}
-use Rattle.bt_centre.specs.Stored.{IsSteady, Stored}
+use Rattle.bt_report.specs.Stored.{IsSteady, Stored}
 use Rattle.bt_load.specs.Kinds.{network_file, script_file}
-use Rattle.bt_load.specs.Outcome.{IsTold, Loads, Outcome, Says, text_alone}
+use Rattle.bt_load.specs.Files.{IsTold, Loads}
+use Rattle.bt_report.specs.Outcome.{Outcome, Says, text_alone}
 use Rattle.bt_cli.specs.Run.{PrintsRun, Runs, RunsScript, sink_with}
 use Rattle.bt_cli.specs.Top.{IsOneStore}
 use Rattle.bt_cli.proofs.Kept.{kept_status}
@@ -30,7 +32,7 @@ use Rattle.bt_cli.proofs.OneJournal.{Comes, ComesOn, Laws, fault_comes, one_comi
 
 -- a run that came to its end, whatever its changes were
 abbrev HasEnded : List Change → Outcome → Type 0
-HasEnded changes outcome = outcome.status ≡ 0
+HasEnded changes outcome = outcome.status ≡ DONE
 
 -- a sink that takes all did not fail
 no_fault : Rose 0 0 → ⊥
@@ -67,19 +69,19 @@ never_failed net held items output stored opening status histories events is ste
 
 -- a run over such a store came to its end
 pub whole_ended : (net : Net) (items : List Item) (output : Output) (stored : Stored) (opening : List Change) (status : ℕ) (histories : List History) (events : List Event)
-    → IsSteady stored → RunsWhole net items output stored opening status histories events → status ≡ 0
+    → IsSteady stored → RunsWhole net items output stored opening status histories events → status ≡ DONE
 whole_ended net items output stored opening status histories events steady ran =
     ran.status_is ∙ kept_status net _ opening ran.run.end.opening histories ran.run.legal (none_lost stored (length (lost_in histories)) steady ran.left.count)
 
 parts_ended : (net : Net) (held : List ℕ) (items : List Item) (text : List ℕ) (stored : Stored) (opening : List Change) (status : ℕ) (histories : List History) (events : List Event)
-    → stored.before ≡ Some held → IsSteady stored → status ≢ 1 → EndsFrom net items (sink_with text) stored opening status histories events → status ≡ 0
+    → stored.before ≡ Some held → IsSteady stored → status ≢ OUT_OF_MEMORY → EndsFrom net items (sink_with text) stored opening status histories events → status ≡ DONE
 parts_ended net held items text stored opening status histories events is steady memory (inl broke) = absurd (memory broke.status_is)
 parts_ended net held items text stored opening status histories events is steady memory (inr (inl ran)) = whole_ended net items (sink_with text) stored opening status histories events steady ran
 parts_ended net held items text stored opening status histories events is steady memory (inr (inr (inl partly))) = absurd (no_fault partly.failed)
 parts_ended net held items text stored opening status histories events is steady memory (inr (inr (inr stops))) = absurd (never_failed net held items (sink_with text) stored opening status histories events is steady stops)
 
 run_comes : (net : Net) (script : Script) (held : List ℕ) (stored : Stored) (outcome : Outcome) (histories : List History) (events : List Event) → stored.before ≡ Some held → IsSteady stored
-    → outcome.status ≢ 1 → RunsTo net script (sink_with outcome.text) stored outcome.status histories events → Comes HasEnded net held outcome
+    → outcome.status ≢ OUT_OF_MEMORY → RunsTo net script (sink_with outcome.text) stored outcome.status histories events → Comes HasEnded net held outcome
 run_comes net script held stored outcome histories events is steady memory (inl early) = absurd (memory early.status_is)
 run_comes net script held stored outcome histories events is steady memory (inr (inl nothing)) =
     fault_comes HasEnded net held stored nothing.fault outcome is steady nothing.failed (named nothing.fault outcome nothing.named (fault_said nothing.fault outcome nothing.printed))

@@ -12,7 +12,7 @@ use Rattle.bt_plan.specs.ScheduleSpelling.{IsInRange}
 use Rattle.bt_plan.proofs.Spelled.{matrix_of-IsTraffic, matrix_of-line_small}
 use Rattle.bt_words.specs.Lines.{line_of}
 use Rattle.bt_cli.specs.Check.{Judges}
-use Rattle.bt_load.specs.Outcome.{text_alone}
+use Rattle.bt_report.specs.Outcome.{text_alone}
 
 -- a good schedule of few slots is one that a text can spell
 good-in_range : (rows : List (List ℕ)) (schedule : Schedule) → IsTraffic rows → schedule.length ≤ 131072 → IsGood rows schedule → IsInRange (length rows) schedule

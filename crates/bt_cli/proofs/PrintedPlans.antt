@@ -21,7 +21,7 @@ use Rattle.bt_plan.specs.ScheduleSpelling.{IsInRange}
 use Rattle.bt_words.specs.Lines.{line_of}
 use Rattle.bt_cli.specs.CheckPlan.{JudgesPlan}
 use Rattle.bt_cli.specs.Fitting.{Fits}
-use Rattle.bt_load.specs.Outcome.{Outcome, text_alone}
+use Rattle.bt_report.specs.Outcome.{Outcome, text_alone}
 use Rattle.bt_cli.specs.Plans.{PrintsPlan}
 
 -- good plans of few slots can be flown

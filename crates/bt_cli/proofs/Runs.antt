@@ -7,18 +7,23 @@ use Rattle.bt_script.specs.declared.script.Script.{Script}
 use Rattle.bt_history.specs.declared.fault.RecoverFault.{RecoverFault}
 use Rattle.bt_history.specs.declared.fault.RecoverFault.TheVariants.{J1, J2, StoreFault, TooLong, OutOfMemory}
 use Rattle.bt_timeline.specs.Timeline.{restart_line}
+use Rattle.bt_report.specs.declared.status.TheConstants.{DONE, OUT_OF_MEMORY, STORE_FAILED, WRITE_FAILED}
 use Rattle.bt_centre.specs.declared.history.History.{History}
-use Rattle.bt_centre.specs.Output.{Output}
+use Rattle.bt_report.specs.Output.{Output}
 use Rattle.bt_centre.specs.RecoverFaults.{PrintsFault, recover_line, recover_status}
 use Rattle.bt_centre.specs.Run.{EndsFrom, RunsFrom, RunsNothing, RunsTo, RunsToRestart, RunsWhole, first_line, has_lost, status_after, whole_text}
-use Rattle.bt_centre.specs.Stored.{Stored}
+use Rattle.bt_report.specs.Stored.{Stored}
 use Rattle.bt_load.specs.Kinds.{network_file, script_file}
-use Rattle.bt_load.specs.Outcome.{Outcome, Input, FilesFailed, IsLoaded, StopsAtLoad, PrintsOneOf, text_alone}
-use Rattle.bt_cli.specs.Request.{Request, Faulty, CheckModes, CheckPlan, PlanModes, PlanDemand, RunScript, ReplayJournal, PlanDrawn, TimeSends, PlanPart}
+use Rattle.bt_report.specs.Outcome.{Outcome, PrintsOneOf, text_alone}
+use Rattle.bt_report.specs.Input.{Input, FilesFailed}
+use Rattle.bt_load.specs.Files.{IsLoaded, StopsAtLoad}
+use Rattle.bt_cli.specs.Request.{Request}
 use Rattle.bt_cli.specs.Replay.{EndsReplay, NamesRecoverFault, PrintsState, Replays}
 use Rattle.bt_cli.specs.Run.{End, EndsRun, EndsScript, PrintsRun, Runs, RunsScript, sink_with}
-use Rattle.bt_cli.specs.Top.{ReportsWith, Ends}
-use Rattle.bt_load.proofs.Loads.{PrintsOneOf-among, StopsAtLoad-moved}
+use Rattle.bt_cli.specs.Top.{AsksNoStore, Ends, Reports, ReportsWith}
+use Rattle.bt_cli.proofs.Alone.{alone, by_store}
+use Rattle.bt_report.proofs.Reports.{PrintsOneOf-among}
+use Rattle.bt_load.proofs.Loads.{StopsAtLoad-moved}
 
 -- what the files tell, with their faults from one moment to another
 abbrev input_from : (List ℕ → Option (List ℕ)) → ℕ → ℕ → Input
@@ -34,7 +39,7 @@ script_sooner told now before between end output stored script net ended same so
 
 -- what is printed, or the sink failed
 abbrev PrintsOrFails : Output → (Outcome → Type 0) → ℕ → Type 0
-PrintsOrFails output Outcomes status = (status ≡ 6) ⊎ PrintsOneOf output Outcomes status
+PrintsOrFails output Outcomes status = (status ≡ WRITE_FAILED) ⊎ PrintsOneOf output Outcomes status
 
 among : (output : Output) (Some Others : Outcome → Type 0) → ((outcome : Outcome) → Some outcome → Others outcome) → (status : ℕ) → PrintsOrFails output Some status → PrintsOrFails output Others status
 among output Some Others so status (inl failed) = inl failed
@@ -48,7 +53,7 @@ named_status StoreFault named is = cc
 named_status TooLong named is = cc
 named_status OutOfMemory named is = absurd (named refl)
 
-seven_or_none : (lost : Bool) → (let status : ℕ = if lost then 7 else 0 in status ≡ 1) → ⊥
+seven_or_none : (lost : Bool) → (let status : ℕ = if lost then STORE_FAILED else DONE in status ≡ OUT_OF_MEMORY) → ⊥
 seven_or_none true is = cc
 seven_or_none false is = cc
 
@@ -153,15 +158,18 @@ replay_reported input output stored net status (inr (network, loaded, (sound, in
     PrintsOneOf-among output (NamesRecoverFault fault) (Replays input.told (FilesFailed input) stored net) (λ outcome so. inr (network, loaded, (sound, inr (fault, failed, so)))) status printed
 
 -- and what any command comes to
+abbrev EndsReported : Input → Output → Stored → End → Request → Type 0
+EndsReported input output stored ended request = Ends input output stored request ended → PrintsOrFails output (ReportsWith input.told (FilesFailed input) stored request) ended.status
+
+alone_reported : (input : Input) (output : Output) (stored : Stored) (ended : End) (request : Request) → AsksNoStore request → EndsReported input output stored ended request
+alone_reported input output stored ended request none so =
+    let is = alone request none in
+    inr (PrintsOneOf-among output (Reports input.told (FilesFailed input) request) (ReportsWith input.told (FilesFailed input) stored request) (is.reported input.told (FilesFailed input) stored) ended.status (is.ends input output stored ended so).1)
+
 pub ends_reported : (input : Input) (output : Output) (stored : Stored) (request : Request) (ended : End) → Ends input output stored request ended
-    → (ended.status ≡ 6) ⊎ PrintsOneOf output (ReportsWith input.told (FilesFailed input) stored request) ended.status
-ends_reported input output stored Faulty ended so = inr so.1
-ends_reported input output stored (CheckModes matrix modes) ended so = inr so.1
-ends_reported input output stored (CheckPlan net traffic plan) ended so = inr so.1
-ends_reported input output stored (PlanModes matrix) ended so = inr so.1
-ends_reported input output stored (PlanDemand net traffic) ended so = inr so.1
-ends_reported input output stored (TimeSends net traffic plan delays) ended so = inr so.1
-ends_reported input output stored (PlanDrawn beams seed) ended so = inr so.1
-ends_reported input output stored (PlanPart transponders matrix) ended so = inr so.1
-ends_reported input output stored (RunScript net script journal) ended so = runs_reported input output stored net script ended so
-ends_reported input output stored (ReplayJournal net journal) ended so = inr (replay_reported input output stored net ended.status so.ends)
+    → (ended.status ≡ WRITE_FAILED) ⊎ PrintsOneOf output (ReportsWith input.told (FilesFailed input) stored request) ended.status
+ends_reported input output stored request ended =
+    by_store (EndsReported input output stored ended)
+    (λ net script _ so. runs_reported input output stored net script ended so)
+    (λ net _ so. inr (replay_reported input output stored net ended.status so.ends))
+    (alone_reported input output stored ended) request

@@ -9,15 +9,16 @@ use Rattle.bt_demand.specs.Plan.{IsGoodPlan}
 use Rattle.bt_demand.proofs.BurstTriples.{held_within}
 use Rattle.bt_timing.specs.SendsText.{IsTimed}
 use Rattle.bt_timing.specs.Times.{Times}
-use Rattle.bt_load.specs.declared.report.Report.{Report}
-use Rattle.bt_load.specs.declared.report.Stop.{Stop}
-use Rattle.bt_cli.specs.Fitting.{Fits, WhereItFits}
-use Rattle.bt_load.specs.Kinds.{delay_file, demand_file, plan_file}
-use Rattle.bt_load.specs.Outcome.{Kind, Loads, Outcome}
-use Rattle.bt_load.specs.Printing.{CameTo}
-use Rattle.bt_cli.specs.Timing.{PrintsSends, TimesDelays, TimesDemand, TimesPlanText, WhereItIsGood}
-use Rattle.bt_load.proofs.Loads.{CameTo-among, Loads-among, Loads-moved}
-use Rattle.bt_cli.proofs.Fitted.{WhereItFits-among}
+use Rattle.bt_report.specs.declared.report.Report.{Report}
+use Rattle.bt_report.specs.declared.report.Stop.{Stop}
+use Rattle.bt_cli.specs.Fitting.{Fits}
+use Rattle.bt_load.specs.Kinds.{delay_file, plan_file}
+use Rattle.bt_load.specs.Files.{Kind, Loads}
+use Rattle.bt_report.specs.Outcome.{Outcome}
+use Rattle.bt_report.specs.Printing.{CameTo}
+use Rattle.bt_cli.specs.Timing.{PrintsSends, TimesDelays, TimesPlanText, WhereItIsGood}
+use Rattle.bt_report.proofs.Reports.{CameTo-among}
+use Rattle.bt_load.proofs.Loads.{Loads-among, Loads-moved}
 
 -- each burst lies in the frame, and its terminal has a delay
 pub all_timed : (net : Net) (links : List Link) (plan : Plan) (times : Times) → AreBetweenTerminals net plan.bursts → IsGoodPlan net links plan → Fits net links → net.slots ≤ 4096
@@ -68,12 +69,4 @@ timed_plan_sooner told now before between end plan delays net links same sooner 
     then_sooner (plan_file net) told now before between end plan
     (λ read. WhereItIsGood net links read (TimesDelays now (Rose between end) delays net read)) (λ read. WhereItIsGood net links read (TimesDelays told (Rose before end) delays net read)) same sooner
     (λ read o one. WhereItIsGood-among net links read (TimesDelays now (Rose between end) delays net read) (TimesDelays told (Rose before end) delays net read) (delays_sooner told now before between end delays net read same sooner) o one)
-    outcome so
-
-pub timed_demand_sooner : (told now : List ℕ → Option (List ℕ)) (before between end : ℕ) (traffic plan delays : List ℕ) (net : Net) → now ≡ told → before ≤ between → (outcome : Outcome)
-    → TimesDemand now (Rose between end) traffic plan delays net outcome → TimesDemand told (Rose before end) traffic plan delays net outcome
-timed_demand_sooner told now before between end traffic plan delays net same sooner outcome so =
-    then_sooner (demand_file net) told now before between end traffic
-    (λ links. WhereItFits net links (TimesPlanText now (Rose between end) plan delays net links)) (λ links. WhereItFits net links (TimesPlanText told (Rose before end) plan delays net links)) same sooner
-    (λ links o one. WhereItFits-among net links (TimesPlanText now (Rose between end) plan delays net links) (TimesPlanText told (Rose before end) plan delays net links) (timed_plan_sooner told now before between end plan delays net links same sooner) o one)
     outcome so

@@ -5,13 +5,15 @@ use Rattle.bt_verdict.specs.declared.verdict.Verdict.{Verdict}
 use Rattle.bt_verdict.specs.declared.verdict.Verdict.TheVariants.{Good}
 use Rattle.bt_verdict.specs.Verdict.{IsVerdict}
 use Rattle.bt_timeline.specs.Verdicts.{verdict_words}
+use Rattle.bt_report.specs.declared.status.TheConstants.{DONE, NOT_GOOD}
 use Rattle.bt_load.specs.Kinds.{matrix_file, schedule_file}
-use Rattle.bt_load.specs.Outcome.{Outcome, Loads, Says}
+use Rattle.bt_report.specs.Outcome.{Outcome, Says}
+use Rattle.bt_load.specs.Files.{Loads}
 
--- 0 where the verdict is good, and else 9
+-- done where the verdict is good, and else the status of one that is not
 abbrev pub verdict_status : Verdict → ℕ
-verdict_status Good = 0
-verdict_status _ = 9
+verdict_status Good = DONE
+verdict_status _ = NOT_GOOD
 
 -- the line of the verdict on the schedule
 abbrev pub Judges : List (List ℕ) → Schedule → Outcome → Type 0

@@ -1,5 +1,5 @@
+pub mod NumberWords
 pub mod Request
-pub mod CommandLine
 pub mod Check
 pub mod Modes
 pub mod Trans
@@ -10,5 +10,5 @@ pub mod CheckPlan
 pub mod Timing
 pub mod Run
 pub mod Replay
-pub mod Top
 pub mod Complete
+pub mod Top

@@ -10,8 +10,9 @@ use Rattle.bt_demand.specs.Plan.{IsGoodPlan}
 use Rattle.bt_demand.specs.Traffic.{matrix_of}
 use Rattle.bt_make.specs.Made.{IsMade}
 use Rattle.bt_words.specs.Lines.{line_of}
-use Rattle.bt_centre.specs.Output.{Output}
-use Rattle.bt_load.specs.Outcome.{Outcome, text_alone, PrintsOneOf}
+use Rattle.bt_report.specs.declared.status.TheConstants.{DONE}
+use Rattle.bt_report.specs.Output.{Output}
+use Rattle.bt_report.specs.Outcome.{Outcome, text_alone, PrintsOneOf}
 use Rattle.bt_cli.specs.Request.{Request, PlanDrawn}
 
 -- the slots that all links ask for together
@@ -48,7 +49,7 @@ pub record Summarizes (beams seed : ℕ) (plan : Plan) (outcome : Outcome) : Typ
   pub edition : plan.edition.0 ≡ 1
   pub good : IsGoodPlan (numbered_network beams) links plan
   pub heaviest : IsHeaviest (matrix_of (numbered_network beams) links) plan.schedule.critical plan.schedule.length
-  pub printed : outcome ≡ text_alone (summary beams seed links plan) 0
+  pub printed : outcome ≡ text_alone (summary beams seed links plan) DONE
 
 -- the summary of such a plan
 abbrev pub PrintsSummary : ℕ → ℕ → Outcome → Type 0
@@ -61,5 +62,5 @@ SummarizesFor _ plan = λ _. ⊥
 
 -- the plan is answered whose summary was printed, with status 0; and none with any other status
 abbrev pub AnswersPlan : Output → Request → ℕ → Option Plan → Type 0
-AnswersPlan output request status (Some plan) = (status ≡ 0) × PrintsOneOf output (SummarizesFor request plan) status
-AnswersPlan output request status None = status ≢ 0
+AnswersPlan output request status (Some plan) = (status ≡ DONE) × PrintsOneOf output (SummarizesFor request plan) status
+AnswersPlan output request status None = status ≢ DONE

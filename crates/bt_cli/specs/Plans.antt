@@ -8,9 +8,9 @@ use Rattle.bt_demand.specs.Burst.{IsNotAfter}
 use Rattle.bt_demand.specs.Plan.{IsGoodPlan}
 use Rattle.bt_plan.specs.PlanSpelling.{plan_spelling}
 use Rattle.bt_demand.specs.Traffic.{matrix_of}
-use Rattle.bt_cli.specs.Fitting.{WhereItFits}
-use Rattle.bt_load.specs.Kinds.{network_file, demand_file}
-use Rattle.bt_load.specs.Outcome.{Outcome, text_alone, Loads}
+use Rattle.bt_report.specs.declared.status.TheConstants.{DONE}
+use Rattle.bt_cli.specs.Fitting.{LoadsAsked}
+use Rattle.bt_report.specs.Outcome.{Outcome, text_alone}
 
 -- the text of a good plan of edition 1, with its bursts in order and the first of the heaviest lines, and nothing else
 pub record PrintsPlan (net : Net) (links : List Link) (outcome : Outcome) : Type 0 where
@@ -19,12 +19,8 @@ pub record PrintsPlan (net : Net) (links : List Link) (outcome : Outcome) : Type
   pub good : IsGoodPlan net links plan
   pub ordered : AllPairs IsNotAfter plan.bursts
   pub heaviest : IsHeaviest (matrix_of net links) plan.schedule.critical plan.schedule.length
-  pub printed : outcome ≡ text_alone (plan_spelling net plan) 0
+  pub printed : outcome ≡ text_alone (plan_spelling net plan) DONE
 
--- the demand is loaded, and where it fits, a plan for it is printed
-abbrev pub PlansDemand : (List ℕ → Option (List ℕ)) → Type 0 → List ℕ → Net → Outcome → Type 0
-PlansDemand told failed traffic net = Loads (demand_file net) told failed traffic (λ links. WhereItFits net links (PrintsPlan net links))
-
--- the network is loaded, and then the demand
+-- the network and the demand are loaded, and where it fits, a plan for it is printed
 abbrev pub Plans : (List ℕ → Option (List ℕ)) → Type 0 → List ℕ → List ℕ → Outcome → Type 0
-Plans told failed net traffic = Loads network_file told failed net (λ network. PlansDemand told failed traffic network)
+Plans told failed net traffic = LoadsAsked told failed net traffic PrintsPlan

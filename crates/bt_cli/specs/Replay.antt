@@ -1,5 +1,5 @@
 -- `replay NET JOURNAL`: the network is loaded, then the store is recovered, and what its journal comes to is printed.
-use Rattle.std.specs.Prelude.{◌≡◌, ℕ, ◌⊎◌, List, [], ◌∷◌, length, codes, Option, IfSome, option_map}
+use Rattle.std.specs.Prelude.{◌≡◌, ℕ, ◌⊎◌, List, [], length, Option, IfSome, option_map}
 use Rattle.bt_net.specs.Network.{Net, IsSound}
 use Rattle.bt_demand.specs.declared.demand.Link.{Link}
 use Rattle.bt_journal.specs.declared.call.Change.{Change}
@@ -8,11 +8,15 @@ use Rattle.bt_history.specs.declared.fault.RecoverFault.TheVariants.{OutOfMemory
 use Rattle.bt_history.specs.Changes.{edition, newest, orders, IsDemandAfter}
 use Rattle.bt_history.specs.Recovery.{IsReadable, IsRecoverFault, Recovered, marked}
 use Rattle.bt_timeline.specs.Replayed.{replay_lines}
-use Rattle.bt_centre.specs.Output.{Output}
+use Rattle.bt_report.specs.declared.status.TheConstants.{DONE}
+use Rattle.bt_report.specs.Output.{Output}
 use Rattle.bt_centre.specs.RecoverFaults.{recover_status, recover_words}
-use Rattle.bt_centre.specs.Stored.{IsAsGiven, Stored}
+use Rattle.bt_report.specs.Stored.{IsAsGiven, Stored}
 use Rattle.bt_load.specs.Kinds.{network_file}
-use Rattle.bt_load.specs.Outcome.{Outcome, Input, FilesFailed, IsLoaded, Loads, PrintsOneOf, Says, StopsAtLoad, text_alone}
+use Rattle.bt_report.specs.Faults.{SaysFaultyWords}
+use Rattle.bt_report.specs.Outcome.{Outcome, PrintsOneOf, Says, text_alone}
+use Rattle.bt_report.specs.Input.{Input, FilesFailed}
+use Rattle.bt_load.specs.Files.{IsLoaded, Loads, StopsAtLoad}
 use Rattle.bt_cli.specs.Request.{Request, ReplayJournal}
 use Rattle.bt_cli.specs.Run.{End}
 
@@ -25,7 +29,7 @@ NamesRecoverFault fault outcome = Says (recover_words fault) (recover_status fau
 pub record PrintsState (net : Net) (changes : List Change) (outcome : Outcome) : Type 0 where
   pub links : List Link
   pub demand : IsDemandAfter changes links
-  pub printed : outcome ≡ text_alone (replay_lines net (edition changes) (newest changes) (length (orders changes)) links) 0
+  pub printed : outcome ≡ text_alone (replay_lines net (edition changes) (newest changes) (length (orders changes)) links) DONE
 
 -- the changes are those that the store told, in no more bytes than are read; what stood behind their last line is cut, and the mark
 -- appended where it is owed
@@ -60,7 +64,7 @@ EndsReplay input output stored net status =
 -- the same for the words of a replay; for words of no command the store is as it was given
 abbrev pub EndsReplayWords : Input → Output → Stored → Request → ℕ → Type 0
 EndsReplayWords input output stored (ReplayJournal net _) status = EndsReplay input output stored net status
-EndsReplayWords input output stored _ status = IsAsGiven stored × PrintsOneOf output (Says (codes "fault" ∷ codes "words" ∷ []) 2) status
+EndsReplayWords input output stored _ status = IsAsGiven stored × PrintsOneOf output SaysFaultyWords status
 
 -- a replay ended so, and nothing was run
 pub record HasReplayed (input : Input) (output : Output) (stored : Stored) (net : List ℕ) (end : End) : Type 0 where

@@ -1,9 +1,9 @@
 -- What the words after the program's name ask for.
-use Rattle.std.specs.Prelude.{ℕ, ◌-◌, ◌^◌, ◌&&◌, if◌then◌else◌, nat_le, nat_lt, length, codes, Bool, List, [], ◌∷◌, Option, Some, None, option_and_then}
+use Rattle.std.specs.Prelude.{ℕ, ◌&&◌, if◌then◌else◌, nat_lt, length, codes, Bool, List, [], ◌∷◌, Option, Some, None}
 use Rattle.std.specs.Str.{bytes_eq}
-use Rattle.bt_frame.specs.declared.limits.TheConstants.{MOST_NUMBERED_BEAMS}
-use Rattle.bt_text.specs.Text.{number_of}
-use Rattle.bt_trans.specs.declared.part.TheConstants.{MOST_PART_BEAMS}
+use Rattle.bt_cli.specs.NumberWords.{beam_count_of, seed_of, transponders_of}
+use Rattle.bt_cli.specs.declared.command_line.CommandLine.{CommandLine}
+use Rattle.bt_cli.specs.declared.command_line.CommandLine.TheVariants as command_line
 
 -- a command with its words, or words of no command
 pub data Request : Type 0 where
@@ -50,18 +50,6 @@ run_request net script journal = if are_words net script journal then RunScript 
 abbrev pub replay_request : List ℕ → List ℕ → Request
 replay_request net journal = if nat_lt 0 (length net) && nat_lt 0 (length journal) then ReplayJournal net journal else Faulty
 
--- the number, where it is one of these
-abbrev pub within : ℕ → ℕ → ℕ → Option ℕ
-within least most number = if nat_le least number && nat_le number most then Some number else None
-
--- the number of beams that a word is, where a network is numbered with so many
-abbrev pub beam_count_of : List ℕ → Option ℕ
-beam_count_of word = option_and_then (within 1 MOST_NUMBERED_BEAMS) (number_of word)
-
--- the number that a word is from which a demand may be drawn: one of 64 bits
-abbrev pub seed_of : List ℕ → Option ℕ
-seed_of word = option_and_then (within 0 (2 ^ 64 - 1)) (number_of word)
-
 -- a demand that is drawn, where both of its words are numbers in range
 abbrev pub drawn_request : Option ℕ → Option ℕ → Request
 drawn_request (Some beams) (Some seed) = PlanDrawn beams seed
@@ -70,10 +58,6 @@ drawn_request _ _ = Faulty
 -- `make N NUMBER`
 abbrev pub make_request : List ℕ → List ℕ → Request
 make_request beams seed = drawn_request (beam_count_of beams) (seed_of seed)
-
--- the number of transponders that a word is, where a schedule is made for so few
-abbrev pub transponders_of : List ℕ → Option ℕ
-transponders_of word = option_and_then (within 1 MOST_PART_BEAMS) (number_of word)
 
 -- a schedule for so many transponders, where the word is such a number
 abbrev pub part_request : Option ℕ → List ℕ → Request
@@ -119,3 +103,37 @@ request_of _ = Faulty
 abbrev pub first_word : List (List ℕ) → Option (List ℕ)
 first_word [] = None
 first_word (word ∷ rest) = Some word
+
+-- ---- the command line that the code has read off the words
+
+-- what the command line asks for
+abbrev pub asked : CommandLine → Request
+asked command_line.Faulty = Faulty
+asked (command_line.CheckModes matrix modes) = CheckModes matrix.now modes.now
+asked (command_line.CheckPlan net traffic plan) = CheckPlan net.now traffic.now plan.now
+asked (command_line.PlanModes matrix) = PlanModes matrix.now
+asked (command_line.PlanDemand net traffic) = PlanDemand net.now traffic.now
+asked (command_line.RunScript net script journal) = RunScript net.now script.now journal.now
+asked (command_line.ReplayJournal net journal) = ReplayJournal net.now journal.now
+asked (command_line.PlanDrawn beams seed) = PlanDrawn beams.count seed
+asked (command_line.TimeSends net traffic plan delays) = TimeSends net.now traffic.now plan.now delays.now
+asked (command_line.PlanPart transponders matrix) = PlanPart transponders.count matrix.now
+
+-- the name of its command
+abbrev pub name_of : CommandLine → Option (List ℕ)
+name_of command_line.Faulty = None
+name_of (command_line.CheckModes _ _) = Some (codes "check")
+name_of (command_line.CheckPlan _ _ _) = Some (codes "check")
+name_of (command_line.PlanModes _) = Some (codes "modes")
+name_of (command_line.PlanDemand _ _) = Some (codes "plan")
+name_of (command_line.RunScript _ _ _) = Some (codes "run")
+name_of (command_line.ReplayJournal _ _) = Some (codes "replay")
+name_of (command_line.PlanDrawn _ _) = Some (codes "make")
+name_of (command_line.TimeSends _ _ _ _) = Some (codes "timing")
+name_of (command_line.PlanPart _ _) = Some (codes "trans")
+
+-- the journal that is asked for, where one is
+abbrev pub journal_of : Request → Option (List ℕ)
+journal_of (RunScript _ _ journal) = Some journal
+journal_of (ReplayJournal _ journal) = Some journal
+journal_of _ = None

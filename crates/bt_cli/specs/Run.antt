@@ -3,12 +3,15 @@ use Rattle.std.specs.Prelude.{◌≡◌, ◌≢◌, ◌⊎◌, ℕ, List, [], Op
 use Rattle.bt_net.specs.Network.{Net, IsSound}
 use Rattle.bt_air.specs.declared.event.Event.{Event}
 use Rattle.bt_script.specs.declared.script.Script.{Script}
+use Rattle.bt_report.specs.declared.status.TheConstants.{OUT_OF_MEMORY}
 use Rattle.bt_centre.specs.declared.history.History.{History}
-use Rattle.bt_centre.specs.Output.{Output}
+use Rattle.bt_report.specs.Output.{Output}
 use Rattle.bt_centre.specs.Run.{RunsTo}
-use Rattle.bt_centre.specs.Stored.{IsAsGiven, Stored}
+use Rattle.bt_report.specs.Stored.{IsAsGiven, Stored}
 use Rattle.bt_load.specs.Kinds.{network_file, script_file}
-use Rattle.bt_load.specs.Outcome.{Outcome, Input, FilesFailed, IsLoaded, Loads, StopsAtLoad, PrintsOneOf}
+use Rattle.bt_report.specs.Outcome.{Outcome, PrintsOneOf}
+use Rattle.bt_report.specs.Input.{Input, FilesFailed}
+use Rattle.bt_load.specs.Files.{IsLoaded, Loads, StopsAtLoad}
 
 -- what the top call gives back beside the store: the status, and the histories and the events of a run
 pub record End : Type 0 where
@@ -45,7 +48,7 @@ pub record PrintsRun (net : Net) (script : Script) (stored : Stored) (outcome : 
   pub histories : List History
   pub events : List Event
   pub ends : RunsTo net script (sink_with outcome.text) stored outcome.status histories events
-  pub memory : outcome.status ≢ 1
+  pub memory : outcome.status ≢ OUT_OF_MEMORY
 
 -- the script is loaded, and what a run of it comes to is printed
 abbrev pub RunsScript : (List ℕ → Option (List ℕ)) → Type 0 → Stored → List ℕ → Net → Outcome → Type 0

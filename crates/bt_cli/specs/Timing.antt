@@ -13,9 +13,11 @@ use Rattle.bt_verdict.specs.PlanVerdict.{IsPlanVerdict}
 use Rattle.bt_timing.specs.Times.{Times, AreTimes}
 use Rattle.bt_timing.specs.SendsText.{sends_spelling}
 use Rattle.bt_timeline.specs.Verdicts.{verdict_words}
-use Rattle.bt_cli.specs.Fitting.{WhereItFits}
-use Rattle.bt_load.specs.Kinds.{network_file, demand_file, plan_file, delay_file}
-use Rattle.bt_load.specs.Outcome.{Outcome, text_alone, Loads, Says}
+use Rattle.bt_report.specs.declared.status.TheConstants.{DONE, NOT_GOOD}
+use Rattle.bt_cli.specs.Fitting.{LoadsAsked}
+use Rattle.bt_load.specs.Kinds.{plan_file, delay_file}
+use Rattle.bt_report.specs.Outcome.{Outcome, text_alone, Says}
+use Rattle.bt_load.specs.Files.{Loads}
 
 -- the plan is not good, and what is wrong with it first is named, for links that are a demand
 pub record NamesVerdict (net : Net) (links : List Link) (plan : Plan) (outcome : Outcome) : Type 0 where
@@ -23,7 +25,7 @@ pub record NamesVerdict (net : Net) (links : List Link) (plan : Plan) (outcome :
   pub verdict : Verdict
   pub is : IsPlanVerdict net links plan verdict
   pub bad : verdict ≢ Good
-  pub says : Says (verdict_words (Some net) verdict) 9 outcome
+  pub says : Says (verdict_words (Some net) verdict) NOT_GOOD outcome
 
 -- the plan is good, and the work goes on; or what is wrong with it is named
 abbrev pub WhereItIsGood : Net → List Link → Plan → (Outcome → Type 0) → Outcome → Type 0
@@ -34,7 +36,7 @@ WhereItIsGood net links plan after outcome = NamesVerdict net links plan outcome
 pub record PrintsSends (net : Net) (plan : Plan) (times : Times) (outcome : Outcome) : Type 0 where
   pub between : AreBetweenTerminals net plan.bursts
   pub sound : AreTimes times
-  pub printed : outcome ≡ text_alone (sends_spelling net times plan.bursts) 0
+  pub printed : outcome ≡ text_alone (sends_spelling net times plan.bursts) DONE
 
 -- the delays are loaded, and then the times printed
 abbrev pub TimesDelays : (List ℕ → Option (List ℕ)) → Type 0 → List ℕ → Net → Plan → Outcome → Type 0
@@ -44,10 +46,6 @@ TimesDelays told failed delays net plan = Loads (delay_file net) told failed del
 abbrev pub TimesPlanText : (List ℕ → Option (List ℕ)) → Type 0 → List ℕ → List ℕ → Net → List Link → Outcome → Type 0
 TimesPlanText told failed plan delays net links = Loads (plan_file net) told failed plan (λ read. WhereItIsGood net links read (TimesDelays told failed delays net read))
 
--- the demand is loaded, and where it fits, then the plan
-abbrev pub TimesDemand : (List ℕ → Option (List ℕ)) → Type 0 → List ℕ → List ℕ → List ℕ → Net → Outcome → Type 0
-TimesDemand told failed traffic plan delays net = Loads (demand_file net) told failed traffic (λ links. WhereItFits net links (TimesPlanText told failed plan delays net links))
-
--- the network is loaded, and then the demand
+-- the network and the demand are loaded, and where it fits, then the plan
 abbrev pub TimesSends : (List ℕ → Option (List ℕ)) → Type 0 → List ℕ → List ℕ → List ℕ → List ℕ → Outcome → Type 0
-TimesSends told failed net traffic plan delays = Loads network_file told failed net (λ network. TimesDemand told failed traffic plan delays network)
+TimesSends told failed net traffic plan delays = LoadsAsked told failed net traffic (TimesPlanText told failed plan delays)

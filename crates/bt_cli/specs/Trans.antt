@@ -5,8 +5,10 @@ use Rattle.bt_trans.specs.declared.part.TheConstants.{MOST_PART_BEAMS}
 use Rattle.bt_trans.specs.declared.part.PartSchedule.{PartSchedule}
 use Rattle.bt_trans.specs.Part.{IsGoodPart, IsNamed}
 use Rattle.bt_trans.specs.PartText.{part_spelling}
+use Rattle.bt_report.specs.declared.status.TheConstants.{DONE, FAULTY_TEXT}
 use Rattle.bt_load.specs.Kinds.{matrix_file}
-use Rattle.bt_load.specs.Outcome.{Outcome, Loads, Says, text_alone}
+use Rattle.bt_report.specs.Outcome.{Outcome, Says, text_alone}
+use Rattle.bt_load.specs.Files.{Loads}
 
 -- the matrix has as many beams as there are transponders at least, and no more than a schedule is made for
 abbrev pub Suits : ℕ → List (List ℕ) → Type 0
@@ -14,7 +16,7 @@ Suits transponders rows = (transponders ≤ length rows) × (length rows ≤ MOS
 
 -- it has too many beams, or too few, and that is said
 abbrev pub NamesSize : ℕ → List (List ℕ) → Outcome → Type 0
-NamesSize transponders rows outcome = ((MOST_PART_BEAMS < length rows) ⊎ (length rows < transponders)) × Says (codes "fault" ∷ codes "X3" ∷ []) 4 outcome
+NamesSize transponders rows outcome = ((MOST_PART_BEAMS < length rows) ⊎ (length rows < transponders)) × Says (codes "fault" ∷ codes "X3" ∷ []) FAULTY_TEXT outcome
 
 -- The text of a schedule that is good for the matrix, with its heaviest line as the bound where that is as long, and nothing
 -- else.
@@ -22,7 +24,7 @@ pub record PrintsPart (transponders : ℕ) (rows : List (List ℕ)) (outcome : O
   pub schedule : PartSchedule
   pub good : IsGoodPart rows transponders schedule
   pub named : IsNamed rows schedule.length schedule.bound
-  pub printed : outcome ≡ text_alone (part_spelling rows schedule) 0
+  pub printed : outcome ≡ text_alone (part_spelling rows schedule) DONE
 
 -- the transponders suit the matrix, and a schedule is printed; or its size is at fault
 abbrev pub PrintsWhereItSuits : ℕ → List (List ℕ) → Outcome → Type 0

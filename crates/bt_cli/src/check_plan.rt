@@ -4,18 +4,18 @@ ghost use Rattle.bt_outside.specs.Told.{Rose};
 ghost use Rattle.bt_frame.specs.Critical.{IsOfBeams};
 ghost use Rattle.bt_verdict.specs.PlanVerdict.{AreBetweenTerminals, IsPlanVerdict};
 ghost use Rattle.bt_demand.specs.Traffic.{matrix_of, AreOfNetwork, HasSumsTo};
-ghost use Rattle.bt_cli.specs.CheckPlan.{ChecksDemand, ChecksPlan, ChecksPlanText, JudgesPlan};
-ghost use Rattle.bt_cli.specs.Fitting.{WhereItFits};
+ghost use Rattle.bt_cli.specs.CheckPlan.{ChecksPlan, ChecksPlanText, JudgesPlan};
 ghost use Rattle.bt_timeline.specs.Verdicts.{CanName};
-ghost use Rattle.bt_load.specs.Printing.{CameTo};
+ghost use Rattle.bt_report.specs.Printing.{CameTo};
 
+use crate::asked::load_asked;
 use crate::check::status_of;
-use crate::fit::test_fit;
 use bt_demand::{Demand, Plan};
-use bt_load::{Report, Stop, load_demand, load_network, load_plan};
+use bt_load::load_plan;
 use bt_matrix::MOST_SUM;
 use bt_net::Network;
 use bt_outside::Files;
+use bt_report::{Report, Stop};
 use bt_timeline::verdict_text;
 use bt_verdict::{Verdict, check};
 use std::alloc::Global;
@@ -30,37 +30,8 @@ pub fn check_plan_files<F: Files>(
 ) -> Result<Report, Stop>
     ensures judged { CameTo (ChecksPlan (F.told files.old) (Rose (F.fault_count files.old) (F.fault_count files.new)) net.now traffic.now plan.now) result }
 {
-    let net = load_network(alloc, files, net)?;
-    check_demand_file(alloc, files, &net, traffic, plan)
-}
-
-fn check_demand_file<F: Files>(
-    alloc: Global,
-    files: &mut F,
-    net: &Network,
-    traffic: &str,
-    plan: &str,
-) -> Result<Report, Stop>
-    ensures { CameTo (ChecksDemand (F.told files.old) (Rose (F.fault_count files.old) (F.fault_count files.new)) traffic.now plan.now net.now) result }
-{
-    let demand = load_demand(alloc, files, traffic, net)?;
-    check_demand(alloc, files, net, &demand, plan)
-}
-
-/// The verdict on the plan in a file, where the demand fits.
-fn check_demand<F: Files>(
-    alloc: Global,
-    files: &mut F,
-    net: &Network,
-    demand: &Demand,
-    plan: &str,
-) -> Result<Report, Stop>
-    requires terminals { AreOfNetwork net.now demand.now }
-    requires sums { HasSumsTo MOST_SUM (matrix_of net.now demand.now) }
-    ensures { CameTo (WhereItFits net.now demand.now (ChecksPlanText (F.told files.old) (Rose (F.fault_count files.old) (F.fault_count files.new)) plan.now net.now demand.now)) result }
-{
-    test_fit(alloc, net, demand)?;
-    check_plan_file(alloc, files, net, demand, plan)
+    let asked = load_asked(alloc, files, net, traffic)?;
+    check_plan_file(alloc, files, &asked.net, &asked.demand, plan)
 }
 
 fn check_plan_file<F: Files>(

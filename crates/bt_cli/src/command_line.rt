@@ -1,8 +1,7 @@
 // What the words after the program's name ask for.
 ghost use Rattle.std.specs.Prelude.{◌≡◌, Some, map, codes, IfSome};
 ghost use Rattle.std.specs.String.{string_bytes};
-ghost use Rattle.bt_cli.specs.Request.{asked_with_four, asked_with_one, asked_with_three, asked_with_two, check_plan_request, check_request, first_word, make_request, modes_request, part_request, plan_request, replay_request, request_of, run_request, timing_request, trans_request};
-ghost use Rattle.bt_cli.specs.CommandLine.{asked, name_of};
+ghost use Rattle.bt_cli.specs.Request.{asked, asked_with_four, asked_with_one, asked_with_three, asked_with_two, check_plan_request, check_request, first_word, make_request, modes_request, name_of, part_request, plan_request, replay_request, request_of, run_request, timing_request, trans_request};
 
 use crate::number_word::{BeamCount, Transponders, seed_of};
 

@@ -11,17 +11,19 @@ ghost use Rattle.bt_plan.specs.PlanText.{plan_of};
 ghost use Rattle.bt_plan.specs.ScheduleSpelling.{schedule_spelling};
 ghost use Rattle.bt_plan.specs.ScheduleText.{schedule_of};
 ghost use Rattle.bt_words.specs.Lines.{line_of};
+ghost use Rattle.bt_report.specs.declared.status.TheConstants.{DONE, WRITE_FAILED};
 ghost use Rattle.bt_cli.specs.Check.{Judges};
 ghost use Rattle.bt_cli.specs.CheckPlan.{JudgesPlan};
-ghost use Rattle.bt_cli.specs.Complete.{NothingFails, Serves};
+ghost use Rattle.bt_cli.specs.Complete.{NothingFails};
 ghost use Rattle.bt_cli.specs.Fitting.{Fits};
-ghost use Rattle.bt_load.specs.Outcome.{FilesFailed, Input, Outcome, PrintsOneOf, Says, text_alone};
+ghost use Rattle.bt_report.specs.Input.{FilesFailed, Input};
+ghost use Rattle.bt_report.specs.Outcome.{Outcome, PrintsOneOf, Says, text_alone};
 ghost use Rattle.bt_cli.specs.Plans.{PrintsPlan};
 ghost use Rattle.bt_cli.specs.Request.{Request};
-ghost use Rattle.bt_centre.specs.Output.{Output};
-ghost use Rattle.bt_centre.specs.Stored.{Stored};
+ghost use Rattle.bt_report.specs.Output.{Output};
+ghost use Rattle.bt_report.specs.Stored.{Stored};
 ghost use Rattle.bt_cli.specs.Run.{End};
-ghost use Rattle.bt_cli.specs.Top.{AreOneStore, AreTold, Ends, IsOneReport, ReportsWith};
+ghost use Rattle.bt_cli.specs.Top.{AreOneStore, AreTold, Ends, IsOneReport, ReportsWith, Serves};
 
 use bt_book::journals_tell_one_thing;
 use bt_demand::{good_plans_are_flyable, links_tell_demands};
@@ -49,7 +51,7 @@ pub fn one_report()
 /// outcomes that the promise allows was printed with its status.
 pub fn ends_are_reports()
     ensures printed { (input : Input) (output : Output) (stored : Stored) (request : Request) (end : End) → Ends input output stored request end
-        → (end.status ≡ 6) ⊎ PrintsOneOf output (ReportsWith input.told (FilesFailed input) stored request) end.status }
+        → (end.status ≡ WRITE_FAILED) ⊎ PrintsOneOf output (ReportsWith input.told (FilesFailed input) stored request) end.status }
 {}
 
 /// Where the words are a command's, each file that is read is told, within its limit and of its grammar, the demand fits
@@ -59,6 +61,7 @@ pub fn sound_input_is_served()
     ensures served { (input : Input) (output : Output) (stored : Stored) (request : Request) (end : End)
         → NothingFails input output stored → Ends input output stored request end → Serves input.told stored request end.status }
 {
+    one_line_is_heaviest();
     links_tell_demands();
     journals_tell_one_thing();
 }
@@ -68,9 +71,9 @@ pub fn sound_input_is_served()
 pub fn printed_schedules_are_read_back()
     ensures read { (text : List ℕ) (rows : List (List ℕ)) (schedule : Schedule) → matrix_of text ≡ Ok rows → IsGood rows schedule
         → schedule_of (length rows) (schedule_spelling schedule) ≡ Ok schedule }
-    ensures judged { (rows : List (List ℕ)) (schedule : Schedule) → IsGood rows schedule → Judges rows schedule (text_alone (line_of (codes "good" ∷ [])) 0) }
+    ensures judged { (rows : List (List ℕ)) (schedule : Schedule) → IsGood rows schedule → Judges rows schedule (text_alone (line_of (codes "good" ∷ [])) DONE) }
     ensures alone { (rows : List (List ℕ)) (schedule : Schedule) (outcome : Outcome) → IsGood rows schedule
-        → Judges rows schedule outcome → Says (codes "good" ∷ []) 0 outcome }
+        → Judges rows schedule outcome → Says (codes "good" ∷ []) DONE outcome }
 {
     one_verdict();
     schedules_have_one_spelling();
@@ -82,9 +85,9 @@ pub fn printed_plans_are_read_back()
     ensures read { (net : Net) (links : List Link) (outcome : Outcome) → IsSound net → AreOfNetwork net links → Fits net links
         → (printed : PrintsPlan net links outcome) → plan_of net outcome.text ≡ Ok printed.plan }
     ensures judged { (net : Net) (links : List Link) (outcome : Outcome) → IsDemand links
-        → (printed : PrintsPlan net links outcome) → JudgesPlan net links printed.plan (text_alone (line_of (codes "good" ∷ [])) 0) }
+        → (printed : PrintsPlan net links outcome) → JudgesPlan net links printed.plan (text_alone (line_of (codes "good" ∷ [])) DONE) }
     ensures alone { (net : Net) (links : List Link) (outcome judged : Outcome)
-        → (printed : PrintsPlan net links outcome) → JudgesPlan net links printed.plan judged → Says (codes "good" ∷ []) 0 judged }
+        → (printed : PrintsPlan net links outcome) → JudgesPlan net links printed.plan judged → Says (codes "good" ∷ []) DONE judged }
 {
     one_plan_verdict();
     good_plans_are_flyable();

@@ -1,15 +1,18 @@
 //! The commands of the program, and the top call that carries its promise.
 //!
-//! It stands on the loader of files and on what a report is (`bt_load`), on the planners and checkers, on the book and what
-//! its store tells (`bt_book`), on the run of scripts over a store (`bt_centre`) and on the printed lines (`bt_timeline`).
+//! It stands on the loader of files (`bt_load`) and on what a report is (`bt_report`), on the planners and checkers, on the
+//! book and what its store tells (`bt_book`), on the run of scripts over a store (`bt_centre`) and on the printed lines
+//! (`bt_timeline`).
 //! Promises: `specs/Top.antt` says how the program ends and what it leaves in the store, case by case in the order of the
-//! work, and the files that it names say so of each command, in the words of `bt_load`'s `specs/Outcome.antt`. For bodies
+//! work, and the files that it names say so of each command, in the words of `bt_load`'s `specs/Files.antt`. For bodies
 //! alone: `CommandLine`.
 #![tactic(auto)]
 
+mod asked;
 mod check;
 mod check_plan;
 mod command_line;
+mod commands;
 mod fit;
 mod laws;
 mod make;
@@ -23,19 +26,12 @@ mod timing;
 mod top;
 mod trans;
 
-pub use bt_centre::{
-    DONE, FAULTY_JOURNAL, FAULTY_TEXT, FAULTY_WORDS, Histories, History, NO_NETWORK, NOT_GOOD,
-    OUT_OF_MEMORY, READ_FAILED, STORE_FAILED, TOO_LONG, WRITE_FAILED, print_text,
-};
-pub use check::check_command;
+pub use bt_centre::{Histories, History};
+pub use commands::{check_command, modes_command, plan_command, timing_command, trans_command};
 pub use laws::{
     ends_are_reports, one_report, printed_plans_are_read_back, printed_schedules_are_read_back,
     sound_input_is_served,
 };
 pub use make::{Made, make_command};
-pub use modes::modes_command;
-pub use plan::plan_command;
 pub use replay::replay_command;
-pub use timing::timing_command;
-pub use top::{Ended, centre_main};
-pub use trans::trans_command;
+pub use top::{Ended, centre_main, journal_of};

@@ -1,22 +1,24 @@
 // `make N NUMBER`.
 ghost use Rattle.std.specs.Prelude.{◌≡◌, map, codes, IfOk};
 ghost use Rattle.std.specs.String.{string_bytes};
+ghost use Rattle.bt_report.specs.declared.status.TheConstants.{DONE};
 ghost use Rattle.bt_cli.specs.Make.{AnswersPlan, PrintsSummary, Summarizes};
-ghost use Rattle.bt_load.specs.Outcome.{Input, PrintsOneOf, text_alone};
+ghost use Rattle.bt_report.specs.Input.{Input};
+ghost use Rattle.bt_report.specs.Printing.{CameTo};
+ghost use Rattle.bt_report.specs.Outcome.{PrintsOneOf, text_alone};
 ghost use Rattle.bt_cli.specs.Request.{PlanDrawn, first_word, request_of};
 ghost use Rattle.bt_cli.specs.Top.{Reported};
 
 use crate::command_line::{CommandLine, command_line_of};
 use crate::number_word::BeamCount;
 use crate::summary::summary_text;
-use bt_centre::{DONE, OUT_OF_MEMORY, print_text};
 use bt_cut::make_plan_for;
 use bt_demand::Plan;
 use bt_frame::{EditionNo, OutOfMemory};
-use bt_load::print_faulty_words;
 use bt_make::make_demand;
 use bt_net::Network;
 use bt_outside::Sink;
+use bt_report::{DONE, OUT_OF_MEMORY, Report, Stop, print_faulty_words, print_text};
 use std::alloc::Global;
 
 /// The edition of a plan that is made for a demand alone.
@@ -75,6 +77,17 @@ fn plan_drawn<O: Sink>(alloc: Global, beams: BeamCount, seed: u64, out: &mut O) 
     Made { status, plan }
 }
 
+/// What a drawn demand and its plan come to.
+pub(crate) fn drawn_report(alloc: Global, beams: BeamCount, seed: u64) -> Result<Report, Stop>
+    ensures { CameTo (PrintsSummary beams.count seed) result }
+{
+    let drawn = draw(alloc, beams, seed)?;
+    Ok(Report {
+        text: drawn.text,
+        status: DONE,
+    })
+}
+
 /// The plan of a drawn demand, and what is printed of it.
 #[derive(Drop)]
 struct Drawn {
@@ -84,7 +97,7 @@ struct Drawn {
 
 /// Draws a demand and makes its plan.
 fn draw(alloc: Global, beams: BeamCount, seed: u64) -> Result<Drawn, OutOfMemory>
-    ensures { IfOk result (λ drawn. Summarizes beams.count seed drawn.plan (text_alone drawn.text.items 0)) }
+    ensures { IfOk result (λ drawn. Summarizes beams.count seed drawn.plan (text_alone drawn.text.items DONE)) }
 {
     let net = Network::numbered(alloc, beams.count)?;
     let made = make_demand(alloc, &net, seed)?;

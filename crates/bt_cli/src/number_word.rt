@@ -3,7 +3,7 @@ ghost use Rattle.std.specs.Prelude.{◌≡◌, option_map};
 ghost use Rattle.bt_frame.specs.Range.{IsWithin};
 ghost use Rattle.bt_frame.specs.declared.limits.TheConstants.{MOST_NUMBERED_BEAMS};
 ghost use Rattle.bt_trans.specs.declared.part.TheConstants.{MOST_PART_BEAMS};
-ghost use Rattle.bt_cli.specs.Request.{beam_count_of, seed_of, transponders_of};
+ghost use Rattle.bt_cli.specs.NumberWords.{beam_count_of, seed_of, transponders_of};
 
 use bt_frame::MOST_NUMBERED_BEAMS;
 use bt_text::number;

@@ -2,16 +2,17 @@
 ghost use Rattle.std.specs.Prelude.{◌≡◌, map, codes};
 ghost use Rattle.std.specs.String.{string_bytes};
 ghost use Rattle.bt_history.specs.Causes.{Follows};
-ghost use Rattle.bt_load.specs.Printing.{CameTo};
+ghost use Rattle.bt_report.specs.Printing.{CameTo};
 ghost use Rattle.bt_cli.specs.Replay.{EndsRecovery, EndsReplay, EndsReplayWords, PrintsState};
 ghost use Rattle.bt_cli.specs.Request.{first_word, request_of};
 
 use crate::command_line::{CommandLine, command_line_of};
 use bt_book::{Book, demands_fit_the_frame};
-use bt_centre::{DONE, print_fault};
-use bt_load::{Report, Stop, load_network, print, print_faulty_words};
+use bt_centre::print_fault;
+use bt_load::load_network;
 use bt_net::Network;
 use bt_outside::{Files, Keeper, Sink};
+use bt_report::{DONE, Report, Stop, print, print_faulty_words};
 use bt_timeline::replay_text;
 use std::alloc::Global;
 
@@ -41,7 +42,7 @@ pub fn replay_command<F: Files, O: Sink, K: Keeper>(
 }
 
 /// Replays the store over the network in a file.
-fn replay_files<F: Files, O: Sink, K: Keeper>(
+pub(crate) fn replay_files<F: Files, O: Sink, K: Keeper>(
     alloc: Global,
     net: &str,
     files: &mut F,

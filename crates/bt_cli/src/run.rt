@@ -4,9 +4,10 @@ ghost use Rattle.bt_cli.specs.Run.{EndsRun, EndsScript};
 
 use crate::Ended;
 use bt_centre::{NoGate, run_script};
-use bt_load::{load_network, load_script, print};
+use bt_load::{load_network, load_script};
 use bt_net::Network;
 use bt_outside::{Files, Keeper, Sink};
+use bt_report::print;
 use std::alloc::Global;
 use std::sync::Wait;
 use std::thread::Threads;

@@ -1,21 +1,15 @@
 // The top call.
-ghost use Rattle.std.specs.Prelude.{◌≡◌, map, []};
+ghost use Rattle.std.specs.Prelude.{◌≡◌, map, [], option_map};
 ghost use Rattle.std.specs.String.{string_bytes};
-ghost use Rattle.bt_cli.specs.Request.{request_of};
-ghost use Rattle.bt_cli.specs.Top.{AsksNoStore, Ends, Reported};
+ghost use Rattle.bt_cli.specs.Request.{asked, journal_of, request_of};
+ghost use Rattle.bt_cli.specs.Top.{Ends};
 
-use crate::check::check_command;
 use crate::command_line::{CommandLine, command_line_of};
-use crate::make::make_command;
-use crate::modes::modes_command;
-use crate::plan::plan_command;
-use crate::replay::replay_command;
+use crate::commands::report;
+use crate::replay::replay_files;
 use crate::run::run_files;
-use crate::timing::timing_command;
-use crate::trans::trans_command;
 use bt_air::Event;
 use bt_centre::{Histories, RunEnd};
-use bt_load::print_faulty_words;
 use bt_outside::{Files, Keeper, Sink};
 use std::alloc::Global;
 use std::sync::Wait;
@@ -69,19 +63,7 @@ impl<K> Ended<K> {
 /// Does what the words after the program's name ask for. A run and a replay read the store; any other command hands it back
 /// as it was.
 ///
-/// | status | when |
-/// |---|---|
-/// | 0 | done |
-/// | 1 | memory ran out |
-/// | 2 | the words are none of a command |
-/// | 3 | the bytes of a network file are no network |
-/// | 4 | a text leaves its grammar or its limits, or a demand does not fit the frame |
-/// | 5 | a file could not be read |
-/// | 6 | the output could not be written |
-/// | 7 | the store failed: it could not be read, cut or marked, or a line of a run was not kept |
-/// | 8 | a line of the journal is of no change, or of one that does not follow |
-/// | 9 | the verdict of `check`, or of `timing` on its plan, is not good |
-/// | 10 | a file is longer than `MOST_FILE_BYTES`, or the store than `MOST_JOURNAL_BYTES` |
+/// The status is one of the table in `bt_report`, `meaning.rt`.
 pub fn centre_main<R: Threads + Wait + Sync, F: Files, O: Sink, K: Keeper + Send>(
     rt: &R,
     alloc: Global,
@@ -96,35 +78,44 @@ pub fn centre_main<R: Threads + Wait + Sync, F: Files, O: Sink, K: Keeper + Send
         (request_of (map string_bytes words.now))
         (record { status = result.status; histories = result.histories; events = result.events.items }) }
 {
-    match command_line_of(words) {
+    serve(rt, alloc, command_line_of(words), files, out, store)
+}
+
+/// Does what a command line asks for.
+fn serve<R: Threads + Wait + Sync, F: Files, O: Sink, K: Keeper + Send>(
+    rt: &R,
+    alloc: Global,
+    line: CommandLine<'_>,
+    files: &mut F,
+    out: &mut O,
+    store: K,
+) -> Ended<K>
+    ensures ends { Ends (record { told = F.told files.old; faults_before = F.fault_count files.old; faults_after = F.fault_count files.new })
+        (record { before = O.told out.old; after = O.told out.new; faults_before = O.fault_count out.old; faults_after = O.fault_count out.new })
+        (record { before = K.told store; after = K.told result.store; faults_before = K.fault_count store; faults_after = K.fault_count result.store })
+        (asked line)
+        (record { status = result.status; histories = result.histories; events = result.events.items }) }
+{
+    match line {
         CommandLine::RunScript { net, script, .. } => {
             run_files(rt, alloc, net, script, files, out, store)
         }
-        CommandLine::ReplayJournal { .. } => {
-            let (status, store) = replay_command(alloc, words, files, out, store);
+        CommandLine::ReplayJournal { net, .. } => {
+            let (status, store) = replay_files(alloc, net, files, out, store);
             Ended::without_run(alloc, status, store)
         }
-        _ => Ended::without_run(alloc, report(alloc, words, files, out), store),
+        _ => Ended::without_run(alloc, report(alloc, line, files, out), store),
     }
 }
 
-/// Does what a command asks for that reads no store, reports on it, and gives the status to end with.
-fn report<F: Files, O: Sink>(alloc: Global, words: &[String], files: &mut F, out: &mut O) -> u8
-    requires { AsksNoStore (request_of (map string_bytes words.now)) }
-    ensures { Reported (record { told = F.told files.old; faults_before = F.fault_count files.old; faults_after = F.fault_count files.new })
-        (record { before = O.told out.old; after = O.told out.new; faults_before = O.fault_count out.old; faults_after = O.fault_count out.new })
-        (request_of (map string_bytes words.now)) result }
+/// The journal that the words name; None where they ask for none, or are no command's.
+pub fn journal_of(words: &[String]) -> Option<&str>
+    ensures journal { option_map (λ journal. journal.now) result ≡ journal_of (request_of (map string_bytes words.now)) }
 {
     match command_line_of(words) {
-        CommandLine::Faulty => print_faulty_words(alloc, out),
-        CommandLine::CheckModes { .. } | CommandLine::CheckPlan { .. } => {
-            check_command(alloc, words, files, out)
+        CommandLine::RunScript { journal, .. } | CommandLine::ReplayJournal { journal, .. } => {
+            Some(journal)
         }
-        CommandLine::PlanModes { .. } => modes_command(alloc, words, files, out),
-        CommandLine::PlanDemand { .. } => plan_command(alloc, words, files, out),
-        CommandLine::TimeSends { .. } => timing_command(alloc, words, files, out),
-        CommandLine::PlanPart { .. } => trans_command(alloc, words, files, out),
-        CommandLine::PlanDrawn { .. } => make_command(alloc, words, out).status,
-        CommandLine::RunScript { .. } | CommandLine::ReplayJournal { .. } => unreachable!(),
+        _ => None,
     }
 }

@@ -1,60 +1,25 @@
 // `trans K MATRIX`.
-ghost use Rattle.std.specs.Prelude.{◌≡◌, ◌≤◌, map, codes, length, OnOk, IfErr};
-ghost use Rattle.std.specs.String.{string_bytes};
+ghost use Rattle.std.specs.Prelude.{◌≤◌, length, OnOk, IfErr};
 ghost use Rattle.bt_frame.specs.declared.limits.TheConstants.{MOST_SUM};
 ghost use Rattle.bt_outside.specs.Told.{Rose};
 ghost use Rattle.bt_trans.specs.Part.{total_slots};
 ghost use Rattle.bt_trans.specs.declared.part.TheConstants.{MOST_PART_BEAMS};
-ghost use Rattle.bt_load.specs.Printing.{CameTo};
-ghost use Rattle.bt_load.specs.Report.{StopIs};
-ghost use Rattle.bt_cli.specs.Request.{first_word, request_of};
-ghost use Rattle.bt_cli.specs.Top.{Reported, Reports};
+ghost use Rattle.bt_report.specs.Printing.{CameTo};
+ghost use Rattle.bt_report.specs.Report.{StopIs};
 ghost use Rattle.bt_cli.specs.Trans.{NamesSize, PlansPart, PrintsPart, PrintsWhereItSuits, Suits};
 
-use crate::command_line::{CommandLine, command_line_of};
 use crate::number_word::Transponders;
-use bt_centre::{DONE, FAULTY_TEXT};
 use bt_frame::MOST_SUM;
-use bt_load::{Report, Stop, faulty_words, load_matrix, print};
+use bt_load::load_matrix;
 use bt_matrix::{Dense, Traffic};
-use bt_outside::{Files, Sink};
+use bt_outside::Files;
+use bt_report::{DONE, FAULTY_TEXT, Report, Stop};
 use bt_trans::{MOST_PART_BEAMS, part_schedule, part_text};
 use bt_words::Word;
 use std::alloc::Global;
 
-/// Prints a switching schedule of the least length that carries a traffic matrix with so many transponders.
-///
-/// The words are those after the program's name, of which the first is `trans`. The status is 0 where the
-/// schedule is printed; the refusals are those of the top call.
-pub fn trans_command<F: Files, O: Sink>(
-    alloc: Global,
-    words: &[String],
-    files: &mut F,
-    out: &mut O,
-) -> u8
-    requires first { first_word (map string_bytes words.now) ≡ Some (codes "trans") }
-    ensures reported { Reported (record { told = F.told files.old; faults_before = F.fault_count files.old; faults_after = F.fault_count files.new })
-        (record { before = O.told out.old; after = O.told out.new; faults_before = O.fault_count out.old; faults_after = O.fault_count out.new })
-        (request_of (map string_bytes words.now)) result }
-{
-    let outcome = trans_words(alloc, words, files);
-    print(alloc, out, outcome)
-}
-
-fn trans_words<F: Files>(alloc: Global, words: &[String], files: &mut F) -> Result<Report, Stop>
-    requires { first_word (map string_bytes words.now) ≡ Some (codes "trans") }
-    ensures { CameTo (Reports (F.told files.old) (Rose (F.fault_count files.old) (F.fault_count files.new)) (request_of (map string_bytes words.now))) result }
-{
-    match command_line_of(words) {
-        CommandLine::PlanPart {
-            transponders,
-            matrix,
-        } => plan_part(alloc, files, transponders, matrix),
-        _ => Ok(faulty_words(alloc)?),
-    }
-}
-
-fn plan_part<F: Files>(
+/// A schedule of the least length for the matrix in a file, with so many transponders.
+pub fn plan_part<F: Files>(
     alloc: Global,
     files: &mut F,
     transponders: Transponders,

@@ -2,7 +2,10 @@
 use Rattle.std.proofs.Common.{◌≡◌, ℕ, ◌<◌, ◌≤◌, ◌⊎◌, inl, inr, List, length, Option, Some, Result, Ok, Err, sym, ap, ◌∙◌, subst, arith}
 use Rattle.bt_outside.specs.Told.{Gives, IsLonger}
 use Rattle.bt_words.specs.Lines.{line_of}
-use Rattle.bt_load.specs.Outcome.{Outcome, Kind, text_alone, IsContent, IsLoaded, Misspells, Loads}
+use Rattle.bt_report.specs.declared.status.TheConstants.{DONE}
+use Rattle.bt_report.specs.Outcome.{Outcome, text_alone}
+use Rattle.bt_report.proofs.Works.{Does-same, IsOneLoad}
+use Rattle.bt_load.specs.Files.{IsContent, IsLoaded, IsTold, Kind, Loads, Misspells, StopsAtLoad}
 
 -- a told file has one content
 pub one_content : (told : List ℕ → Option (List ℕ)) (name held bytes : List ℕ) → told name ≡ Some held → IsContent told name bytes → bytes ≡ held
@@ -55,22 +58,33 @@ not_longer told name held bytes is longer content =
     let within = held_within told name held bytes is content in
     absurd (omega (arith, over, within))
 
--- A load of a told file that did not fail has one outcome, where what comes after it has one. What counts as one
--- outcome may be less than being the same.
+-- the load of a told file is one where no read failed
+stops_same : {Value Fault : Type 0} (kind : Kind Value Fault) (told : List ℕ → Option (List ℕ)) (failed : Type 0) (name held : List ℕ) → ¬ failed → told name ≡ Some held → (a b : Outcome)
+    → StopsAtLoad kind told failed name a → StopsAtLoad kind told failed name b → a ≡ b
+stops_same kind told failed name held steady is a b (inl (inl fault)) second = absurd (steady fault.0)
+stops_same kind told failed name held steady is a b (inl (inr long)) (inl (inl fault)) = absurd (steady fault.0)
+stops_same kind told failed name held steady is a b (inl (inr long)) (inl (inr long')) = long.1 ∙ sym long'.1
+stops_same kind told failed name held steady is a b (inl (inr long)) (inr wrong) = absurd (not_longer told name held wrong.0 is long.0 wrong.2)
+stops_same kind told failed name held steady is a b (inr wrong) (inl (inl fault)) = absurd (steady fault.0)
+stops_same kind told failed name held steady is a b (inr wrong) (inl (inr long)) = absurd (not_longer told name held wrong.0 is long.0 wrong.2)
+stops_same kind told failed name held steady is a b (inr wrong) (inr wrong') = Misspells-same kind told name held is a b wrong wrong'
+
+never_stops : {Value Fault : Type 0} (kind : Kind Value Fault) (told : List ℕ → Option (List ℕ)) (failed : Type 0) (name held : List ℕ) → ¬ failed → told name ≡ Some held → (a : Outcome) (value : Value)
+    → StopsAtLoad kind told failed name a → IsLoaded kind told name value → ⊥
+never_stops kind told failed name held steady is a value (inl (inl fault)) loaded = steady fault.0
+never_stops kind told failed name held steady is a value (inl (inr long)) loaded = not_longer told name held loaded.0 is long.0 loaded.1
+never_stops kind told failed name held steady is a value (inr wrong) loaded = Misspells-not_loaded kind told name held is a value wrong loaded
+
+pub one_file : {Value Fault : Type 0} (kind : Kind Value Fault) (told : List ℕ → Option (List ℕ)) (failed : Type 0) (name : List ℕ) → ¬ failed → IsTold told name → IsOneLoad (StopsAtLoad kind told failed name) (IsLoaded kind told name)
+one_file kind told failed name steady (held, is) = record {
+  stop = stops_same kind told failed name held steady is;
+  value = IsLoaded-same kind told name held is;
+  never = never_stops kind told failed name held steady is;
+}
+
+-- so it has one outcome, where what comes after it has one
 pub Loads-same : {Value Fault : Type 0} (One : Outcome → Outcome → Type 0) → ((a b : Outcome) → a ≡ b → One a b) → (kind : Kind Value Fault) (told : List ℕ → Option (List ℕ)) (name held : List ℕ) → told name ≡ Some held → (after : Value → Outcome → Type 0) → ((v : Value) (a b : Outcome) → after v a → after v b → One a b) → (a b : Outcome) → Loads kind told ⊥ name after a → Loads kind told ⊥ name after b → One a b
-Loads-same One one kind told name held is after same a b (inl (inl (inl failed))) second = absurd failed.0
-Loads-same One one kind told name held is after same a b first (inl (inl (inl failed))) = absurd failed.0
-Loads-same One one kind told name held is after same a b (inl (inl (inr long))) (inl (inl (inr long'))) = one a b (long.1 ∙ sym long'.1)
-Loads-same One one kind told name held is after same a b (inl (inl (inr long))) (inl (inr wrong)) = absurd (not_longer told name held wrong.0 is long.0 wrong.2)
-Loads-same One one kind told name held is after same a b (inl (inl (inr long))) (inr (v, loaded, so)) = absurd (not_longer told name held loaded.0 is long.0 loaded.1)
-Loads-same One one kind told name held is after same a b (inl (inr wrong)) (inl (inl (inr long))) = absurd (not_longer told name held wrong.0 is long.0 wrong.2)
-Loads-same One one kind told name held is after same a b (inl (inr wrong)) (inl (inr wrong')) = one a b (Misspells-same kind told name held is a b wrong wrong')
-Loads-same One one kind told name held is after same a b (inl (inr wrong)) (inr (v, loaded, so)) = absurd (Misspells-not_loaded kind told name held is a v wrong loaded)
-Loads-same One one kind told name held is after same a b (inr (v, loaded, so)) (inl (inl (inr long))) = absurd (not_longer told name held loaded.0 is long.0 loaded.1)
-Loads-same One one kind told name held is after same a b (inr (v, loaded, so)) (inl (inr wrong)) = absurd (Misspells-not_loaded kind told name held is b v wrong loaded)
-Loads-same {Value} One one kind told name held is after same a b (inr (v, loaded, so)) (inr (w, loaded', so')) =
-    let P : Value → Type 0 = λ x. after x b in
-    same v a b so (subst P (IsLoaded-same kind told name held is w v loaded' loaded) so')
+Loads-same One one kind told name held is = Does-same One one (StopsAtLoad kind told ⊥ name) (IsLoaded kind told name) (one_file kind told ⊥ name (λ never. never) (held, is))
 
 -- outcomes that are the same are one
 abbrev pub IsOne : Outcome → Outcome → Type 0
@@ -79,12 +93,12 @@ IsOne a b = a ≡ b
 pub is_one : (a b : Outcome) → a ≡ b → IsOne a b
 is_one a b same = same
 
--- two outcomes of which each is as good as the other where its status is 0
+-- two outcomes of which each is as good as the other where the work was done
 abbrev pub AreAlike : Outcome → Outcome → Type 0
-AreAlike a b = (a.status ≡ b.status) × ((a.status ≡ 0) ⊎ (a ≡ b))
+AreAlike a b = (a.status ≡ b.status) × ((a.status ≡ DONE) ⊎ (a ≡ b))
 
 pub same_alike : (a b : Outcome) → a ≡ b → AreAlike a b
 same_alike a b same = (ap (λ (o : Outcome). o.status) same, inr same)
 
-pub done_alike : (a b : Outcome) → a.status ≡ 0 → b.status ≡ 0 → AreAlike a b
+pub done_alike : (a b : Outcome) → a.status ≡ DONE → b.status ≡ DONE → AreAlike a b
 done_alike a b first second = (first ∙ sym second, inl first)

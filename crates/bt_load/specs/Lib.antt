@@ -1,6 +1,4 @@
 pub mod Lines
-pub mod Outcome
+pub mod Files
 pub mod Kinds
-pub mod Report
 pub mod Stops
-pub mod Printing

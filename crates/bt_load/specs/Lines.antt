@@ -1,4 +1,4 @@
--- The lines that name a fault, each as its words.
+-- The codes of faults, and the words that name a fault of a network.
 use Rattle.std.specs.Prelude.{ℕ, List, [], ◌∷◌, codes, decimal}
 use Rattle.bt_net.specs.declared.fault.NetFault.{NetFault}
 use Rattle.bt_net.specs.declared.fault.NetFault.TheVariants as net_fault
@@ -9,6 +9,8 @@ use Rattle.bt_timing.specs.declared.fault.TimingCode.{TimingCode}
 use Rattle.bt_timing.specs.declared.fault.TimingCode.TheVariants.{G1, G2, G3, G4, G5}
 use Rattle.bt_plan.specs.declared.text_fault.TextCode.{TextCode}
 use Rattle.bt_plan.specs.declared.text_fault.TextCode.TheVariants.{X1, X2, M1, T1, T2, T3, T4, T5, P1, P2, P3}
+use Rattle.bt_run_lines.specs.declared.output.OutputCode.{OutputCode}
+use Rattle.bt_run_lines.specs.declared.output.OutputCode.TheVariants.{O1}
 
 -- the code of a text's fault
 abbrev pub code_name : TextCode → List ℕ
@@ -23,10 +25,6 @@ code_name T5 = codes "T5"
 code_name P1 = codes "P1"
 code_name P2 = codes "P2"
 code_name P3 = codes "P3"
-
--- the words of a text's first fault, with its line
-abbrev pub text_fault : TextCode → ℕ → List (List ℕ)
-text_fault code line = codes "fault" ∷ code_name code ∷ decimal line ∷ []
 
 -- the words of a network's first fault, with its place
 abbrev pub network_fault : NetFault → List (List ℕ)
@@ -46,10 +44,6 @@ script_code_name S3 = codes "S3"
 script_code_name S4 = codes "S4"
 script_code_name S5 = codes "S5"
 
--- the words of a script's first fault, with its line
-abbrev pub script_fault : ScriptCode → ℕ → List (List ℕ)
-script_fault code line = codes "fault" ∷ script_code_name code ∷ decimal line ∷ []
-
 -- the code of a delay file's fault
 abbrev pub timing_code_name : TimingCode → List ℕ
 timing_code_name G1 = codes "G1"
@@ -58,6 +52,6 @@ timing_code_name G3 = codes "G3"
 timing_code_name G4 = codes "G4"
 timing_code_name G5 = codes "G5"
 
--- the words of a delay file's first fault, with its line
-abbrev pub timing_fault : TimingCode → ℕ → List (List ℕ)
-timing_fault code line = codes "fault" ∷ timing_code_name code ∷ decimal line ∷ []
+-- the code of the fault of a run's output
+abbrev pub output_code_name : OutputCode → List ℕ
+output_code_name O1 = codes "O1"

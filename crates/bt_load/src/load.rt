@@ -1,5 +1,5 @@
 // Files, read and tested one after the other.
-ghost use Rattle.std.specs.Prelude.{◌≡◌, ◌≤◌, All, IfOk, IfErr, length};
+ghost use Rattle.std.specs.Prelude.{◌≡◌, ◌≤◌, All, IfErr, IfOk, OnOk, length};
 ghost use Rattle.bt_frame.specs.declared.limits.TheConstants.{MOST_BEAMS};
 ghost use Rattle.bt_outside.specs.Told.{Rose};
 ghost use Rattle.bt_frame.specs.Critical.{IsOfBeams};
@@ -7,19 +7,19 @@ ghost use Rattle.bt_verdict.specs.PlanVerdict.{AreBetweenTerminals};
 ghost use Rattle.bt_demand.specs.Traffic.{matrix_of, AreOfNetwork, HasSumsTo};
 ghost use Rattle.bt_script.specs.Named.{IsItemFor};
 ghost use Rattle.bt_timing.specs.Times.{AreTimes};
-ghost use Rattle.bt_load.specs.Outcome.{IsContent, CannotRead, IsLoaded, StopsAtLoad};
-ghost use Rattle.bt_load.specs.Kinds.{delay_file, demand_file, matrix_file, network_file, plan_file, schedule_file, script_file};
-ghost use Rattle.bt_load.specs.Report.{StopIs};
+ghost use Rattle.bt_load.specs.Files.{CannotRead, IsContent, IsLoaded, IsOfItsKind, StopsAtLoad};
+ghost use Rattle.bt_load.specs.Kinds.{delay_file, demand_file, matrix_file, network_file, output_file, plan_file, schedule_file, script_file};
+ghost use Rattle.bt_report.specs.Report.{StopIs};
 
-use crate::report::Stop;
-use crate::stops::{network_stop, script_stop, text_stop, timing_stop};
-use bt_centre::{READ_FAILED, TOO_LONG};
+use crate::stops::{line_stop, network_stop};
 use bt_demand::{Demand, Plan};
 use bt_frame::{MOST_FILE_BYTES, Schedule};
 use bt_matrix::{Dense, MOST_SUM};
 use bt_net::Network;
 use bt_outside::{FileFault, Files};
 use bt_plan::{read_demand, read_matrix, read_plan, read_schedule};
+use bt_report::{READ_FAILED, Stop, TOO_LONG};
+use bt_run_lines::check_output;
 use bt_script::Script;
 use bt_timing::Timing;
 use bt_words::Word;
@@ -58,7 +58,7 @@ pub fn load_matrix<F: Files>(alloc: Global, files: &mut F, name: &str) -> Result
     ensures same { F.told files.new ≡ F.told files.old }
 {
     let bytes = read_file(alloc, files, name)?;
-    read_matrix(alloc, &bytes).map_err(|fault| text_stop(alloc, fault))
+    read_matrix(alloc, &bytes).map_err(|fault| line_stop(alloc, fault))
 }
 
 /// The switching schedule in a file, for so many beams.
@@ -78,7 +78,7 @@ pub fn load_schedule<F: Files>(
     ensures same { F.told files.new ≡ F.told files.old }
 {
     let bytes = read_file(alloc, files, name)?;
-    read_schedule(alloc, size, &bytes).map_err(|fault| text_stop(alloc, fault))
+    read_schedule(alloc, size, &bytes).map_err(|fault| line_stop(alloc, fault))
 }
 
 /// The demand on a network in a file.
@@ -100,7 +100,7 @@ pub fn load_demand<F: Files>(
     let bytes = read_file(alloc, files, name)?;
     match read_demand(alloc, net, &bytes) {
         Ok(demand) => Ok(demand),
-        Err(fault) => Err(text_stop(alloc, fault)),
+        Err(fault) => Err(line_stop(alloc, fault)),
     }
 }
 
@@ -121,7 +121,7 @@ pub fn load_plan<F: Files>(
     ensures same { F.told files.new ≡ F.told files.old }
 {
     let bytes = read_file(alloc, files, name)?;
-    read_plan(alloc, net, &bytes).map_err(|fault| text_stop(alloc, fault))
+    read_plan(alloc, net, &bytes).map_err(|fault| line_stop(alloc, fault))
 }
 
 /// The network in a file.
@@ -156,7 +156,7 @@ pub fn load_script<F: Files>(
     ensures same { F.told files.new ≡ F.told files.old }
 {
     let bytes = read_file(alloc, files, name)?;
-    Script::read(alloc, net, &bytes).map_err(|fault| script_stop(alloc, fault))
+    Script::read(alloc, net, &bytes).map_err(|fault| line_stop(alloc, fault))
 }
 
 /// The delays of a network's terminals in a file.
@@ -176,5 +176,26 @@ pub fn load_delays<F: Files>(
     ensures same { F.told files.new ≡ F.told files.old }
 {
     let bytes = read_file(alloc, files, name)?;
-    Timing::read(alloc, net, &bytes).map_err(|fault| timing_stop(alloc, fault))
+    Timing::read(alloc, net, &bytes).map_err(|fault| line_stop(alloc, fault))
+}
+
+/// The bytes of what a run on a network printed.
+#[tactic(auto, using(crate::proofs::Misspelt::is_output, crate::proofs::Misspelt::output_misspelt))]
+pub fn load_output<F: Files>(
+    alloc: Global,
+    files: &mut F,
+    name: &str,
+    net: &Network,
+) -> Result<Vec<u8>, Stop>
+    ensures loaded { OnOk result (IsOfItsKind (output_file net.now) (F.told files.old) name.now) }
+    ensures stops { IfErr result (StopIs (StopsAtLoad (output_file net.now) (F.told files.old)
+        (Rose (F.fault_count files.old) (F.fault_count files.new)) name.now)) }
+    ensures later { F.fault_count files.old ≤ F.fault_count files.new }
+    ensures same { F.told files.new ≡ F.told files.old }
+{
+    let bytes = read_file(alloc, files, name)?;
+    match check_output(net, &bytes) {
+        Ok(()) => Ok(bytes),
+        Err(fault) => Err(line_stop(alloc, fault)),
+    }
 }

@@ -97,7 +97,7 @@ fn armed_or_none(armed: Option<Armed>) -> Word<'static>
     ensures { word_bytes result ≡ armed_or_none armed }
 {
     match armed {
-        Some(change) => Word::Armed(change),
+        Some(change) => Word::Armed(change.edition, change.due),
         None => Word::Text("armed none"),
     }
 }

@@ -1,7 +1,7 @@
 -- Printed lines as their words.
 use Rattle.std.specs.Prelude.{ℕ, ◌++◌, List, [], ◌∷◌, codes, decimal, flat_map}
+use Rattle.bt_frame.specs.declared.numbers.EditionNo.{EditionNo}
 use Rattle.bt_frame.specs.declared.numbers.Mark.{Mark}
-use Rattle.bt_air.specs.declared.order.Armed.{Armed}
 use Rattle.bt_words.specs.declared.line.Word.{Word}
 use Rattle.bt_words.specs.declared.line.Word.TheVariants as word
 
@@ -22,9 +22,9 @@ desk_name desk = codes "desk" ++ 32 ∷ decimal desk
 abbrev pub frame_name : Mark → ℕ → List ℕ
 frame_name mark number = decimal mark.0 ++ 46 ∷ decimal number
 
--- the change for which the satellite is armed
-abbrev pub armed_name : Armed → List ℕ
-armed_name change = codes "armed " ++ decimal change.edition.0 ++ codes " due " ++ decimal change.due.0
+-- the change for which the satellite is armed: the edition that is to come to the front, and when
+abbrev pub armed_name : EditionNo → Mark → List ℕ
+armed_name edition due = codes "armed " ++ decimal edition.0 ++ codes " due " ++ decimal due.0
 
 -- what a word of the code spells
 abbrev pub word_bytes : Word → List ℕ
@@ -32,4 +32,4 @@ word_bytes (word.Text text) = text.now
 word_bytes (word.Number number) = decimal number
 word_bytes (word.Desk desk) = desk_name desk
 word_bytes (word.Frame mark number) = frame_name mark number
-word_bytes (word.Armed change) = armed_name change
+word_bytes (word.Armed edition due) = armed_name edition due

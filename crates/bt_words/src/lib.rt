@@ -1,8 +1,8 @@
 //! A printed line as its words: texts, numbers, desks, frames, and the change that a satellite is armed for.
 //!
 //! A call appends a line to a text, its newline included, and leaves the text as it was where memory runs out. It stands on
-//! printed numbers, and on the messages of the air for what one of its words names. `specs/Lines.antt` is promise, what a
-//! line and its words spell; `specs/Written.antt` says of a text that it only grew.
+//! printed numbers. `specs/Lines.antt` is promise, what a line and its words spell; `specs/Written.antt` says of a text that it
+//! only grew.
 #![tactic(auto)]
 
 mod line;

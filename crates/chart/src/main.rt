@@ -1,14 +1,13 @@
 //! The program that draws: it makes the real files and the output, and hands its words to the top call.
 //!
-//! It stands on the real adapters (`bt_outside`), on the words of a command line (`bt_load`) and on the top call
-//! (`bt_chart`).
+//! It stands on the real adapters (`bt_outside`), on what a program ends with (`bt_report`) and on the top call (`bt_chart`).
 #![tactic(auto)]
 
 mod pages;
 
-use bt_chart::{DONE, OUT_OF_MEMORY, chart_main, print_text};
-use bt_load::words_after_name;
+use bt_chart::chart_main;
 use bt_outside::{DirFiles, StdSink};
+use bt_report::{DONE, OUT_OF_MEMORY, Program, Reason, print_text, words_after_name};
 use std::alloc::{AllocError, Global};
 use std::process::ExitCode;
 
@@ -20,13 +19,14 @@ fn main(rt: HostRuntime) -> ExitCode {
     let mut out = StdSink::new(rt.stdout());
     let asked = words_after_name(&rt, alloc).and_then(|words| with_standard_input(alloc, words));
     let status = match asked {
-        Ok(words) => match pages::page_of(&words) {
-            Some(page) => print_text(alloc, page.as_bytes(), DONE, &mut out),
-            None => chart_main(alloc, &words, &mut DirFiles::new(&rt), &mut out),
+        Ok(words) => match pages::page_of(alloc, &words) {
+            Ok(Some(page)) => print_text(alloc, page.as_slice(), DONE, &mut out),
+            Ok(None) => chart_main(alloc, &words, &mut DirFiles::new(&rt), &mut out),
+            Err(_) => OUT_OF_MEMORY,
         },
         Err(_) => OUT_OF_MEMORY,
     };
-    if let Some(reason) = pages::reason_of(status) {
+    if let Some(reason) = Reason::of(Program::Chart, status) {
         // where standard error cannot be written either, the status alone tells
         let _told = eprintln!(rt; "chart: {reason}");
     }

@@ -1,10 +1,10 @@
 // The pages that the program prints about itself.
-use bt_chart::{
-    FAULTY_TEXT, FAULTY_WORDS, NO_NETWORK, OUT_OF_MEMORY, READ_FAILED, TOO_LONG, WRITE_FAILED,
-};
+use bt_frame::OutOfMemory;
+use bt_report::{Program, add_statuses};
+use std::alloc::Global;
 
-/// What `--help` prints.
-const HELP: &str = "\
+/// What `--help` prints before the table of statuses.
+const COMMANDS: &str = "\
 chart, pictures of the plans and the runs of a satellite-switched TDMA system
 
 usage: chart COMMAND WORDS..
@@ -32,16 +32,10 @@ The picture is printed as SVG 1.1, which browsers show. The word `-` in the
 place of PLAN or OUTPUT is standard input; a file of that name is `./-`.
 
 exit status
-  0   the picture was drawn
-  1   memory ran out
-  2   the words are none of a command      fault words
-      a NAME is that of no terminal        fault words
-  3   the network file is no network       fault CODE PLACE
-  4   a file leaves its text's grammar     fault CODE LINE
-  5   a file could not be read             fault read NAME
-  6   the output could not be written
-  10  a file is over 4,194,304 bytes long  fault too long NAME
-  The letter of a CODE names the file that is at fault: N the network, P the
+";
+
+/// What it prints behind them.
+const LETTERS: &str = "  The letter of a CODE names the file that is at fault: N the network, P the
   plan, O the output of a run. docs/formats.md has the texts of all files and
   explains each code, and docs/pictures.md explains the pictures.
 ";
@@ -50,32 +44,21 @@ exit status
 const VERSION: &str = "chart 0.1.0\n";
 
 /// The page that the words ask for; None where they ask for none.
-pub fn page_of(words: &[String]) -> Option<&'static str> {
+pub fn page_of(alloc: Global, words: &[String]) -> Result<Option<Vec<u8>>, OutOfMemory> {
     match words {
-        [word] if word.as_str() == "--help" => Some(HELP),
-        [word] if word.as_str() == "--version" => Some(VERSION),
-        _ => None,
+        [word] if word.as_str() == "--help" => Ok(Some(help(alloc)?)),
+        [word] if word.as_str() == "--version" => {
+            Ok(Some(Vec::from_slice(alloc, VERSION.as_bytes())?))
+        }
+        _ => Ok(None),
     }
 }
 
-/// What happened and where to look, in a sentence for the person at the terminal; nothing where the picture was drawn.
-pub fn reason_of(status: u8) -> Option<&'static str> {
-    match status {
-        OUT_OF_MEMORY => Some("memory ran out; what stands on the output may be only a first part"),
-        FAULTY_WORDS => Some(
-            "these words are none of a command, or a name is that of no terminal; try chart --help",
-        ),
-        NO_NETWORK => Some(
-            "the network file is no network; the last line has the fault, whose code begins with N, and its place in the file; docs/formats.md explains each",
-        ),
-        FAULTY_TEXT => Some(
-            "a file leaves its grammar or its limits; the last line has the fault, the letter of whose code names the file, P the plan and O the output of a run, and the number of the line; docs/formats.md explains each",
-        ),
-        READ_FAILED => Some("a file could not be read; the last line names it"),
-        WRITE_FAILED => Some(
-            "the output could not be written; at most a first part of it stands there",
-        ),
-        TOO_LONG => Some("a file is longer than 4194304 bytes; the last line names it"),
-        _ => None,
-    }
+/// What `--help` prints.
+fn help(alloc: Global) -> Result<Vec<u8>, OutOfMemory> {
+    let mut page = Vec::new(alloc);
+    page.extend_from_slice(COMMANDS.as_bytes())?;
+    add_statuses(alloc, Program::Chart, &mut page)?;
+    page.extend_from_slice(LETTERS.as_bytes())?;
+    Ok(page)
 }

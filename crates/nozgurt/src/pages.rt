@@ -1,11 +1,10 @@
 // The pages that the program prints about itself.
-use bt_cli::{
-    FAULTY_JOURNAL, FAULTY_TEXT, FAULTY_WORDS, NO_NETWORK, OUT_OF_MEMORY, READ_FAILED,
-    STORE_FAILED, TOO_LONG, WRITE_FAILED,
-};
+use bt_frame::OutOfMemory;
+use bt_report::{Program, add_statuses};
+use std::alloc::Global;
 
-/// What `--help` prints.
-const HELP: &str = "\
+/// What `--help` prints before the table of statuses.
+const COMMANDS: &str = "\
 nozgurt, the control centre of a satellite-switched TDMA system
 
 usage: nozgurt COMMAND WORDS..
@@ -107,21 +106,10 @@ commands
   --version   prints the version
 
 exit status
-  0   done
-  1   memory ran out
-  2   the words are none of a command      fault words
-  3   a network file is no network         fault CODE PLACE
-  4   a file leaves its text's grammar     fault CODE LINE
-      the transponders do not suit a size  fault X3
-      the traffic does not fit the frame   fault T6 row BEAM SUM
-  5   a file could not be read             fault read NAME
-  6   the output could not be written
-  7   the journal failed                   fault store, or the whole run
-  8   a line of the journal is wrong       fault CODE LINE
-  9   check, timing: it is not good        the verdict's line
-  10  a file is over 4,194,304 bytes long  fault too long NAME
-      the journal is over 67,108,864       fault too long store
-  The letter of a CODE names the file that is at fault: N the network, X the
+";
+
+/// What it prints behind them.
+const LETTERS: &str = "  The letter of a CODE names the file that is at fault: N the network, X the
   matrix, M the modes, T the traffic, P the plan, G the delays, S the script, J
   the journal.
   docs/formats.md has the texts of all files and explains each code.
@@ -131,39 +119,21 @@ exit status
 const VERSION: &str = "nozgurt 0.1.0\n";
 
 /// The page that the words ask for; None where they ask for none.
-pub fn page_of(words: &[String]) -> Option<&'static str> {
+pub fn page_of(alloc: Global, words: &[String]) -> Result<Option<Vec<u8>>, OutOfMemory> {
     match words {
-        [word] if word.as_str() == "--help" => Some(HELP),
-        [word] if word.as_str() == "--version" => Some(VERSION),
-        _ => None,
+        [word] if word.as_str() == "--help" => Ok(Some(help(alloc)?)),
+        [word] if word.as_str() == "--version" => {
+            Ok(Some(Vec::from_slice(alloc, VERSION.as_bytes())?))
+        }
+        _ => Ok(None),
     }
 }
 
-/// What happened and where to look, in a sentence for the person at the terminal; nothing where the work was done, or
-/// the verdict says all.
-pub fn reason_of(status: u8) -> Option<&'static str> {
-    match status {
-        OUT_OF_MEMORY => Some("memory ran out; what stands on the output may be only a first part"),
-        FAULTY_WORDS => Some("these words are none of a command; try nozgurt --help"),
-        NO_NETWORK => Some(
-            "the network file is no network; the last line has the fault, whose code begins with N, and its place in the file; docs/formats.md explains each",
-        ),
-        FAULTY_TEXT => Some(
-            "a file leaves its grammar or its limits, the traffic does not fit the frame, or the transponders do not suit the matrix; the last line has the fault, and the letter of its code names the file: X the matrix, M the modes, T the traffic, P the plan, G the delays, S the script; docs/formats.md explains each",
-        ),
-        READ_FAILED => Some("a file could not be read; the last line names it"),
-        WRITE_FAILED => Some(
-            "the output could not be written; at most a first part of it stands there",
-        ),
-        STORE_FAILED => Some(
-            "the journal could not be read, cut or marked, or failed over a line; look at its file and its folder",
-        ),
-        FAULTY_JOURNAL => Some(
-            "a line of the journal is none, its change does not follow those before it, or its mark is of another network; the last line has the fault, whose code begins with J, and the number of the line; docs/formats.md explains each",
-        ),
-        TOO_LONG => Some(
-            "a file is longer than 4194304 bytes, or the journal than 67108864; the last line names it",
-        ),
-        _ => None,
-    }
+/// What `--help` prints.
+fn help(alloc: Global) -> Result<Vec<u8>, OutOfMemory> {
+    let mut page = Vec::new(alloc);
+    page.extend_from_slice(COMMANDS.as_bytes())?;
+    add_statuses(alloc, Program::Nozgurt, &mut page)?;
+    page.extend_from_slice(LETTERS.as_bytes())?;
+    Ok(page)
 }

@@ -1,6 +1,6 @@
 -- the run, from the changes that were recovered, or from none
 use Rattle.std.proofs.Common.{inr}
-use Rattle.bt_centre.specs.Stored.{Stored}
+use Rattle.bt_report.specs.Stored.{Stored}
 use Rattle.bt_centre.proofs.Ends.{nothing_run, runs_from}
 use Rattle.bt_centre.proofs.script.run_script.Goals as goal
 

@@ -3,7 +3,8 @@ use Rattle.std.proofs.Common.{map}
 use Rattle.std.specs.String.{string_bytes}
 use Rattle.bt_outside.specs.Told.{Rose}
 use Rattle.bt_load.specs.Kinds.{network_file}
-use Rattle.bt_load.proofs.Loads.{CameTo-among, CameTo-loaded}
+use Rattle.bt_report.proofs.Reports.{CameTo-among}
+use Rattle.bt_load.proofs.Loads.{CameTo-loaded}
 use Rattle.bt_chart.specs.Runs.{ChartsChosen}
 use Rattle.bt_chart.proofs.Chosen.{chosen_sooner}
 use Rattle.bt_chart.proofs.run.chart_run.Goals as goal

@@ -3,8 +3,8 @@ use Rattle.std.proofs.Common.{ℕ, rules, subst}
 use Rattle.bt_outside.specs.Told.{Rose}
 use Rattle.bt_load.specs.Kinds.{schedule_file}
 use Rattle.bt_cli.specs.Check.{Judges}
-use Rattle.bt_load.specs.Outcome.{Loads}
-use Rattle.bt_load.specs.Printing.{CameTo}
+use Rattle.bt_load.specs.Files.{Loads}
+use Rattle.bt_report.specs.Printing.{CameTo}
 use Rattle.bt_cli.proofs.check.check_modes_file.Goals as goal
 
 pub returns-in_err-schedule : goal.returns-in_err-schedule

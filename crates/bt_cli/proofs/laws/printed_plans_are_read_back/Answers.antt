@@ -2,7 +2,7 @@
 use Rattle.std.proofs.Common.{[], ◌∷◌, codes, ap, ◌∙◌}
 use Rattle.bt_plan.specs.PlanText.{plan_of}
 use Rattle.bt_words.specs.Lines.{line_of}
-use Rattle.bt_load.specs.Outcome.{Outcome, text_alone}
+use Rattle.bt_report.specs.Outcome.{Outcome, text_alone}
 use Rattle.bt_cli.proofs.OneReport.{JudgesPlan-same}
 use Rattle.bt_cli.proofs.PrintedPlans.{plan-in_range, good_plan_line}
 use Rattle.bt_cli.proofs.laws.printed_plans_are_read_back.Goals as goal

@@ -2,7 +2,7 @@
 use Rattle.std.proofs.Common.{[], ◌∷◌, codes, length}
 use Rattle.bt_plan.proofs.Spelled.{matrix_of-IsTraffic}
 use Rattle.bt_words.specs.Lines.{line_of}
-use Rattle.bt_load.specs.Outcome.{text_alone}
+use Rattle.bt_report.specs.Outcome.{text_alone}
 use Rattle.bt_cli.proofs.OneReport.{Judges-same}
 use Rattle.bt_cli.proofs.Printed.{printed-in_range, good_line}
 use Rattle.bt_cli.proofs.laws.printed_schedules_are_read_back.Goals as goal

@@ -3,7 +3,7 @@ use Rattle.bt_cli.proofs.laws.sound_input_is_served.Goals as goal
 
 pub returns : goal.returns
 returns c = record {
-  served = all_served (record {
+  served = all_served (record { line = c.one_line_is_heaviest.ensures.line; sum = c.one_line_is_heaviest.ensures.sum }) (record {
     demand = c.links_tell_demands.ensures.same;
     changes = c.journals_tell_one_thing.ensures.changes;
     no_line = c.journals_tell_one_thing.ensures.changes_or_no_line;

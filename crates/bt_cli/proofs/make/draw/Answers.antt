@@ -8,7 +8,7 @@ use Rattle.bt_demand.specs.Plan.{IsGoodPlan}
 use Rattle.bt_demand.specs.Traffic.{matrix_of}
 use Rattle.bt_make.specs.Made.{IsMade}
 use Rattle.bt_cli.specs.Make.{summary}
-use Rattle.bt_load.specs.Outcome.{text_alone}
+use Rattle.bt_report.specs.Outcome.{text_alone}
 use Rattle.bt_cli.proofs.make.draw.Goals as goal
 
 pub returns : goal.returns

@@ -1,7 +1,7 @@
 -- the book was recovered, and its state printed; or it was not, and the fault was
 use Rattle.std.proofs.Common.{inl, inr, rules}
 use Rattle.bt_cli.specs.Replay.{PrintsState}
-use Rattle.bt_load.proofs.Loads.{came_printed}
+use Rattle.bt_report.proofs.Reports.{came_printed}
 use Rattle.bt_cli.proofs.NamedFaults.{fault_printed}
 use Rattle.bt_cli.proofs.replay.replay_store.Goals as goal
 

@@ -2,7 +2,8 @@
 use Rattle.bt_outside.specs.Told.{Rose}
 use Rattle.bt_load.specs.Kinds.{plan_file}
 use Rattle.bt_cli.specs.Timing.{TimesDelays, WhereItIsGood}
-use Rattle.bt_load.proofs.Loads.{CameTo-among, CameTo-loaded}
+use Rattle.bt_report.proofs.Reports.{CameTo-among}
+use Rattle.bt_load.proofs.Loads.{CameTo-loaded}
 use Rattle.bt_cli.proofs.Timed.{WhereItIsGood-among, delays_sooner}
 use Rattle.bt_cli.proofs.timing.time_plan_file.Goals as goal
 

@@ -1,0 +1,52 @@
+-- What may come of a file.
+--
+-- Possible outcomes are put together from 'what comes after' functions in the order of the work, so that each refusal
+-- stands where its step stands.
+use Rattle.std.specs.Prelude.{◌≡◌, ℕ, ◌≤◌, ◌⊎◌, List, [], ◌∷◌, length, codes, Option, Some, Result, Err, Ok}
+use Rattle.bt_frame.specs.declared.limits.TheConstants.{MOST_FILE_BYTES}
+use Rattle.bt_outside.specs.Told.{Gives, IsLonger}
+use Rattle.bt_report.specs.declared.status.TheConstants.{READ_FAILED, TOO_LONG}
+use Rattle.bt_report.specs.Outcome.{Outcome, Says}
+
+-- A kind of file: what its bytes spell, or their first fault; and the words and the status that name a fault.
+pub record Kind (Value Fault : Type 0) : Type 0 where
+  pub reading : List ℕ → Result Value Fault
+  pub fault_words : Fault → List (List ℕ)
+  pub fault_status : ℕ
+
+-- the file of that name is told
+abbrev pub IsTold : (List ℕ → Option (List ℕ)) → List ℕ → Type 0
+IsTold told name = (held : List ℕ) × (told name ≡ Some held)
+
+-- the bytes of a file that was read: those told, where they are told, and no more than a file may have
+abbrev pub IsContent : (List ℕ → Option (List ℕ)) → List ℕ → List ℕ → Type 0
+IsContent told name bytes = Gives (told name) bytes × (length bytes ≤ MOST_FILE_BYTES)
+
+-- the file spells this value
+abbrev pub IsLoaded : {Value Fault : Type 0} → Kind Value Fault → (List ℕ → Option (List ℕ)) → List ℕ → Value → Type 0
+IsLoaded kind told name value = (bytes : List ℕ) × IsContent told name bytes × (kind.reading bytes ≡ Ok value)
+
+-- the file spells some value
+abbrev pub IsOfItsKind : {Value Fault : Type 0} → Kind Value Fault → (List ℕ → Option (List ℕ)) → List ℕ → Type 0
+IsOfItsKind {Value} kind told name = (value : Value) × IsLoaded kind told name value
+
+-- the file could not be read, or is too long
+abbrev pub CannotRead : (List ℕ → Option (List ℕ)) → Type 0 → List ℕ → Outcome → Type 0
+CannotRead told failed name outcome =
+    (failed × Says (codes "fault" ∷ codes "read" ∷ name ∷ []) READ_FAILED outcome)
+    ⊎ (IsLonger (told name) MOST_FILE_BYTES × Says (codes "fault" ∷ codes "too" ∷ codes "long" ∷ name ∷ []) TOO_LONG outcome)
+
+-- the file spells no value, and its first fault is named
+abbrev pub Misspells : {Value Fault : Type 0} → Kind Value Fault → (List ℕ → Option (List ℕ)) → List ℕ → Outcome → Type 0
+Misspells {Value} {Fault} kind told name outcome =
+    (bytes : List ℕ) × (fault : Fault) × IsContent told name bytes × (kind.reading bytes ≡ Err fault) × Says (kind.fault_words fault) kind.fault_status outcome
+
+-- no value comes of the file
+abbrev pub StopsAtLoad : {Value Fault : Type 0} → Kind Value Fault → (List ℕ → Option (List ℕ)) → Type 0 → List ℕ → Outcome → Type 0
+StopsAtLoad kind told failed name outcome = CannotRead told failed name outcome ⊎ Misspells kind told name outcome
+
+-- a file is loaded, and then the work goes on with its value
+abbrev pub Loads : {Value Fault : Type 0} → Kind Value Fault → (List ℕ → Option (List ℕ)) → Type 0 → List ℕ → (Value → Outcome → Type 0) → Outcome → Type 0
+Loads {Value} kind told failed name after outcome =
+    StopsAtLoad kind told failed name outcome
+    ⊎ ((value : Value) × IsLoaded kind told name value × after value outcome)
