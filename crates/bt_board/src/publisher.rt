@@ -10,8 +10,8 @@ ghost use Rattle.bt_board.specs.Posted.{posted};
 use crate::plan_log::{Add, Nothing, PlanLog};
 use crate::reader::Reader;
 use crate::rule::{OneList, Posts};
-use crate::shown::Shown;
-use crate::view::View;
+use crate::shown::ShownPlan;
+use crate::view::SeenPlans;
 use bt_demand::Plan;
 use bt_frame::OutOfMemory;
 use left_right::writer::Writer;
@@ -21,7 +21,7 @@ use std::marker::Model;
 use std::sync::{Arc, Wait};
 
 /// The publisher's place at the board.
-pub type BoardWriter = Writer<Shown, Shown, View, OneList>;
+pub type BoardWriter = Writer<ShownPlan, ShownPlan, SeenPlans, OneList>;
 
 /// Adds a plan to the log. Nobody else does, which no proof shows: it would wait for ever.
 pub(crate) fn add<R: Wait>(
@@ -68,7 +68,7 @@ pub(crate) fn publish<R: Wait>(rt: &R, writer: BoardWriter) -> BoardWriter
 }
 
 /// Shows a plan whose list goes on from the one shown.
-fn show<R: Wait>(rt: &R, writer: BoardWriter, shown: Shown) -> BoardWriter
+fn show<R: Wait>(rt: &R, writer: BoardWriter, shown: ShownPlan) -> BoardWriter
     requires same { shown.seen.book ≡ writer.desk.shown.value.seen.book }
     requires onward { IsPrefix writer.desk.shown.value.seen.log shown.seen.log }
     requires pending { drop writer.behind writer.log.items ≡ [] }
@@ -155,7 +155,7 @@ impl Publisher {
         };
         let last = writer.published().plan.edition.0;
         add(rt, &self.head, &mut self.seen, last as u64 + 1, &*plan);
-        let shown = Shown {
+        let shown = ShownPlan {
             plan,
             seen: self.seen.again(),
         };

@@ -7,22 +7,22 @@ ghost use Rattle.bt_board.specs.Rule.{HasSeen};
 ghost use Rattle.bt_board.specs.Posted.{posted};
 
 use crate::rule::{OneList, Reads};
-use crate::shown::Shown;
-use crate::view::View;
+use crate::shown::ShownPlan;
+use crate::view::SeenPlans;
 use bt_demand::Plan;
 use bt_frame::OutOfMemory;
 use std::marker::Model;
 
 /// A reader's place at the board.
-pub type Seat = left_right::reader::Reader<Shown, View, OneList>;
+pub type Seat = left_right::reader::Reader<ShownPlan, SeenPlans, OneList>;
 
 /// Enters the board and takes what is shown, where its edition is past that of `kept` and is the one that is wanted, if
 /// one is.
 fn visit(
     seat: Seat,
-    kept: &Shown,
+    kept: &ShownPlan,
     wanted: Option<u32>,
-) -> (Seat, Result<Option<Shown>, OutOfMemory>)
+) -> (Seat, Result<Option<ShownPlan>, OutOfMemory>)
     requires { HasSeen (view seat.place) kept.now }
     ensures view { HasSeen (view result.0.place) kept.now }
     ensures seen { IfOk result.1 (λ o. IfSome o (λ s. HasSeen (view result.0.place) s)) }
@@ -51,7 +51,7 @@ fn visit(
 #[derive(Drop)]
 pub struct Reader {
     seat: Option<Seat>,
-    pub(crate) kept: Shown,
+    pub(crate) kept: ShownPlan,
 }
 
 impl Model for Reader {
@@ -68,7 +68,7 @@ impl Model for Reader {
 
 impl Reader {
     /// A reader that has seen the plans of `kept`.
-    pub(crate) fn at(seat: Seat, kept: Shown) -> Reader
+    pub(crate) fn at(seat: Seat, kept: ShownPlan) -> Reader
         requires { HasSeen (view seat.place) kept }
         ensures { result ≡ posted kept.seen.book kept.seen.log }
     {

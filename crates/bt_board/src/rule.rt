@@ -1,6 +1,6 @@
 // The rule of the board: it goes forward along one list of plans.
-use crate::shown::Shown;
-use crate::view::View;
+use crate::shown::ShownPlan;
+use crate::view::SeenPlans;
 use atomic_table::{Join, Split};
 use crossbeam_utils::rule::{Outcome, Protocol};
 
@@ -8,7 +8,7 @@ use crossbeam_utils::rule::{Outcome, Protocol};
 /// board never goes back.
 pub struct OneList;
 
-impl Protocol<Shown, View> for OneList {
+impl Protocol<ShownPlan, SeenPlans> for OneList {
     ghost use Rattle.bt_board.specs.Rule.{GoesForward, newcomer};
 
     ghost holds = { GoesForward };
@@ -19,7 +19,7 @@ impl Protocol<Shown, View> for OneList {
 /// A reader enters, and sees the list of what is shown.
 pub struct Reads;
 
-impl Outcome<Shown, View> for Reads {
+impl Outcome<ShownPlan, SeenPlans> for Reads {
     ghost use Rattle.bt_board.specs.Rule.{Reads};
 
     ghost then = { Reads };
@@ -28,7 +28,7 @@ impl Outcome<Shown, View> for Reads {
 /// The publisher shows a plan whose list goes on from the one shown.
 pub struct Posts;
 
-impl Outcome<Shown, View> for Posts {
+impl Outcome<ShownPlan, SeenPlans> for Posts {
     ghost use Rattle.bt_board.specs.Rule.{Posts};
 
     ghost then = { Posts };
@@ -37,7 +37,7 @@ impl Outcome<Shown, View> for Posts {
 /// The publisher tells a reader what it has seen.
 pub struct Tells;
 
-impl Split<View> for Tells {
+impl Split<SeenPlans> for Tells {
     ghost left = { λ v. v };
 
     ghost right = { λ v. v };
@@ -46,7 +46,7 @@ impl Split<View> for Tells {
 /// The reader takes it in.
 pub struct Learns;
 
-impl Join<View> for Learns {
+impl Join<SeenPlans> for Learns {
     ghost use Rattle.bt_board.specs.Rule.{newcomer};
 
     ghost both = { λ v w. w };

@@ -12,7 +12,7 @@ use crate::machine::Machine;
 use bt_air::Order;
 use bt_demand::Plan;
 use bt_frame::{EditionNo, OutOfMemory};
-use bt_journal::{Change, Edit, LineFault, read_change, read_mark};
+use bt_journal::{Change, Edit, JournalLineFault, read_change, read_mark};
 use bt_text::first_line;
 use std::alloc::Global;
 
@@ -74,11 +74,11 @@ impl Machine {
                 self.make_again(alloc, change, line.len() as u32)?;
                 Ok(marked)
             }
-            Err(LineFault::Bad) => {
+            Err(JournalLineFault::Bad) => {
                 self.test_mark(line, number, marked)?;
                 Ok(true)
             }
-            Err(LineFault::OutOfMemory) => Err(RecoverFault::OutOfMemory),
+            Err(JournalLineFault::OutOfMemory) => Err(RecoverFault::OutOfMemory),
         }
     }
 

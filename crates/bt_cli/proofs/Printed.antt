@@ -7,9 +7,9 @@ use Rattle.bt_frame.specs.declared.schedule.Schedule.{Schedule}
 use Rattle.bt_matrix.specs.Traffic.{IsTraffic}
 use Rattle.bt_matrix.specs.Good.{IsGood}
 use Rattle.bt_verdict.specs.declared.verdict.Verdict.TheVariants.{Good}
-use Rattle.bt_plan.specs.MatrixText.{matrix_of}
+use Rattle.bt_plan.specs.MatrixText.{matrix_reading}
 use Rattle.bt_plan.specs.ScheduleSpelling.{IsInRange}
-use Rattle.bt_plan.proofs.Spelled.{matrix_of-IsTraffic, matrix_of-line_small}
+use Rattle.bt_plan.proofs.Spelled.{matrix_reading-IsTraffic, matrix_reading-line_small}
 use Rattle.bt_words.specs.Lines.{line_of}
 use Rattle.bt_cli.specs.Check.{Judges}
 use Rattle.bt_report.specs.Outcome.{text_alone}
@@ -27,10 +27,10 @@ good-in_range rows schedule is few good = record {
 }
 
 -- and so is a good one for a matrix that a text spells
-pub printed-in_range : (text : List ℕ) (rows : List (List ℕ)) (schedule : Schedule) → matrix_of text ≡ Ok rows → IsGood rows schedule → IsInRange (length rows) schedule
+pub printed-in_range : (text : List ℕ) (rows : List (List ℕ)) (schedule : Schedule) → matrix_reading text ≡ Ok rows → IsGood rows schedule → IsInRange (length rows) schedule
 printed-in_range text rows schedule spelled good =
-    let is = matrix_of-IsTraffic text rows spelled in
-    let small = matrix_of-line_small text rows schedule.critical spelled good.least.on_matrix in
+    let is = matrix_reading-IsTraffic text rows spelled in
+    let small = matrix_reading-line_small text rows schedule.critical spelled good.least.on_matrix in
     good-in_range rows schedule is (omega (arith, small, good.least.reached)) good
 
 -- the line of a good verdict

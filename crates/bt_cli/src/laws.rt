@@ -6,8 +6,8 @@ ghost use Rattle.bt_matrix.specs.Good.{IsGood};
 ghost use Rattle.bt_demand.specs.declared.demand.Link.{Link};
 ghost use Rattle.bt_demand.specs.Demand.{IsDemand};
 ghost use Rattle.bt_demand.specs.Traffic.{AreOfNetwork};
-ghost use Rattle.bt_plan.specs.MatrixText.{matrix_of};
-ghost use Rattle.bt_plan.specs.PlanText.{plan_of};
+ghost use Rattle.bt_plan.specs.MatrixText.{matrix_reading};
+ghost use Rattle.bt_plan.specs.PlanText.{plan_reading};
 ghost use Rattle.bt_plan.specs.ScheduleSpelling.{schedule_spelling};
 ghost use Rattle.bt_plan.specs.ScheduleText.{schedule_of};
 ghost use Rattle.bt_words.specs.Lines.{line_of};
@@ -69,7 +69,7 @@ pub fn sound_input_is_served()
 /// What `modes` prints for a matrix is read back by `check`, for that matrix, as the schedule that was printed; and
 /// the line of its verdict is `good`, with status 0, and no other.
 pub fn printed_schedules_are_read_back()
-    ensures read { (text : List ℕ) (rows : List (List ℕ)) (schedule : Schedule) → matrix_of text ≡ Ok rows → IsGood rows schedule
+    ensures read { (text : List ℕ) (rows : List (List ℕ)) (schedule : Schedule) → matrix_reading text ≡ Ok rows → IsGood rows schedule
         → schedule_of (length rows) (schedule_spelling schedule) ≡ Ok schedule }
     ensures judged { (rows : List (List ℕ)) (schedule : Schedule) → IsGood rows schedule → Judges rows schedule (text_alone (line_of (codes "good" ∷ [])) DONE) }
     ensures alone { (rows : List (List ℕ)) (schedule : Schedule) (outcome : Outcome) → IsGood rows schedule
@@ -83,7 +83,7 @@ pub fn printed_schedules_are_read_back()
 /// and the line of its verdict is `good`, with status 0, and no other.
 pub fn printed_plans_are_read_back()
     ensures read { (net : Net) (links : List Link) (outcome : Outcome) → IsSound net → AreOfNetwork net links → Fits net links
-        → (printed : PrintsPlan net links outcome) → plan_of net outcome.text ≡ Ok printed.plan }
+        → (printed : PrintsPlan net links outcome) → plan_reading net outcome.text ≡ Ok printed.plan }
     ensures judged { (net : Net) (links : List Link) (outcome : Outcome) → IsDemand links
         → (printed : PrintsPlan net links outcome) → JudgesPlan net links printed.plan (text_alone (line_of (codes "good" ∷ [])) DONE) }
     ensures alone { (net : Net) (links : List Link) (outcome judged : Outcome)

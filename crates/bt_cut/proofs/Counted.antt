@@ -17,7 +17,7 @@ use Rattle.bt_net.specs.Network.{Net, IsSound}
 use Rattle.bt_matrix.specs.Good.{slots_of}
 use Rattle.bt_demand.specs.declared.burst.Burst.{Burst}
 use Rattle.bt_demand.specs.declared.demand.Link.{Link}
-use Rattle.bt_demand.specs.Demand.{Ends, ends_of, IsDemand, units_of}
+use Rattle.bt_demand.specs.Demand.{LinkEnds, ends_of, IsDemand, units_of}
 use Rattle.bt_demand.specs.Plan.{begin_of}
 use Rattle.bt_demand.specs.Apart.{slots_sent}
 use Rattle.bt_demand.specs.Traffic.{AreOfNetwork, units_between}
@@ -232,7 +232,7 @@ none_if false x fails = refl
 
 same_ends : (l : Link) (from to : TermNo) → l.from ≡ from → l.to ≡ to → ends_of l ≡ (from, to)
 same_ends l from to sends receives =
-    ap (λ (t : TermNo). let ends : Ends = (t, l.to) in ends) sends ∙ ap (λ (t : TermNo). let ends : Ends = (from, t) in ends) receives
+    ap (λ (t : TermNo). let ends : LinkEnds = (t, l.to) in ends) sends ∙ ap (λ (t : TermNo). let ends : LinkEnds = (from, t) in ends) receives
 
 -- a link that is not the first stands later or nowhere
 find_later : (l : Link) (links : List Link) (from to : TermNo) → ((l.from ≡ from) × (l.to ≡ to) → ⊥)
@@ -316,8 +316,8 @@ cutting_serves net links modes bursts is sound of carried parts from to = ⊎_el
     let (down, receives) = beam_of net l.to inside.1 in
     let sent = one_served net links modes bursts p l up down is parts in_p (λ e. get_or_default links p e d in_p) sends receives
     (carried up.0 down.0 (beam_inside net l.from up sound inside.0 sends) (beam_inside net l.to down sound inside.1 receives)) in
-    let from_is : l.from ≡ from = ap (λ (e : Ends). e.0) (ends d) in
-    let to_is : l.to ≡ to = ap (λ (e : Ends). e.1) (ends d) in
+    let from_is : l.from ≡ from = ap (λ (e : LinkEnds). e.0) (ends d) in
+    let to_is : l.to ≡ to = ap (λ (e : LinkEnds). e.1) (ends d) in
     let there = subst (λ (t : TermNo). slots_sent bursts from t ≡ l.units) to_is (subst (λ (t : TermNo). slots_sent bursts t l.to ≡ l.units) from_is sent) in
     there ∙ sym (units_of_at links from to p d is (record { in_range = in_p; has_ends = ends })))
     (λ (none : All (λ l. (l.from ≡ from) × (l.to ≡ to) → ⊥) links). none_served net links modes bursts from to parts none)

@@ -16,22 +16,22 @@ use Rattle.std.proofs.lemmas.List.Sums.{sum_by-take-drop, sum_by-drop_more, sum_
 use Rattle.bt_frame.proofs.Counts.{sum_by-none}
 use Rattle.bt_frame.specs.declared.numbers.TermNo.{TermNo}
 use Rattle.bt_demand.specs.declared.demand.Link.{Link}
-use Rattle.bt_demand.specs.Demand.{Ends, ends_of, IsBefore, IsLink, IsDemand, units_of, Gains, IsAt, IsGapFor}
+use Rattle.bt_demand.specs.Demand.{LinkEnds, ends_of, IsBefore, IsLink, IsDemand, units_of, Gains, IsAt, IsGapFor}
 
 -- the order of ends as the code compares them
-abbrev pub ends_cmp : Ends → Ends → Ordering
+abbrev pub ends_cmp : LinkEnds → LinkEnds → Ordering
 ends_cmp a b = ordering_then (nat_cmp a.0.0 b.0.0) (nat_cmp a.1.0 b.1.0)
 
 -- what a comparison of ends says
-abbrev pub Says : Ordering → Ends → Ends → Type 0
+abbrev pub Says : Ordering → LinkEnds → LinkEnds → Type 0
 Says order a b = MatchOrdering order (IsBefore a b) (a ≡ b) (IsBefore b a)
 
 -- ends with the same numbers are the same
-same_ends : (a b : Ends) → a.0.0 ≡ b.0.0 → a.1.0 ≡ b.1.0 → a ≡ b
+same_ends : (a b : LinkEnds) → a.0.0 ≡ b.0.0 → a.1.0 ≡ b.1.0 → a ≡ b
 same_ends a b from to =
-    ap (λ (n : ℕ). let ends : Ends = (record { 0 = n }, a.1) in ends) from ∙ ap (λ (n : ℕ). let ends : Ends = (b.0, record { 0 = n }) in ends) to
+    ap (λ (n : ℕ). let ends : LinkEnds = (record { 0 = n }, a.1) in ends) from ∙ ap (λ (n : ℕ). let ends : LinkEnds = (b.0, record { 0 = n }) in ends) to
 
-says_by : (a b : Ends) (r s : Ordering) → r ≡ nat_cmp a.0.0 b.0.0 → s ≡ nat_cmp a.1.0 b.1.0 → Says (ordering_then r s) a b
+says_by : (a b : LinkEnds) (r s : Ordering) → r ≡ nat_cmp a.0.0 b.0.0 → s ≡ nat_cmp a.1.0 b.1.0 → Says (ordering_then r s) a b
 says_by a b Less s from to =
     let less : a.0.0 < b.0.0 = ranked _ _ Less from in
     record { from = omega arith; to = λ same. absurd (omega arith) }
@@ -49,11 +49,11 @@ says_by a b Equal Greater from to =
 says_by a b Equal Equal from to = same_ends a b (ranked _ _ Equal from) (ranked _ _ Equal to)
 
 -- each comparison says how the ends stand
-pub says : (a b : Ends) → Says (ends_cmp a b) a b
+pub says : (a b : LinkEnds) → Says (ends_cmp a b) a b
 says a b = says_by a b _ _ refl refl
 
 -- the order goes on
-pub before_trans : (a b c : Ends) → IsBefore a b → IsBefore b c → IsBefore a c
+pub before_trans : (a b c : LinkEnds) → IsBefore a b → IsBefore b c → IsBefore a c
 before_trans a b c ab bc = record {
   from = omega (arith, ab.from, bc.from);
   to = λ same.
@@ -63,24 +63,24 @@ before_trans a b c ab bc = record {
 }
 
 -- and comes back to none
-pub not_before_itself : (a : Ends) → IsBefore a a → ⊥
+pub not_before_itself : (a : LinkEnds) → IsBefore a a → ⊥
 not_before_itself a before = omega (arith, before.to refl)
 
 -- Comparisons with the same ends rise along the order.
-rises_by : (a b e : Ends) (o p : Ordering) → Says o a e → Says p b e → IsBefore a b → ordering_index o ≤ ordering_index p
+rises_by : (a b e : LinkEnds) (o p : Ordering) → Says o a e → Says p b e → IsBefore a b → ordering_index o ≤ ordering_index p
 rises_by a b e Less Less first second before = omega arith
 rises_by a b e Less Equal first second before = omega arith
 rises_by a b e Less Greater first second before = omega arith
 rises_by a b e Equal Less first second before =
-    absurd (not_before_itself e (before_trans e b e (subst (λ (x : Ends). IsBefore x b) first before) second))
+    absurd (not_before_itself e (before_trans e b e (subst (λ (x : LinkEnds). IsBefore x b) first before) second))
 rises_by a b e Equal Equal first second before = omega arith
 rises_by a b e Equal Greater first second before = omega arith
 rises_by a b e Greater Less first second before = absurd (not_before_itself e (before_trans e b e (before_trans e a b first before) second))
 rises_by a b e Greater Equal first second before =
-    absurd (not_before_itself e (before_trans e a e first (subst (λ (x : Ends). IsBefore a x) second before)))
+    absurd (not_before_itself e (before_trans e a e first (subst (λ (x : LinkEnds). IsBefore a x) second before)))
 rises_by a b e Greater Greater first second before = omega arith
 
-comparisons_rise : (links : List Link) (e : Ends) → IsDemand links → IsNonDecreasingBy (λ link. ordering_index (ends_cmp (ends_of link) e)) links
+comparisons_rise : (links : List Link) (e : LinkEnds) → IsDemand links → IsNonDecreasingBy (λ link. ordering_index (ends_cmp (ends_of link) e)) links
 comparisons_rise links e is i j d le within =
     let index = λ (link : Link). ordering_index (ends_cmp (ends_of link) e) in
     ⊎_elim
@@ -90,7 +90,7 @@ comparisons_rise links e is i j d le within =
     (cases_eq i j)
 
 -- a search by the ends of the links ends at the link, or at the gap for it
-pub searched : (links : List Link) (e : Ends) (r : Result ℕ ℕ) → IsDemand links → IsSearchInRange r (length links)
+pub searched : (links : List Link) (e : LinkEnds) (r : Result ℕ ℕ) → IsDemand links → IsSearchInRange r (length links)
     → IsBinarySearchResult (λ link. ends_cmp (ends_of link) e) links r → record { found : IfOk r (IsAt links e); absent : IfErr r (IsGapFor links e) }
 searched links e (Ok place) is in_range equal = record {
   found = record { in_range = in_range; has_ends = λ d. subst (λ (o : Ordering). Says o (ends_of (get_or links place d)) e) (equal d) (says _ e) };
@@ -112,23 +112,23 @@ searched links e (Err place) is in_range parted =
     }
 
 -- the slots of a link, if it has these ends
-abbrev pub units_at : Ends → Link → ℕ
+abbrev pub units_at : LinkEnds → Link → ℕ
 units_at e link = if link.from.0 == e.0.0 && link.to.0 == e.1.0 then link.units else 0
 
-units_at-before : (link : Link) (e : Ends) → IsBefore (ends_of link) e → units_at e link ≡ 0
+units_at-before : (link : Link) (e : LinkEnds) → IsBefore (ends_of link) e → units_at e link ≡ 0
 units_at-before link e before = grind (arith, nat_tests, before.from, before.to)
 
-pub units_at-after : (link : Link) (e : Ends) → IsBefore e (ends_of link) → units_at e link ≡ 0
+pub units_at-after : (link : Link) (e : LinkEnds) → IsBefore e (ends_of link) → units_at e link ≡ 0
 units_at-after link e after = grind (arith, nat_tests, after.from, after.to)
 
-pub units_at-same : (link : Link) (e : Ends) → ends_of link ≡ e → units_at e link ≡ link.units
+pub units_at-same : (link : Link) (e : LinkEnds) → ends_of link ≡ e → units_at e link ≡ link.units
 units_at-same link e same =
-    let from = ap (λ (x : Ends). x.0.0) same in let to = ap (λ (x : Ends). x.1.0) same in grind (arith, nat_tests, from, to)
+    let from = ap (λ (x : LinkEnds). x.0.0) same in let to = ap (λ (x : LinkEnds). x.1.0) same in grind (arith, nat_tests, from, to)
 
 -- a link that would stand in a gap has no slots
 pub units_of_gap : (links : List Link) (from to : TermNo) (place : ℕ) → IsGapFor links (from, to) place → units_of links from to ≡ 0
 units_of_gap links from to place gap =
-    let e : Ends = (from, to) in
+    let e : LinkEnds = (from, to) in
     let before = sum_by-none (units_at e) (take place links) (λ k d within. units_at-before _ e (gap.before k d within)) in
     let after = sum_by-none (units_at e) (drop place links) (λ k d within. units_at-after _ e (gap.after k d within)) in
     omega (arith, before, after, sum_by-take-drop (units_at e) links place)
@@ -137,14 +137,14 @@ units_of_gap links from to place gap =
 pub units_of_at : (links : List Link) (from to : TermNo) (place : ℕ) (d : Link) → IsDemand links → IsAt links (from, to) place
     → units_of links from to ≡ (get_or links place d).units
 units_of_at links from to place d is at =
-    let e : Ends = (from, to) in
+    let e : LinkEnds = (from, to) in
     let here = λ (d : Link). at.has_ends d in
     let before = sum_by-none (units_at e) (take place links) (λ k b within.
     let below : k < place = omega (arith, length-take place links) in
-    rw (get_or-take place links k b below) (units_at-before _ e (subst (λ (x : Ends). IsBefore (ends_of (get_or links k b)) x) (here b) (is.ordered k place b below at.in_range)))) in
+    rw (get_or-take place links k b below) (units_at-before _ e (subst (λ (x : LinkEnds). IsBefore (ends_of (get_or links k b)) x) (here b) (is.ordered k place b below at.in_range)))) in
     let after = sum_by-none (units_at e) (drop (place + 1) links) (λ k b within.
     let there : place + 1 + k < length links = omega (arith, length-drop (place + 1) links) in
-    rw (get_or-drop (place + 1) links k b) (units_at-after _ e (subst (λ (x : Ends). IsBefore x (ends_of (get_or links (place + 1 + k) b))) (here b) (is.ordered place (place + 1 + k) b (omega arith) there)))) in
+    rw (get_or-drop (place + 1) links k b) (units_at-after _ e (subst (λ (x : LinkEnds). IsBefore x (ends_of (get_or links (place + 1 + k) b))) (here b) (is.ordered place (place + 1 + k) b (omega arith) there)))) in
     omega (arith, before, after, sum_by-take-drop (units_at e) links place, sum_by-drop_more (units_at e) links place d at.in_range, units_at-same (get_or links place d) e (here d))
 
 -- an insert between what stands before and what stands after keeps an order
@@ -197,8 +197,8 @@ IsDemand-set links place units old is within read some few =
       ordered = λ i j d lt below.
           let below_too : j < length links = omega (arith, length-set links place link) in
           let before = is.ordered i j d lt below_too in
-          subst (λ (x : Ends). IsBefore (ends_of (get_or (slice_set links place link) i d)) x) (sym (ends-set links place j link d within (kept d)))
-          (subst (λ (x : Ends). IsBefore x (ends_of (get_or links j d))) (sym (ends-set links place i link d within (kept d))) before);
+          subst (λ (x : LinkEnds). IsBefore (ends_of (get_or (slice_set links place link) i d)) x) (sym (ends-set links place j link d within (kept d)))
+          (subst (λ (x : LinkEnds). IsBefore x (ends_of (get_or links j d))) (sym (ends-set links place i link d within (kept d))) before);
       each = All-set IsLink links place link (record { differ = was.differ; some = some; few = few }) is.each;
     }
 
@@ -240,7 +240,7 @@ Gains-back links from to place units held old at read same enough test =
     let was : share (get_or links place old) ≡ (if test old.from old.to then held else 0) =
     ap share (sym read) ∙ ap (λ (n : ℕ). if test old.from old.to then n else 0) (sym same) in
     let ends : ends_of old ≡ (from, to) = ap ends_of read ∙ at.has_ends old in
-    let gained = ap (λ (e : Ends). if test e.0 e.1 then units else 0) ends in
+    let gained = ap (λ (e : LinkEnds). if test e.0 e.1 then units else 0) ends in
     omega (arith, changed, was, share-less (test old.from old.to) units held enough, gained)
 
 -- the link that was read has as many slots as are taken

@@ -6,15 +6,15 @@ use Rattle.bt_frame.specs.declared.numbers.TermNo.{TermNo}
 use Rattle.bt_demand.specs.declared.demand.Link.{Link}
 
 -- the terminal that sends, and the one that receives
-abbrev pub Ends : Type 0
-Ends = TermNo × TermNo
+abbrev pub LinkEnds : Type 0
+LinkEnds = TermNo × TermNo
 
 -- the ends of a link
-abbrev pub ends_of : Link → Ends
+abbrev pub ends_of : Link → LinkEnds
 ends_of link = (link.from, link.to)
 
 -- Links stand in order of the terminal that sends, and where that is the same, of the one that receives.
-pub record IsBefore (a b : Ends) : Type 0 where
+pub record IsBefore (a b : LinkEnds) : Type 0 where
   pub from : a.0.0 ≤ b.0.0
   pub to : a.0.0 ≡ b.0.0 → a.1.0 < b.1.0
 
@@ -43,12 +43,12 @@ abbrev pub Gains : List Link → List Link → TermNo → TermNo → ℕ → Typ
 Gains old new from to units = (test : TermNo → TermNo → Bool) → units_where test new ≡ units_where test old + (if test from to then units else 0)
 
 -- the link with these ends stands at that place
-pub record IsAt (links : List Link) (ends : Ends) (place : ℕ) : Type 0 where
+pub record IsAt (links : List Link) (ends : LinkEnds) (place : ℕ) : Type 0 where
   pub in_range : place < length links
   pub has_ends : HoldsAt (λ link. ends_of link ≡ ends) links place
 
 -- no link has these ends, and one that has them would stand at that place
-pub record IsGapFor (links : List Link) (ends : Ends) (place : ℕ) : Type 0 where
+pub record IsGapFor (links : List Link) (ends : LinkEnds) (place : ℕ) : Type 0 where
   pub in_range : place ≤ length links
   pub before : All (λ link. IsBefore (ends_of link) ends) (take place links)
   pub after : All (λ link. IsBefore ends (ends_of link)) (drop place links)

@@ -3,7 +3,7 @@ use Rattle.std.proofs.Common.{◌≡◌, ℕ, ◌+◌, ◌≤◌, List, [], ◌�
 use Rattle.std.specs.Option.{is_some}
 use Rattle.bt_outside.specs.Told.{Rose, gained}
 use Rattle.bt_net.specs.Network.{Net}
-use Rattle.bt_line.specs.declared.object.Entry as line
+use Rattle.bt_line.specs.declared.object.TurnEntry as line
 use Rattle.bt_line.specs.Legal as line_legal
 use Rattle.bt_journal.specs.declared.call.Call.{Call}
 use Rattle.bt_journal.specs.declared.call.Change.{Change}
@@ -19,21 +19,21 @@ use Rattle.bt_history.proofs.Histories.{AreSteps-append, steps_follow, as_list, 
 use Rattle.bt_history.proofs.Stored.{lost_of-cons}
 
 -- the entries are steps of the machine
-pub steps_of_line : (net : Net) (start end : Books) (log : List (line.Entry Call Reply)) → start.net ≡ net → line_legal.Legal book_steps start log end
+pub steps_of_line : (net : Net) (start end : Books) (log : List (line.TurnEntry Call Reply)) → start.net ≡ net → line_legal.Legal book_steps start log end
     → AreSteps net start.state (map journal_entry log)
 steps_of_line net start end [] same legal = tt
 steps_of_line net start end (entry ∷ entries) same (next, (step, more)) =
     (next.state, subst (λ (n : Net). Step n start.state entry.call entry.reply next.state) same step.step, steps_of_line net next end entries (step.net ∙ same) more)
 
 -- behind a legal history of the book they are legal too
-pub Legal-line : (start end : Books) (opening : List Change) (history : List Entry) (log : List (line.Entry Call Reply)) → Legal start.net opening history
+pub Legal-line : (start end : Books) (opening : List Change) (history : List Entry) (log : List (line.TurnEntry Call Reply)) → Legal start.net opening history
     → start.state ≡ state_after opening history → line_legal.Legal book_steps start log end → Legal start.net opening (history ++ map journal_entry log)
 Legal-line start end opening history log legal is line =
     AreSteps-append start.net (running opening) history (map journal_entry log) legal
     (subst (λ (s : State). AreSteps start.net s (map journal_entry log)) is (steps_of_line start.net start end log refl line))
 
 -- the state at the end is the one that they lead to
-pub from_line : (start end : Books) (log : List (line.Entry Call Reply)) → line_legal.Legal book_steps start log end → end.state ≡ state_from start.state (map journal_entry log)
+pub from_line : (start end : Books) (log : List (line.TurnEntry Call Reply)) → line_legal.Legal book_steps start log end → end.state ≡ state_from start.state (map journal_entry log)
 from_line start end [] legal = ap (λ (b : Books). b.state) legal ∙ sym (state_from-none start.state)
 from_line start end (entry ∷ entries) (next, (step, more)) =
     from_line next end entries more
@@ -41,7 +41,7 @@ from_line start end (entry ∷ entries) (next, (step, more)) =
     ∙ sym (state_from-first start.state (journal_entry entry) (map journal_entry entries)))
 
 -- and lead to the state of the book at the end
-pub state_of_line : (start end : Books) (opening : List Change) (history : List Entry) (log : List (line.Entry Call Reply))
+pub state_of_line : (start end : Books) (opening : List Change) (history : List Entry) (log : List (line.TurnEntry Call Reply))
     → start.state ≡ state_after opening history → line_legal.Legal book_steps start log end → end.state ≡ state_after opening (history ++ map journal_entry log)
 state_of_line start end opening history log is line =
     from_line start end log line
@@ -49,7 +49,7 @@ state_of_line start end opening history log is line =
     ∙ sym (state_from-append (running opening) history (map journal_entry log))
 
 -- and the network stays
-pub net_of_line : (start end : Books) (log : List (line.Entry Call Reply)) → line_legal.Legal book_steps start log end → end.net ≡ start.net
+pub net_of_line : (start end : Books) (log : List (line.TurnEntry Call Reply)) → line_legal.Legal book_steps start log end → end.net ≡ start.net
 net_of_line start end [] legal = ap (λ (b : Books). b.net) legal
 net_of_line start end (entry ∷ entries) (next, (step, more)) = net_of_line next end entries more ∙ step.net
 
@@ -94,7 +94,7 @@ rose_both a b before between now (inr end) (inl second) = inr (omega (arith, end
 rose_both a b before between now first (inr end) = inr end
 
 -- and by as many as were lost
-pub rose_of_line : (start end : Books) (log : List (line.Entry Call Reply)) → line_legal.Legal book_steps start log end
+pub rose_of_line : (start end : Books) (log : List (line.TurnEntry Call Reply)) → line_legal.Legal book_steps start log end
     → RoseBy (length (lost_of (map journal_entry log))) start.faults end.faults
 rose_of_line start end [] legal = inl (omega (arith, ap (λ (b : Books). b.faults) legal))
 rose_of_line start end (entry ∷ entries) (next, (step, more)) =
@@ -105,7 +105,7 @@ rose_of_line start end (entry ∷ entries) (next, (step, more)) =
     (rose_both (lost_by entry.call entry.reply) (length (lost_of (map journal_entry entries))) start.faults next.faults end.faults first rest)
 
 -- the last of these calls is a step from the book that the others led to
-pub last_step : (start end : Books) (before : List (line.Entry Call Reply)) (entry : line.Entry Call Reply) → line_legal.Legal book_steps start (before ++ entry ∷ []) end
+pub last_step : (start end : Books) (before : List (line.TurnEntry Call Reply)) (entry : line.TurnEntry Call Reply) → line_legal.Legal book_steps start (before ++ entry ∷ []) end
     → (object : Books) × line_legal.Legal book_steps start before object × book_steps object entry.caller entry.call entry.reply end
 last_step start end [] entry (next, (step, same)) =
     (start, refl, subst (λ (b : Books). book_steps start entry.caller entry.call entry.reply b) (sym same) step)
@@ -114,7 +114,7 @@ last_step start end (first ∷ rest) entry (next, (step, more)) =
     (last.0, (next, (step, last.1)), last.2)
 
 -- and so one of the machine, from the state that the others led to, after changes that follow
-pub answered : (start end : Books) (before : List (line.Entry Call Reply)) (entry : line.Entry Call Reply) → Follows start.net start.state.changes
+pub answered : (start end : Books) (before : List (line.TurnEntry Call Reply)) (entry : line.TurnEntry Call Reply) → Follows start.net start.state.changes
     → line_legal.Legal book_steps start (before ++ entry ∷ []) end
     → (old : State) × (new : State) × (old ≡ state_from start.state (map journal_entry before)) × Follows start.net old.changes × Step start.net old entry.call entry.reply new
 answered start end before entry follow line =
@@ -130,7 +130,7 @@ answered start end before entry follow line =
     )
 
 -- the changes of the book at the end follow where those at the start do
-pub follows_at_end : (start end : Books) (log : List (line.Entry Call Reply)) → Follows start.net start.state.changes → line_legal.Legal book_steps start log end
+pub follows_at_end : (start end : Books) (log : List (line.TurnEntry Call Reply)) → Follows start.net start.state.changes → line_legal.Legal book_steps start log end
     → Follows start.net end.state.changes
 follows_at_end start end log follow line =
     subst (λ (s : State). Follows start.net s.changes) (sym (from_line start end log line))
@@ -160,7 +160,7 @@ tells_on line (Demand _ _ _) old new before now step = ap is_some step.0
 tells_on line (Newest _) old new before now step = ap is_some step.0
 tells_on line Stopped old new before now step = ap is_some step.0
 
-pub tells_at_end : (start end : Books) (log : List (line.Entry Call Reply)) → line_legal.Legal book_steps start log end → is_some end.told ≡ is_some start.told
+pub tells_at_end : (start end : Books) (log : List (line.TurnEntry Call Reply)) → line_legal.Legal book_steps start log end → is_some end.told ≡ is_some start.told
 tells_at_end start end [] legal = ap (λ (b : Books). is_some b.told) legal
 tells_at_end start end (entry ∷ entries) (next, (step, more)) =
     tells_at_end next end entries more ∙ tells_on (asked_line start.net start.state.changes entry.call) entry.reply start.told next.told start.faults next.faults step.store

@@ -3,7 +3,7 @@ use Rattle.std.specs.Prelude.{◌≡◌, false, true, ℕ, List, Option}
 use Rattle.std.proofs.Common.{subst, sym}
 use Rattle.bt_outside.specs.Crash.{Crashes, LeavesOnly, LeavesSince}
 use Rattle.bt_net.specs.Network.{Net}
-use Rattle.bt_line.specs.declared.object.Entry as line
+use Rattle.bt_line.specs.declared.object.TurnEntry as line
 use Rattle.bt_journal.specs.declared.call.Call.{Call}
 use Rattle.bt_journal.specs.declared.entry.Entry.{Entry}
 use Rattle.bt_journal.specs.declared.reply.Reply.{Reply}
@@ -38,7 +38,7 @@ pub record BookStep (old : Books) (asked : Call) (reply : Reply) (new : Books) :
   pub crash : Survives old asked new
 
 -- an entry as a turn lock has it
-abbrev pub lock_entry : Entry → line.Entry Call Reply
+abbrev pub lock_entry : Entry → line.TurnEntry Call Reply
 lock_entry entry = record { caller = entry.caller; call = entry.call; reply = entry.reply }
 
 -- a call that names terminals of a network names those of an equal one
@@ -50,5 +50,5 @@ abbrev pub book_steps : Books → ℕ → Call → Reply → Books → Type 0
 book_steps old caller asked reply new = BookStep old asked reply new
 
 -- an entry of a turn lock as the journal has it
-abbrev pub journal_entry : line.Entry Call Reply → Entry
+abbrev pub journal_entry : line.TurnEntry Call Reply → Entry
 journal_entry entry = record { caller = entry.caller; call = entry.call; reply = entry.reply }

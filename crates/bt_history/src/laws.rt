@@ -8,7 +8,7 @@ ghost use Rattle.bt_journal.specs.declared.call.Change.{Change};
 ghost use Rattle.bt_journal.specs.declared.entry.Entry.{Entry};
 ghost use Rattle.bt_journal.specs.declared.reply.Reply.{Reply};
 ghost use Rattle.bt_journal.specs.Journal.{changes_of};
-ghost use Rattle.bt_line.specs.declared.object.Entry as line;
+ghost use Rattle.bt_line.specs.declared.object.TurnEntry as line;
 ghost use Rattle.bt_line.specs.Legal as line_legal;
 ghost use Rattle.bt_history.specs.Book.{Books, book_steps, journal_entry};
 ghost use Rattle.bt_history.specs.Changes.{installs, newest, plans};
@@ -45,33 +45,33 @@ pub fn installed_plans_can_be_flown()
 /// calls behind it, it is legal from its opening changes on, and leads to the state of the book at the end. The network
 /// stays, and the store's count of faults rose at least as often as a change was lost.
 pub fn locked_books_are_legal()
-    ensures legal { (start end : Books) (opening : List Change) (history : List Entry) (log : List (line.Entry Call Reply))
+    ensures legal { (start end : Books) (opening : List Change) (history : List Entry) (log : List (line.TurnEntry Call Reply))
         → Legal start.net opening history → start.state ≡ state_after opening history → line_legal.Legal book_steps start log end
         → Legal start.net opening (history ++ map journal_entry log) }
-    ensures state { (start end : Books) (opening : List Change) (history : List Entry) (log : List (line.Entry Call Reply))
+    ensures state { (start end : Books) (opening : List Change) (history : List Entry) (log : List (line.TurnEntry Call Reply))
         → start.state ≡ state_after opening history → line_legal.Legal book_steps start log end
         → end.state ≡ state_after opening (history ++ map journal_entry log) }
-    ensures net { (start end : Books) (log : List (line.Entry Call Reply)) → line_legal.Legal book_steps start log end
+    ensures net { (start end : Books) (log : List (line.TurnEntry Call Reply)) → line_legal.Legal book_steps start log end
         → end.net ≡ start.net }
-    ensures rose { (start end : Books) (log : List (line.Entry Call Reply)) → line_legal.Legal book_steps start log end
+    ensures rose { (start end : Books) (log : List (line.TurnEntry Call Reply)) → line_legal.Legal book_steps start log end
         → RoseBy (length (lost_of (map journal_entry log))) start.faults end.faults }
 {}
 
 /// A book that a turn lock handed round is in the state that its calls led to from the one at the start, and its changes
 /// follow where those at the start do.
 pub fn locked_books_go_on()
-    ensures state { (start end : Books) (log : List (line.Entry Call Reply)) → line_legal.Legal book_steps start log end
+    ensures state { (start end : Books) (log : List (line.TurnEntry Call Reply)) → line_legal.Legal book_steps start log end
         → end.state ≡ state_from start.state (map journal_entry log) }
-    ensures follow { (start end : Books) (log : List (line.Entry Call Reply)) → Follows start.net start.state.changes
+    ensures follow { (start end : Books) (log : List (line.TurnEntry Call Reply)) → Follows start.net start.state.changes
         → line_legal.Legal book_steps start log end → Follows start.net end.state.changes }
-    ensures tells { (start end : Books) (log : List (line.Entry Call Reply)) → line_legal.Legal book_steps start log end
+    ensures tells { (start end : Books) (log : List (line.TurnEntry Call Reply)) → line_legal.Legal book_steps start log end
         → is_some end.told ≡ is_some start.told }
 {}
 
 /// Each call that a turn lock makes on a book is answered by a step of the machine, from the state that the calls before it
 /// led to, and after changes that follow where those at the start do.
 pub fn locked_calls_are_steps()
-    ensures step { (start end : Books) (before : List (line.Entry Call Reply)) (entry : line.Entry Call Reply)
+    ensures step { (start end : Books) (before : List (line.TurnEntry Call Reply)) (entry : line.TurnEntry Call Reply)
         → Follows start.net start.state.changes → line_legal.Legal book_steps start (before ++ entry ∷ []) end
         → (old : State) × (new : State) × (old ≡ state_from start.state (map journal_entry before))
         × Follows start.net old.changes × Step start.net old entry.call entry.reply new }

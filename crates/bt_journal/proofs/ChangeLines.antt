@@ -12,8 +12,8 @@ use Rattle.bt_net.specs.Network.{Net, IsSound}
 use Rattle.bt_journal.specs.declared.call.Change.{Change}
 use Rattle.bt_journal.specs.declared.call.Change.TheVariants as change
 use Rattle.bt_air.specs.declared.order.Order.TheVariants.{Load, Arm}
-use Rattle.bt_journal.specs.declared.line_fault.LineFault.{LineFault}
-use Rattle.bt_journal.specs.declared.line_fault.LineFault.TheVariants.{Bad, OutOfMemory}
+use Rattle.bt_journal.specs.declared.line_fault.JournalLineFault.{JournalLineFault}
+use Rattle.bt_journal.specs.declared.line_fault.JournalLineFault.TheVariants.{Bad, OutOfMemory}
 use Rattle.bt_journal.specs.JournalLines.{order_words, change_parts, change_line, edition_said, IsChangeInRange}
 use Rattle.bt_journal.specs.LineReading.{said_plan, said_small, said_in, Said, Answers}
 use Rattle.bt_plan.proofs.PlanReadBack.{plan_lines-lack}
@@ -105,13 +105,13 @@ module _ (net : Net) (sound : IsSound net) where
       absurd cc
 
   -- the answer to a line
-  pub record IsAnswer (line : List ℕ) (result : Result Said LineFault) : Type 0 where
+  pub record IsAnswer (line : List ℕ) (result : Result Said JournalLineFault) : Type 0 where
     pub line_is : IfOk result (λ said. line ≡ change_line net said.0.0 said.1)
     pub range : IfOk result (λ said. IsChangeInRange net said.0.0 said.1)
     pub edition : IfOk result (λ said. said.0 ≡ edition_said said.0.0 said.1)
     pub bad : IsErrOf result Bad → (number : ℕ) (one : Change) → IsChangeInRange net number one → line ≡ change_line net number one → ⊥
 
-  pub answered : (line text : List ℕ) (result : Result Said LineFault) → lines line ≡ text ∷ [] ∷ [] → Answers result (said_in net (words text)) → IsAnswer line result
+  pub answered : (line text : List ℕ) (result : Result Said JournalLineFault) → lines line ≡ text ∷ [] ∷ [] → Answers result (said_in net (words text)) → IsAnswer line result
   answered line text (Ok said) is read =
       let here = line_spelled line text said is read in
       record { line_is = here.0; range = here.1; edition = here.2; bad = λ h. absurd cc }

@@ -22,7 +22,7 @@ use Rattle.bt_net.specs.Terminals.{name_at}
 use Rattle.bt_demand.specs.declared.burst.Burst.{Burst}
 use Rattle.bt_demand.specs.declared.plan.Plan.{Plan}
 use Rattle.bt_plan.specs.PlanSpelling.{burst_line, plan_lines, plan_spelling, IsBurstInRange, IsPlanInRange}
-use Rattle.bt_plan.specs.PlanText.{plan_of}
+use Rattle.bt_plan.specs.PlanText.{plan_reading}
 use Rattle.bt_plan.specs.Reading.{Reading}
 use Rattle.bt_plan.specs.ScheduleSpelling.{critical_line, mode_line, IsModeInRange}
 use Rattle.bt_plan.proofs.NamedTerminals.{is_name-name_at, name_lacks}
@@ -154,7 +154,7 @@ module _ (net : Net) (sound : IsSound net) where
   -- it is read as that plan
   pub install_change_read : (plan : Plan) → IsPlanInRange net plan → said_plan net (words_of (plan_words net plan)) ≡ Some (plan.edition, change.Install plan)
   install_change_read plan range =
-      ap (λ text. install_of (plan_of net text)) (in_lines-words_of (length net.beams) (plan_words net plan) (plan-counted net plan range) ∙ ap ended (plan-bytes net plan))
+      ap (λ text. install_of (plan_reading net text)) (in_lines-words_of (length net.beams) (plan_words net plan) (plan-counted net plan range) ∙ ap ended (plan-bytes net plan))
       ∙ ap install_of (plan_read net sound plan range)
 
   pub space-plan : (plan : Plan) → IsPlanInRange net plan → map space_for_newline (plan_spelling net plan) ≡ spaced (plan_lines net plan) ++ 32 ∷ []
@@ -183,7 +183,7 @@ module _ (net : Net) (sound : IsSound net) where
   pub install_spelled : (text : List ℕ) (said : Said) → lacks 10 text ≡ true → said_plan net (words text) ≡ Some said → IsInstall text said
   install_spelled text said none is =
       let in_its_lines = in_lines (length net.beams) 0 (words text) in
-      let (plan, read, said_is) = install_read (plan_of net in_its_lines) said is in
+      let (plan, read, said_is) = install_read (plan_reading net in_its_lines) said is in
       let (spelled, range) = plan_spelled net in_its_lines plan sound.beams.count.1 read in
       let same : text ++ 32 ∷ [] ≡ spaced (plan_lines net plan) ++ 32 ∷ [] = sym (space-words text none) ∙ ap (map space_for_newline) spelled ∙ space-plan plan range in
       record { plan = plan; change_is = said_is; range = range; spelled = append_cancel_right text (spaced (plan_lines net plan)) (32 ∷ []) same }

@@ -9,14 +9,14 @@ use Rattle.bt_net.specs.Network.{Net}
 use Rattle.bt_net.specs.Terminals.{terminal_of}
 use Rattle.bt_demand.specs.declared.plan.Plan.{Plan}
 use Rattle.bt_plan.specs.Reading.{Reading}
-use Rattle.bt_plan.specs.PlanText.{plan_of}
+use Rattle.bt_plan.specs.PlanText.{plan_reading}
 use Rattle.bt_air.specs.declared.order.Order.TheVariants.{Load, Arm}
 use Rattle.bt_journal.specs.declared.call.Change.{Change}
 use Rattle.bt_journal.specs.declared.call.Change.TheVariants as change
 use Rattle.bt_journal.specs.declared.call.Edit.{Edit}
 use Rattle.bt_journal.specs.declared.call.Edit.TheVariants.{Add, Drop, Move}
-use Rattle.bt_journal.specs.declared.line_fault.LineFault.{LineFault}
-use Rattle.bt_journal.specs.declared.line_fault.LineFault.TheVariants.{Bad, OutOfMemory}
+use Rattle.bt_journal.specs.declared.line_fault.JournalLineFault.{JournalLineFault}
+use Rattle.bt_journal.specs.declared.line_fault.JournalLineFault.TheVariants.{Bad, OutOfMemory}
 
 -- the value where nothing is left behind it
 abbrev pub at_end : {A : Type 0} → List (List ℕ) → A → Option A
@@ -115,7 +115,7 @@ install_of (Err fault) = None
 
 -- the words of a plan's line
 abbrev pub said_plan : Net → List (List ℕ) → Option Said
-said_plan net ws = install_of (plan_of net (in_lines (length net.beams) 0 ws))
+said_plan net ws = install_of (plan_reading net (in_lines (length net.beams) 0 ws))
 
 -- the words of a line
 abbrev pub said_in : Net → List (List ℕ) → Option Said
@@ -123,7 +123,7 @@ said_in net [] = None
 said_in net (kind ∷ rest) = if is_word (codes "plan") kind then said_plan net (kind ∷ rest) else said_small net kind rest
 
 -- the answer is what the line says, unless memory ran out
-abbrev pub Answers : Result Said LineFault → Option Said → Type 0
+abbrev pub Answers : Result Said JournalLineFault → Option Said → Type 0
 Answers (Ok change_read) said = said ≡ Some change_read
 Answers (Err Bad) said = said ≡ None
 Answers (Err OutOfMemory) said = Unit {0}

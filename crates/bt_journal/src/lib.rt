@@ -18,7 +18,7 @@ mod writer;
 pub use call::{Call, Change, Edit};
 pub use entry::{Entries, Entry};
 pub use laws::{lines_end_once, lines_tell_changes, marks_tell_sizes};
-pub use line_fault::LineFault;
+pub use line_fault::JournalLineFault;
 pub use mark::{mark_text, read_mark};
 pub use reader::read_change;
 pub use reply::Reply;

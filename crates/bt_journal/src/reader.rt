@@ -7,7 +7,7 @@ ghost use Rattle.bt_journal.specs.declared.call.Change.{Change};
 ghost use Rattle.bt_journal.specs.JournalLines.{change_line, edition_said, IsChangeInRange};
 ghost use Rattle.bt_journal.specs.LineReading.{number_from, terminal_in, ends_in, units_in, link_in, links_in, edit_of, edit_in, said_edit, said_load, said_arm, said_small, said_plan, said_in, words_behind, left_behind, separator, in_lines, Answers};
 
-use crate::{Change, Edit, LineFault};
+use crate::{Change, Edit, JournalLineFault};
 use bt_air::Order;
 use bt_frame::{
     Command, EditionNo, LAST_COMMAND, LAST_EDITION, LAST_MARK, MOST_UNITS, Mark, OutOfMemory,
@@ -24,18 +24,18 @@ pub fn read_change(
     alloc: Global,
     net: &Network,
     line: &[u8],
-) -> Result<(EditionNo, Change), LineFault>
+) -> Result<(EditionNo, Change), JournalLineFault>
     requires short { length line.now ≤ MOST_TEXT_BYTES }
     ensures line { IfOk result (λ read. line.now ≡ change_line net.now read.0.0 read.1) }
     ensures range { IfOk result (λ read. IsChangeInRange net.now read.0.0 read.1) }
     ensures edition { IfOk result (λ read. read.0 ≡ edition_said read.0.0 read.1) }
-    ensures bad { IsErrOf result LineFault.Bad → (number : ℕ) → (change : Change)
+    ensures bad { IsErrOf result JournalLineFault.Bad → (number : ℕ) → (change : Change)
         → IsChangeInRange net.now number change → line.now ≡ change_line net.now number change → ⊥ }
 {
     // This is there for what holds of each network: it is sound.
     let _beams = net.beam_count();
     let Some(text) = text_of(line) else {
-        return Err(LineFault::Bad);
+        return Err(JournalLineFault::Bad);
     };
     said_in(alloc, net, text)
 }
@@ -50,18 +50,22 @@ pub(crate) fn text_of(line: &[u8]) -> Option<&[u8]>
 }
 
 // The change of a line, its newline left out.
-fn said_in(alloc: Global, net: &Network, text: &[u8]) -> Result<(EditionNo, Change), LineFault>
+fn said_in(
+    alloc: Global,
+    net: &Network,
+    text: &[u8],
+) -> Result<(EditionNo, Change), JournalLineFault>
     requires short { length text.now + 1 ≤ MOST_TEXT_BYTES }
     ensures { Answers result (said_in net.now (words text.now)) }
 {
     let mut words = WordReader::of(text);
     let Some(kind) = words.next() else {
-        return Err(LineFault::Bad);
+        return Err(JournalLineFault::Bad);
     };
     if is_word(kind, b"plan") {
         return said_plan(alloc, net, text);
     }
-    said_small(net, kind, words).ok_or(LineFault::Bad)
+    said_small(net, kind, words).ok_or(JournalLineFault::Bad)
 }
 
 // A change of one of the kinds but a plan, by its first word and the words behind.
@@ -213,15 +217,19 @@ fn said_arm(mut words: WordReader<'_>) -> Option<(EditionNo, Change)>
 }
 
 // What a line says that begins with `plan`.
-fn said_plan(alloc: Global, net: &Network, text: &[u8]) -> Result<(EditionNo, Change), LineFault>
+fn said_plan(
+    alloc: Global,
+    net: &Network,
+    text: &[u8],
+) -> Result<(EditionNo, Change), JournalLineFault>
     requires short { length text.now + 1 ≤ MOST_TEXT_BYTES }
     ensures { Answers result (said_plan net.now (words text.now)) }
 {
     let plan = in_lines(alloc, net.beam_count(), text)?;
     match read_plan(alloc, net, plan.as_slice()) {
         Ok(plan) => Ok((plan.edition, Change::Install(plan))),
-        Err(TextFault::OutOfMemory) => Err(LineFault::OutOfMemory),
-        Err(TextFault::At { .. }) => Err(LineFault::Bad),
+        Err(TextFault::OutOfMemory) => Err(JournalLineFault::OutOfMemory),
+        Err(TextFault::At { .. }) => Err(JournalLineFault::Bad),
     }
 }
 

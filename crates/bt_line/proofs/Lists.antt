@@ -4,7 +4,7 @@ use Rattle.std.proofs.lemmas.List.Sums.{sum_by-cons}
 use Rattle.std.proofs.lemmas.List.Elements.{filter-append}
 use mathlib.Core.Option.{some, some-injective, some-ne-none}
 use lib.ListN.{get_elem?}
-use Rattle.bt_line.specs.declared.object.Entry.{Entry}
+use Rattle.bt_line.specs.declared.object.TurnEntry.{TurnEntry}
 use Rattle.bt_line.specs.Legal.{Legal, calls_by}
 use Rattle.bt_line.specs.Passes.{HasSeen}
 
@@ -49,29 +49,29 @@ module _ {A : Type 0} where
   not_longer l a e = let same = ap length e in let long = length-append l (a ∷ []) in let n : ℕ = length l in let m : ℕ = length (l ++ a ∷ []) in let p : n ≡ m = same in let q : m ≡ n + 1 = long in absurd (omega arith)
 
 module _ {C R : Type 0} where
-  pub calls_more : (number : ℕ) (log : List (Entry C R)) (e : Entry C R) → e.caller ≡ number → calls_by number (log ++ e ∷ []) ≡ calls_by number log ++ e ∷ []
-  calls_more number log e same = filter-append (λ (entry : Entry C R). eqb entry.caller number) log (e ∷ []) ∙ ap (λ b. calls_by number log ++ cond b (e ∷ []) []) (eq-eqb e.caller number same)
+  pub calls_more : (number : ℕ) (log : List (TurnEntry C R)) (e : TurnEntry C R) → e.caller ≡ number → calls_by number (log ++ e ∷ []) ≡ calls_by number log ++ e ∷ []
+  calls_more number log e same = filter-append (λ (entry : TurnEntry C R). eqb entry.caller number) log (e ∷ []) ∙ ap (λ b. calls_by number log ++ cond b (e ∷ []) []) (eq-eqb e.caller number same)
 
-  pub calls_same : (number : ℕ) (log : List (Entry C R)) (e : Entry C R) → e.caller ≢ number → calls_by number (log ++ e ∷ []) ≡ calls_by number log
-  calls_same number log e other = filter-append (λ (entry : Entry C R). eqb entry.caller number) log (e ∷ []) ∙ (ap (λ b. calls_by number log ++ cond b (e ∷ []) []) (ne_eqb e.caller number other) ∙ append-nil (calls_by number log))
+  pub calls_same : (number : ℕ) (log : List (TurnEntry C R)) (e : TurnEntry C R) → e.caller ≢ number → calls_by number (log ++ e ∷ []) ≡ calls_by number log
+  calls_same number log e other = filter-append (λ (entry : TurnEntry C R). eqb entry.caller number) log (e ∷ []) ∙ (ap (λ b. calls_by number log ++ cond b (e ∷ []) []) (ne_eqb e.caller number other) ∙ append-nil (calls_by number log))
 
-  pub seen_longer : (log : List (Entry C R)) (e : Entry C R) (number : ℕ) (list : List (Entry C R)) → e.caller ≢ number → HasSeen log number list → HasSeen (log ++ e ∷ []) number list
+  pub seen_longer : (log : List (TurnEntry C R)) (e : TurnEntry C R) (number : ℕ) (list : List (TurnEntry C R)) → e.caller ≢ number → HasSeen log number list → HasSeen (log ++ e ∷ []) number list
   seen_longer log e number list other seen = record {
     begins = (seen.begins.0 ++ e ∷ [], sym (append_assoc list seen.begins.0 (e ∷ [])) ∙ ap (λ l. l ++ e ∷ []) seen.begins.1);
     own = calls_same number log e other ∙ seen.own;
   }
 
-  pub seen_all : (log : List (Entry C R)) (number : ℕ) → HasSeen log number log
+  pub seen_all : (log : List (TurnEntry C R)) (number : ℕ) → HasSeen log number log
   seen_all log number = record { begins = ([], append-nil log); own = refl }
 
 -- the entries are steps, and so they are with one more
-pub legal_more : {O C R : Type 0} (steps : O → ℕ → C → R → O → Type 0) (from mid to : O) (log : List (Entry C R)) (e : Entry C R) → Legal steps from log mid → steps mid e.caller e.call e.reply to → Legal steps from (log ++ e ∷ []) to
+pub legal_more : {O C R : Type 0} (steps : O → ℕ → C → R → O → Type 0) (from mid to : O) (log : List (TurnEntry C R)) (e : TurnEntry C R) → Legal steps from log mid → steps mid e.caller e.call e.reply to → Legal steps from (log ++ e ∷ []) to
 legal_more {O} steps from mid to [] e legal one = (to, (subst (λ (o : O). steps o e.caller e.call e.reply to) legal one, refl))
 legal_more {O} steps from mid to (x ∷ log) e legal one = (legal.0, (legal.1.0, legal_more steps legal.0 mid to log e legal.1.1 one))
 
 -- what each step keeps, legal entries keep
 pub legal_keeps : {O C R : Type 0} (steps : O → ℕ → C → R → O → Type 0) (P : O → Type 0) → ((o : O) (k : ℕ) (c : C) (r : R) (p : O) → steps o k c r p → P o → P p)
-    → (from to : O) (log : List (Entry C R)) → Legal steps from log to → P from → P to
+    → (from to : O) (log : List (TurnEntry C R)) → Legal steps from log to → P from → P to
 legal_keeps steps P kept from to [] legal here = subst P (sym legal) here
 legal_keeps steps P kept from to (x ∷ log) legal here = legal_keeps steps P kept legal.0 to log legal.1.1 (kept from x.caller x.call x.reply legal.0 legal.1.0 here)
 

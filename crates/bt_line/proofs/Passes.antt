@@ -2,8 +2,8 @@
 use Rattle.std.proofs.Common.{◌≡◌, ℕ, zero, suc, ◌+◌, ◌<◌, List, [], ◌∷◌, ◌++◌, length, get_or, None, sym, refl, ap, subst, ◌∙◌, arith, length-append}
 use mathlib.Core.Option.{some}
 use lib.ListN.{get_elem?}
-use Rattle.bt_line.specs.declared.object.Entry.{Entry}
-use Rattle.bt_line.specs.declared.view.View.{View}
+use Rattle.bt_line.specs.declared.object.TurnEntry.{TurnEntry}
+use Rattle.bt_line.specs.declared.view.TurnView.{TurnView}
 use Rattle.bt_line.specs.Passes.{HasSeen}
 use Rattle.bt_line.specs.Turns.{joined}
 
@@ -30,9 +30,9 @@ module _ {A : Type 0} where
   pub pushed_length : (l new : List A) (a : A) → new ≡ l ++ a ∷ [] → length new ≡ length l + 1
   pushed_length l new a is = ap length is ∙ length-append l (a ∷ [])
 
-module _ {O C R A : Type 0} (view : A → View O C R) where
+module _ {O C R A : Type 0} (view : A → TurnView O C R) where
   abbrev V : Type 0
-  V = View O C R
+  V = TurnView O C R
 
   -- the passes after the first that are not yet taken in, and the first's view
   pub record Taking (all now : List A) (lead : V) : Type 0 where
@@ -84,8 +84,8 @@ module _ {O C R A : Type 0} (view : A → View O C R) where
   taking_all all now lead t none_left = let sum = t.sum in let count = t.count in omega (arith, sum, count, none_left)
 
   -- the log begins with what each pass had seen, and has the entries of each caller that its pass had seen
-  pub taking_ends : (all now : List A) (lead : V) (log : List (Entry C R)) → Taking all now lead → length now ≡ 0 → HasSeen log 0 lead.seen
-      → ((i : ℕ) (list : List (Entry C R)) → get_elem? lead.kept i ≡ some list → HasSeen log (1 + i) list) → (i : ℕ) (d : A) → i < length all → HasSeen log i (view (get_or all i d)).seen
+  pub taking_ends : (all now : List A) (lead : V) (log : List (TurnEntry C R)) → Taking all now lead → length now ≡ 0 → HasSeen log 0 lead.seen
+      → ((i : ℕ) (list : List (TurnEntry C R)) → get_elem? lead.kept i ≡ some list → HasSeen log (1 + i) list) → (i : ℕ) (d : A) → i < length all → HasSeen log i (view (get_or all i d)).seen
   taking_ends all now lead log t none_left first kept zero d h = subst (HasSeen log 0) (t.seen d) first
   taking_ends all now lead log t none_left first kept (suc i) d h = let sum = t.sum in let at : length now + 1 + i ≡ suc i = omega (arith, none_left) in let next : 1 + i ≡ suc i = omega arith in
       let here = t.kept i d (omega (arith, sum, none_left, h)) in subst (λ (z : ℕ × ℕ). HasSeen log z.0 (view (get_or all z.1 d)).seen) (λ j. (next j, at j)) (kept i (view (get_or all (length now + 1 + i) d)).seen here)

@@ -10,8 +10,8 @@ use Rattle.std.proofs.lemmas.List.{append_cancel_left}
 use Rattle.std.proofs.lemmas.Option.{none-some, same_Some}
 use Rattle.atomic_table.specs.Table.{State, Me, step, keeps, takes, gives, stepped, put_back, rest, Allows, Splits, Joins, opening, Final, Seen}
 use Rattle.atomic_table.proofs.Lists.{at_set, set_else, at_longer, one_turn}
-use Rattle.bt_line.specs.declared.object.Entry.{Entry}
-use Rattle.bt_line.specs.declared.view.View.{View}
+use Rattle.bt_line.specs.declared.object.TurnEntry.{TurnEntry}
+use Rattle.bt_line.specs.declared.view.TurnView.{TurnView}
 use Rattle.bt_line.specs.Legal.{Legal, calls_by, entry_of}
 use Rattle.bt_line.specs.Passes.{HasSeen, Gains}
 use Rattle.bt_line.specs.Turns.{waits, one_of, gone, opening_view, admits, admitted, joined, rested, Knows, IsHome, IsOut, Leads, Kept, IsIdle, drawn, looked, passed, MayGive}
@@ -21,15 +21,15 @@ one_of_small : (ticket : Option ℕ) → one_of ticket ≤ 1
 one_of_small None = omega arith
 one_of_small (Some k) = omega arith
 
-module _ {O C R : Type 0} (steps : O → ℕ → C → R → O → Type 0) (history : O → List (Entry C R)) (x : O) where
+module _ {O C R : Type 0} (steps : O → ℕ → C → R → O → Type 0) (history : O → List (TurnEntry C R)) (x : O) where
   abbrev V : Type 0
-  V = View O C R
+  V = TurnView O C R
 
   abbrev St : Type 0
   St = State (Option O) V
 
   abbrev L : Type 0
-  L = List (Entry C R)
+  L = List (TurnEntry C R)
 
   abbrev M : Type 0
   M = Me (Option O) V
@@ -283,12 +283,12 @@ module _ {O C R : Type 0} (steps : O → ℕ → C → R → O → Type 0) (hist
 
   -- what the seat is told of the object that it gave back
   tells : (me : M) (p : O) (b log seen : L) → me.0.start ≡ Some x → me.0.base ≡ Some b → me.1 ≡ (0, Some p) ∷ [] → history p ≡ history x ++ log
-      → (log ≡ b → seen ≡ me.0.seen) → ((e : Entry C R) → log ≡ b ++ e ∷ [] → seen ≡ b ++ e ∷ [])
+      → (log ≡ b → seen ≡ me.0.seen) → ((e : TurnEntry C R) → log ≡ b ++ e ∷ [] → seen ≡ b ++ e ∷ [])
       → (y q : O) (d : L) → me.0.start ≡ Some y → me.0.base ≡ Some d → me.1 ≡ (0, Some q) ∷ []
-      → (history q ≡ history y ++ d → seen ≡ me.0.seen) × ((e : Entry C R) → history q ≡ history y ++ d ++ e ∷ [] → seen ≡ d ++ e ∷ [])
+      → (history q ≡ history y ++ d → seen ≡ me.0.seen) × ((e : TurnEntry C R) → history q ≡ history y ++ d ++ e ∷ [] → seen ≡ d ++ e ∷ [])
   tells me p b log seen start base carried stored none_made made y q d start' base' carried' =
       let is_x : x ≡ y = same_Some x y (sym start ∙ start') in let is_b : b ≡ d = same_Some b d (sym base ∙ base') in let is_p : p ≡ q = held p q (sym carried ∙ carried') in
-      subst (λ (z : O × O × L). (history z.1 ≡ history z.0 ++ z.2 → seen ≡ me.0.seen) × ((e : Entry C R) → history z.1 ≡ history z.0 ++ z.2 ++ e ∷ [] → seen ≡ z.2 ++ e ∷ [])) (λ i. (is_x i, is_p i, is_b i))
+      subst (λ (z : O × O × L). (history z.1 ≡ history z.0 ++ z.2 → seen ≡ me.0.seen) × ((e : TurnEntry C R) → history z.1 ≡ history z.0 ++ z.2 ++ e ∷ [] → seen ≡ z.2 ++ e ∷ [])) (λ i. (is_x i, is_p i, is_b i))
       ((λ same. none_made (append_cancel_left (history x) log b (sym stored ∙ same))), (λ e same. made e (append_cancel_left (history x) log (b ++ e ∷ []) (sym stored ∙ (same ∙ append_assoc (history x) b (e ∷ []))))))
     where
       first : O → List (ℕ × Option O) → O
@@ -313,7 +313,7 @@ module _ {O C R : Type 0} (steps : O → ℕ → C → R → O → Type 0) (hist
           tells me p r.log r.log me.0.seen know.start_is base' carried t.1 (λ _. refl) (λ e same. absurd (not_longer r.log e same)),
         ),
       ))
-      (λ (t : (e : Entry C R) × (e.caller ≡ id) × Legal steps x (r.log ++ e ∷ []) p × (history p ≡ history x ++ r.log ++ e ∷ [])). let e : Entry C R = t.0 in let stored = t.3 ∙ append_assoc (history x) r.log (e ∷ []) in (
+      (λ (t : (e : TurnEntry C R) × (e.caller ≡ id) × Legal steps x (r.log ++ e ∷ []) p × (history p ≡ history x ++ r.log ++ e ∷ [])). let e : TurnEntry C R = t.0 in let stored = t.3 ∙ append_assoc (history x) r.log (e ∷ []) in (
         rested me.0 (r.log ++ e ∷ []),
         gives,
         tt,
@@ -508,15 +508,15 @@ module _ {O C R : Type 0} (steps : O → ℕ → C → R → O → Type 0) (hist
   -- what the object's call promises lets it be given back
   pub may_give : {E : Type 0} (answer : Result R E) (b : L) (o p : O) (caller : ℕ) (call : C) → Legal steps x b o → history o ≡ history x ++ b
       → IfOk answer (λ r. steps o caller call r p) → IfOk answer (λ r. history p ≡ history o ++ entry_of caller call r ∷ []) → OnErr answer (p ≡ o) → MayGive steps history x b caller p
-  may_give (Ok r) b o p caller call legal stored one entry refused = let e : Entry C R = entry_of caller call r in inr (e, refl, legal_more steps x o p b e legal one, entry ∙ ap (λ l. l ++ e ∷ []) stored)
+  may_give (Ok r) b o p caller call legal stored one entry refused = let e : TurnEntry C R = entry_of caller call r in inr (e, refl, legal_more steps x o p b e legal one, entry ∙ ap (λ l. l ++ e ∷ []) stored)
   may_give (Err f) b o p caller call legal stored one entry refused = inl (subst (Legal steps x b) (sym refused) legal, ap history refused ∙ stored)
 
   -- what the caller learns
   pub learns : {E : Type 0} (answer : Result R E) (b : L) (o p : O) (caller : ℕ) (call : C) (old mid new : L) → Legal steps x b o → history o ≡ history x ++ b → HasSeen b caller old → mid ≡ old
       → IfOk answer (λ r. steps o caller call r p) → IfOk answer (λ r. history p ≡ history o ++ entry_of caller call r ∷ []) → OnErr answer (p ≡ o)
-      → (history p ≡ history x ++ b → new ≡ mid) × ((e : Entry C R) → history p ≡ history x ++ b ++ e ∷ [] → new ≡ b ++ e ∷ [])
+      → (history p ≡ history x ++ b → new ≡ mid) × ((e : TurnEntry C R) → history p ≡ history x ++ b ++ e ∷ [] → new ≡ b ++ e ∷ [])
       → MatchResult answer (λ reply. Gains steps x old (entry_of caller call reply) new) (λ _. new ≡ old)
-  learns (Ok r) b o p caller call old mid new legal stored seen same one entry refused told = let e : Entry C R = entry_of caller call r in let is : new ≡ b ++ e ∷ [] = told.1 e (entry ∙ ap (λ l. l ++ e ∷ []) stored) in record {
+  learns (Ok r) b o p caller call old mid new legal stored seen same one entry refused told = let e : TurnEntry C R = entry_of caller call r in let is : new ≡ b ++ e ∷ [] = told.1 e (entry ∙ ap (λ l. l ++ e ∷ []) stored) in record {
     before = b;
     begins = seen.begins;
     ends = is;

@@ -3,22 +3,22 @@ use Rattle.std.specs.Prelude.{◌≡◌, ℕ, List, [], ◌∷◌, ◌++◌, Opt
 use mathlib.Core.List.{IsPrefix}
 use Rattle.atomic_table.specs.Seated.{TableId}
 use Rattle.atomic_table.specs.declared.shared.Seat.{Seat}
-use Rattle.bt_line.specs.declared.object.Entry.{Entry}
-use Rattle.bt_line.specs.declared.view.View.{View}
+use Rattle.bt_line.specs.declared.object.TurnEntry.{TurnEntry}
+use Rattle.bt_line.specs.declared.view.TurnView.{TurnView}
 use Rattle.bt_line.specs.Legal.{Legal, calls_by}
 
 -- the place of a pass in its line
 abbrev pub Place : Type 0 → Type 0 → Type 0 → Type 0
-Place O C R = Seat (Option O) (View O C R)
+Place O C R = Seat (Option O) (TurnView O C R)
 
 -- the history begins with the list, and has the same entries of one caller
-pub record HasSeen {C R : Type 0} (log : List (Entry C R)) (number : ℕ) (list : List (Entry C R)) : Type 0 where
+pub record HasSeen {C R : Type 0} (log : List (TurnEntry C R)) (number : ℕ) (list : List (TurnEntry C R)) : Type 0 where
   pub begins : IsPrefix list log
   pub own : calls_by number log ≡ calls_by number list
 
 module _ {O C R : Type 0} where
   -- what a pass has seen of its line's history
-  abbrev pub seen_at : Place O C R → List (Entry C R)
+  abbrev pub seen_at : Place O C R → List (TurnEntry C R)
   seen_at place = place.me.0.seen
 
   -- the pass is one of the line with this table, which started from this object
@@ -42,8 +42,8 @@ module _ {O C R : Type 0} where
 
   -- What a pass has seen after an answered call: all that it saw before, then what others did meanwhile, then the entry of
   -- this call; legal from the start of the line; and of its own caller no entry but the earlier ones and this one.
-  pub record Gains (steps : O → ℕ → C → R → O → Type 0) (start : O) (old : List (Entry C R)) (entry : Entry C R) (new : List (Entry C R)) : Type 0 where
-    pub before : List (Entry C R)
+  pub record Gains (steps : O → ℕ → C → R → O → Type 0) (start : O) (old : List (TurnEntry C R)) (entry : TurnEntry C R) (new : List (TurnEntry C R)) : Type 0 where
+    pub before : List (TurnEntry C R)
     pub begins : IsPrefix old before
     pub ends : new ≡ before ++ entry ∷ []
     pub legal : (object : O) × Legal steps start new object

@@ -1,13 +1,13 @@
 // An object whose calls are steps, each kept as an entry.
 ghost use Rattle.std.specs.Prelude.{◌≡◌, ◌++◌, ◌∷◌, [], ℕ, List, IfOk, OnErr};
-ghost use Rattle.bt_line.specs.declared.object.Entry.{Entry};
+ghost use Rattle.bt_line.specs.declared.object.TurnEntry.{TurnEntry};
 
 use bt_frame::OutOfMemory;
 use std::alloc::Global;
 
 /// One call: who called, what was asked, and what was answered.
 #[derive(Clone, Copy, Drop)]
-pub struct Entry<C, R> {
+pub struct TurnEntry<C, R> {
     /// The number of the caller.
     pub caller: u32,
     pub call: C,
@@ -26,7 +26,7 @@ pub trait Object {
     ghost steps: { Self → ℕ → Self.Call → Self.Reply → Self → Type 0 };
 
     /// The entries that the object has stored, in order.
-    ghost history: { Self → List (Entry Self.Call Self.Reply) };
+    ghost history: { Self → List (TurnEntry Self.Call Self.Reply) };
 
     /// The test that a call must pass.
     ghost takes: { Self → Self.Call → Type 0 };

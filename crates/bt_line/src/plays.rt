@@ -1,14 +1,14 @@
 // The steps on the lock's table, and what each tells its caller.
 ghost use Rattle.bt_line.specs.Turns.{drawn, looked, passed, admits, admitted, joined, gone};
 
-use crate::{Object, View};
+use crate::{Object, TurnView};
 use atomic_table::{Join, Play, Split};
 use std::marker::PhantomData;
 
 /// A ticket is drawn.
 pub(crate) struct Draw;
 
-impl<S, O, C, R> Play<S, View<O, C, R>> for Draw {
+impl<S, O, C, R> Play<S, TurnView<O, C, R>> for Draw {
     ghost then = { drawn };
 }
 
@@ -17,7 +17,7 @@ pub(crate) struct Look<O> {
     object: PhantomData<O>,
 }
 
-impl<O: Object> Play<Option<O>, View<O, O::Call, O::Reply>> for Look<O> {
+impl<O: Object> Play<Option<O>, TurnView<O, O::Call, O::Reply>> for Look<O> {
     ghost then = { looked O.steps O.history };
 }
 
@@ -26,14 +26,14 @@ pub(crate) struct PassOn<O> {
     object: PhantomData<O>,
 }
 
-impl<O: Object> Play<Option<O>, View<O, O::Call, O::Reply>> for PassOn<O> {
+impl<O: Object> Play<Option<O>, TurnView<O, O::Call, O::Reply>> for PassOn<O> {
     ghost then = { passed O.history };
 }
 
 /// The first seat gives a number out.
 pub(crate) struct Admit;
 
-impl<O, C, R> Split<View<O, C, R>> for Admit {
+impl<O, C, R> Split<TurnView<O, C, R>> for Admit {
     ghost left = { admits };
 
     ghost right = { admitted };
@@ -42,7 +42,7 @@ impl<O, C, R> Split<View<O, C, R>> for Admit {
 /// The first seat takes a seat in.
 pub(crate) struct TakeIn;
 
-impl<O, C, R> Join<View<O, C, R>> for TakeIn {
+impl<O, C, R> Join<TurnView<O, C, R>> for TakeIn {
     ghost both = { joined };
 
     ghost spent = { gone };

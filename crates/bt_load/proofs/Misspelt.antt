@@ -8,9 +8,9 @@ use Rattle.bt_net.specs.declared.fault.NetFault.TheVariants.{N1, N2, N3, N4, N5,
 use Rattle.bt_text.specs.Reading.{IsFaultOf, LineReading}
 use Rattle.bt_text.specs.declared.fault.LineFault.{LineFault}
 use Rattle.bt_text.specs.declared.fault.LineFault.TheVariants as line_fault
-use Rattle.bt_plan.specs.MatrixText.{matrix_of}
+use Rattle.bt_plan.specs.MatrixText.{matrix_reading}
 use Rattle.bt_plan.specs.TrafficText.{demand_of}
-use Rattle.bt_plan.specs.PlanText.{plan_of}
+use Rattle.bt_plan.specs.PlanText.{plan_reading}
 use Rattle.bt_plan.specs.ScheduleText.{schedule_of}
 use Rattle.bt_plan.specs.declared.text_fault.TextCode.{TextCode}
 use Rattle.bt_script.specs.declared.fault.ScriptCode.{ScriptCode}
@@ -36,8 +36,8 @@ text_misspelt of reading told failed name bytes (line_fault.At code line) (stop.
 text_misspelt of reading told failed name bytes line_fault.OutOfMemory (stop.Early report) content is names = absurd names
 
 pub matrix_misspelt : (told : List ℕ → Option (List ℕ)) (failed : Type 0) (name bytes : List ℕ) (fault : LineFault TextCode) (why : Stop)
-    → IsContent told name bytes → IsFaultOf (matrix_of bytes) fault → StopIs (NamesLineFault code_name fault) why → StopIs (StopsAtLoad matrix_file told failed name) why
-matrix_misspelt = text_misspelt code_name matrix_of
+    → IsContent told name bytes → IsFaultOf (matrix_reading bytes) fault → StopIs (NamesLineFault code_name fault) why → StopIs (StopsAtLoad matrix_file told failed name) why
+matrix_misspelt = text_misspelt code_name matrix_reading
 
 pub schedule_misspelt : (size : ℕ) (told : List ℕ → Option (List ℕ)) (failed : Type 0) (name bytes : List ℕ) (fault : LineFault TextCode) (why : Stop)
     → IsContent told name bytes → IsFaultOf (schedule_of size bytes) fault → StopIs (NamesLineFault code_name fault) why → StopIs (StopsAtLoad (schedule_file size) told failed name) why
@@ -48,8 +48,8 @@ pub demand_misspelt : (net : Net) (told : List ℕ → Option (List ℕ)) (faile
 demand_misspelt net = text_misspelt code_name (demand_of net)
 
 pub plan_misspelt : (net : Net) (told : List ℕ → Option (List ℕ)) (failed : Type 0) (name bytes : List ℕ) (fault : LineFault TextCode) (why : Stop)
-    → IsContent told name bytes → IsFaultOf (plan_of net bytes) fault → StopIs (NamesLineFault code_name fault) why → StopIs (StopsAtLoad (plan_file net) told failed name) why
-plan_misspelt net = text_misspelt code_name (plan_of net)
+    → IsContent told name bytes → IsFaultOf (plan_reading net bytes) fault → StopIs (NamesLineFault code_name fault) why → StopIs (StopsAtLoad (plan_file net) told failed name) why
+plan_misspelt net = text_misspelt code_name (plan_reading net)
 
 pub script_misspelt : (net : Net) (told : List ℕ → Option (List ℕ)) (failed : Type 0) (name bytes : List ℕ) (fault : LineFault ScriptCode) (why : Stop)
     → IsContent told name bytes → IsFaultOf (script_of net bytes) fault → StopIs (NamesLineFault script_code_name fault) why → StopIs (StopsAtLoad (script_file net) told failed name) why

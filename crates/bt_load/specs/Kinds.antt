@@ -8,9 +8,9 @@ use Rattle.bt_text.specs.Reading.{LineReading}
 use Rattle.bt_plan.specs.Reading.{Fault}
 use Rattle.bt_demand.specs.declared.demand.Link.{Link}
 use Rattle.bt_demand.specs.declared.plan.Plan.{Plan}
-use Rattle.bt_plan.specs.MatrixText.{matrix_of}
+use Rattle.bt_plan.specs.MatrixText.{matrix_reading}
 use Rattle.bt_plan.specs.TrafficText.{demand_of}
-use Rattle.bt_plan.specs.PlanText.{plan_of}
+use Rattle.bt_plan.specs.PlanText.{plan_reading}
 use Rattle.bt_plan.specs.ScheduleText.{schedule_of}
 use Rattle.bt_script.specs.ScriptText.{script_of}
 use Rattle.bt_script.specs.declared.fault.ScriptCode.{ScriptCode}
@@ -32,7 +32,7 @@ text_file name reading = record { reading = reading; fault_words = λ fault. lin
 
 -- a traffic matrix
 abbrev pub matrix_file : Kind (List (List ℕ)) Fault
-matrix_file = text_file code_name matrix_of
+matrix_file = text_file code_name matrix_reading
 
 -- a switching schedule for so many beams
 abbrev pub schedule_file : ℕ → Kind Schedule Fault
@@ -44,7 +44,7 @@ demand_file net = text_file code_name (demand_of net)
 
 -- a burst time plan for a network
 abbrev pub plan_file : Net → Kind Plan Fault
-plan_file net = text_file code_name (plan_of net)
+plan_file net = text_file code_name (plan_reading net)
 
 -- a network
 abbrev pub network_file : Kind Net NetFault

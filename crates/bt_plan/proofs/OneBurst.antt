@@ -14,7 +14,7 @@ use Rattle.bt_demand.specs.declared.burst.Burst.{Burst}
 use Rattle.bt_plan.specs.declared.text_fault.TextCode.TheVariants.{P1, P2}
 use Rattle.bt_demand.specs.Burst.{IsNotAfter}
 use Rattle.bt_demand.proofs.BurstOrder.{IsNotAfter-then}
-use Rattle.bt_demand.specs.Demand.{Ends}
+use Rattle.bt_demand.specs.Demand.{LinkEnds}
 use Rattle.bt_plan.specs.PlanSpelling.{edition_line, burst_line, IsBurstInRange}
 use Rattle.bt_plan.specs.PlanText.{edition_in, span_of, span_in, burst_with, burst_between, burst_behind, burst_in, burst_below, plan_end, bursts_in}
 use Rattle.bt_plan.specs.Reading.{Fault}
@@ -61,20 +61,20 @@ span_spelled start slots span is =
     subst (IsSpan start slots) tested.1 here))
 
 -- the terminals of a burst
-ends_named : (net : Net) (fault : Fault) (from to : List ℕ) (ends : Ends) → ends_in net fault from to ≡ Ok ends → IsNamed net from ends.0 × IsNamed net to ends.1
+ends_named : (net : Net) (fault : Fault) (from to : List ℕ) (ends : LinkEnds) → ends_in net fault from to ≡ Ok ends → IsNamed net from ends.0 × IsNamed net to ends.1
 ends_named net fault from to ends is =
     let second = λ (f : TermNo). or_fault fault (terminal_of net to) >>= λ t. Ok (f, t) in
     let first = bind_ok (or_fault fault (terminal_of net from)) second ends is in
     let rest = bind_ok (or_fault fault (terminal_of net to)) (λ t. Ok (first.0, t)) ends first.2 in
     let f = terminal_named net from first.0 (or_fault_ok fault.0 fault.1 (terminal_of net from) first.0 first.1) in
     let t = terminal_named net to rest.0 (or_fault_ok fault.0 fault.1 (terminal_of net to) rest.0 rest.1) in
-    subst (λ (e : Ends). IsNamed net from e.0 × IsNamed net to e.1) (ok_is (first.0, rest.0) ends rest.2) (f, t)
+    subst (λ (e : LinkEnds). IsNamed net from e.0 × IsNamed net to e.1) (ok_is (first.0, rest.0) ends rest.2) (f, t)
 
 -- a burst
 abbrev IsBurstLine : Net → List (List ℕ) → Burst → Type 0
 IsBurstLine net ws burst = (spaced ws ≡ burst_line net burst) × IsBurstInRange net burst
 
-burst_of : (net : Net) (start slots from to : List ℕ) (span : ℕ × ℕ) (ends : Ends) → IsSpan start slots span → IsNamed net from ends.0 → IsNamed net to ends.1
+burst_of : (net : Net) (start slots from to : List ℕ) (span : ℕ × ℕ) (ends : LinkEnds) → IsSpan start slots span → IsNamed net from ends.0 → IsNamed net to ends.1
     → IsBurstLine net (codes "burst" ∷ start ∷ slots ∷ from ∷ to ∷ []) (record { from = ends.0; to = ends.1; start = span.0; length = span.1 })
 burst_of net start slots from to span ends numbers f t = (
   ap (λ w. spaced (codes "burst" ∷ w ∷ slots ∷ from ∷ to ∷ [])) numbers.start_is
@@ -89,7 +89,7 @@ between_spelled : (net : Net) (at : ℕ) (start slots : List ℕ) (span : ℕ ×
 between_spelled net at start slots span [] burst numbers is = absurd cc
 between_spelled net at start slots span (from ∷ []) burst numbers is = absurd cc
 between_spelled net at start slots span (from ∷ to ∷ []) burst numbers is =
-    let made : Ends → Burst = λ e. record { from = e.0; to = e.1; start = span.0; length = span.1 } in
+    let made : LinkEnds → Burst = λ e. record { from = e.0; to = e.1; start = span.0; length = span.1 } in
     let shaped = passed (are_names from to) (P1, at) (burst_with net at span from to) burst is in
     let ends = bind_ok (ends_in net (P2, at) from to) (λ e. Ok (made e)) burst shaped.1 in
     let named = ends_named net (P2, at) from to ends.0 ends.1 in

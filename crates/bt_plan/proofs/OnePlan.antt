@@ -9,7 +9,7 @@ use Rattle.bt_demand.specs.declared.plan.Plan.{Plan}
 use Rattle.bt_plan.specs.declared.text_fault.TextCode.TheVariants.{P1}
 use Rattle.bt_demand.specs.Burst.{IsNotAfter}
 use Rattle.bt_plan.specs.PlanSpelling.{edition_line, burst_line, plan_lines, plan_spelling, IsBurstInRange, IsPlanInRange}
-use Rattle.bt_plan.specs.PlanText.{edition_in, bursts_in, is_mode, modes_and_bursts, first_says, parts_behind, critical_behind, length_behind, plan_in, plan_of}
+use Rattle.bt_plan.specs.PlanText.{edition_in, bursts_in, is_mode, modes_and_bursts, first_says, parts_behind, critical_behind, length_behind, plan_in, plan_reading}
 use Rattle.bt_verdict.specs.PlanVerdict.{AreBetweenTerminals}
 use Rattle.bt_plan.specs.Reading.{Reading}
 use Rattle.bt_plan.specs.ScheduleSpelling.{length_line, critical_line, mode_line, IsModeInRange}
@@ -117,7 +117,7 @@ plan_in-spelled net ls plan few is =
     } in
     subst (IsSpelledBy net ls) (ok_is (made parts.0) plan parts.2) (all_are, range)
 
-pub plan_spelled : (net : Net) (text : List ℕ) (plan : Plan) → length net.beams ≤ 32 → plan_of net text ≡ Ok plan → (text ≡ plan_spelling net plan) × IsPlanInRange net plan
+pub plan_spelled : (net : Net) (text : List ℕ) (plan : Plan) → length net.beams ≤ 32 → plan_reading net text ≡ Ok plan → (text ≡ plan_spelling net plan) × IsPlanInRange net plan
 plan_spelled net text plan few is =
     let found = plan_in-spelled net (lines text) plan few is in
     (ended_from_lines text (plan_lines net plan) (found.0 ∙ sym (lines_from_plan-is net plan)), found.1)

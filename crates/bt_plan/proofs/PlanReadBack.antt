@@ -17,9 +17,9 @@ use Rattle.bt_demand.specs.declared.plan.Plan.{Plan}
 use Rattle.bt_plan.specs.declared.text_fault.TextCode.TheVariants.{P1, P2}
 use Rattle.bt_demand.specs.Burst.{IsNotAfter}
 use Rattle.bt_demand.proofs.BurstOrder.{tested-IsNotAfter}
-use Rattle.bt_demand.specs.Demand.{Ends}
+use Rattle.bt_demand.specs.Demand.{LinkEnds}
 use Rattle.bt_plan.specs.PlanSpelling.{edition_line, burst_line, plan_lines, plan_spelling, IsBurstInRange, IsPlanInRange}
-use Rattle.bt_plan.specs.PlanText.{edition_in, span_of, span_in, burst_between, burst_in, burst_below, plan_end, bursts_in, is_mode, modes_and_bursts, first_says, parts_behind, critical_behind, length_behind, plan_in, plan_of}
+use Rattle.bt_plan.specs.PlanText.{edition_in, span_of, span_in, burst_between, burst_in, burst_below, plan_end, bursts_in, is_mode, modes_and_bursts, first_says, parts_behind, critical_behind, length_behind, plan_in, plan_reading}
 use Rattle.bt_plan.specs.Reading.{Fault, Reading}
 use Rattle.bt_plan.specs.ScheduleSpelling.{length_line, critical_line, mode_line, IsModeInRange}
 use Rattle.bt_plan.specs.ScheduleText.{critical_in, mode_in}
@@ -74,9 +74,9 @@ module _ (net : Net) (sound : IsSound net) where
 
   between_read : (at : ℕ) (burst : Burst) → IsBurstInRange net burst → burst_between net at (burst.start, burst.length) (name_at net burst.from ∷ name_at net burst.to ∷ []) ≡ Ok burst
   between_read at burst range =
-      let made : Ends → Burst = λ e. record { from = e.0; to = e.1; start = burst.start; length = burst.length } in
+      let made : LinkEnds → Burst = λ e. record { from = e.0; to = e.1; start = burst.start; length = burst.length } in
       rw (is_name-name_at net burst.from sound range.sends, is_name-name_at net burst.to sound range.receives)
-      (ap (λ (ends : Reading Ends). ends >>= λ e. Ok (made e)) (ends_read (P2, at) burst range))
+      (ap (λ (ends : Reading LinkEnds). ends >>= λ e. Ok (made e)) (ends_read (P2, at) burst range))
 
   burst_read : (at : ℕ) (burst : Burst) → IsBurstInRange net burst → burst_in net at (words (burst_line net burst)) ≡ Ok burst
   burst_read at burst range =
@@ -170,6 +170,6 @@ module _ (net : Net) (sound : IsSound net) where
       let second : length_behind net plan.edition (slots ∷ critical ∷ behind) ≡ Ok plan = rw (length_read plan.schedule.length range.schedule.slots) third in
       rw (edition_read plan.edition range.edition) second
 
-  pub plan_read : (plan : Plan) → IsPlanInRange net plan → plan_of net (plan_spelling net plan) ≡ Ok plan
+  pub plan_read : (plan : Plan) → IsPlanInRange net plan → plan_reading net (plan_spelling net plan) ≡ Ok plan
   plan_read plan range =
       ap (plan_in net) (lines-ended (plan_lines net plan) (plan_lines-lack plan range) ∙ lines_from_plan-is net plan) ∙ plan_in-is plan range

@@ -7,12 +7,12 @@ use Rattle.bt_text.specs.declared.fault.LineFault.{LineFault}
 use Rattle.bt_text.specs.declared.fault.LineFault.TheVariants.{At, OutOfMemory}
 use Rattle.bt_text.specs.Reading.{◌>>=◌, IsFaultOf}
 use Rattle.bt_plan.specs.Reading.{Reading}
-use Rattle.bt_plan.specs.MatrixText.{size_in, row_in, rows_in, matrix_in, matrix_of}
+use Rattle.bt_plan.specs.MatrixText.{size_in, row_in, rows_in, matrix_in, matrix_reading}
 use Rattle.bt_text.proofs.Front.{with_front, regroup}
 use Rattle.bt_text.proofs.FirstLine.{lines-HasFirst, lines_after_end}
 
 -- the size, and the rows that follow it
-pub matrix_from_line : (text line rest : List ℕ) → lines text ≡ line ∷ lines rest → matrix_of text ≡ (size_in (numbers_of (words line)) >>= λ size. rows_in size size 2 (lines rest))
+pub matrix_from_line : (text line rest : List ℕ) → lines text ≡ line ∷ lines rest → matrix_reading text ≡ (size_in (numbers_of (words line)) >>= λ size. rows_in size size 2 (lines rest))
 matrix_from_line text line rest cut =
     let next = lines-HasFirst rest in
     ap matrix_in cut ∙ rw next.2 refl

@@ -13,7 +13,7 @@ use Rattle.bt_plan.specs.declared.text_fault.TextCode.TheVariants.{X1, X2}
 use Rattle.bt_text.specs.Reading.{◌>>=◌}
 use Rattle.bt_text.proofs.Steps.{bind_ok, passed}
 use Rattle.bt_plan.specs.Reading.{Reading}
-use Rattle.bt_plan.specs.MatrixText.{size_in, row_in, rows_in, matrix_in, matrix_of}
+use Rattle.bt_plan.specs.MatrixText.{size_in, row_in, rows_in, matrix_in, matrix_reading}
 
 -- a test that did not fail
 pub guard_ok : {A : Type 0} (b : Bool) (fault : TextCode × ℕ) (x y : A) → cond b (Ok x) (Err fault) ≡ Ok y → (b ≡ true) × (x ≡ y)
@@ -108,15 +108,15 @@ matrix_in-sized (first ∷ next ∷ rest) rows e =
     record { size = size.0; some = range.0; few = range.1; are = rows_in-ok size.0 size.0 2 (next ∷ rest) rows size.2 }
 
 -- no row that a text spells asks for more than so many entries may
-pub row_sum-small : (text : List ℕ) (rows : List (List ℕ)) → matrix_of text ≡ Ok rows → (up : ℕ) → up < length rows → row_sum rows up ≤ length rows * 4096
+pub row_sum-small : (text : List ℕ) (rows : List (List ℕ)) → matrix_reading text ≡ Ok rows → (up : ℕ) → up < length rows → row_sum rows up ≤ length rows * 4096
 row_sum-small text rows e up within =
     let sized = matrix_in-sized (lines text) rows e in
     let row = All-from_recursion (IsRow sized.size) rows sized.are.each up [] within in
     omega (arith, sum-small (row_of rows up) row.small, row.len, sized.are.count_is)
 
 -- the rows that a text spells are a traffic matrix
-pub matrix_of-IsTraffic : (text : List ℕ) (rows : List (List ℕ)) → matrix_of text ≡ Ok rows → IsTraffic rows
-matrix_of-IsTraffic text rows e = let sized = matrix_in-sized (lines text) rows e in rows-IsTraffic sized.size rows sized.some sized.few sized.are
+pub matrix_reading-IsTraffic : (text : List ℕ) (rows : List (List ℕ)) → matrix_reading text ≡ Ok rows → IsTraffic rows
+matrix_reading-IsTraffic text rows e = let sized = matrix_in-sized (lines text) rows e in rows-IsTraffic sized.size rows sized.some sized.few sized.are
 
 line-small : (rows : List (List ℕ)) (line : Critical) → IsSized rows → IsLine rows line → line_sum rows line ≤ 131072
 line-small rows (Row up) sized within =
@@ -126,5 +126,5 @@ line-small rows (Column down) sized within =
     omega (arith, column-small sized.size rows down.0 sized.are.each, sized.are.count_is, sized.few)
 
 -- and each line of them has at most sixteen times the greatest entry
-pub matrix_of-line_small : (text : List ℕ) (rows : List (List ℕ)) (line : Critical) → matrix_of text ≡ Ok rows → IsLine rows line → line_sum rows line ≤ 131072
-matrix_of-line_small text rows line e within = line-small rows line (matrix_in-sized (lines text) rows e) within
+pub matrix_reading-line_small : (text : List ℕ) (rows : List (List ℕ)) (line : Critical) → matrix_reading text ≡ Ok rows → IsLine rows line → line_sum rows line ≤ 131072
+matrix_reading-line_small text rows line e within = line-small rows line (matrix_in-sized (lines text) rows e) within

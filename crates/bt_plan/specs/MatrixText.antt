@@ -30,5 +30,5 @@ matrix_in (first ∷ next ∷ rest) = size_in (numbers_of (words first)) >>= λ 
 matrix_in _ = Err (X1, 1)
 
 -- the rows of the matrix that a text spells
-abbrev pub matrix_of : List ℕ → Reading (List (List ℕ))
-matrix_of text = matrix_in (lines text)
+abbrev pub matrix_reading : List ℕ → Reading (List (List ℕ))
+matrix_reading text = matrix_in (lines text)

@@ -100,5 +100,5 @@ abbrev pub plan_in : Net → List (List ℕ) → Reading Plan
 plan_in net ls = first_says 1 edition_in (length_behind net) ls
 
 -- the plan that a text spells for this network
-abbrev pub plan_of : Net → List ℕ → Reading Plan
-plan_of net text = plan_in net (lines text)
+abbrev pub plan_reading : Net → List ℕ → Reading Plan
+plan_reading net text = plan_in net (lines text)

@@ -8,7 +8,7 @@ use Rattle.bt_matrix.specs.Traffic.{row_sum, column_sum, IsTraffic}
 use Rattle.bt_net.specs.Network.{Net}
 use Rattle.bt_demand.specs.declared.demand.Link.{Link}
 use Rattle.bt_plan.specs.declared.text_fault.TextCode.TheVariants.{T1, T2, T3, T4, T5}
-use Rattle.bt_demand.specs.Demand.{Ends, IsDemand, units_of}
+use Rattle.bt_demand.specs.Demand.{LinkEnds, IsDemand, units_of}
 use Rattle.bt_net.specs.Terminals.{beam_at, IsTerminal}
 use Rattle.bt_net.specs.Name.{are_names}
 use Rattle.bt_plan.specs.Reading.{Reading}
@@ -20,7 +20,7 @@ abbrev pub units_in : ℕ → ℕ → Reading ℕ
 units_in at units = if nat_le 1 units && nat_le units MOST_UNITS then Ok units else Err (T3, at)
 
 -- a link between two terminals that are not the same
-abbrev pub link_between : ℕ → Ends → ℕ → Reading Link
+abbrev pub link_between : ℕ → LinkEnds → ℕ → Reading Link
 link_between at ends units = if ends.0.0 == ends.1.0 then Err (T4, at) else Ok (record { from = ends.0; to = ends.1; units = units })
 
 -- the link of two names and a number, once the line has its shape

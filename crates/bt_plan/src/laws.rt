@@ -5,7 +5,7 @@ ghost use Rattle.bt_frame.specs.declared.schedule.Schedule.{Schedule};
 ghost use Rattle.bt_net.specs.Network.{Net, IsSound};
 ghost use Rattle.bt_demand.specs.declared.plan.Plan.{Plan};
 ghost use Rattle.bt_plan.specs.PlanSpelling.{IsPlanInRange, plan_spelling};
-ghost use Rattle.bt_plan.specs.PlanText.{plan_of};
+ghost use Rattle.bt_plan.specs.PlanText.{plan_reading};
 ghost use Rattle.bt_plan.specs.ScheduleSpelling.{IsInRange, schedule_spelling};
 ghost use Rattle.bt_plan.specs.ScheduleText.{schedule_of};
 
@@ -22,9 +22,9 @@ pub fn schedules_have_one_spelling()
 /// A plan in range is read back from its text on the network that it is for, and no other text is read as that plan.
 pub fn plans_have_one_spelling()
     ensures read { (net : Net) (plan : Plan) → IsSound net → IsPlanInRange net plan
-        → plan_of net (plan_spelling net plan) ≡ Ok plan }
+        → plan_reading net (plan_spelling net plan) ≡ Ok plan }
     ensures spelled { (net : Net) (plan : Plan) (text : List ℕ) → IsSound net
-        → plan_of net text ≡ Ok plan → text ≡ plan_spelling net plan }
+        → plan_reading net text ≡ Ok plan → text ≡ plan_spelling net plan }
     ensures in_range { (net : Net) (plan : Plan) (text : List ℕ) → IsSound net
-        → plan_of net text ≡ Ok plan → IsPlanInRange net plan }
+        → plan_reading net text ≡ Ok plan → IsPlanInRange net plan }
 {}

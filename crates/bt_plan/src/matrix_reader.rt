@@ -6,7 +6,7 @@ ghost use Rattle.bt_text.specs.Text.{words, lines, number_of, numbers_of};
 ghost use Rattle.bt_text.specs.Reading.{or_fault, Gives};
 ghost use Rattle.bt_plan.specs.declared.text_fault.TextCode.TheVariants.{X2};
 ghost use Rattle.bt_plan.specs.LineNumbers.{numbers_to, are_numbers};
-ghost use Rattle.bt_plan.specs.MatrixText.{size_in, row_in, rows_in, matrix_of};
+ghost use Rattle.bt_plan.specs.MatrixText.{size_in, row_in, rows_in, matrix_reading};
 
 use crate::{TextCode, TextFault};
 use bt_frame::{MOST_BEAMS, MOST_UNITS, OutOfMemory};
@@ -16,7 +16,7 @@ use std::alloc::Global;
 
 /// The traffic matrix that a text spells, or the first line with a fault.
 pub fn read_matrix(alloc: Global, bytes: &[u8]) -> Result<Dense, TextFault>
-    ensures reading { Gives (λ matrix. matrix) result (matrix_of bytes.now) }
+    ensures reading { Gives (λ matrix. matrix) result (matrix_reading bytes.now) }
 {
     let rows = read_all_rows(alloc, bytes)?;
     Ok(Dense::of(rows))
@@ -24,7 +24,7 @@ pub fn read_matrix(alloc: Global, bytes: &[u8]) -> Result<Dense, TextFault>
 
 // The rows of the matrix that the text spells.
 fn read_all_rows(alloc: Global, text: &[u8]) -> Result<Vec<Vec<u32>>, TextFault>
-    ensures { Gives (λ rows. map (λ row. row.items) rows.items) result (matrix_of text.now) }
+    ensures { Gives (λ rows. map (λ row. row.items) rows.items) result (matrix_reading text.now) }
 {
     let Some((line, rest)) = first_line(text) else {
         return Err(fault_at(TextCode::X1, 1));

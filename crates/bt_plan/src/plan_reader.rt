@@ -8,7 +8,7 @@ ghost use Rattle.bt_text.specs.Reading.{or_fault, Gives};
 ghost use Rattle.bt_plan.specs.declared.text_fault.TextCode.TheVariants.{P1};
 ghost use Rattle.bt_demand.specs.Burst.{IsNotAfter};
 ghost use Rattle.bt_frame.specs.Critical.{IsOfBeams};
-ghost use Rattle.bt_plan.specs.PlanText.{edition_in, burst_with, burst_between, burst_behind, burst_in, in_order, burst_below, bursts_in, is_mode, modes_and_bursts, critical_behind, length_behind, plan_of};
+ghost use Rattle.bt_plan.specs.PlanText.{edition_in, burst_with, burst_between, burst_behind, burst_in, in_order, burst_below, bursts_in, is_mode, modes_and_bursts, critical_behind, length_behind, plan_reading};
 ghost use Rattle.bt_verdict.specs.PlanVerdict.{AreBetweenTerminals};
 ghost use Rattle.bt_plan.specs.ScheduleText.{mode_in};
 ghost use Rattle.bt_net.specs.Name.{are_names};
@@ -25,7 +25,7 @@ use std::alloc::Global;
 /// The plan that a text spells for this network, or the first line with a fault.
 pub fn read_plan(alloc: Global, net: &Network, bytes: &[u8]) -> Result<Plan, TextFault>
     requires short { length bytes.now ≤ MOST_TEXT_BYTES }
-    ensures reading { Gives (λ plan. plan) result (plan_of net.now bytes.now) }
+    ensures reading { Gives (λ plan. plan) result (plan_reading net.now bytes.now) }
     ensures terminals { IfOk result (λ plan. AreBetweenTerminals net.now plan.bursts) }
     ensures critical { IfOk result (λ plan. IsOfBeams (length net.now.beams) plan.schedule.critical) }
 {

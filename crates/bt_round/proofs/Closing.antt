@@ -6,7 +6,7 @@ use Rattle.bt_frame.specs.declared.numbers.OutOfMemory.{OutOfMemory}
 use Rattle.bt_net.specs.Network.{Net}
 use mathlib.Core.List.{IsPrefix}
 use Rattle.bt_board.specs.Posted.{Posted}
-use Rattle.bt_line.specs.declared.object.Entry as line
+use Rattle.bt_line.specs.declared.object.TurnEntry as line
 use Rattle.bt_line.specs.Legal as line_legal
 use Rattle.bt_line.specs.Passes.{HasSeen, IsPass, Place, seen_at}
 use Rattle.bt_journal.specs.declared.call.Call.{Call}
@@ -89,7 +89,7 @@ module _ {W : Type 0} (caller : W → Calling) (job : W → Job) (ended : W → 
       subst (IsPass table start SEATS place) (sym (same_at at (λ (w : W). (caller w).place) passes workers place d e same within)) (so.over place e within).pass
 
   -- each did what the round has at its place, with the entries of its caller in the line's history
-  pub all_done : {P : Type 0} (at : P → Place Books Call Reply) (net : Net) (table : TableId) (start : Books) (round : Round) (posted last : Posted) (air over : AirState) (workers : List W) (passes : List P) (log : List (line.Entry Call Reply))
+  pub all_done : {P : Type 0} (at : P → Place Books Call Reply) (net : Net) (table : TableId) (start : Books) (round : Round) (posted last : Posted) (air over : AirState) (workers : List W) (passes : List P) (log : List (line.TurnEntry Call Reply))
       → AreOver net table start round posted air workers → map at passes ≡ map (λ (w : W). (caller w).place) workers → All (λ (w : W). IsOk (ended w)) workers → ((d : W) → air_in (job (get_or workers 0 d)) ≡ Some over)
       → All (λ (w : W). IsOfBoard last (job w)) workers → HaveSeen log (map at passes) → AllDone net round posted last air over (map journal_entry log) (map text workers)
   all_done at net table start round posted last air over workers passes log so same well first boards seen =
@@ -179,7 +179,7 @@ module _ {W : Type 0} (caller : W → Calling) (job : W → Job) (ended : W → 
       (centre_done net round posted air over (job w) (ended w) (own_of (caller w)) (text w) (first e) (so.over 0 e (omega (arith, so.seats))).done).0
 
 -- what each pass has seen of a history, as the places of the passes tell it
-pub seen_through : {P : Type 0} (passes : List P) (at : P → Place Books Call Reply) (log : List (line.Entry Call Reply))
+pub seen_through : {P : Type 0} (passes : List P) (at : P → Place Books Call Reply) (log : List (line.TurnEntry Call Reply))
     → ((i : ℕ) (d : P) → i < length passes → HasSeen log i (seen_at (at (get_or passes i d)))) → ((n : ℕ) → length passes ≤ n → line_legal.calls_by n log ≡ []) → HaveSeen log (map at passes)
 seen_through {P} passes at log seen strangers = record {
   each = λ i q lt.
@@ -196,15 +196,15 @@ written_back {X} count news olds long counted =
 
 -- the laws of the calls of a line
 pub record Laws : Type 0 where
-  pub legal : (start end : Books) (opening : List Change) (history : List Entry) (log : List (line.Entry Call Reply)) → Legal start.net opening history
+  pub legal : (start end : Books) (opening : List Change) (history : List Entry) (log : List (line.TurnEntry Call Reply)) → Legal start.net opening history
       → start.state ≡ state_after opening history → line_legal.Legal book_steps start log end → Legal start.net opening (history ++ map journal_entry log)
-  pub state : (start end : Books) (opening : List Change) (history : List Entry) (log : List (line.Entry Call Reply)) → start.state ≡ state_after opening history
+  pub state : (start end : Books) (opening : List Change) (history : List Entry) (log : List (line.TurnEntry Call Reply)) → start.state ≡ state_after opening history
       → line_legal.Legal book_steps start log end → end.state ≡ state_after opening (history ++ map journal_entry log)
-  pub from : (start end : Books) (log : List (line.Entry Call Reply)) → line_legal.Legal book_steps start log end → end.state ≡ state_from start.state (map journal_entry log)
-  pub net : (start end : Books) (log : List (line.Entry Call Reply)) → line_legal.Legal book_steps start log end → end.net ≡ start.net
-  pub rose : (start end : Books) (log : List (line.Entry Call Reply)) → line_legal.Legal book_steps start log end → RoseBy (length (lost_of (map journal_entry log))) start.faults end.faults
-  pub follow : (start end : Books) (log : List (line.Entry Call Reply)) → Follows start.net start.state.changes → line_legal.Legal book_steps start log end → Follows start.net end.state.changes
-  pub tells : (start end : Books) (log : List (line.Entry Call Reply)) → line_legal.Legal book_steps start log end → is_some end.told ≡ is_some start.told
+  pub from : (start end : Books) (log : List (line.TurnEntry Call Reply)) → line_legal.Legal book_steps start log end → end.state ≡ state_from start.state (map journal_entry log)
+  pub net : (start end : Books) (log : List (line.TurnEntry Call Reply)) → line_legal.Legal book_steps start log end → end.net ≡ start.net
+  pub rose : (start end : Books) (log : List (line.TurnEntry Call Reply)) → line_legal.Legal book_steps start log end → RoseBy (length (lost_of (map journal_entry log))) start.faults end.faults
+  pub follow : (start end : Books) (log : List (line.TurnEntry Call Reply)) → Follows start.net start.state.changes → line_legal.Legal book_steps start log end → Follows start.net end.state.changes
+  pub tells : (start end : Books) (log : List (line.TurnEntry Call Reply)) → line_legal.Legal book_steps start log end → is_some end.told ≡ is_some start.told
 
 -- nothing was asked of a book
 pub ran_nothing : (book : Books) → Follows book.net book.state.changes → BookRan book book
@@ -221,7 +221,7 @@ ran_nothing book follow = record {
 }
 
 -- a book comes back from its line with a history that goes on by the line's
-pub comes_back : Laws → (start end : Books) (log : List (line.Entry Call Reply)) → Follows start.net start.state.changes
+pub comes_back : Laws → (start end : Books) (log : List (line.TurnEntry Call Reply)) → Follows start.net start.state.changes
     → line_legal.Legal book_steps start log end → map lock_entry end.history ≡ map lock_entry start.history ++ log → BookRan start end
 comes_back laws start end log follow legal stored =
     let kept : end.history ≡ start.history ++ map journal_entry log = stored_entries start.history end.history log stored in

@@ -6,7 +6,7 @@ use Rattle.std.proofs.lemmas.List.{get_or-map, map-append}
 use Rattle.std.proofs.lemmas.List.Elements.{All-head, All-tail}
 use Rattle.bt_net.specs.Network.{Net}
 use Rattle.bt_demand.specs.declared.plan.Plan.{Plan}
-use Rattle.bt_line.specs.declared.object.Entry as line
+use Rattle.bt_line.specs.declared.object.TurnEntry as line
 use Rattle.bt_journal.specs.declared.call.Call.{Call}
 use Rattle.bt_journal.specs.declared.call.Change.{Change}
 use Rattle.bt_journal.specs.declared.entry.Entry.{Entry}
@@ -215,7 +215,7 @@ unlocked [] = refl
 unlocked (entry ∷ entries) = ap (λ (e : List Entry). entry ∷ e) (unlocked entries)
 
 -- what a line made of the book's history stands behind what it was
-pub stored_entries : (history after : List Entry) (log : List (line.Entry Call Reply)) → map lock_entry after ≡ map lock_entry history ++ log → after ≡ history ++ map journal_entry log
+pub stored_entries : (history after : List Entry) (log : List (line.TurnEntry Call Reply)) → map lock_entry after ≡ map lock_entry history ++ log → after ≡ history ++ map journal_entry log
 stored_entries history after log stored =
     sym (unlocked after) ∙ ap (map journal_entry) stored ∙ map-append journal_entry (map lock_entry history) log ∙ ap (λ (e : List Entry). e ++ map journal_entry log) (unlocked history)
 

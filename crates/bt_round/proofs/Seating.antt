@@ -9,7 +9,7 @@ use mathlib.Core.List.{IsPrefix}
 use Rattle.bt_demand.specs.declared.plan.Plan.{Plan}
 use Rattle.bt_board.specs.Plans.{next_edition}
 use Rattle.bt_board.specs.Posted.{Posted}
-use Rattle.bt_line.specs.declared.object.Entry as line
+use Rattle.bt_line.specs.declared.object.TurnEntry as line
 use Rattle.bt_line.specs.Legal.{calls_by}
 use Rattle.bt_line.specs.Passes.{HasSeen, IsPass, IsSamePass, Place, seen_at}
 use Rattle.bt_journal.specs.declared.call.Call.{Call}
@@ -119,7 +119,7 @@ can_do net round posted air place caller (Desk desk lines reader) at same named 
 begins_posted : (start : Books) (plans : List Plan) (caller : Calling) → caller.start ≡ start → seen_at caller.place ≡ []
     → next_edition plans ≤ (newest start.state.changes).edition.0 + 1 → HasPosted caller plans
 begins_posted start plans caller same unseen last =
-    let none : own_of caller ≡ [] = ap (λ (l : List (line.Entry Call Reply)). own_in (caller_number caller) l) unseen in
+    let none : own_of caller ≡ [] = ap (λ (l : List (line.TurnEntry Call Reply)). own_in (caller_number caller) l) unseen in
     let changes : caller.start.state.changes ++ changes_of (own_of caller) ≡ start.state.changes =
     ap (λ (e : List Entry). caller.start.state.changes ++ changes_of e) none ∙ append-nil caller.start.state.changes ∙ ap (λ (b : Books). b.state.changes) same in
     subst (λ (c : List Change). next_edition plans ≤ (newest c).edition.0 + 1) (sym changes) last
@@ -171,7 +171,7 @@ pub over_after : (net : Net) (table : TableId) (start : Books) (round : Round) (
     (ended : Result Unit OutOfMemory) (text written : List ℕ) → IsReady table start round posted air place old job text → IsSameCaller old new
     → JobDone net job after ended (own_of old) (own_of new) text written → IsOver net table start round posted air place new after ended written
 over_after net table start round posted air place old new job after ended text written so same done =
-    let none : own_of old ≡ [] = ap (λ (l : List (line.Entry Call Reply)). own_in (caller_number old) l) so.unseen in
+    let none : own_of old ≡ [] = ap (λ (l : List (line.TurnEntry Call Reply)). own_in (caller_number old) l) so.unseen in
     let begun : JobDone net job after ended [] (own_of new) text written = subst (λ (b : List Entry). JobDone net job after ended b (own_of new) text written) none done in
     record {
       pass = still_pass table start SEATS place old.place new.place so.pass same.place;
@@ -240,13 +240,13 @@ reader_done net round posted reader air place (Desk desk lines over) ended own t
     let same : over ≡ reader = cc in ap (λ (p : Posted). p.board) (sym same) ∙ done.2
 
 -- each caller has all of its entries
-pub own_in_all : (log : List (line.Entry Call Reply)) (place : ℕ) (caller : Calling) → caller_number caller ≡ place → HasSeen log place (seen_at caller.place)
+pub own_in_all : (log : List (line.TurnEntry Call Reply)) (place : ℕ) (caller : Calling) → caller_number caller ≡ place → HasSeen log place (seen_at caller.place)
     → own_of caller ≡ calls_of (map journal_entry log) place
 own_in_all log place caller at seen =
     ap (λ (n : ℕ). own_in n (seen_at caller.place)) at ∙ ap (map journal_entry) (sym seen.own) ∙ sym (calls_in_log log place)
 
 -- who has no call in a line's history has none among its entries
-pub none_in_all : (log : List (line.Entry Call Reply)) (number : ℕ) → calls_by number log ≡ [] → calls_of (map journal_entry log) number ≡ []
+pub none_in_all : (log : List (line.TurnEntry Call Reply)) (number : ℕ) → calls_by number log ≡ [] → calls_of (map journal_entry log) number ≡ []
 none_in_all log number none = calls_in_log log number ∙ ap (map journal_entry) none
 
 -- a worker behind the second is a desk

@@ -6,7 +6,7 @@ use Rattle.bt_frame.specs.declared.numbers.OutOfMemory.{OutOfMemory}
 use Rattle.bt_net.specs.Network.{Net}
 use mathlib.Core.List.{IsPrefix}
 use Rattle.bt_board.specs.Posted.{Posted}
-use Rattle.bt_line.specs.declared.object.Entry as line
+use Rattle.bt_line.specs.declared.object.TurnEntry as line
 use Rattle.bt_line.specs.Legal.{calls_by}
 use Rattle.bt_line.specs.Passes.{HasSeen, IsPass, Place, seen_at}
 use Rattle.bt_journal.specs.declared.call.Call.{Call}
@@ -103,7 +103,7 @@ pub record AllDone (net : Net) (round : Round) (posted last : Posted) (air over 
   pub strangers : (caller : ℕ) → SEATS ≤ caller → calls_of entries caller ≡ []
 
 -- Each pass has seen all of its caller's entries in the line's history, and no other caller has one.
-pub record HaveSeen (log : List (line.Entry Call Reply)) (passes : List (Place Books Call Reply)) : Type 0 where
+pub record HaveSeen (log : List (line.TurnEntry Call Reply)) (passes : List (Place Books Call Reply)) : Type 0 where
   pub each : AllAt (λ (place : ℕ) (pass : Place Books Call Reply). HasSeen log place (seen_at pass)) passes
   pub strangers : (n : ℕ) → length passes ≤ n → calls_by n log ≡ []
 
@@ -111,5 +111,5 @@ pub record HaveSeen (log : List (line.Entry Call Reply)) (passes : List (Place B
 -- text, those of the desks first, then the planner's, then that of the air.
 pub record HaveWorked (net : Net) (round : Round) (posted last : Posted) (air over : AirState) (passes : List (Place Books Call Reply)) (text written : List ℕ) : Type 0 where
   pub texts : List (List ℕ)
-  pub done : (log : List (line.Entry Call Reply)) → HaveSeen log passes → AllDone net round posted last air over (map journal_entry log) texts
+  pub done : (log : List (line.TurnEntry Call Reply)) → HaveSeen log passes → AllDone net round posted last air over (map journal_entry log) texts
   pub printed : written ≡ text ++ (flat_map (λ (desk : ℕ × List DeskLine). text_at (desk.0 + 1) texts) round.desks ++ text_at 1 texts ++ text_at 0 texts)

@@ -1,7 +1,7 @@
 // Whose bursts of which edition the terminals hold, as far as the printed lines tell: these have neither the Load of a
 // PlanFor nor what a reference burst announces.
 use crate::ladder::Ladder;
-use crate::step::{Delivery, Message, Said, Station};
+use crate::step::{Delivery, Said, SentMessage, Station};
 use bt_frame::TermNo;
 use bt_picture::Drawn;
 use std::alloc::Global;
@@ -95,7 +95,7 @@ impl Holdings {
     }
 
     /// A message is sent: a Load of an edition is the last one of it.
-    pub fn send(&mut self, message: Message) -> Drawn {
+    pub fn send(&mut self, message: SentMessage) -> Drawn {
         let Said::Load { command, edition } = message.said else {
             return Ok(());
         };

@@ -1,6 +1,6 @@
 // Where each step stands: columns go from left to right, and what does not fit goes on in a further stave below.
 use crate::lanes::Lanes;
-use crate::step::{Delivery, Message, Step};
+use crate::step::{Delivery, SentMessage, Step};
 use bt_frame::OutOfMemory;
 use bt_net::Network;
 use bt_picture::Drawn;
@@ -47,7 +47,7 @@ pub struct Placed {
 /// A message at its place, where its sender has a lane.
 #[derive(Clone, Copy)]
 pub struct Posted {
-    pub message: Message,
+    pub message: SentMessage,
     pub lane: Option<usize>,
     pub stave: usize,
     pub x: u64,
@@ -242,7 +242,7 @@ impl<'a> Ladder<'a> {
     }
 
     // Remembers where a message was sent, behind those before it.
-    fn post(&mut self, message: Message) -> Drawn {
+    fn post(&mut self, message: SentMessage) -> Drawn {
         let (lane, x) = (self.lanes.find(message.sender), self.x);
         let stave = self.staves.len().saturating_sub(1);
         let is_heard = false;

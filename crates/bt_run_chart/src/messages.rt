@@ -1,7 +1,7 @@
 // Messages from lane to lane, and what happens to stations.
 use crate::ladder::{LEFT, Ladder, Placed, Stave};
 use crate::lanes::station_name;
-use crate::step::{Delivery, Message, Said, Station, Step};
+use crate::step::{Delivery, Said, SentMessage, Station, Step};
 use crate::titles::{
     delivery_title, happening_label, happening_title, label_of, message_title, width_of,
 };
@@ -218,7 +218,12 @@ fn write_label<'a>(
 }
 
 // Draws a message, and its end where nobody heard it.
-fn draw_message<'a>(ladder: &Ladder<'a>, at: Point, message: Message, pen: &mut Pen<'a>) -> Drawn {
+fn draw_message<'a>(
+    ladder: &Ladder<'a>,
+    at: Point,
+    message: SentMessage,
+    pen: &mut Pen<'a>,
+) -> Drawn {
     let mut title = message_title(ladder.net, message, pen)?;
     let posted = ladder.posted_as(message.place);
     if !posted.is_some_and(|posted| posted.is_heard) {
@@ -237,7 +242,7 @@ fn draw_message<'a>(ladder: &Ladder<'a>, at: Point, message: Message, pen: &mut 
 }
 
 // Draws the way of a message that nobody heard: towards its hearers, with a cross at its end.
-fn draw_unheard(at: Point, message: Message, pen: &mut Pen<'_>) -> Drawn {
+fn draw_unheard(at: Point, message: SentMessage, pen: &mut Pen<'_>) -> Drawn {
     let y = match side_of(message.said) {
         Side::Above => at.y.saturating_add(430),
         Side::Below => at.y.saturating_sub(430),

@@ -1,7 +1,7 @@
 // The steps of a run, from its printed lines.
 use crate::numbering::Numbering;
 use crate::step::{
-    Change, Delivery, Frame, Happening, Message, OnAir, Said, Station, Status, Step,
+    ArmedChange, Delivery, Frame, Happening, OnAir, Said, SentMessage, ShownStatus, Station, Step,
 };
 use bt_air::{Heard, Taken};
 use bt_frame::{OutOfMemory, TermNo};
@@ -66,7 +66,7 @@ impl Context {
     }
 
     // The message that was sent.
-    fn message_of(&mut self, line: &Printed) -> Option<Message> {
+    fn message_of(&mut self, line: &Printed) -> Option<SentMessage> {
         let [Value::Number(number), rest @ ..] = line.values() else {
             return None;
         };
@@ -78,7 +78,7 @@ impl Context {
             _ => Station::Centre,
         };
         let (number, place) = (*number, self.numbering.send(*number));
-        Some(Message {
+        Some(SentMessage {
             number,
             place,
             sender,
@@ -108,7 +108,7 @@ impl Context {
 fn said_of(form: Form, values: &[Value]) -> Option<Said> {
     match (form, values) {
         (Form::SentLoad, [Value::Number(command), Value::Number(edition)]) => Some(Said::Load { command: *command, edition: *edition }),
-        (Form::SentArm, [_, Value::Number(edition), Value::Number(due)]) => Some(Said::Arm(Change { edition: *edition, due: *due })),
+        (Form::SentArm, [_, Value::Number(edition), Value::Number(due)]) => Some(Said::Arm(ArmedChange { edition: *edition, due: *due })),
         (Form::SentStatus | Form::SentArmedStatus, _) => status_of(values),
         (Form::SentPlan, [Value::Number(edition), Value::Terminal(to)]) => Some(Said::Bursts { edition: *edition, to: *to }),
         (Form::SentConfirm, [Value::Number(edition), Value::Terminal(from)]) => Some(Said::Confirm { edition: *edition, from: *from }),
@@ -137,7 +137,7 @@ fn status_of(values: &[Value]) -> Option<Said> {
             Value::Number(due),
             Value::Number(last),
         ] => {
-            let change = Change {
+            let change = ArmedChange {
                 edition: *edition,
                 due: *due,
             };
@@ -145,7 +145,7 @@ fn status_of(values: &[Value]) -> Option<Said> {
         }
         _ => return None,
     };
-    Some(Said::Status(Status {
+    Some(Said::Status(ShownStatus {
         mark: *mark,
         fore: *fore,
         back: *back,

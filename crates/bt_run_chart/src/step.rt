@@ -12,18 +12,18 @@ pub enum Station {
 
 /// A change for which the satellite is armed.
 #[derive(Clone, Copy)]
-pub struct Change {
+pub struct ArmedChange {
     pub edition: u64,
     pub due: u64,
 }
 
 /// What the satellite says of itself.
 #[derive(Clone, Copy)]
-pub struct Status {
+pub struct ShownStatus {
     pub mark: u64,
     pub fore: u64,
     pub back: u64,
-    pub armed: Option<Change>,
+    pub armed: Option<ArmedChange>,
     pub last: u64,
 }
 
@@ -31,8 +31,8 @@ pub struct Status {
 #[derive(Clone, Copy)]
 pub enum Said {
     Load { command: u64, edition: u64 },
-    Arm(Change),
-    Status(Status),
+    Arm(ArmedChange),
+    Status(ShownStatus),
     Bursts { edition: u64, to: TermNo },
     Confirm { edition: u64, from: TermNo },
     Reference { mark: u64, edition: Option<u64> },
@@ -41,7 +41,7 @@ pub enum Said {
 
 /// A message with its number, and its place among the messages of the text, from 0.
 #[derive(Clone, Copy)]
-pub struct Message {
+pub struct SentMessage {
     pub number: u64,
     pub place: usize,
     pub sender: Station,
@@ -89,7 +89,7 @@ pub struct OnAir {
 pub enum Step {
     /// This superframe begins.
     Begin(u64),
-    Sent(Message),
+    Sent(SentMessage),
     Got(Delivery),
     Happened(Station, Happening),
     Shown(Frame),

@@ -1,6 +1,6 @@
 // What is written at a message: short above its circle, in whole words beside the mouse.
 use crate::editions::name_of;
-use crate::step::{Delivery, Happening, Message, Said, Station, Status};
+use crate::step::{Delivery, Happening, Said, SentMessage, ShownStatus, Station};
 use bt_frame::OutOfMemory;
 use bt_net::Network;
 use bt_picture::Pen;
@@ -46,7 +46,7 @@ pub fn happening_title<'a>(name: &'a str, happening: Happening, pen: &Pen<'a>) -
 
 /// What a message says, in words.
 #[rattlefmt::skip]
-pub fn message_title<'a>(net: &'a Network, message: Message, pen: &Pen<'a>) -> Result<Vec<Word<'a>>, OutOfMemory> {
+pub fn message_title<'a>(net: &'a Network, message: SentMessage, pen: &Pen<'a>) -> Result<Vec<Word<'a>>, OutOfMemory> {
     let number = Number(message.number);
     match message.said {
         Said::Load { edition, .. }      => pen.phrase("message #, load: the modes of edition # into the background", &[number, Number(edition)]),
@@ -62,7 +62,7 @@ pub fn message_title<'a>(net: &'a Network, message: Message, pen: &Pen<'a>) -> R
 
 // What the satellite says of itself, in words.
 #[rattlefmt::skip]
-fn status_title<'a>(number: Word<'a>, status: Status, pen: &Pen<'a>) -> Result<Vec<Word<'a>>, OutOfMemory> {
+fn status_title<'a>(number: Word<'a>, status: ShownStatus, pen: &Pen<'a>) -> Result<Vec<Word<'a>>, OutOfMemory> {
     let (mark, fore, back, last) = (Number(status.mark), Number(status.fore), Number(status.back), Number(status.last));
     match status.armed {
         Some(change) => pen.phrase(
@@ -79,7 +79,7 @@ fn status_title<'a>(number: Word<'a>, status: Status, pen: &Pen<'a>) -> Result<V
 // What a reference burst says, in the words for a known edition.
 fn reference_title<'a>(
     text: &'a str,
-    message: Message,
+    message: SentMessage,
     pen: &Pen<'a>,
 ) -> Result<Vec<Word<'a>>, OutOfMemory> {
     let number = Number(message.number);

@@ -8,8 +8,8 @@ use Rattle.bt_net.specs.Name.{is_name}
 use Rattle.bt_frame.specs.declared.numbers.TermNo.{TermNo}
 use Rattle.bt_net.specs.Network.{Net}
 use Rattle.bt_net.specs.Terminals.{terminal_of}
-use Rattle.bt_timing.specs.declared.delay_table.Change.{Change}
-use Rattle.bt_timing.specs.declared.delay_table.Change.TheVariants.{Late, Early}
+use Rattle.bt_timing.specs.declared.delay_table.DelayChange.{DelayChange}
+use Rattle.bt_timing.specs.declared.delay_table.DelayChange.TheVariants.{Late, Early}
 use Rattle.bt_timing.specs.declared.fault.TimingCode.TheVariants.{G1, G2, G3, G4, G5}
 use Rattle.bt_timing.specs.declared.limits.TheConstants.{LEAST_SLOT_TICKS, MOST_SLOT_TICKS, MOST_HALF, MOST_DELAY, LEAST_CHANGE}
 use Rattle.bt_timing.specs.Reading.{Reading}
@@ -72,12 +72,12 @@ abbrev pub with_delay : ℕ → SoFar → TermNo → ℕ → Reading SoFar
 with_delay at so_far terminal delay = if is_some (known_of so_far terminal) then Err (G4, at) else Ok (with_known so_far so_far.changing terminal delay)
 
 -- a delay after a change, where it is one that a terminal may have
-abbrev pub changed : Change → ℕ → ℕ → Option ℕ
+abbrev pub changed : DelayChange → ℕ → ℕ → Option ℕ
 changed Late ticks delay = if nat_le (delay + ticks) MOST_DELAY then Some (delay + ticks) else None
 changed Early ticks delay = if nat_le ticks delay then Some (delay - ticks) else None
 
 -- the delay of a terminal after a change, where it had one
-abbrev pub changed_known : ℕ → Change → ℕ → Option ℕ → Reading ℕ
+abbrev pub changed_known : ℕ → DelayChange → ℕ → Option ℕ → Reading ℕ
 changed_known at change ticks (Some delay) = or_fault (G3, at) (changed change ticks delay)
 changed_known at change ticks None = Err (G5, at)
 
@@ -86,7 +86,7 @@ abbrev pub where_all_known : ℕ → SoFar → TermNo → ℕ → Reading SoFar
 where_all_known at so_far terminal delay = if list_all is_some so_far.known then Ok (with_known so_far true terminal delay) else Err (G5, at)
 
 -- the change of a terminal's delay
-abbrev pub with_change : ℕ → SoFar → Change → TermNo → ℕ → Reading SoFar
+abbrev pub with_change : ℕ → SoFar → DelayChange → TermNo → ℕ → Reading SoFar
 with_change at so_far change terminal ticks = changed_known at change ticks (known_of so_far terminal) >>= λ delay. where_all_known at so_far terminal delay
 
 -- `NAME D` behind `delay`, which no line has behind a change
@@ -94,7 +94,7 @@ abbrev pub delay_behind : Net → ℕ → SoFar → List (List ℕ) → Reading 
 delay_behind net at so_far words = if so_far.changing then Err (G1, at) else (named_behind net at 0 words >>= λ named. with_delay at so_far named.0 named.1)
 
 -- `NAME N` behind `late` or `early`
-abbrev pub change_behind : Net → ℕ → SoFar → Change → List (List ℕ) → Reading SoFar
+abbrev pub change_behind : Net → ℕ → SoFar → DelayChange → List (List ℕ) → Reading SoFar
 change_behind net at so_far change words = named_behind net at LEAST_CHANGE words >>= λ named. with_change at so_far change named.0 named.1
 
 -- `delay NAME D`, `late NAME N` or `early NAME N`

@@ -17,7 +17,7 @@ use std::marker::Model;
 
 /// How a line changes a delay.
 #[derive(Clone, Copy)]
-pub enum Change {
+pub enum DelayChange {
     /// The terminal is farther away than was said.
     Late,
     /// It is nearer.
@@ -121,7 +121,7 @@ impl DelayTable {
     pub(crate) fn add_change(
         &mut self,
         at: u32,
-        change: Change,
+        change: DelayChange,
         terminal: TermNo,
         ticks: u32,
     ) -> Result<(), TimingFault>
@@ -192,7 +192,7 @@ fn all_of(alloc: Global, at: u32, known: &[Option<u32>]) -> Result<Vec<u32>, Tim
 // The delay of a terminal after a change, where it had one.
 fn changed_known(
     at: u32,
-    change: Change,
+    change: DelayChange,
     ticks: u32,
     known: Option<u32>,
 ) -> Result<u32, TimingFault>
@@ -208,15 +208,15 @@ fn changed_known(
 }
 
 // A delay after a change, where it is one that a terminal may have.
-fn changed(change: Change, ticks: u32, delay: u32) -> Option<u32>
+fn changed(change: DelayChange, ticks: u32, delay: u32) -> Option<u32>
     requires ticks { ticks ≤ MOST_DELAY }
     requires delay { IsDelay delay }
     ensures changed { result ≡ changed change ticks delay }
     ensures delay { IfSome result IsDelay }
 {
     match change {
-        Change::Late => raised(delay, ticks),
-        Change::Early => lowered(delay, ticks),
+        DelayChange::Late => raised(delay, ticks),
+        DelayChange::Early => lowered(delay, ticks),
     }
 }
 

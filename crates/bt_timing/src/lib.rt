@@ -15,7 +15,7 @@ mod reader;
 mod sends;
 mod timing;
 
-pub use delay_table::Change;
+pub use delay_table::DelayChange;
 pub use fault::{TimingCode, TimingFault};
 pub use laws::guarded_bursts_keep_to_their_slots;
 pub use limits::{LEAST_CHANGE, LEAST_SLOT_TICKS, MOST_DELAY, MOST_HALF, MOST_SLOT_TICKS};

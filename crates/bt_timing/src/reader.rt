@@ -11,7 +11,7 @@ ghost use Rattle.bt_timing.specs.DelayText.{number_within, worded_number, number
 ghost use Rattle.bt_timing.specs.Times.{AreTimes, IsDelay};
 ghost use Rattle.bt_timing.specs.declared.limits.TheConstants.{LEAST_SLOT_TICKS, MOST_SLOT_TICKS, MOST_HALF, MOST_DELAY};
 
-use crate::delay_table::{Change, DelayTable};
+use crate::delay_table::{DelayChange, DelayTable};
 use crate::{
     LEAST_CHANGE, LEAST_SLOT_TICKS, MOST_DELAY, MOST_HALF, MOST_SLOT_TICKS, Timing, TimingCode,
     TimingFault,
@@ -142,9 +142,9 @@ fn add_words(
     if is_word(word, b"delay") {
         add_delay(net, at, table, rest)
     } else if is_word(word, b"late") {
-        add_change(net, at, table, Change::Late, rest)
+        add_change(net, at, table, DelayChange::Late, rest)
     } else if is_word(word, b"early") {
-        add_change(net, at, table, Change::Early, rest)
+        add_change(net, at, table, DelayChange::Early, rest)
     } else {
         Err(fault_at(TimingCode::G1, at))
     }
@@ -173,7 +173,7 @@ fn add_change(
     net: &Network,
     at: u32,
     table: &mut DelayTable,
-    change: Change,
+    change: DelayChange,
     words: WordReader<'_>,
 ) -> Result<(), TimingFault>
     requires terminals { length table.old.known ≡ length net.now.terminals }

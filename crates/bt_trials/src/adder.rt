@@ -3,7 +3,7 @@ ghost use Rattle.std.specs.Prelude.{◌≡◌, ◌≤◌, ◌^◌, [], length};
 ghost use Rattle.bt_trials.specs.Sums.{Adds};
 
 use bt_frame::OutOfMemory;
-use bt_line::{Entry, Object};
+use bt_line::{Object, TurnEntry};
 use std::alloc::Global;
 use std::marker::Model;
 
@@ -12,7 +12,7 @@ use std::marker::Model;
 pub struct Adder {
     limit: u64,
     total: u64,
-    past: Vec<Entry<u64, u64>>,
+    past: Vec<TurnEntry<u64, u64>>,
 }
 
 impl Model for Adder {
@@ -64,7 +64,7 @@ impl Object for Adder {
 
     fn apply(&mut self, alloc: Global, caller: u32, call: u64) -> Result<u64, OutOfMemory> {
         let reply = self.total.wrapping_add(call);
-        self.past.push(Entry {
+        self.past.push(TurnEntry {
             caller,
             call,
             reply,

@@ -15,7 +15,7 @@ use Rattle.bt_demand.specs.declared.plan.Plan.{Plan}
 use Rattle.bt_verdict.specs.declared.verdict.Verdict.{Verdict}
 use Rattle.bt_verdict.specs.declared.verdict.Verdict.TheVariants.{Good, V1, V2, V3, V4, V5, V6, V7, V8}
 use Rattle.bt_demand.specs.Burst.{Covers}
-use Rattle.bt_demand.specs.Demand.{Ends, IsDemand, units_of}
+use Rattle.bt_demand.specs.Demand.{LinkEnds, IsDemand, units_of}
 use Rattle.bt_demand.specs.Plan.{HasSwitchings, IsHeld}
 use Rattle.bt_verdict.specs.PlanVerdict.{AreApart, IsFirstMeeting, slots_sent, IsServed, IsFirstUnserved, HasGoodModes, IsPlanVerdict}
 use Rattle.bt_demand.specs.Traffic.{matrix_of}
@@ -86,7 +86,7 @@ not_served : (net : Net) (links : List Link) (bursts : List Burst) (from to : Te
     → IsServed links bursts from to → ⊥
 not_served net links bursts from to want have is served = is.differ (is.wanted ∙ sym served ∙ sym is.sent)
 
-one_ends : (net : Net) (links : List Link) (bursts : List Burst) (a b : Ends) (want have want_too have_too : ℕ) (order : Ordering) → Says order a b
+one_ends : (net : Net) (links : List Link) (bursts : List Burst) (a b : LinkEnds) (want have want_too have_too : ℕ) (order : Ordering) → Says order a b
     → IsFirstUnserved net links bursts a.0 a.1 want have → IsFirstUnserved net links bursts b.0 b.1 want_too have_too → a ≡ b
 one_ends net links bursts a b want have want_too have_too Less before x y =
     absurd (not_served net links bursts a.0 a.1 want have x (y.earlier a.0 a.1 before))
@@ -142,10 +142,10 @@ same_parts net links plan (V5 i j) (V5 k l) x y =
 same_parts net links plan (V6 i) (V6 j) x y = ap V6 (one_first (IsHeld net plan.schedule.modes) plan.bursts i j x.2 y.2)
 same_parts net links plan (V7 from to want have) (V7 a b n m) x y =
     let ends = one_ends net links plan.bursts (from, to) (a, b) want have n m _ (says (from, to) (a, b)) x.3 y.3 in
-    let sends = ap (λ (e : Ends). e.0) ends in
-    let receives = ap (λ (e : Ends). e.1) ends in
-    let wants = x.3.wanted ∙ ap (λ (e : Ends). units_of links e.0 e.1) ends ∙ sym y.3.wanted in
-    let has = x.3.sent ∙ ap (λ (e : Ends). slots_sent plan.bursts e.0 e.1) ends ∙ sym y.3.sent in
+    let sends = ap (λ (e : LinkEnds). e.0) ends in
+    let receives = ap (λ (e : LinkEnds). e.1) ends in
+    let wants = x.3.wanted ∙ ap (λ (e : LinkEnds). units_of links e.0 e.1) ends ∙ sym y.3.wanted in
+    let has = x.3.sent ∙ ap (λ (e : LinkEnds). slots_sent plan.bursts e.0 e.1) ends ∙ sym y.3.sent in
     cc
 same_parts net links plan _ _ x y = absurd (search (rules, kept_apart))
 

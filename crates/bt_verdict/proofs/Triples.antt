@@ -8,7 +8,7 @@ use Rattle.bt_frame.specs.declared.schedule.Critical.TheVariants.{Row, Column}
 use Rattle.bt_net.specs.Network.{Net}
 use Rattle.bt_matrix.specs.Traffic.{line_sum, IsLine}
 use Rattle.bt_demand.specs.declared.demand.Link.{Link}
-use Rattle.bt_demand.specs.Demand.{Ends, ends_of, IsBefore, IsDemand, units_of, units_where}
+use Rattle.bt_demand.specs.Demand.{LinkEnds, ends_of, IsBefore, IsDemand, units_of, units_where}
 use Rattle.bt_demand.specs.Plan.{Triple, occurrences, ShareABeam, Meet, Carries}
 use Rattle.bt_demand.specs.Traffic.{matrix_of}
 use Rattle.bt_net.specs.Terminals.{is_in_beam}
@@ -26,15 +26,15 @@ abbrev is_of : Triple → TermNo → TermNo → Bool
 is_of t from to = t.from.0 == from.0 && t.to.0 == to.0
 
 -- the ends of a triple
-abbrev ends_in : Triple → Ends
+abbrev ends_in : Triple → LinkEnds
 ends_in t = (t.from, t.to)
 
 -- a triple of a link has its ends
 same_ends : (t : Triple) (from to : TermNo) → is_of t from to ≡ true → ends_in t ≡ (from, to)
 same_ends t from to is =
     let parts = and_parts (t.from.0 == from.0) (t.to.0 == to.0) is in
-    ap (λ (n : ℕ). let ends : Ends = (record { 0 = n }, t.to) in ends) (eqb-true t.from.0 from.0 parts.0)
-    ∙ ap (λ (n : ℕ). let ends : Ends = (from, record { 0 = n }) in ends) (eqb-true t.to.0 to.0 parts.1)
+    ap (λ (n : ℕ). let ends : LinkEnds = (record { 0 = n }, t.to) in ends) (eqb-true t.from.0 from.0 parts.0)
+    ∙ ap (λ (n : ℕ). let ends : LinkEnds = (from, record { 0 = n }) in ends) (eqb-true t.to.0 to.0 parts.1)
 
 -- a triple is counted for one link at most, and for none where its ends fail the test
 counted_once : (links : List Link) (test : TermNo → TermNo → Bool) (t : Triple) → IsDemand links
@@ -46,14 +46,14 @@ counted_once links test t is =
     ⊎_elim
     (λ (yes : test t.from t.to ≡ true).
     let once = sum_by-one_passes passes 1 links (λ i j d lt within first second.
-    not_before_itself (ends_in t) (subst (λ (e : Ends). IsBefore e (ends_in t)) (sym (ends_are (get_or links i d) first))
-    (subst (λ (e : Ends). IsBefore (ends_of (get_or links i d)) e) (sym (ends_are (get_or links j d) second)) (is.ordered i j d lt within)))) in
+    not_before_itself (ends_in t) (subst (λ (e : LinkEnds). IsBefore e (ends_in t)) (sym (ends_are (get_or links i d) first))
+    (subst (λ (e : LinkEnds). IsBefore (ends_of (get_or links i d)) e) (sym (ends_are (get_or links j d) second)) (is.ordered i j d lt within)))) in
     rw yes once)
     (λ (no : test t.from t.to ≡ false).
     let none = sum_by-none_passes passes 1 links (λ k d within.
     let link = get_or links k d in
     false_from_ne_true (passes link) (λ yes.
-    let same = ap (λ (e : Ends). test e.0 e.1) (ends_are link yes) in
+    let same = ap (λ (e : LinkEnds). test e.0 e.1) (ends_are link yes) in
     both_ways (test t.from t.to) no (same ∙ (and_parts (test link.from link.to) (is_of t link.from link.to) yes).0))) in
     rw no (rw none (omega arith)))
     (cases_Bool (test t.from t.to))

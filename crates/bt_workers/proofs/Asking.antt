@@ -5,7 +5,7 @@ use Rattle.std.proofs.lemmas.List.{append_cancel_right, map-append}
 use Rattle.std.proofs.lemmas.List.Elements.{filter-append}
 use Rattle.atomic_table.specs.Seated.{TableId}
 use Rattle.bt_net.specs.Network.{Net}
-use Rattle.bt_line.specs.declared.object.Entry as line
+use Rattle.bt_line.specs.declared.object.TurnEntry as line
 use Rattle.bt_line.specs.Legal.{Legal, calls_by, entry_of}
 use Rattle.bt_line.specs.Passes.{Gains, IsSamePass, Place, seen_at}
 use Rattle.bt_journal.specs.declared.call.Call.{Call}
@@ -61,7 +61,7 @@ pub calls_on_unseen : (table : TableId) (start : Books) (old new : Place Books C
     → IsSamePass old new → seen_at new ≡ seen_at old → IsCalling (calling_at table start new)
 calls_on_unseen table start old new so same seen =
     calls_on table start old new so same
-    (so.legal.0, subst (λ (log : List (line.Entry Call Reply)). Legal book_steps start log so.legal.0) (sym seen) so.legal.1)
+    (so.legal.0, subst (λ (log : List (line.TurnEntry Call Reply)). Legal book_steps start log so.legal.0) (sym seen) so.legal.1)
 
 -- the entry of a call with its reply
 abbrev pub made : ℕ → Call → Reply → Entry
@@ -69,41 +69,41 @@ made caller asked reply = record { caller = caller; call = asked; reply = reply 
 
 -- calls of a line are steps, after changes that follow
 abbrev pub AreAnswered : Type 0
-AreAnswered = (start end : Books) (before : List (line.Entry Call Reply)) (entry : line.Entry Call Reply)
+AreAnswered = (start end : Books) (before : List (line.TurnEntry Call Reply)) (entry : line.TurnEntry Call Reply)
     → Follows start.net start.state.changes
     → Legal book_steps start (before ++ entry ∷ []) end
     → (old : machine.State) × (new : machine.State) × (old ≡ machine.state_from start.state (map journal_entry before))
     × Follows start.net old.changes × machine.Step start.net old entry.call entry.reply new
 
-kept_entry : (number : ℕ) (test : Bool) (one : line.Entry Call Reply) (rest : List (line.Entry Call Reply)) (others : List Entry) → others ≡ own_in number rest
+kept_entry : (number : ℕ) (test : Bool) (one : line.TurnEntry Call Reply) (rest : List (line.TurnEntry Call Reply)) (others : List Entry) → others ≡ own_in number rest
     → (if test then journal_entry one ∷ others else others) ≡ map journal_entry (if test then one ∷ calls_by number rest else calls_by number rest)
 kept_entry number true one rest others is = ap (λ (e : List Entry). journal_entry one ∷ e) is
 kept_entry number false one rest others is = is
 
 -- the entries of a caller in a line's history
-pub calls_in_log : (log : List (line.Entry Call Reply)) (number : ℕ) → calls_of (map journal_entry log) number ≡ own_in number log
+pub calls_in_log : (log : List (line.TurnEntry Call Reply)) (number : ℕ) → calls_of (map journal_entry log) number ≡ own_in number log
 calls_in_log [] number = refl
 calls_in_log (one ∷ rest) number = kept_entry number (one.caller == number) one rest _ (calls_in_log rest number)
 
 -- of its own caller, what came before a call is what the caller had seen before
-own_before : (start : Books) (old new : List (line.Entry Call Reply)) (number : ℕ) (asked : Call) (reply : Reply) (gains : Gains book_steps start old (entry_of number asked reply) new)
+own_before : (start : Books) (old new : List (line.TurnEntry Call Reply)) (number : ℕ) (asked : Call) (reply : Reply) (gains : Gains book_steps start old (entry_of number asked reply) new)
     → calls_by number gains.before ≡ calls_by number old
 own_before start old new number asked reply gains =
-    let last : line.Entry Call Reply = entry_of number asked reply in
-    let is_own : line.Entry Call Reply → Bool = λ (entry : line.Entry Call Reply). entry.caller == number in
+    let last : line.TurnEntry Call Reply = entry_of number asked reply in
+    let is_own : line.TurnEntry Call Reply → Bool = λ (entry : line.TurnEntry Call Reply). entry.caller == number in
     let kept : calls_by number (last ∷ []) ≡ last ∷ [] = ap (λ (t : Bool). if t then last ∷ [] else []) (eq-eqb number number refl) in
     let parts : calls_by number (gains.before ++ last ∷ []) ≡ calls_by number gains.before ++ last ∷ [] =
-    filter-append is_own gains.before (last ∷ []) ∙ ap (λ (l : List (line.Entry Call Reply)). calls_by number gains.before ++ l) kept in
+    filter-append is_own gains.before (last ∷ []) ∙ ap (λ (l : List (line.TurnEntry Call Reply)). calls_by number gains.before ++ l) kept in
     append_cancel_right (calls_by number gains.before) (calls_by number old) (last ∷ [])
     (sym parts ∙ ap (calls_by number) (sym gains.ends) ∙ gains.own)
 
 -- and with the call it has seen one entry of its own more
-pub own_gained : (start : Books) (old new : List (line.Entry Call Reply)) (number : ℕ) (asked : Call) (reply : Reply) → Gains book_steps start old (entry_of number asked reply) new
+pub own_gained : (start : Books) (old new : List (line.TurnEntry Call Reply)) (number : ℕ) (asked : Call) (reply : Reply) → Gains book_steps start old (entry_of number asked reply) new
     → own_in number new ≡ own_in number old ++ made number asked reply ∷ []
 own_gained start old new number asked reply gains = ap (map journal_entry) gains.own ∙ map-append journal_entry (calls_by number old) (entry_of number asked reply ∷ [])
 
 -- so the entry of a call is one that was answered
-pub answered_by_step : AreAnswered → (net : Net) (caller : Calling) (new : List (line.Entry Call Reply)) (asked : Call) (entry : Entry) → caller.start.net ≡ net
+pub answered_by_step : AreAnswered → (net : Net) (caller : Calling) (new : List (line.TurnEntry Call Reply)) (asked : Call) (entry : Entry) → caller.start.net ≡ net
     → Follows caller.start.net caller.start.state.changes → entry.call ≡ asked
     → Gains book_steps caller.start (seen_at caller.place) (entry_of (caller_number caller) asked entry.reply) new → IsAnswered net caller entry
 answered_by_step law net caller new asked entry same so is gains =
@@ -111,7 +111,7 @@ answered_by_step law net caller new asked entry same so is gains =
     let number = caller_number caller in
     let last = entry_of number asked entry.reply in
     let legal : Legal book_steps start (gains.before ++ last ∷ []) gains.legal.0 =
-    subst (λ (log : List (line.Entry Call Reply)). Legal book_steps start log gains.legal.0) gains.ends gains.legal.1 in
+    subst (λ (log : List (line.TurnEntry Call Reply)). Legal book_steps start log gains.legal.0) gains.ends gains.legal.1 in
     let step = law start gains.legal.0 gains.before last so legal in
     let there : machine.Step net step.0 asked entry.reply step.1 = subst (λ (n : Net). machine.Step n step.0 asked entry.reply step.1) same step.4 in
     record {

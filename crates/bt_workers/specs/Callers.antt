@@ -2,7 +2,7 @@
 use Rattle.std.specs.Prelude.{◌≡◌, ℕ, List, map}
 use Rattle.atomic_table.specs.Seated.{TableId}
 use Rattle.bt_net.specs.Network.{Net}
-use Rattle.bt_line.specs.declared.object.Entry as line
+use Rattle.bt_line.specs.declared.object.TurnEntry as line
 use Rattle.bt_line.specs.Legal.{Legal, calls_by}
 use Rattle.bt_line.specs.Passes.{Place, IsOfLine, IsSamePass, seen_at}
 use Rattle.bt_journal.specs.declared.call.Call.{Call}
@@ -24,7 +24,7 @@ abbrev pub caller_number : Calling → ℕ
 caller_number caller = caller.place.me.0.number
 
 -- the entries of one caller in the history of a line, in order
-abbrev pub own_in : ℕ → List (line.Entry Call Reply) → List Entry
+abbrev pub own_in : ℕ → List (line.TurnEntry Call Reply) → List Entry
 own_in number log = map journal_entry (calls_by number log)
 
 -- the caller's own entries in what it has seen

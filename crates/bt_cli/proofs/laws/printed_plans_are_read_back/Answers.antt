@@ -1,6 +1,6 @@
 -- what `plan` prints is in range, so that it is read back; and a good plan has the one verdict
 use Rattle.std.proofs.Common.{[], ◌∷◌, codes, ap, ◌∙◌}
-use Rattle.bt_plan.specs.PlanText.{plan_of}
+use Rattle.bt_plan.specs.PlanText.{plan_reading}
 use Rattle.bt_words.specs.Lines.{line_of}
 use Rattle.bt_report.specs.Outcome.{Outcome, text_alone}
 use Rattle.bt_cli.proofs.OneReport.{JudgesPlan-same}
@@ -9,7 +9,7 @@ use Rattle.bt_cli.proofs.laws.printed_plans_are_read_back.Goals as goal
 
 pub returns-clause-read : goal.returns-clause-read
 returns-clause-read c = λ net links outcome sound of_network fits printed.
-    ap (λ (o : Outcome). plan_of net o.text) printed.printed
+    ap (λ (o : Outcome). plan_reading net o.text) printed.printed
     ∙ c.plans_have_one_spelling.ensures.read net printed.plan sound (plan-in_range c.good_plans_are_flyable.ensures.flyable net links outcome sound of_network fits printed)
 
 pub returns-clause-judged : goal.returns-clause-judged
