@@ -6,3 +6,5 @@ pub mod Stages
 pub mod ScriptText
 pub mod Named
 pub mod Length
+pub mod Said
+pub mod Codes

@@ -2,6 +2,9 @@
 ghost use Rattle.std.specs.Prelude.{◌≡◌, ◌+◌, ◌<◌, ◌≤◌, ◌++◌, ◌∷◌, [], ℕ, length, vec_len, count_by, flat_map, All, IfOk, OnOk};
 ghost use Rattle.std.specs.List.{slice_index_or};
 ghost use Rattle.bt_frame.specs.declared.limits.TheConstants.{MOST_DESKS, MOST_LINES};
+ghost use Rattle.bt_net.specs.Network.{Net};
+ghost use Rattle.bt_script.specs.Named.{IsRoundFor};
+ghost use Rattle.bt_script.specs.Said.{IsSaidFor};
 ghost use Rattle.bt_script.specs.ScriptText.{ends_round, round_lines, own_lines, is_plan, air_lines, entry_of, round_of, items_at, items_of};
 
 use crate::line::ScriptLine;
@@ -48,10 +51,11 @@ fn add_item(
     }
 }
 
-// The round of the lines in front of the next round or restart.
-fn round_in_front(alloc: Global, said: &[ScriptLine]) -> Result<Round, OutOfMemory>
+/// The round of the lines in front of the next round or restart, of all lines where they have none.
+pub fn round_in_front(alloc: Global, said: &[ScriptLine]) -> Result<Round, OutOfMemory>
     requires { length said.now ≤ MOST_LINES }
-    ensures { IfOk result (λ round. round ≡ round_of (round_lines said.now)) }
+    ensures round { IfOk result (λ round. round ≡ round_of (round_lines said.now)) }
+    ensures terminals { IfOk result (λ round. (net : Net) → All (IsSaidFor net) said.now → IsRoundFor net round) }
 {
     let lines = lines_by_worker(alloc, said)?;
     let mut table = lines.desks;

@@ -7,8 +7,9 @@
 //! have the shapes in the same order; `specs/Stages.antt` and `names.rt`, `ranges.rt` and `line.rt` the stages.
 //!
 //! Promises are in `specs/ScriptText.antt`, the script that a text spells; `specs/Named.antt`, the terminals that a
-//! script names; `specs/Desks.antt`, the desks of a round; `specs/Length.antt`, how many lines a script has.
-//! `specs/Reading.antt` and `specs/Range.antt` are words of theirs.
+//! script names; `specs/Said.antt`, those that a line names; `specs/Desks.antt`, the desks of a round; `specs/Length.antt`,
+//! how many lines a script has; `specs/Codes.antt`, how a fault is called. `specs/Reading.antt` and `specs/Range.antt` are
+//! words of theirs.
 #![tactic(auto)]
 
 mod desk_no;
@@ -21,7 +22,10 @@ mod reader;
 mod script;
 mod shape;
 
+pub use desk_no::DeskNo;
 pub use fault::{ScriptCode, ScriptFault};
+pub use items::round_in_front;
+pub use line::{ScriptLine, read_line};
 pub use script::{
     AirLine, AirLines, DeskLine, DeskLines, Desks, Item, Items, Losing, Round, Script,
 };

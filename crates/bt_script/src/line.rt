@@ -1,6 +1,7 @@
 // One line of a script: what it says, or the fault of the first stage that it does not pass.
-ghost use Rattle.std.specs.Prelude.{◌≡◌};
+ghost use Rattle.std.specs.Prelude.{◌≡◌, IfOk};
 ghost use Rattle.bt_text.specs.Reading.{Gives};
+ghost use Rattle.bt_script.specs.Said.{IsSaidFor};
 ghost use Rattle.bt_script.specs.Stages.{may_stand, line_in};
 
 use crate::desk_no::DeskNo;
@@ -36,6 +37,7 @@ pub fn read_line(
     line: &[u8],
 ) -> Result<ScriptLine, ScriptFault>
     ensures reading { Gives (λ line. line) result (line_in net.now at is_open line.now) }
+    ensures terminals { IfOk result (IsSaidFor net.now) }
 {
     let Some(shape) = shape_of(line) else {
         return Err(fault_at(ScriptCode::S1, at));

@@ -1,10 +1,14 @@
 -- one desk further, and all of them
-use Rattle.std.proofs.Common.{◌≡◌, ◌+◌, ◌-◌, [], ap, ◌∙◌, arith, rules}
+use Rattle.std.proofs.Common.{◌≡◌, ◌+◌, ◌-◌, [], sym, ap, ◌∙◌, subst, arith, rules}
 use Rattle.std.specs.Prelude.{flat_map}
 use Rattle.std.specs.List.{slice_index_or}
 use Rattle.std.proofs.lemmas.List.{get_or_read}
-use Rattle.bt_script.specs.ScriptText.{round_lines, own_lines, desks_of}
+use Rattle.std.proofs.lemmas.Grind.{common_steps}
+use Rattle.bt_script.specs.declared.script.Round.{Round}
+use Rattle.bt_script.specs.Named.{IsRoundFor}
+use Rattle.bt_script.specs.ScriptText.{round_lines, round_of, own_lines, desks_of}
 use Rattle.bt_script.proofs.Grouping.{next_desk, all_desks}
+use Rattle.bt_script.proofs.Naming.{front_named}
 use Rattle.bt_script.proofs.items.round_in_front.Goals as goal
 
 pub loop-desk-preserved : goal.loop-desk-preserved
@@ -24,3 +28,9 @@ loop-desk-preserved c =
 
 pub of-requires : goal.of-requires
 of-requires c = record { desks = all_desks c.loop-desk.desks.items c.loop-desk.desk (round_lines c.args.said.now) c.loop-desk-test.false c.loop-desk.invariant.desks }
+
+pub returns-clause-terminals : goal.returns-clause-terminals
+returns-clause-terminals c =
+    let round : Round = record { desks = c.of.result; plans = c.in_ok-lines.lines.plans; air = c.of-2.result } in
+    let is : round ≡ round_of (round_lines c.args.said.now) = grind (arith, common_steps) in
+    λ net named. subst (IsRoundFor net) (sym is) (front_named net c.args.said.now named)

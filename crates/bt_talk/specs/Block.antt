@@ -1,0 +1,89 @@
+-- What a line of a session comes to: a table with a row for each kind of line, where no block is open and where one is.
+use Rattle.std.specs.Prelude.{ℕ, if◌then◌else◌, nat_lt, true, List, [], ◌∷◌, ◌++◌, length, codes, Option, Some, None, Ok, Err, All}
+use Rattle.bt_frame.specs.declared.limits.TheConstants.{MOST_LINES}
+use Rattle.bt_text.specs.Text.{is_word}
+use Rattle.bt_net.specs.Network.{Net}
+use Rattle.bt_script.specs.declared.fault.ScriptCode.TheVariants.{S1, S4, S5}
+use Rattle.bt_script.specs.declared.line.ScriptLine.{ScriptLine}
+use Rattle.bt_script.specs.declared.line.ScriptLine.TheVariants as line
+use Rattle.bt_script.specs.declared.script.Item.TheVariants as item
+use Rattle.bt_script.specs.Named.{IsItemFor}
+use Rattle.bt_script.specs.Said.{IsSaidFor}
+use Rattle.bt_script.specs.Reading.{Reading}
+use Rattle.bt_script.specs.ScriptText.{round_lines, round_of}
+use Rattle.bt_script.specs.Stages.{line_in}
+use Rattle.bt_talk.specs.declared.block.Step.{Step}
+use Rattle.bt_talk.specs.declared.block.Step.TheVariants as step
+
+-- the block that is open, with its lines; None where none is open
+abbrev pub Open : Type 0
+Open = Option (List ScriptLine)
+
+-- the round of these lines is played
+abbrev pub plays : List ScriptLine → Step
+plays said = step.Plays (item.Round (round_of (round_lines said)))
+
+-- a line where no block is open: what a desk, the planner or the air does is a round by itself
+abbrev pub lone_row : ScriptLine → Open × Step
+lone_row line.Remark = (None, step.Nothing)
+lone_row line.Round = (Some [], step.Nothing)
+lone_row line.Restart = (None, step.Plays item.Restart)
+lone_row (line.Desk desk own) = (None, plays (line.Desk desk own ∷ []))
+lone_row line.Plan = (None, plays (line.Plan ∷ []))
+lone_row (line.Air own) = (None, plays (line.Air own ∷ []))
+
+-- the line joins the block, where that has room
+abbrev pub joined : List ScriptLine → ScriptLine → Open × Step
+joined said one = if nat_lt (length said) MOST_LINES then (Some (said ++ one ∷ []), step.Nothing) else (Some said, step.Fault S5)
+
+-- a line where a block is open: what a desk, the planner or the air does waits there
+abbrev pub block_row : List ScriptLine → ScriptLine → Open × Step
+block_row said line.Remark = (Some said, step.Nothing)
+block_row said line.Round = (Some said, step.Fault S4)
+block_row said line.Restart = (Some said, step.Fault S4)
+block_row said (line.Desk desk own) = joined said (line.Desk desk own)
+block_row said line.Plan = joined said line.Plan
+block_row said (line.Air own) = joined said (line.Air own)
+
+-- what a line says, in the block that is open or in none
+abbrev pub said_row : Open → ScriptLine → Open × Step
+said_row None one = lone_row one
+said_row (Some said) one = block_row said one
+
+-- what was read, or its fault
+abbrev pub read_row : Open → Reading ScriptLine → Open × Step
+read_row block (Ok one) = said_row block one
+read_row block (Err fault) = (block, step.Fault fault.0)
+
+-- `go`: the block is played
+abbrev pub go_row : Open → Open × Step
+go_row None = (None, step.Fault S4)
+go_row (Some said) = (None, plays said)
+
+-- `forget`: the block is given up
+abbrev pub forget_row : Open → Open × Step
+forget_row None = (None, step.Fault S4)
+forget_row (Some said) = (None, step.Nothing)
+
+-- a line: a word of sessions, or a line of a script
+abbrev pub line_row : Net → Open → List ℕ → Open × Step
+line_row net block text =
+    if is_word (codes "go") text then go_row block
+    else (if is_word (codes "forget") text then forget_row block
+    else read_row block (line_in net 1 true text))
+
+-- what came: a line, or what is none
+abbrev pub row_of : Net → Open → Option (List ℕ) → Open × Step
+row_of net block (Some text) = line_row net block text
+row_of net block None = (block, step.Fault S1)
+
+-- the lines of the block name terminals of the network alone
+abbrev pub IsOpenFor : Net → Open → Type 0
+IsOpenFor net None = Unit {0}
+IsOpenFor net (Some said) = All (IsSaidFor net) said
+
+-- so does the part that is played, where one is
+abbrev pub IsStepFor : Net → Step → Type 0
+IsStepFor net step.Nothing = Unit {0}
+IsStepFor net (step.Fault code) = Unit {0}
+IsStepFor net (step.Plays one) = IsItemFor net one

@@ -1,0 +1,223 @@
+// The block of a session, and what a line comes to.
+//
+//     line                  where no block is open      where one is open
+//     empty, or with `#`    nothing                     nothing
+//     `round`               opens a block               fault S4
+//     `go`                  fault S4                    plays the block, and closes it
+//     `forget`              fault S4                    closes the block
+//     `restart`             the centre restarts         fault S4
+//     another of a script   a round by itself           joins the block; fault S5 where that is full
+//     at fault, or none     its fault                   its fault
+ghost use Rattle.std.specs.Prelude.{◌≡◌, ◌≤◌, ◌++◌, ◌∷◌, [], None, Some, IfOk, All, length, option_map};
+ghost use Rattle.bt_frame.specs.declared.limits.TheConstants.{MOST_LINES};
+ghost use Rattle.bt_script.specs.Said.{IsSaidFor};
+ghost use Rattle.bt_talk.specs.Block.{IsOpenFor, IsStepFor, block_row, forget_row, go_row, joined, line_row, lone_row, plays, row_of, said_row};
+
+use bt_frame::{MOST_LINES, OutOfMemory};
+use bt_net::Network;
+use bt_script::{Item, ScriptCode, ScriptFault, ScriptLine, read_line, round_in_front};
+use bt_text::is_word;
+use std::alloc::Global;
+use std::marker::Model;
+
+/// What a line of a session comes to.
+#[derive(Drop)]
+pub enum Step {
+    /// Nothing is played.
+    Nothing,
+    /// The line is at fault, and has no effect.
+    Fault(ScriptCode),
+    /// This part is played.
+    Plays(Item),
+}
+
+/// The block of a session: its lines where it is open.
+#[derive(Drop)]
+pub struct Block {
+    said: Option<Vec<ScriptLine>>,
+}
+
+impl Model for Block {
+    ghost use Rattle.std.specs.Prelude.{◌≤◌, List, Option, IfSome, length, option_map};
+    ghost use Rattle.bt_frame.specs.declared.limits.TheConstants.{MOST_LINES};
+    ghost use Rattle.bt_script.specs.declared.line.ScriptLine.{ScriptLine};
+
+    ghost Value = { Option (List ScriptLine) };
+
+    ghost view = { λ a. option_map (λ said. said.items) a.said };
+
+    ghost invariant = { λ a. IfSome a.said (λ said. length said.items ≤ MOST_LINES) };
+}
+
+impl Block {
+    /// No block is open.
+    pub fn closed() -> Block
+        ensures closed { result ≡ None }
+    {
+        Block { said: None }
+    }
+
+    /// What comes is a line, or None where it is none: what it comes to, and the block behind it.
+    pub fn take(
+        self,
+        alloc: Global,
+        net: &Network,
+        came: Option<&[u8]>,
+    ) -> Result<(Block, Step), OutOfMemory>
+        requires terminals { IsOpenFor net.now self }
+        ensures row { IfOk result (λ on. (on.0, on.1) ≡ row_of net.now self (option_map (λ text. text.now) came.entry)) }
+        ensures terminals { IfOk result (λ on. IsOpenFor net.now on.0) }
+        ensures part { IfOk result (λ on. IsStepFor net.now on.1) }
+    {
+        match came {
+            Some(text) => self.line(alloc, net, text),
+            None => Ok((self, Step::Fault(ScriptCode::S1))),
+        }
+    }
+
+    /// What a line comes to.
+    fn line(self, alloc: Global, net: &Network, text: &[u8]) -> Result<(Block, Step), OutOfMemory>
+        requires terminals { IsOpenFor net.now self }
+        ensures row { IfOk result (λ on. (on.0, on.1) ≡ line_row net.now self text.now) }
+        ensures terminals { IfOk result (λ on. IsOpenFor net.now on.0) }
+        ensures part { IfOk result (λ on. IsStepFor net.now on.1) }
+    {
+        if is_word(text, b"go") {
+            return self.go(alloc, net);
+        }
+        if is_word(text, b"forget") {
+            return Ok(self.forget());
+        }
+        match read_line(net, 1, true, text) {
+            Ok(one) => self.says(alloc, net, one),
+            Err(ScriptFault::At { code, .. }) => Ok((self, Step::Fault(code))),
+            Err(ScriptFault::OutOfMemory) => Err(OutOfMemory),
+        }
+    }
+
+    /// `go`.
+    fn go(self, alloc: Global, net: &Network) -> Result<(Block, Step), OutOfMemory>
+        requires terminals { IsOpenFor net.now self }
+        ensures row { IfOk result (λ on. (on.0, on.1) ≡ go_row self) }
+        ensures terminals { IfOk result (λ on. IsOpenFor net.now on.0) }
+        ensures part { IfOk result (λ on. IsStepFor net.now on.1) }
+    {
+        match self.said {
+            Some(said) => Ok((Block::closed(), part_of(alloc, net, said.as_slice())?)),
+            None => Ok((Block::closed(), Step::Fault(ScriptCode::S4))),
+        }
+    }
+
+    /// `forget`.
+    fn forget(self) -> (Block, Step)
+        ensures row { (result.0, result.1) ≡ forget_row self }
+    {
+        match self.said {
+            Some(_) => (Block::closed(), Step::Nothing),
+            None => (Block::closed(), Step::Fault(ScriptCode::S4)),
+        }
+    }
+
+    /// A line of a script.
+    fn says(
+        self,
+        alloc: Global,
+        net: &Network,
+        one: ScriptLine,
+    ) -> Result<(Block, Step), OutOfMemory>
+        requires terminals { IsOpenFor net.now self }
+        requires line { IsSaidFor net.now one }
+        ensures row { IfOk result (λ on. (on.0, on.1) ≡ said_row self one) }
+        ensures terminals { IfOk result (λ on. IsOpenFor net.now on.0) }
+        ensures part { IfOk result (λ on. IsStepFor net.now on.1) }
+    {
+        match self.said {
+            None => lone(alloc, net, one),
+            Some(said) => waits(net, said, &one),
+        }
+    }
+}
+
+/// A line of a script where no block is open.
+fn lone(alloc: Global, net: &Network, one: ScriptLine) -> Result<(Block, Step), OutOfMemory>
+    requires line { IsSaidFor net.now one }
+    ensures row { IfOk result (λ on. (on.0, on.1) ≡ lone_row one) }
+    ensures terminals { IfOk result (λ on. IsOpenFor net.now on.0) }
+    ensures part { IfOk result (λ on. IsStepFor net.now on.1) }
+{
+    match one {
+        ScriptLine::Remark => Ok((Block::closed(), Step::Nothing)),
+        ScriptLine::Round => {
+            let block = Block {
+                said: Some(Vec::new(alloc)),
+            };
+            Ok((block, Step::Nothing))
+        }
+        ScriptLine::Restart => Ok((Block::closed(), Step::Plays(Item::Restart))),
+        ScriptLine::Desk { .. } | ScriptLine::Plan | ScriptLine::Air(_) => {
+            Ok((Block::closed(), part_of(alloc, net, &[one])?))
+        }
+    }
+}
+
+/// A line of a script where a block with these lines is open.
+fn waits(
+    net: &Network,
+    said: Vec<ScriptLine>,
+    one: &ScriptLine,
+) -> Result<(Block, Step), OutOfMemory>
+    requires few { length said.items ≤ MOST_LINES }
+    requires terminals { All (IsSaidFor net.now) said.items }
+    requires line { IsSaidFor net.now one.now }
+    ensures row { IfOk result (λ on. (on.0, on.1) ≡ block_row said.items one.now) }
+    ensures terminals { IfOk result (λ on. IsOpenFor net.now on.0) }
+    ensures part { IfOk result (λ on. IsStepFor net.now on.1) }
+{
+    match one {
+        ScriptLine::Remark => Ok((Block { said: Some(said) }, Step::Nothing)),
+        ScriptLine::Round | ScriptLine::Restart => {
+            Ok((Block { said: Some(said) }, Step::Fault(ScriptCode::S4)))
+        }
+        ScriptLine::Desk { .. } | ScriptLine::Plan | ScriptLine::Air(_) => join(net, said, one),
+    }
+}
+
+/// The line joins the block, where that has room.
+fn join(
+    net: &Network,
+    said: Vec<ScriptLine>,
+    one: &ScriptLine,
+) -> Result<(Block, Step), OutOfMemory>
+    requires few { length said.items ≤ MOST_LINES }
+    requires terminals { All (IsSaidFor net.now) said.items }
+    requires line { IsSaidFor net.now one.now }
+    ensures row { IfOk result (λ on. (on.0, on.1) ≡ joined said.items one.now) }
+    ensures terminals { IfOk result (λ on. IsOpenFor net.now on.0) }
+    ensures part { IfOk result (λ on. IsStepFor net.now on.1) }
+{
+    if said.len() < MOST_LINES as usize {
+        let said = added(said, one)?;
+        Ok((Block { said: Some(said) }, Step::Nothing))
+    } else {
+        Ok((Block { said: Some(said) }, Step::Fault(ScriptCode::S5)))
+    }
+}
+
+/// The items with one more behind them.
+fn added<T: Copy + Drop>(mut items: Vec<T>, one: &T) -> Result<Vec<T>, OutOfMemory>
+    ensures { IfOk result (λ all. all.items ≡ items.items ++ one.now ∷ []) }
+{
+    items.push(*one)?;
+    Ok(items)
+}
+
+/// The round of these lines is played.
+fn part_of(alloc: Global, net: &Network, said: &[ScriptLine]) -> Result<Step, OutOfMemory>
+    requires few { length said.now ≤ MOST_LINES }
+    requires terminals { All (IsSaidFor net.now) said.now }
+    ensures part { IfOk result (λ step. step ≡ plays said.now) }
+    ensures terminals { IfOk result (λ step. IsStepFor net.now step) }
+{
+    let round = round_in_front(alloc, said)?;
+    Ok(Step::Plays(Item::Round(round)))
+}

@@ -1,0 +1,13 @@
+//! What a line of a session comes to, and its answer.
+//!
+//! It stands on the lines of a script (`bt_script`), of which a session has all and two more, `go` and `forget`, and on
+//! printed lines. All of `specs/` is promise: `Block.antt`, the table of a session's lines, in the order of `block.rt` and
+//! of the page docs/live.md; `Answers.antt`, what stands behind the text of what a line plays; `Asked.antt`, the parts
+//! that lines ask.
+#![tactic(auto)]
+
+mod answer;
+mod block;
+
+pub use answer::{add_input_fault, add_ready, answer_text};
+pub use block::{Block, Step};
