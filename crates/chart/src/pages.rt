@@ -41,7 +41,7 @@ const LETTERS: &str = "  The letter of a CODE names the file that is at fault: N
 ";
 
 /// What `--version` prints.
-const VERSION: &str = "chart 0.1.0\n";
+const VERSION: &str = "chart 0.2.0\n";
 
 /// The page that the words ask for; None where they ask for none.
 pub fn page_of(alloc: Global, words: &[String]) -> Result<Option<Vec<u8>>, OutOfMemory> {
