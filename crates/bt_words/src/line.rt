@@ -107,7 +107,12 @@ fn add_frame(alloc: Global, mark: Mark, number: u32, out: &mut Vec<u8>) -> Resul
 
 /// Appends a change that is to come. Want of memory leaves a first part of it.
 #[tactic(auto, using(crate::proofs::Extending::extends_on))]
-fn add_armed(alloc: Global, edition: EditionNo, due: Mark, out: &mut Vec<u8>) -> Result<(), OutOfMemory>
+fn add_armed(
+    alloc: Global,
+    edition: EditionNo,
+    due: Mark,
+    out: &mut Vec<u8>,
+) -> Result<(), OutOfMemory>
     ensures added { OnOk result (out.new.items ≡ out.old.items ++ armed_name edition due) }
     ensures kept { Extends out.old.items out.new.items }
 {
