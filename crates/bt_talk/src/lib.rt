@@ -3,11 +3,13 @@
 //! It stands on the lines of a script (`bt_script`), of which a session has all and two more, `go` and `forget`, and on
 //! printed lines. All of `specs/` is promise: `Block.antt`, the table of a session's lines, in the order of `block.rt` and
 //! of the page docs/live.md; `Answers.antt`, what stands behind the text of what a line plays; `Asked.antt`, the parts
-//! that lines ask.
+//! that lines ask; `Scripts.antt`, the session that asks what a script asks.
 #![tactic(auto)]
 
 mod answer;
 mod block;
+mod laws;
 
 pub use answer::{add_input_fault, add_ready, answer_text};
 pub use block::{Block, Step};
+pub use laws::scripts_are_sessions;

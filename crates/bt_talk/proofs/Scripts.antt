@@ -1,0 +1,335 @@
+-- The lines of a script, heard one by one.
+use Rattle.std.proofs.Common.{◌≡◌, ℕ, zero, suc, ◌+◌, ◌<◌, ◌≤◌, Bool, true, false, cond, List, [], ◌∷◌, ◌++◌, length, length-append, Option, Some, None, Ok, Err, refl, sym, ap, ◌∙◌, subst, append_assoc, arith}
+use Rattle.std.specs.Prelude.{codes, count_by, flat_map, map, nat_le}
+use Rattle.std.specs.List.{fold}
+use Rattle.std.proofs.lemmas.Grind.{flat_map-append}
+use Rattle.std.proofs.lemmas.List.{append-nil}
+use Rattle.std.proofs.lemmas.Slice.Eq.{bytes_eq-Decides}
+use Rattle.bt_frame.specs.declared.limits.TheConstants.{MOST_LINES}
+use Rattle.bt_frame.specs.declared.numbers.TermNo.{TermNo}
+use Rattle.bt_text.specs.Text.{is_word, lines}
+use Rattle.bt_text.specs.Reading.{◌>>=◌, or_fault}
+use Rattle.bt_net.specs.Network.{Net}
+use Rattle.bt_script.specs.declared.fault.ScriptCode.TheVariants.{S1, S2, S3, S4, S5}
+use Rattle.bt_script.specs.declared.line.ScriptLine.{ScriptLine}
+use Rattle.bt_script.specs.declared.line.ScriptLine.TheVariants as line
+use Rattle.bt_script.specs.declared.script.DeskLine.{DeskLine}
+use Rattle.bt_script.specs.declared.script.AirLine.{AirLine}
+use Rattle.bt_script.specs.declared.script.Item.{Item}
+use Rattle.bt_script.specs.declared.script.Item.TheVariants as item
+use Rattle.bt_script.specs.declared.script.Round.{Round}
+use Rattle.bt_script.specs.declared.shape.LineShape.{LineShape}
+use Rattle.bt_script.specs.LineShape.{Shape, shape_of}
+use Rattle.bt_script.specs.Reading.{Reading}
+use Rattle.bt_script.specs.ScriptText.{air_lines, desks_of, ends_round, entry_of, is_open_behind, is_plan, items_of, limited_line, lines_in, own_lines, round_lines, round_of}
+use Rattle.bt_script.specs.Stages.{in_range, line_in, may_stand, with_terminals}
+use Rattle.bt_talk.specs.declared.block.Step.{Step}
+use Rattle.bt_talk.specs.declared.block.Step.TheVariants as step
+use Rattle.bt_talk.specs.Asked.{part_in, parts_of}
+use Rattle.bt_talk.specs.Block.{Open, block_row, forget_row, go_row, joined, plays, read_row, row_of, said_row}
+use Rattle.bt_talk.specs.Scripts.{AskItems, came, session_of}
+
+-- what was read in two steps
+record Then {A B : Type 0} (first : Reading A) (next : A → Reading B) (value : B) : Type 0 where
+  pub one : A
+  pub is : first ≡ Ok one
+  pub then : next one ≡ Ok value
+
+then_ok : {A B : Type 0} (first : Reading A) (next : A → Reading B) (value : B) → (first >>= next) ≡ Ok value → Then first next value
+then_ok (Ok one) next value is = record { one = one; is = refl; then = is }
+then_ok (Err fault) next value is = absurd cc
+
+-- the stages of a line: where it stands; its ranges; its terminals; its shape
+abbrev place_at : ℕ → Bool → ScriptLine → Reading ScriptLine
+place_at at is_open said = cond (may_stand is_open said) (Ok said) (Err (S4, at))
+
+stands : (at : ℕ) (is_open : Bool) (said one : ScriptLine) → place_at at is_open said ≡ Ok one → place_at 1 true said ≡ Ok one
+stands at true line.Remark one is = is
+stands at true line.Round one is = is
+stands at true line.Restart one is = is
+stands at true (line.Desk desk own) one is = is
+stands at true line.Plan one is = is
+stands at true (line.Air own) one is = is
+stands at false line.Remark one is = is
+stands at false line.Round one is = is
+stands at false line.Restart one is = is
+stands at false (line.Desk desk own) one is = absurd cc
+stands at false line.Plan one is = absurd cc
+stands at false (line.Air own) one is = absurd cc
+
+ranged : (at : ℕ) (is_open : Bool) (found : Option ScriptLine) (one : ScriptLine) → (or_fault (S3, at) found >>= place_at at is_open) ≡ Ok one → (or_fault (S3, 1) found >>= place_at 1 true) ≡ Ok one
+ranged at is_open (Some said) one is = stands at is_open said one is
+ranged at is_open None one is = absurd cc
+
+abbrev range_at : ℕ → Bool → LineShape TermNo → Reading ScriptLine
+range_at at is_open named = or_fault (S3, at) (in_range named) >>= place_at at is_open
+
+named : (at : ℕ) (is_open : Bool) (found : Option (LineShape TermNo)) (one : ScriptLine) → (or_fault (S2, at) found >>= range_at at is_open) ≡ Ok one → (or_fault (S2, 1) found >>= range_at 1 true) ≡ Ok one
+named at is_open (Some shape) one is = ranged at is_open (in_range shape) one is
+named at is_open None one is = absurd cc
+
+abbrev name_at : Net → ℕ → Bool → Shape → Reading ScriptLine
+name_at net at is_open shape = or_fault (S2, at) (with_terminals net shape) >>= range_at at is_open
+
+shaped : (net : Net) (at : ℕ) (is_open : Bool) (found : Option Shape) (one : ScriptLine) → (or_fault (S1, at) found >>= name_at net at is_open) ≡ Ok one → (or_fault (S1, 1) found >>= name_at net 1 true) ≡ Ok one
+shaped net at is_open (Some shape) one is = named at is_open (with_terminals net shape) one is
+shaped net at is_open None one is = absurd cc
+
+-- a line that reads well says the same where a round is open, and as line 1
+same_line : (net : Net) (at : ℕ) (is_open : Bool) (text : List ℕ) (one : ScriptLine) → line_in net at is_open text ≡ Ok one → line_in net 1 true text ≡ Ok one
+same_line net at is_open text one is = shaped net at is_open (shape_of text) one is
+
+-- a text without a shape reads as nothing
+no_shape : (net : Net) (at : ℕ) (is_open : Bool) (found : Option Shape) (one : ScriptLine) → found ≡ None → (or_fault (S1, at) found >>= name_at net at is_open) ≡ Ok one → ⊥
+no_shape net at is_open (Some shape) one none is = cc
+no_shape net at is_open None one none is = cc
+
+-- a word that is no line of a script is not this line
+unlike : (net : Net) (at : ℕ) (is_open : Bool) (word text : List ℕ) (one : ScriptLine) (same : Bool) → shape_of word ≡ None → line_in net at is_open text ≡ Ok one → is_word word text ≡ same → same ≡ false
+unlike net at is_open word text one false none is tells = refl
+unlike net at is_open word text one true none is tells =
+    absurd (no_shape net at is_open (shape_of text) one (ap shape_of ((bytes_eq-Decides text word).0 tells) ∙ none) is)
+
+no_go : shape_of (codes "go") ≡ None
+no_go = refl
+
+no_forget : shape_of (codes "forget") ≡ None
+no_forget = refl
+
+-- what a line of a script comes to
+says : (net : Net) (at : ℕ) (is_open : Bool) (block : Open) (text : List ℕ) (one : ScriptLine) → line_in net at is_open text ≡ Ok one → row_of net block (came text) ≡ said_row block one
+says net at is_open block text one is =
+    let rest : Open × Step = read_row block (line_in net 1 true text) in
+    let forgets : Open × Step = cond (is_word (codes "forget") text) (forget_row block) rest in
+    ap (λ (b : Bool). cond b (go_row block) forgets) (unlike net at is_open (codes "go") text one (is_word (codes "go") text) no_go is refl)
+    ∙ ap (λ (b : Bool). cond b (forget_row block) rest) (unlike net at is_open (codes "forget") text one (is_word (codes "forget") text) no_forget is refl)
+    ∙ ap (read_row block) (same_line net at is_open text one is)
+
+-- the parts that it and the lines behind it ask
+asks : (net : Net) (block behind : Open) (stp : Step) (text : List ℕ) (texts : List (List ℕ)) → row_of net block (came text) ≡ (behind, stp) → parts_of net block (map came (text ∷ texts)) ≡ part_in stp ++ parts_of net behind (map came texts)
+asks net block behind stp text texts row = ap (λ (r : Open × Step). part_in r.1 ++ parts_of net r.0 (map came texts)) row
+
+-- `go` plays the block
+goes : (net : Net) (acc : List ScriptLine) (texts : List (List ℕ)) → parts_of net (Some acc) (map came (codes "go" ∷ texts)) ≡ item.Round (round_of (round_lines acc)) ∷ parts_of net None (map came texts)
+goes net acc texts = asks net (Some acc) None (plays acc) (codes "go") texts refl
+
+-- a remark is no line of a desk, of the planner or of the air
+skipped : {A : Type 0} (f : ScriptLine → List A) (front rest : List ScriptLine) → f line.Remark ≡ [] → flat_map f (front ++ line.Remark ∷ rest) ≡ flat_map f (front ++ rest)
+skipped {A} f front rest skips =
+    flat_map-append f front (line.Remark ∷ rest) ∙ ap (λ (l : List A). flat_map f front ++ (l ++ flat_map f rest)) skips ∙ sym (flat_map-append f front rest)
+
+uncounted_from : (n : ℕ) (front rest : List ScriptLine) → fold (λ (a : ℕ) (x : ScriptLine). a + cond (is_plan x) 1 0) n (front ++ line.Remark ∷ rest) ≡ fold (λ (a : ℕ) (x : ScriptLine). a + cond (is_plan x) 1 0) n (front ++ rest)
+uncounted_from n [] rest = let same : n + 0 ≡ n = omega arith in ap (λ (m : ℕ). fold (λ (a : ℕ) (x : ScriptLine). a + cond (is_plan x) 1 0) m rest) same
+uncounted_from n (first ∷ front) rest = uncounted_from (n + cond (is_plan first) 1 0) front rest
+
+uncounted : (front rest : List ScriptLine) → count_by is_plan (front ++ line.Remark ∷ rest) ≡ count_by is_plan (front ++ rest)
+uncounted front rest = uncounted_from 0 front rest
+
+desks_same : (desk more : ℕ) (a b : List ScriptLine) → ((d : ℕ) → flat_map (own_lines d) a ≡ flat_map (own_lines d) b) → desks_of desk more a ≡ desks_of desk more b
+desks_same desk zero a b same = refl
+desks_same desk (suc more) a b same =
+    ap (λ (l : List DeskLine). entry_of desk l ++ desks_of (desk + 1) more a) (same desk)
+    ∙ ap (λ (l : List (ℕ × List DeskLine)). entry_of desk (flat_map (own_lines desk) b) ++ l) (desks_same (desk + 1) more a b same)
+
+-- a round is the same without it
+round_skips : (front rest : List ScriptLine) → round_of (front ++ line.Remark ∷ rest) ≡ round_of (front ++ rest)
+round_skips front rest =
+    let long = front ++ line.Remark ∷ rest in
+    let short = front ++ rest in
+    ap (λ (d : List (ℕ × List DeskLine)). let r : Round = record { desks = d; plans = count_by is_plan long; air = flat_map air_lines long } in r)
+    (desks_same 1 16 long short (λ d. skipped (own_lines d) front rest refl))
+    ∙ ap (λ (n : ℕ). let r : Round = record { desks = desks_of 1 16 short; plans = n; air = flat_map air_lines long } in r) (uncounted front rest)
+    ∙ ap (λ (a : List AirLine). let r : Round = record { desks = desks_of 1 16 short; plans = count_by is_plan short; air = a } in r) (skipped air_lines front rest refl)
+
+-- none of these lines ends a round
+abbrev NoneEnds : List ScriptLine → Type 0
+NoneEnds acc = round_lines acc ≡ acc
+
+tail_is : (first : ScriptLine) (rest acc : List ScriptLine) → first ∷ rest ≡ first ∷ acc → rest ≡ acc
+tail_is first rest acc is = cc
+
+none_behind : (first : ScriptLine) (rest : List ScriptLine) → NoneEnds (first ∷ rest) → NoneEnds rest × (ends_round first ≡ false)
+none_behind line.Remark rest none = (tail_is line.Remark (round_lines rest) rest none, refl)
+none_behind line.Round rest none = absurd cc
+none_behind line.Restart rest none = absurd cc
+none_behind (line.Desk desk own) rest none = (tail_is (line.Desk desk own) (round_lines rest) rest none, refl)
+none_behind line.Plan rest none = (tail_is line.Plan (round_lines rest) rest none, refl)
+none_behind (line.Air own) rest none = (tail_is (line.Air own) (round_lines rest) rest none, refl)
+
+none_more : (acc : List ScriptLine) (one : ScriptLine) → NoneEnds acc → ends_round one ≡ false → NoneEnds (acc ++ one ∷ [])
+none_more [] one none is = ap (λ (b : Bool). cond b [] (one ∷ [])) is
+none_more (first ∷ acc) one none is =
+    let behind = none_behind first acc none in
+    ap (λ (b : Bool). cond b [] (first ∷ round_lines (acc ++ one ∷ []))) behind.1 ∙ ap (λ (l : List ScriptLine). first ∷ l) (none_more acc one behind.0 is)
+
+-- the line is one that waits in a block
+joins : (acc : List ScriptLine) (one : ScriptLine) → length acc < MOST_LINES → joined acc one ≡ (Some (acc ++ one ∷ []), step.Nothing)
+joins acc one few = grind arith
+
+-- a line that is not one too many
+record IsLimited (net : Net) (at : ℕ) (is_open : Bool) (text : List ℕ) (one : ScriptLine) : Type 0 where
+  pub few : at ≤ MOST_LINES
+  pub reads : line_in net at is_open text ≡ Ok one
+
+limited : (net : Net) (at : ℕ) (is_open : Bool) (text : List ℕ) (one : ScriptLine) (test : Bool) → nat_le at MOST_LINES ≡ test → cond test (line_in net at is_open text) (Err (S5, at)) ≡ Ok one → IsLimited net at is_open text one
+limited net at is_open text one true few is = record { few = grind arith; reads = is }
+limited net at is_open text one false few is = absurd cc
+
+no_last : (at : ℕ) (said : List ScriptLine) (test : Bool) → cond test (let fault : Reading (List ScriptLine) = Err (S1, at) in fault) (Err (S5, at)) ≡ Ok said → ⊥
+no_last at said true is = cc
+no_last at said false is = cc
+
+-- the lines of a text, each of them read
+record IsRead (net : Net) (at : ℕ) (is_open : Bool) (text : List ℕ) (rest : List (List ℕ)) (said : List ScriptLine) : Type 0 where
+  pub one : ScriptLine
+  pub more : List ScriptLine
+  pub all : said ≡ one ∷ more
+  pub line : IsLimited net at is_open text one
+  pub lines : lines_in net (at + 1) (is_open_behind is_open one) rest ≡ Ok more
+
+ok_is : (a b : List ScriptLine) → (let x : Reading (List ScriptLine) = Ok a in x) ≡ Ok b → b ≡ a
+ok_is a b is = cc
+
+reads : (net : Net) (at : ℕ) (is_open : Bool) (text next : List ℕ) (rest : List (List ℕ)) (said : List ScriptLine) → lines_in net at is_open (text ∷ next ∷ rest) ≡ Ok said → IsRead net at is_open text (next ∷ rest) said
+reads net at is_open text next rest said is =
+    let first = then_ok (limited_line net at is_open text) (λ one. lines_in net (at + 1) (is_open_behind is_open one) (next ∷ rest) >>= λ more. Ok (one ∷ more)) said is in
+    let second = then_ok (lines_in net (at + 1) (is_open_behind is_open first.one) (next ∷ rest)) (λ more. Ok (first.one ∷ more)) said first.then in
+    record {
+      one = first.one;
+      more = second.one;
+      all = ok_is (first.one ∷ second.one) said second.then;
+      line = limited net at is_open text first.one (nat_le at MOST_LINES) refl first.is;
+      lines = second.is;
+    }
+
+-- behind the last line nothing is said
+none_last : (net : Net) (at : ℕ) (is_open : Bool) (last : List ℕ) (said : List ScriptLine) → lines_in net at is_open (last ∷ []) ≡ Ok said → said ≡ []
+none_last net at is_open [] said is = ok_is [] said is
+none_last net at is_open (byte ∷ last) said is = absurd (no_last at said (nat_le at MOST_LINES) is)
+
+-- what a session is behind lines that end a round, and behind others
+abbrev Closed : Net → List (List ℕ) → List ScriptLine → Type 0
+Closed net texts said = parts_of net None (map came (session_of false texts said)) ≡ items_of said
+
+abbrev Opened : Net → List ScriptLine → List (List ℕ) → List ScriptLine → Type 0
+Opened net acc texts said = parts_of net (Some acc) (map came (session_of true texts said)) ≡ item.Round (round_of (acc ++ round_lines said)) ∷ items_of said
+
+-- no line more: the block is played
+opened_none : (net : Net) (acc : List ScriptLine) (texts : List (List ℕ)) → NoneEnds acc → Opened net acc texts []
+opened_none net acc [] none = goes net acc [] ∙ ap (λ (l : List ScriptLine). item.Round (round_of l) ∷ []) (none ∙ sym (append-nil acc))
+opened_none net acc (text ∷ texts) none = goes net acc [] ∙ ap (λ (l : List ScriptLine). item.Round (round_of l) ∷ []) (none ∙ sym (append-nil acc))
+
+closed_none : (net : Net) (texts : List (List ℕ)) → Closed net texts []
+closed_none net [] = refl
+closed_none net (text ∷ texts) = refl
+
+-- a line that waits in the block
+opened_joins : (net : Net) (at : ℕ) (acc : List ScriptLine) (text : List ℕ) (texts : List (List ℕ)) (one : ScriptLine) (more : List ScriptLine) → line_in net at true text ≡ Ok one → block_row acc one ≡ joined acc one
+    → length acc < MOST_LINES → Opened net (acc ++ one ∷ []) texts more
+    → parts_of net (Some acc) (map came (text ∷ session_of true texts more)) ≡ item.Round (round_of (acc ++ one ∷ round_lines more)) ∷ items_of more
+opened_joins net at acc text texts one more is row few next =
+    asks net (Some acc) (Some (acc ++ one ∷ [])) step.Nothing text (session_of true texts more) (says net at true (Some acc) text one is ∙ row ∙ joins acc one few)
+    ∙ next
+    ∙ ap (λ (l : List ScriptLine). item.Round (round_of l) ∷ items_of more) (append_assoc acc (one ∷ []) (round_lines more))
+
+-- one line more, in an open block
+opened_line : (net : Net) (at : ℕ) (acc : List ScriptLine) (text : List ℕ) (texts : List (List ℕ)) (one : ScriptLine) (more : List ScriptLine) → line_in net at true text ≡ Ok one → length acc < MOST_LINES → NoneEnds acc
+    → ((front : List ScriptLine) → NoneEnds front → length front ≤ length acc + 1 → is_open_behind true one ≡ true → Opened net front texts more) → (is_open_behind true one ≡ false → Closed net texts more)
+    → Opened net acc (text ∷ texts) (one ∷ more)
+opened_line net at acc text texts line.Remark more is few none opened closed =
+    asks net (Some acc) (Some acc) step.Nothing text (session_of true texts more) (says net at true (Some acc) text line.Remark is)
+    ∙ opened acc none (omega arith) refl
+    ∙ ap (λ (r : Round). item.Round r ∷ items_of more) (sym (round_skips acc (round_lines more)))
+opened_line net at acc text texts line.Round more is few none opened closed =
+    goes net acc (text ∷ session_of true texts more)
+    ∙ ap (λ (l : List Item). item.Round (round_of (round_lines acc)) ∷ l) (asks net None (Some []) step.Nothing text (session_of true texts more) (says net at true None text line.Round is) ∙ opened [] refl (omega arith) refl)
+    ∙ ap (λ (l : List ScriptLine). item.Round (round_of l) ∷ item.Round (round_of (round_lines more)) ∷ items_of more) (none ∙ sym (append-nil acc))
+opened_line net at acc text texts line.Restart more is few none opened closed =
+    goes net acc (text ∷ session_of false texts more)
+    ∙ ap (λ (l : List Item). item.Round (round_of (round_lines acc)) ∷ l)
+    (asks net None None (step.Plays item.Restart) text (session_of false texts more) (says net at true None text line.Restart is) ∙ ap (λ (l : List Item). item.Restart ∷ l) (closed refl))
+    ∙ ap (λ (l : List ScriptLine). item.Round (round_of l) ∷ item.Restart ∷ items_of more) (none ∙ sym (append-nil acc))
+opened_line net at acc text texts (line.Desk desk own) more is few none opened closed =
+    let one = line.Desk desk own in
+    opened_joins net at acc text texts one more is refl few (opened (acc ++ one ∷ []) (none_more acc one none refl) (omega (arith, length-append acc (one ∷ []))) refl)
+opened_line net at acc text texts line.Plan more is few none opened closed =
+    let one = line.Plan in
+    opened_joins net at acc text texts one more is refl few (opened (acc ++ one ∷ []) (none_more acc one none refl) (omega (arith, length-append acc (one ∷ []))) refl)
+opened_line net at acc text texts (line.Air own) more is few none opened closed =
+    let one = line.Air own in
+    opened_joins net at acc text texts one more is refl few (opened (acc ++ one ∷ []) (none_more acc one none refl) (omega (arith, length-append acc (one ∷ []))) refl)
+
+-- no line but a round, a restart or a remark stands where no round is open
+outside_said : (at : ℕ) (said one : ScriptLine) → place_at at false said ≡ Ok one → may_stand false one ≡ true
+outside_said at line.Remark one is = let same : one ≡ line.Remark = cc in ap (may_stand false) same
+outside_said at line.Round one is = let same : one ≡ line.Round = cc in ap (may_stand false) same
+outside_said at line.Restart one is = let same : one ≡ line.Restart = cc in ap (may_stand false) same
+outside_said at (line.Desk desk own) one is = absurd cc
+outside_said at line.Plan one is = absurd cc
+outside_said at (line.Air own) one is = absurd cc
+
+outside_range : (at : ℕ) (found : Option ScriptLine) (one : ScriptLine) → (or_fault (S3, at) found >>= place_at at false) ≡ Ok one → may_stand false one ≡ true
+outside_range at (Some said) one is = outside_said at said one is
+outside_range at None one is = absurd cc
+
+outside_name : (at : ℕ) (found : Option (LineShape TermNo)) (one : ScriptLine) → (or_fault (S2, at) found >>= range_at at false) ≡ Ok one → may_stand false one ≡ true
+outside_name at (Some shape) one is = outside_range at (in_range shape) one is
+outside_name at None one is = absurd cc
+
+outside_shape : (net : Net) (at : ℕ) (found : Option Shape) (one : ScriptLine) → (or_fault (S1, at) found >>= name_at net at false) ≡ Ok one → may_stand false one ≡ true
+outside_shape net at (Some shape) one is = outside_name at (with_terminals net shape) one is
+outside_shape net at None one is = absurd cc
+
+outside : (net : Net) (at : ℕ) (text : List ℕ) (one : ScriptLine) → line_in net at false text ≡ Ok one → may_stand false one ≡ true
+outside net at text one is = outside_shape net at (shape_of text) one is
+
+no_line : (let b : Bool = false in b) ≡ true → ⊥
+no_line is = cc
+
+-- one line more, where no round is open
+closed_line : (net : Net) (at : ℕ) (text : List ℕ) (texts : List (List ℕ)) (one : ScriptLine) (more : List ScriptLine) → line_in net at false text ≡ Ok one
+    → (is_open_behind false one ≡ true → Opened net [] texts more) → (is_open_behind false one ≡ false → Closed net texts more) → Closed net (text ∷ texts) (one ∷ more)
+closed_line net at text texts line.Remark more is opened closed =
+    asks net None None step.Nothing text (session_of false texts more) (says net at false None text line.Remark is) ∙ closed refl
+closed_line net at text texts line.Round more is opened closed =
+    asks net None (Some []) step.Nothing text (session_of true texts more) (says net at false None text line.Round is) ∙ opened refl
+closed_line net at text texts line.Restart more is opened closed =
+    asks net None None (step.Plays item.Restart) text (session_of false texts more) (says net at false None text line.Restart is) ∙ ap (λ (l : List Item). item.Restart ∷ l) (closed refl)
+closed_line net at text texts (line.Desk desk own) more is opened closed = absurd (no_line (outside net at text (line.Desk desk own) is))
+closed_line net at text texts line.Plan more is opened closed = absurd (no_line (outside net at text line.Plan is))
+closed_line net at text texts (line.Air own) more is opened closed = absurd (no_line (outside net at text (line.Air own) is))
+
+none_said : (said : List ScriptLine) → (let x : Reading (List ScriptLine) = Ok [] in x) ≡ Ok said → said ≡ []
+none_said said is = ok_is [] said is
+
+-- from an open round on, or from none
+abbrev FromHere : Net → Bool → List ScriptLine → List (List ℕ) → List ScriptLine → Type 0
+FromHere net true acc texts said = Opened net acc texts said
+FromHere net false acc texts said = Closed net texts said
+
+-- all lines of a text
+asks_all : (net : Net) (at : ℕ) (is_open : Bool) (texts : List (List ℕ)) (said acc : List ScriptLine) → lines_in net at is_open texts ≡ Ok said → NoneEnds acc → length acc < at → FromHere net is_open acc texts said
+asks_all net at true [] said acc is none few = subst (Opened net acc []) (sym (none_said said is)) (opened_none net acc [] none)
+asks_all net at false [] said acc is none few = subst (Closed net []) (sym (none_said said is)) (closed_none net [])
+asks_all net at true (last ∷ []) said acc is none few = subst (Opened net acc (last ∷ [])) (sym (none_last net at true last said is)) (opened_none net acc (last ∷ []) none)
+asks_all net at false (last ∷ []) said acc is none few = subst (Closed net (last ∷ [])) (sym (none_last net at false last said is)) (closed_none net (last ∷ []))
+asks_all net at true (text ∷ next ∷ rest) said acc is none few =
+    let so = reads net at true text next rest said is in
+    subst (Opened net acc (text ∷ next ∷ rest)) (sym so.all)
+    (opened_line net at acc text (next ∷ rest) so.one so.more so.line.reads (omega (arith, few, so.line.few)) none
+    (λ front ends short begins. subst (λ (b : Bool). FromHere net b front (next ∷ rest) so.more) begins
+    (asks_all net (at + 1) (is_open_behind true so.one) (next ∷ rest) so.more front so.lines ends (omega (arith, short, few))))
+    (λ shut. subst (λ (b : Bool). FromHere net b [] (next ∷ rest) so.more) shut
+    (asks_all net (at + 1) (is_open_behind true so.one) (next ∷ rest) so.more [] so.lines refl (omega arith))))
+asks_all net at false (text ∷ next ∷ rest) said acc is none few =
+    let so = reads net at false text next rest said is in
+    subst (Closed net (text ∷ next ∷ rest)) (sym so.all)
+    (closed_line net at text (next ∷ rest) so.one so.more so.line.reads
+    (λ begins. subst (λ (b : Bool). FromHere net b [] (next ∷ rest) so.more) begins
+    (asks_all net (at + 1) (is_open_behind false so.one) (next ∷ rest) so.more [] so.lines refl (omega arith)))
+    (λ shut. subst (λ (b : Bool). FromHere net b [] (next ∷ rest) so.more) shut
+    (asks_all net (at + 1) (is_open_behind false so.one) (next ∷ rest) so.more [] so.lines refl (omega arith))))
+
+-- a script that reads well
+pub asks_items : AskItems
+asks_items net text said is = asks_all net 1 false (lines text) said [] is refl (omega arith)
