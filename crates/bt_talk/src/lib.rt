@@ -1,9 +1,9 @@
 //! What a line of a session comes to, and its answer.
 //!
 //! It stands on the lines of a script (`bt_script`), of which a session has all and two more, `go` and `forget`, and on
-//! printed lines. All of `specs/` is promise: `Block.antt`, the table of a session's lines, in the order of `block.rt` and
-//! of the page docs/live.md; `Answers.antt`, what stands behind the text of what a line plays; `Asked.antt`, the parts
-//! that lines ask; `Scripts.antt`, the session that asks what a script asks.
+//! printed lines. All of `specs/` is promise: `Block.antt`, the table of a session's lines, in the order of `block.rt`;
+//! `Answers.antt`, what stands behind the text of what a line plays; `Asked.antt`, the parts that lines ask;
+//! `Scripts.antt`, the session that asks what a script asks.
 #![tactic(auto)]
 
 mod answer;
