@@ -16,7 +16,7 @@ use Rattle.bt_history.specs.declared.fault.RecoverFault.TheVariants.{StoreFault}
 use Rattle.bt_history.specs.Book.{Books}
 use Rattle.bt_history.specs.Causes.{Follows, IsGoodForItsEdition}
 use Rattle.bt_history.specs.Changes.{installs}
-use Rattle.bt_history.specs.Recovery.{MaybeMarked}
+use Rattle.bt_history.specs.Recovery.{MaybeRecovered}
 use Rattle.bt_history.specs.Store.{IsKept, lost_of}
 use Rattle.bt_events.specs.Event.{Opening}
 use Rattle.bt_events.specs.Fits.{IsWorld}
@@ -181,7 +181,7 @@ ended_at_restart net items index begun old left before between after f0 f1 f2 fa
       goes = record { over = refl; before = refl; ran = ran_nothing old.book (subst (λ (n : Net). Follows n old.book.state.changes) (sym so.done.so_far.network) so.done.so_far.follow); world = refl };
       histories = is.histories;
       kept = is.kept;
-      cut = subst (λ (n : Net). MaybeMarked n old.book.told left.told) (sym so.done.so_far.network) (left_at_fault net old.book.told left.told old.book.faults left.faults fault is.failed);
+      cut = subst (λ (n : Net). MaybeRecovered n old.book.told left.told old.book.faults left.faults) (sym so.done.so_far.network) (left_at_fault net old.book.told left.told old.book.faults left.faults fault is.failed);
       later = is.later;
       world = is.world;
     }) early

@@ -75,9 +75,11 @@ ends_from net items output told given after faults begun now opening status hist
   entries = breaks.entries;
   all = breaks.all;
   told = breaks.told;
+  faults = breaks.faults;
   kept = breaks.kept;
+  count = rose_since (length (lost_in histories)) faults begun breaks.faults later breaks.count;
+  later = breaks.later;
   bytes = breaks.bytes;
-  count = rose_since (length (lost_in histories)) faults begun now later breaks.count;
   status_is = breaks.status_is;
 })
 ends_from net items output told given after faults begun now opening status histories events tells later (inr (inl whole)) = inr (inl (record {

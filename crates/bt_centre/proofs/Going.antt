@@ -7,8 +7,8 @@ use Rattle.bt_journal.specs.declared.entry.Entry.{Entry}
 use Rattle.bt_history.specs.Book.{Books}
 use Rattle.bt_history.specs.Causes.{Follows}
 use Rattle.bt_history.specs.Machine.{Legal, State, running, state_after}
-use Rattle.bt_history.specs.Recovery.{MaybeMarked}
-use Rattle.bt_history.specs.Store.{IsKept, lost_of}
+use Rattle.bt_history.specs.Recovery.{MaybeRecovered}
+use Rattle.bt_history.specs.Store.{IsKept, RoseBy, lost_of}
 use Rattle.bt_history.proofs.Histories.{state_from-none}
 use Rattle.bt_centre.specs.declared.history.History.{History}
 use Rattle.bt_workers.specs.AirLines.{AirState}
@@ -31,7 +31,7 @@ left_early net hand left network follow is = record {
   goes = record { over = refl; before = refl; ran = ran_none net hand.book network follow; world = refl };
   histories = is.histories;
   kept = is.kept;
-  cut = inl is.told;
+  cut = inl (inl is.told);
   later = omega (arith, is.faults);
   world = is.world;
 }
@@ -43,7 +43,7 @@ left_on old hand left goes is = record {
   goes = goes;
   histories = is.histories;
   kept = is.kept;
-  cut = inl is.told;
+  cut = inl (inl is.told);
   later = omega (arith, is.faults);
   world = subst (λ (o : Opening). IsWorld o (reverse left.events)) goes.world is.world;
 }
@@ -135,10 +135,11 @@ breaks_off net begun opening old left status so is status_is =
       entries = history;
       all = is.histories ∙ ap (λ (n : ℕ). is.hand.over ++ record { before = n; entries = history } ∷ []) now.before;
       told = told;
+      faults = is.hand.book.faults;
       kept = subst (λ (c : List Change). IsKept net told c (lost_of history)) (ap (λ (s : State). s.changes) now.reached)
           (subst (λ (n : Net). IsKept n told is.hand.book.state.changes (lost_of history)) now.network is.kept);
-      bytes = subst (λ (n : Net). MaybeMarked n told left.told) now.network is.cut;
-      count = rose_still (length (lost_in (histories_in is.hand))) (length (lost_in left.histories)) begun.faults is.hand.book.faults left.faults
-          (ap (λ (l : List History). length (lost_in l)) is.histories) now.count is.later;
+      count = subst (λ (l : List History). RoseBy (length (lost_in l)) begun.faults is.hand.book.faults) (sym is.histories) now.count;
+      later = is.later;
+      bytes = subst (λ (n : Net). MaybeRecovered n told left.told is.hand.book.faults left.faults) now.network is.cut;
       status_is = status_is;
     }

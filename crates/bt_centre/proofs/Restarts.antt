@@ -13,14 +13,13 @@ use Rattle.bt_history.specs.declared.fault.RecoverFault.TheVariants.{J1, J2, Sto
 use Rattle.bt_history.specs.Book.{Books}
 use Rattle.bt_history.specs.Causes.{Follows}
 use Rattle.bt_history.specs.Machine.{running}
-use Rattle.bt_history.specs.Recovery.{IsOutside, IsReadable, IsRecoverFault, MaybeMarked, Recovered, marked}
+use Rattle.bt_history.specs.Recovery.{IsOutside, IsReadable, IsRecoverFault, MaybeRecovered, Recovered, marked}
 use Rattle.bt_history.specs.Store.{IsKept, IsNextOpening, IsStored, lost_of}
 use Rattle.bt_script.specs.declared.script.Item.TheVariants as item
 use Rattle.bt_events.specs.Fits.{IsWorld}
 use Rattle.bt_workers.specs.AirLines.{AirState}
 use Rattle.bt_centre.specs.declared.history.History.{History}
 use Rattle.bt_centre.specs.Progress.{BeganAgain, CentreBegan, Hand, IsLeftAtRestart, IsOpenFault, IsLeftBehind, IsLeftEarly, ItemFailed, Left, RestartPlayed, histories_in}
-use Rattle.bt_history.proofs.Marked.{cut_or_marked, maybe_marked}
 use Rattle.bt_centre.proofs.Going.{ran_none}
 
 -- a store tells its next opening
@@ -60,14 +59,15 @@ restarted net old new book over text began all network none runs follow next tel
 
 -- memory ran out over the restart
 pub left_behind : (net : Net) (old : Hand) (left : Left) → old.book.net ≡ net → Follows net old.book.state.changes → left.histories ≡ histories_in old → old.book.faults ≤ left.faults
-    → IsWorld old.air.life.opening (reverse left.events) → IsKept old.book.net old.book.told old.book.state.changes (lost_of old.book.history) → MaybeMarked net old.book.told left.told
+    → IsWorld old.air.life.opening (reverse left.events) → IsKept old.book.net old.book.told old.book.state.changes (lost_of old.book.history)
+    → MaybeRecovered net old.book.told left.told old.book.faults left.faults
     → IsLeftEarly old left
 left_behind net old left network follow all later world kept cut = record {
   hand = old;
   goes = record { over = refl; before = refl; ran = ran_none net old.book network follow; world = refl };
   histories = all;
   kept = kept;
-  cut = subst (λ (n : Net). MaybeMarked n old.book.told left.told) (sym network) cut;
+  cut = subst (λ (n : Net). MaybeRecovered n old.book.told left.told old.book.faults left.faults) (sym network) cut;
   later = later;
   world = world;
 }
@@ -112,20 +112,20 @@ always : (told : Option (List ℕ)) (Q : Type 0) → Q → IfSome told (λ _. Q)
 always (Some bytes) Q is = is
 always None Q is = tt
 
--- a recovery that failed leaves the store as it was, or with its tail cut, and then maybe a first part of the mark
-pub left_at_fault : (net : Net) (old new : Option (List ℕ)) (before now : ℕ) (fault : RecoverFault) → IsRecoverFault net old new before now fault → MaybeMarked net old new
-left_at_fault net old new before now (J1 line) is = inl is.0
-left_at_fault net old new before now (J2 line) is = inl is.0
-left_at_fault net old new before now StoreFault is = is.0
-left_at_fault net old new before now TooLong is = inl is.0
-left_at_fault net old new before now OutOfMemory is = cut_or_marked net old new is
+-- a recovery that failed leaves the store as one does behind which memory ran out
+pub left_at_fault : (net : Net) (old new : Option (List ℕ)) (before now : ℕ) (fault : RecoverFault) → IsRecoverFault net old new before now fault → MaybeRecovered net old new before now
+left_at_fault net old new before now (J1 line) is = inl (inl is.0)
+left_at_fault net old new before now (J2 line) is = inl (inl is.0)
+left_at_fault net old new before now StoreFault is = inr (inr is)
+left_at_fault net old new before now TooLong is = inl (inl is.0)
+left_at_fault net old new before now OutOfMemory is = inl is
 
--- and so does one behind which memory ran out
-pub left_unopened : (net : Net) (old new : Option (List ℕ)) (before now : ℕ) (fault : RecoverFault) → IsOpenFault net old new before now fault → MaybeMarked net old new
-left_unopened net old new before now (J1 line) is = inl is.0
-left_unopened net old new before now (J2 line) is = inl is.0
-left_unopened net old new before now StoreFault is = is.0
-left_unopened net old new before now TooLong is = inl is.0
+-- and so it is where a run did not begin
+pub left_unopened : (net : Net) (old new : Option (List ℕ)) (before now : ℕ) (fault : RecoverFault) → IsOpenFault net old new before now fault → MaybeRecovered net old new before now
+left_unopened net old new before now (J1 line) is = inl (inl is.0)
+left_unopened net old new before now (J2 line) is = inl (inl is.0)
+left_unopened net old new before now StoreFault is = inr (inr is)
+left_unopened net old new before now TooLong is = inl (inl is.0)
 left_unopened net old new before now OutOfMemory is = is
 
 -- a fault of the recovery is one of the opening
@@ -134,7 +134,7 @@ open_fault net old new before now (J1 line) is = is
 open_fault net old new before now (J2 line) is = is
 open_fault net old new before now StoreFault is = is
 open_fault net old new before now TooLong is = is
-open_fault net old new before now OutOfMemory is = cut_or_marked net old new is
+open_fault net old new before now OutOfMemory is = inl is
 
 -- and where it is named, the other way round
 pub named_fault : (net : Net) (old new : Option (List ℕ)) (before now : ℕ) (fault : RecoverFault) → fault ≢ OutOfMemory → IsOpenFault net old new before now fault
@@ -147,7 +147,7 @@ named_fault net old new before now OutOfMemory named is = absurd (named refl)
 
 -- the recovery failed, or memory ran out over it
 pub restart_failed : (net : Net) (old : Hand) (left : Left) (fault : RecoverFault) → Fails net old left fault → ItemFailed net item.Restart old left fault
-restart_failed net old left OutOfMemory is = inl (refl, left_behind net old left is.network is.follow is.histories is.later is.world is.kept (cut_or_marked net old.book.told left.told is.failed))
+restart_failed net old left OutOfMemory is = inl (refl, left_behind net old left is.network is.follow is.histories is.later is.world is.kept (inl is.failed))
 restart_failed net old left StoreFault is = inr (refl, at_restart net old left StoreFault is (λ same. cc) (always old.book.told (StoreFault ≡ StoreFault) refl))
 restart_failed net old left TooLong is = inr (refl, at_restart net old left TooLong is (λ same. cc) (never_long old.book.told (TooLong ≡ StoreFault) is.short is.failed.1))
 restart_failed net old left (J1 line) is =
@@ -221,7 +221,7 @@ breaks_behind net old book again air over left told faults is air_is network fol
     let kept = subst (λ (b : Books). IsKept b.net b.told b.state.changes (lost_of b.history)) is stored.kept in
     let there : left.told ≡ option_map (marked net) old.book.told = behind.told ∙ again_told ∙ ap (option_map (marked net)) (told_is ∙ ap (λ (b : Books). b.told) is) in
     left_behind net old left network follow (behind.histories ∙ all) (omega (arith, later, faults_are, ap (λ (b : Books). b.faults) is, behind.faults))
-    (subst (λ (a : AirState). IsWorld a.life.opening (reverse left.events)) air_is behind.world) kept (maybe_marked net old.book.told left.told there)
+    (subst (λ (a : AirState). IsWorld a.life.opening (reverse left.events)) air_is behind.world) kept (inr (inl there))
 
 -- the world of the centre's worker
 pub world_at : (air old : AirState) (events : List Event) → air ≡ old → events ≡ air.life.events → IsWorld air.life.opening (reverse air.life.events) → IsWorld old.life.opening (reverse events)

@@ -13,7 +13,7 @@ use Rattle.bt_history.specs.Book.{Books}
 use Rattle.bt_history.specs.Causes.{Follows}
 use Rattle.bt_history.specs.Changes.{edition, newest, orders}
 use Rattle.bt_history.specs.Machine.{Legal, running, state_after}
-use Rattle.bt_history.specs.Recovery.{IsRecoverFault, MaybeMarked}
+use Rattle.bt_history.specs.Recovery.{IsRecoverFault, MaybeRecovered}
 use Rattle.bt_history.specs.Store.{IsKept, IsNextOpening, RoseBy, lost_of}
 use Rattle.bt_events.specs.Fits.{IsWorld}
 use Rattle.bt_script.specs.declared.script.Item.{Item}
@@ -59,10 +59,9 @@ pub record IsBegun (net : Net) (hand : Hand) : Type 0 where
   pub air : hand.air ≡ (at_start net hand.book.state.changes).air
   pub rounds : hand.rounds ≡ 0
 
--- why a run did not begin: the recovery failed, or memory ran out over it or behind it; then the store is as it was, or with what
--- stood behind its last newline cut, and then maybe a first part of the mark appended
+-- why a run did not begin: the recovery failed, or memory ran out over it or behind it
 abbrev pub IsOpenFault : Net → Option (List ℕ) → Option (List ℕ) → ℕ → ℕ → RecoverFault → Type 0
-IsOpenFault net old new before now OutOfMemory = MaybeMarked net old new
+IsOpenFault net old new before now OutOfMemory = MaybeRecovered net old new before now
 IsOpenFault net old new before now fault = IsRecoverFault net old new before now fault
 
 -- A run that began with a book so came here by legal times, of which the present one began with these changes.
@@ -183,7 +182,7 @@ pub record IsLeftEarly (old : Hand) (left : Left) : Type 0 where
   pub goes : GoesOn old hand
   pub histories : left.histories ≡ histories_in hand
   pub kept : IsKept hand.book.net hand.book.told hand.book.state.changes (lost_of hand.book.history)
-  pub cut : MaybeMarked hand.book.net hand.book.told left.told
+  pub cut : MaybeRecovered hand.book.net hand.book.told left.told hand.book.faults left.faults
   pub later : hand.book.faults ≤ left.faults
   pub world : IsWorld old.air.life.opening (reverse left.events)
 

@@ -21,7 +21,7 @@ use Rattle.bt_history.specs.declared.fault.RecoverFault.TheVariants.{OutOfMemory
 use Rattle.bt_history.specs.Causes.{Follows, IsGoodForItsEdition}
 use Rattle.bt_history.specs.Changes.{edition, installs, newest, orders, plans}
 use Rattle.bt_history.specs.Machine.{Legal}
-use Rattle.bt_history.specs.Recovery.{IsReadable, IsRecoverFault, MaybeMarked, Recovered}
+use Rattle.bt_history.specs.Recovery.{IsReadable, IsRecoverFault, MaybeRecovered, Recovered}
 use Rattle.bt_history.specs.Store.{IsKept, IsNextOpening, RoseBy, is_lost, lost_of}
 use Rattle.bt_script.specs.declared.script.Item.{Item}
 use Rattle.bt_script.specs.declared.script.Item.TheVariants as item
@@ -227,11 +227,10 @@ pub record RunsNone (stored : Stored) (histories : List History) (events : List 
   pub quiet : events ≡ []
   pub later : stored.faults_before ≤ stored.faults_after
 
--- memory ran out before anything was run: the store is as it was, or with what stood behind its last newline cut, and then maybe
--- a first part of the mark appended
+-- memory ran out before anything was run: the store is as it was, or as a recovery left it
 pub record BreaksEarly (net : Net) (stored : Stored) (status : ℕ) (histories : List History) (events : List Event) : Type 0 where
   pub none : RunsNone stored histories events
-  pub bytes : MaybeMarked net stored.before stored.after
+  pub bytes : MaybeRecovered net stored.before stored.after stored.faults_before stored.faults_after
   pub status_is : status ≡ 1
 
 -- the first recovery failed: nothing was run, and its fault was printed
@@ -243,8 +242,8 @@ pub record RunsNothing (net : Net) (output : Output) (stored : Stored) (status :
   pub printed : PrintsFault output [] fault status
 
 -- Memory ran out: what was asked and answered in each time is legal. The store told the lines of the changes of the last time, and behind
--- them a first part of the line of the change that it lost in that time, where it lost one; it tells that, or what stands up to its last
--- newline, and maybe a first part of the mark. Its count of faults rose by as many changes at least as it lost, or stands at its end.
+-- them a first part of the line of the change that it lost in that time, where it lost one; its count of faults was this then, and had
+-- risen by as many changes at least as it lost, or stood at its end. It tells that, or what the recovery at a restart made of it.
 pub record BreaksOff (net : Net) (stored : Stored) (opening : List Change) (status : ℕ) (histories : List History) : Type 0 where
   pub last : List Change
   pub legal : AreLegalTimes net (is_some stored.before) opening last histories
@@ -252,9 +251,11 @@ pub record BreaksOff (net : Net) (stored : Stored) (opening : List Change) (stat
   pub entries : List Entry
   pub all : histories ≡ over ++ record { before = length last; entries = entries } ∷ []
   pub told : Option (List ℕ)
+  pub faults : ℕ
   pub kept : IsKept net told (last ++ changes_of entries) (lost_of entries)
-  pub bytes : MaybeMarked net told stored.after
-  pub count : RoseBy (length (lost_in histories)) stored.faults_before stored.faults_after
+  pub count : RoseBy (length (lost_in histories)) stored.faults_before faults
+  pub later : faults ≤ stored.faults_after
+  pub bytes : MaybeRecovered net told stored.after faults stored.faults_after
   pub status_is : status ≡ 1
 
 -- the script was run, and its text written; the status says whether the store lost a change

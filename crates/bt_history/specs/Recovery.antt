@@ -136,6 +136,11 @@ MaybeCut old new = (new ≡ old) ⊎ (new ≡ option_map whole old)
 abbrev pub MaybeMarked : Net → Option (List ℕ) → Option (List ℕ) → Type 0
 MaybeMarked net old new = (new ≡ old) ⊎ ((kept : ℕ) × (new ≡ option_map (marked_in_part net kept) old))
 
+-- What a recovery leaves where memory ran out over it or behind it: as before, or with what stands behind the last newline cut, or with
+-- the mark behind that where it is owed. A first part of the mark stands there only where the store failed between these counts.
+abbrev pub MaybeRecovered : Net → Option (List ℕ) → Option (List ℕ) → ℕ → ℕ → Type 0
+MaybeRecovered net old new before now = MaybeCut old new ⊎ (new ≡ option_map (marked net) old) ⊎ (MaybeMarked net old new × Rose before now)
+
 -- no more bytes are told than are read from a store
 abbrev pub IsReadable : Option (List ℕ) → Type 0
 IsReadable told = IfSome told (λ bytes. length bytes ≤ MOST_JOURNAL_BYTES)

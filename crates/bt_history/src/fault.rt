@@ -8,11 +8,13 @@ use bt_outside::KeepFault;
 /// Why a book was not recovered. Lines are counted from 1.
 #[derive(Clone, Copy, PartialEq, Eq)]
 pub enum RecoverFault {
-    /// This line is of no change, and those before it are of changes that follow one another.
+    /// This line is of no change and no mark. Those before it are of changes that follow one another, with one mark of the
+    /// network among them at most.
     J1 { line: u32 },
-    /// This line is of a change that does not follow those before it, which follow one another.
+    /// This line is of a change that does not follow those before it, or a mark of other numbers than the network's, or a second
+    /// mark. Those before it are as for `J1`.
     J2 { line: u32 },
-    /// The store failed; its count of faults rose.
+    /// The store failed; its count of faults rose, or stands at its last value.
     StoreFault,
     /// The store holds more bytes than are read.
     TooLong,

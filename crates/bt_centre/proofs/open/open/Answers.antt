@@ -1,7 +1,6 @@
-use Rattle.std.proofs.Common.{◌∙◌, subst, sym, IfSome}
+use Rattle.std.proofs.Common.{◌∙◌, inl, inr, subst, sym, IfSome}
 use Rattle.bt_history.specs.Book.{Books}
 use Rattle.bt_history.specs.Recovery.{Recovered}
-use Rattle.bt_history.proofs.Marked.{maybe_marked}
 use Rattle.bt_centre.proofs.Restarts.{open_fault}
 use Rattle.bt_centre.proofs.open.open.Goals as goal
 
@@ -12,8 +11,7 @@ returns-in-Ok-begin-clause-changes g c =
 
 -- memory ran out behind the recovery, which left the store marked
 pub returns-in-Err-begin-clause-fault : goal.returns-in-Err-begin-clause-fault
-returns-in-Err-begin-clause-fault g c =
-    maybe_marked c.args.net.now (g.K.Keeper.told c.args.store) (g.K.Keeper.told c.in-Err-begin.store) (c.in-Err-begin.ensures.told ∙ c.in-Ok.ensures.told)
+returns-in-Err-begin-clause-fault g c = inr (inl (c.in-Err-begin.ensures.told ∙ c.in-Ok.ensures.told))
 
 -- or the recovery failed
 pub returns-in-Err-clause-fault : goal.returns-in-Err-clause-fault
