@@ -10,7 +10,6 @@ use Rattle.bt_demand.specs.Plan.{IsGoodPlan}
 use Rattle.bt_verdict.specs.declared.verdict.Verdict.{Verdict}
 use Rattle.bt_verdict.specs.declared.verdict.Verdict.TheVariants.{Good, V1, V2, V3, V4, V5, V6, V7, V8}
 use Rattle.bt_verdict.specs.PlanVerdict.{IsPlanVerdict}
-use Rattle.bt_verdict.specs.Verdict.{IsVerdict}
 use Rattle.bt_script.specs.declared.script.Item.{Item}
 use Rattle.bt_script.specs.declared.script.Script.{Script}
 use Rattle.bt_journal.specs.declared.call.Change.{Change}
@@ -22,22 +21,17 @@ use Rattle.bt_centre.specs.declared.history.History.{History}
 use Rattle.bt_report.specs.Output.{Output, HasFailed, Prints}
 use Rattle.bt_centre.specs.Run.{EndsFrom, RunsTo}
 use Rattle.bt_report.specs.Stored.{IsSteady, Stored}
-use Rattle.bt_cli.specs.Check.{ChecksSchedule, Judges, verdict_status}
-use Rattle.bt_cli.specs.CheckPlan.{ChecksPlanText, JudgesPlan}
+use Rattle.bt_cli.specs.Check.{verdict_status}
 use Rattle.bt_cli.specs.Complete.{IsDone, IsJudged, IsSpelled, NothingFails, Spells, TellsChanges}
 use Rattle.bt_cli.specs.Fitting.{AreLoaded, Fits, LoadsAsked, StopsAtAsked}
-use Rattle.bt_load.specs.Kinds.{matrix_file, schedule_file, network_file, demand_file, plan_file, script_file, delay_file}
-use Rattle.bt_cli.specs.Modes.{PrintsSchedule}
+use Rattle.bt_load.specs.Kinds.{network_file, demand_file, script_file, delay_file}
 use Rattle.bt_report.specs.Outcome.{Outcome, PrintsOneOf}
 use Rattle.bt_report.specs.Input.{Input, FilesFailed}
 use Rattle.bt_load.specs.Files.{IsContent, IsLoaded, IsTold, Kind, Loads, StopsAtLoad}
-use Rattle.bt_cli.specs.Plans.{PrintsPlan}
 use Rattle.bt_cli.specs.Replay.{EndsRecovery, EndsReplay, IsNotRecovered, NamesRecoverFault, PrintsState}
-use Rattle.bt_cli.specs.Request.{Request, Faulty, CheckModes, CheckPlan, PlanModes, PlanDemand, RunScript, ReplayJournal, PlanDrawn, TimeSends, PlanPart}
 use Rattle.bt_cli.specs.Run.{End, EndsRun, EndsScript}
-use Rattle.bt_cli.specs.Timing.{PrintsSends, TimesDelays, TimesPlanText, WhereItIsGood}
+use Rattle.bt_cli.specs.Timing.{PrintsSends, TimesDelays, WhereItIsGood}
 use Rattle.bt_cli.specs.Trans.{PrintsPart, PrintsWhereItSuits, Suits}
-use Rattle.bt_cli.specs.Top.{Ends, Reports, Serves}
 use Rattle.bt_cli.proofs.OneJournal.{Laws, told}
 use Rattle.bt_report.proofs.Works as works
 use Rattle.bt_load.proofs.OneLoad.{IsLoaded-same, one_file}
@@ -71,13 +65,13 @@ never_stops kind held_by failed name value steady spells outcome stopped =
     (one_file kind held_by failed name steady (is_told kind held_by name value spells)).never outcome value stopped (spelled kind held_by name value spells)
 
 -- so that the work goes on with the value
-goes_on : {Value Fault : Type 0} (kind : Kind Value Fault) (held_by : List ℕ → Option (List ℕ)) (failed : Type 0) (name : List ℕ) (value : Value) (after : Value → Outcome → Type 0) → ¬ failed
+pub goes_on : {Value Fault : Type 0} (kind : Kind Value Fault) (held_by : List ℕ → Option (List ℕ)) (failed : Type 0) (name : List ℕ) (value : Value) (after : Value → Outcome → Type 0) → ¬ failed
     → Spells kind held_by name value → (outcome : Outcome) → Loads kind held_by failed name after outcome → after value outcome
 goes_on kind held_by failed name value after steady spells =
     works.goes_on (StopsAtLoad kind held_by failed name) (IsLoaded kind held_by name) (one_file kind held_by failed name steady (is_told kind held_by name value spells)) after value (spelled kind held_by name value spells)
 
 -- and with the network and the demand
-both_go_on : Lines → (held_by : List ℕ → Option (List ℕ)) (failed : Type 0) (net traffic : List ℕ) (network : Net) (links : List Link) (after : Net → List Link → Outcome → Type 0) → ¬ failed
+pub both_go_on : Lines → (held_by : List ℕ → Option (List ℕ)) (failed : Type 0) (net traffic : List ℕ) (network : Net) (links : List Link) (after : Net → List Link → Outcome → Type 0) → ¬ failed
     → Spells network_file held_by net network → Spells (demand_file network) held_by traffic links → Fits network links
     → (outcome : Outcome) → LoadsAsked held_by failed net traffic after outcome → after network links outcome
 both_go_on lines held_by failed net traffic network links after steady of_net of_traffic fits =
@@ -92,14 +86,14 @@ printed_status : (output : Output) (text : List ℕ) (wanted status : ℕ) → �
 printed_status output text wanted status steady (inl (written, is)) = is
 printed_status output text wanted status steady (inr (failed, part, six)) = absurd (steady failed)
 
-done : (output : Output) (Outcomes : Outcome → Type 0) (status : ℕ) → ¬ (HasFailed output) → ((outcome : Outcome) → Outcomes outcome → outcome.status ≡ DONE) → PrintsOneOf output Outcomes status → IsDone status
+pub done : (output : Output) (Outcomes : Outcome → Type 0) (status : ℕ) → ¬ (HasFailed output) → ((outcome : Outcome) → Outcomes outcome → outcome.status ≡ DONE) → PrintsOneOf output Outcomes status → IsDone status
 done output Outcomes status steady so (inl memory) = inr memory
 done output Outcomes status steady so (inr (outcome, is, printed)) = inl (printed_status output outcome.text outcome.status status steady printed ∙ so outcome is)
 
 abbrev HasStatus : (Verdict → Type 0) → Outcome → Type 0
 HasStatus Is outcome = (verdict : Verdict) × Is verdict × (outcome.status ≡ verdict_status verdict)
 
-judged : (output : Output) (Outcomes : Outcome → Type 0) (Is : Verdict → Type 0) (status : ℕ) → ¬ (HasFailed output) → ((outcome : Outcome) → Outcomes outcome → HasStatus Is outcome)
+pub judged : (output : Output) (Outcomes : Outcome → Type 0) (Is : Verdict → Type 0) (status : ℕ) → ¬ (HasFailed output) → ((outcome : Outcome) → Outcomes outcome → HasStatus Is outcome)
     → PrintsOneOf output Outcomes status → IsJudged Is status
 judged output Outcomes Is status steady so (inl memory) = inr memory
 judged output Outcomes Is status steady so (inr (outcome, is, printed)) =
@@ -113,11 +107,11 @@ memory_alone output Outcomes status never (inr (outcome, is, printed)) = absurd 
 
 -- ---- the commands
 
-suits_on : (transponders : ℕ) (rows : List (List ℕ)) → Suits transponders rows → (outcome : Outcome) → PrintsWhereItSuits transponders rows outcome → PrintsPart transponders rows outcome
+pub suits_on : (transponders : ℕ) (rows : List (List ℕ)) → Suits transponders rows → (outcome : Outcome) → PrintsWhereItSuits transponders rows outcome → PrintsPart transponders rows outcome
 suits_on transponders rows suits outcome (inl fault) = absurd (never_suits transponders rows outcome fault suits)
 suits_on transponders rows suits outcome (inr (here, so)) = so
 
-status_of : (a b : Outcome) → a ≡ b → a.status ≡ b.status
+pub status_of : (a b : Outcome) → a ≡ b → a.status ≡ b.status
 status_of a b same = ap (λ (o : Outcome). o.status) same
 
 -- the status of a verdict that is not good
@@ -133,7 +127,7 @@ bad_status (V7 _ _ _ _) bad = refl
 bad_status (V8 _ _ _ _) bad = refl
 
 -- the times of a plan come with the status of its verdict, where the delays are told and spelled if it is good
-timed_status : (input : Input) (delays : List ℕ) (net : Net) (links : List Link) (plan : Plan) → ¬ (FilesFailed input) → (IsGoodPlan net links plan → IsSpelled (delay_file net) input.told delays) → (outcome : Outcome)
+pub timed_status : (input : Input) (delays : List ℕ) (net : Net) (links : List Link) (plan : Plan) → ¬ (FilesFailed input) → (IsGoodPlan net links plan → IsSpelled (delay_file net) input.told delays) → (outcome : Outcome)
     → WhereItIsGood net links plan (TimesDelays input.told (FilesFailed input) delays net plan) outcome → HasStatus (IsPlanVerdict net links plan) outcome
 timed_status input delays net links plan steady spells outcome (inl named) = (named.verdict, named.is, status_of outcome _ named.says ∙ bad_status named.verdict named.bad)
 timed_status input delays net links plan steady spells outcome (inr (good, so)) =
@@ -165,7 +159,7 @@ recovery_done laws net output stored status sink steady tells (sound, inr (fault
     let P : RecoverFault → Type 0 = λ f. PrintsOneOf output (NamesRecoverFault f) status in
     memory_alone output (NamesRecoverFault OutOfMemory) status never_named (subst P (wants_memory laws net stored fault sound steady tells failed) printed)
 
-replay_done : Laws → (input : Input) (output : Output) (stored : Stored) (net : List ℕ) (status : ℕ) → NothingFails input output stored → EndsReplay input output stored net status
+pub replay_done : Laws → (input : Input) (output : Output) (stored : Stored) (net : List ℕ) (status : ℕ) → NothingFails input output stored → EndsReplay input output stored net status
     → (network : Net) → Spells network_file input.told net network → TellsChanges network stored → IsDone status
 replay_done laws input output stored net status steady (inl (given, stopped)) network spells tells =
     memory_alone output (StopsAtLoad network_file input.told (FilesFailed input) net) status (never_stops network_file input.told (FilesFailed input) net network steady.files spells) stopped
@@ -199,7 +193,7 @@ script_done laws input output stored script net end steady (inl (nothing, stoppe
 script_done laws input output stored script net end steady (inr (other, loaded, sound, ran)) read spells tells =
     run_done laws net other output stored end.status end.histories end.events sound steady.store steady.sink tells ran
 
-files_done : Laws → (input : Input) (output : Output) (stored : Stored) (net script : List ℕ) (end : End) → NothingFails input output stored → EndsRun input output stored net script end
+pub files_done : Laws → (input : Input) (output : Output) (stored : Stored) (net script : List ℕ) (end : End) → NothingFails input output stored → EndsRun input output stored net script end
     → (network : Net) (read : Script) → Spells network_file input.told net network → Spells (script_file network) input.told script read → TellsChanges network stored → IsDone end.status
 files_done laws input output stored net script end steady (inl (nothing, stopped)) network read of_net of_script tells =
     memory_alone output (StopsAtLoad network_file input.told (FilesFailed input) net) end.status (never_stops network_file input.told (FilesFailed input) net network steady.files of_net) stopped
@@ -207,55 +201,3 @@ files_done laws input output stored net script end steady (inr (other, loaded, e
     let one : other ≡ network = IsLoaded-same network_file input.told net of_net.0 of_net.1 other network loaded (spelled network_file input.told net network of_net) in
     let P : Net → Type 0 = λ n. EndsScript input output stored script n end in
     script_done laws input output stored script network end steady (subst P one ends) read of_script tells
-
--- ---- what is asked
-
-pub all_served : Lines → Laws → (input : Input) (output : Output) (stored : Stored) (request : Request) (end : End) → NothingFails input output stored → Ends input output stored request end
-    → Serves input.told stored request end.status
-all_served lines laws input output stored Faulty end steady ends = tt
-all_served lines laws input output stored (CheckModes matrix modes) end steady ends = λ rows schedule of_matrix of_modes.
-    let failed = FilesFailed input in
-    judged output (Reports input.told failed (CheckModes matrix modes)) (IsVerdict rows schedule) end.status steady.sink
-    (λ outcome is.
-    let read = goes_on matrix_file input.told failed matrix rows (λ of_rows. ChecksSchedule input.told failed modes of_rows) steady.files of_matrix outcome is in
-    let found = goes_on (schedule_file (length rows)) input.told failed modes schedule (λ one. Judges rows one) steady.files of_modes outcome read in
-    (found.0, found.1, status_of outcome _ found.2))
-    ends.1
-all_served lines laws input output stored (CheckPlan net traffic plan) end steady ends = λ network links read of_net of_traffic fits of_plan.
-    let failed = FilesFailed input in
-    judged output (Reports input.told failed (CheckPlan net traffic plan)) (IsPlanVerdict network links read) end.status steady.sink
-    (λ outcome is.
-    let fitting = both_go_on lines input.told failed net traffic network links (ChecksPlanText input.told failed plan) steady.files of_net of_traffic fits outcome is in
-    let found = goes_on (plan_file network) input.told failed plan read (λ one. JudgesPlan network links one) steady.files of_plan outcome fitting in
-    (found.verdict, found.is, status_of outcome _ found.says))
-    ends.1
-all_served lines laws input output stored (PlanModes matrix) end steady ends = λ rows of_matrix.
-    let failed = FilesFailed input in
-    done output (Reports input.told failed (PlanModes matrix)) end.status steady.sink
-    (λ outcome is. status_of outcome _ (goes_on matrix_file input.told failed matrix rows (λ of_rows. PrintsSchedule of_rows) steady.files of_matrix outcome is).3)
-    ends.1
-all_served lines laws input output stored (PlanDemand net traffic) end steady ends = λ network links of_net of_traffic fits.
-    let failed = FilesFailed input in
-    done output (Reports input.told failed (PlanDemand net traffic)) end.status steady.sink
-    (λ outcome is.
-    status_of outcome _ (both_go_on lines input.told failed net traffic network links PrintsPlan steady.files of_net of_traffic fits outcome is).printed)
-    ends.1
-all_served lines laws input output stored (TimeSends net traffic plan delays) end steady ends = λ network links read of_net of_traffic fits of_plan of_delays.
-    let failed = FilesFailed input in
-    judged output (Reports input.told failed (TimeSends net traffic plan delays)) (IsPlanVerdict network links read) end.status steady.sink
-    (λ outcome is.
-    let fitting = both_go_on lines input.told failed net traffic network links (TimesPlanText input.told failed plan delays) steady.files of_net of_traffic fits outcome is in
-    let found = goes_on (plan_file network) input.told failed plan read (λ one. WhereItIsGood network links one (TimesDelays input.told failed delays network one)) steady.files of_plan outcome fitting in
-    timed_status input delays network links read steady.files of_delays outcome found)
-    ends.1
-all_served lines laws input output stored (PlanDrawn beams seed) end steady ends =
-    done output (Reports input.told (FilesFailed input) (PlanDrawn beams seed)) end.status steady.sink (λ outcome is. status_of outcome _ is.1.printed) ends.1
-all_served lines laws input output stored (PlanPart transponders matrix) end steady ends = λ rows of_matrix suits.
-    let failed = FilesFailed input in
-    done output (Reports input.told failed (PlanPart transponders matrix)) end.status steady.sink
-    (λ outcome is.
-    let on = goes_on matrix_file input.told failed matrix rows (λ of_rows. PrintsWhereItSuits transponders of_rows) steady.files of_matrix outcome is in
-    status_of outcome _ (suits_on transponders rows suits outcome on).printed)
-    ends.1
-all_served lines laws input output stored (RunScript net script _) end steady ends = files_done laws input output stored net script end steady ends
-all_served lines laws input output stored (ReplayJournal net _) end steady ends = replay_done laws input output stored net end.status steady ends.ends

@@ -12,6 +12,6 @@ pub mod CommandWords
 pub mod Timed
 pub mod Suited
 pub mod Runs
-pub mod Alone
 pub mod PrintedPlans
 pub mod Complete
+pub mod ByCommand

@@ -1,5 +1,5 @@
 -- Where the files are told and no read failed, what is asked has one report.
-use Rattle.std.proofs.Common.{◌≡◌, ℕ, ◌<◌, ◌≤◌, ◌⊎◌, inl, inr, List, length, Option, Some, None, Result, Ok, Err, sym, ap, ◌∙◌, subst, arith}
+use Rattle.std.proofs.Common.{◌≡◌, ℕ, inl, inr, List, Option, Some, None, sym, ap, ◌∙◌, arith}
 use Rattle.bt_frame.specs.declared.schedule.Schedule.{Schedule}
 use Rattle.bt_verdict.specs.declared.verdict.Verdict.{Verdict}
 use Rattle.bt_verdict.specs.declared.verdict.Verdict.TheVariants.{Good}
@@ -11,7 +11,6 @@ use Rattle.bt_demand.specs.Plan.{IsGoodPlan}
 use Rattle.bt_verdict.specs.PlanVerdict.{IsPlanVerdict}
 use Rattle.bt_verdict.specs.Verdict.{IsVerdict}
 use Rattle.bt_cli.specs.CheckPlan.{ChecksPlanText, JudgesPlan}
-use Rattle.bt_cli.specs.Plans.{PrintsPlan}
 use Rattle.bt_cli.specs.Timing.{NamesVerdict, PrintsSends, TimesDelays, TimesPlanText, WhereItIsGood}
 use Rattle.bt_words.specs.Lines.{line_of}
 use Rattle.bt_timeline.specs.Verdicts.{verdict_words}
@@ -19,13 +18,10 @@ use Rattle.bt_load.specs.Files.{IsTold}
 use Rattle.bt_report.specs.declared.status.TheConstants.{NOT_GOOD}
 use Rattle.bt_report.specs.Outcome.{Outcome, text_alone}
 use Rattle.bt_load.proofs.OneLoad.{AreAlike, IsOne, Loads-same, done_alike, is_one, same_alike}
-use Rattle.bt_load.specs.Kinds.{matrix_file, schedule_file, plan_file, delay_file}
-use Rattle.bt_cli.specs.Check.{ChecksSchedule, Judges, verdict_status}
-use Rattle.bt_cli.specs.Modes.{PrintsSchedule}
-use Rattle.bt_cli.specs.Request.{Request, Faulty, CheckModes, CheckPlan, PlanModes, PlanDemand, RunScript, ReplayJournal, PlanDrawn, TimeSends, PlanPart}
+use Rattle.bt_load.specs.Kinds.{plan_file, delay_file}
+use Rattle.bt_cli.specs.Check.{Judges, verdict_status}
 use Rattle.bt_cli.specs.Trans.{NamesSize, PrintsWhereItSuits, Suits}
-use Rattle.bt_cli.specs.Top.{Reports, AreTold, IsOneReport}
-use Rattle.bt_cli.proofs.LoadsAsked.{LoadsAsked-same, OneLine, OneSum}
+use Rattle.bt_cli.proofs.LoadsAsked.{OneLine, OneSum}
 
 -- a schedule has at most one verdict for a matrix
 abbrev pub OneVerdict : Type 0
@@ -54,7 +50,7 @@ pub record Laws : Type 0 where
   pub line : OneLine
   pub sum : OneSum
 
-ChecksPlanText-same : Laws → (told : List ℕ → Option (List ℕ)) (plan held : List ℕ) → told plan ≡ Some held → (net : Net) (links : List Link) (a b : Outcome) → ChecksPlanText told ⊥ plan net links a → ChecksPlanText told ⊥ plan net links b → a ≡ b
+pub ChecksPlanText-same : Laws → (told : List ℕ → Option (List ℕ)) (plan held : List ℕ) → told plan ≡ Some held → (net : Net) (links : List Link) (a b : Outcome) → ChecksPlanText told ⊥ plan net links a → ChecksPlanText told ⊥ plan net links b → a ≡ b
 ChecksPlanText-same laws told plan held is net links =
     Loads-same IsOne is_one (plan_file net) told plan held is (λ read. JudgesPlan net links read) (λ read. JudgesPlan-same laws.plan_verdict net links read)
 
@@ -79,7 +75,7 @@ TimesDelays-same : (told : List ℕ → Option (List ℕ)) (delays : List ℕ) �
 TimesDelays-same told delays of_delays net plan =
     Loads-same IsOne is_one (delay_file net) told delays of_delays.0 of_delays.1 (λ times. PrintsSends net plan times) (λ times a b one other. one.printed ∙ sym other.printed)
 
-TimesPlanText-same : Laws → (told : List ℕ → Option (List ℕ)) (plan delays : List ℕ) → IsTold told plan → IsTold told delays → (net : Net) (links : List Link) (a b : Outcome)
+pub TimesPlanText-same : Laws → (told : List ℕ → Option (List ℕ)) (plan delays : List ℕ) → IsTold told plan → IsTold told delays → (net : Net) (links : List Link) (a b : Outcome)
     → TimesPlanText told ⊥ plan delays net links a → TimesPlanText told ⊥ plan delays net links b → a ≡ b
 TimesPlanText-same laws told plan delays of_plan of_delays net links =
     Loads-same IsOne is_one (plan_file net) told plan of_plan.0 of_plan.1 (λ read. WhereItIsGood net links read (TimesDelays told ⊥ delays net read))
@@ -90,27 +86,8 @@ pub never_suits : (transponders : ℕ) (rows : List (List ℕ)) (outcome : Outco
 never_suits transponders rows outcome (inl many, says) suits = absurd (omega (arith, many, suits.1))
 never_suits transponders rows outcome (inr few, says) suits = absurd (omega (arith, few, suits.0))
 
-PrintsWhereItSuits-same : (transponders : ℕ) (rows : List (List ℕ)) (a b : Outcome) → PrintsWhereItSuits transponders rows a → PrintsWhereItSuits transponders rows b → AreAlike a b
+pub PrintsWhereItSuits-same : (transponders : ℕ) (rows : List (List ℕ)) (a b : Outcome) → PrintsWhereItSuits transponders rows a → PrintsWhereItSuits transponders rows b → AreAlike a b
 PrintsWhereItSuits-same transponders rows a b (inl one) (inl other) = same_alike a b (one.1 ∙ sym other.1)
 PrintsWhereItSuits-same transponders rows a b (inl one) (inr (suits, so)) = absurd (never_suits transponders rows a one suits)
 PrintsWhereItSuits-same transponders rows a b (inr (suits, so)) (inl other) = absurd (never_suits transponders rows b other suits)
 PrintsWhereItSuits-same transponders rows a b (inr one) (inr other) = done_alike a b (ap (λ (o : Outcome). o.status) one.1.printed) (ap (λ (o : Outcome). o.status) other.1.printed)
-
--- what is asked has one report, where it asks for no store; of several good schedules or plans any may be printed
-pub Reports-same : Laws → (told : List ℕ → Option (List ℕ)) (request : Request) → AreTold told request → (a b : Outcome) → Reports told ⊥ request a → Reports told ⊥ request b → IsOneReport request a b
-Reports-same laws told Faulty _ a b first second = first ∙ sym second
-Reports-same laws told (CheckModes matrix modes) (of_matrix, of_modes) a b first second =
-    Loads-same IsOne is_one matrix_file told matrix of_matrix.0 of_matrix.1 (λ rows. ChecksSchedule told ⊥ modes rows) (λ rows. Loads-same IsOne is_one (schedule_file (length rows)) told modes of_modes.0 of_modes.1 (λ schedule. Judges rows schedule) (λ schedule. Judges-same laws.verdict rows schedule)) a b first second
-Reports-same laws told (CheckPlan net traffic plan) (of_net, of_traffic, of_plan) a b first second =
-    LoadsAsked-same laws.line laws.sum IsOne is_one told net traffic of_net of_traffic (ChecksPlanText told ⊥ plan) (ChecksPlanText-same laws told plan of_plan.0 of_plan.1) a b first second
-Reports-same laws told (PlanModes matrix) of_matrix a b first second =
-    Loads-same AreAlike same_alike matrix_file told matrix of_matrix.0 of_matrix.1 (λ rows. PrintsSchedule rows) (λ rows a b one other. done_alike a b (ap (λ (o : Outcome). o.status) one.3) (ap (λ (o : Outcome). o.status) other.3)) a b first second
-Reports-same laws told (PlanDemand net traffic) (of_net, of_traffic) a b first second =
-    LoadsAsked-same laws.line laws.sum AreAlike same_alike told net traffic of_net of_traffic PrintsPlan (λ network links a b one other. done_alike a b (ap (λ (o : Outcome). o.status) one.printed) (ap (λ (o : Outcome). o.status) other.printed)) a b first second
-Reports-same laws told (TimeSends net traffic plan delays) (of_net, of_traffic, of_plan, of_delays) a b first second =
-    LoadsAsked-same laws.line laws.sum IsOne is_one told net traffic of_net of_traffic (TimesPlanText told ⊥ plan delays) (TimesPlanText-same laws told plan delays of_plan of_delays) a b first second
-Reports-same laws told (PlanDrawn _ _) of_files a b one other = done_alike a b (ap (λ (o : Outcome). o.status) one.1.printed) (ap (λ (o : Outcome). o.status) other.1.printed)
-Reports-same laws told (PlanPart transponders matrix) of_matrix a b first second =
-    Loads-same AreAlike same_alike matrix_file told matrix of_matrix.0 of_matrix.1 (λ rows. PrintsWhereItSuits transponders rows) (λ rows. PrintsWhereItSuits-same transponders rows) a b first second
-Reports-same laws told (RunScript _ _ _) of_files a b first second = absurd first
-Reports-same laws told (ReplayJournal net _) of_net a b first second = absurd first

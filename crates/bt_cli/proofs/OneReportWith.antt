@@ -4,8 +4,8 @@ use Rattle.bt_report.specs.Outcome.{Outcome}
 use Rattle.bt_report.specs.Stored.{Stored}
 use Rattle.bt_cli.specs.Request.{Request, ReplayJournal, RunScript}
 use Rattle.bt_cli.specs.Top.{AreOneStore, AreTold, AsksNoStore, IsOneReport, ReportsWith}
-use Rattle.bt_cli.proofs.Alone.{alone, by_store}
-use Rattle.bt_cli.proofs.OneReport.{Reports-same, Laws}
+use Rattle.bt_cli.proofs.ByCommand.{alone, by_store, Reports-same}
+use Rattle.bt_cli.proofs.OneReport.{Laws}
 use Rattle.bt_cli.proofs.OneJournal as journal
 use Rattle.bt_cli.proofs.OneReplay.{one_replay}
 use Rattle.bt_cli.proofs.OneRun.{one_run}

@@ -21,7 +21,7 @@ use Rattle.bt_cli.specs.Request.{Request}
 use Rattle.bt_cli.specs.Replay.{EndsReplay, NamesRecoverFault, PrintsState, Replays}
 use Rattle.bt_cli.specs.Run.{End, EndsRun, EndsScript, PrintsRun, Runs, RunsScript, sink_with}
 use Rattle.bt_cli.specs.Top.{AsksNoStore, Ends, Reports, ReportsWith}
-use Rattle.bt_cli.proofs.Alone.{alone, by_store}
+use Rattle.bt_cli.proofs.ByCommand.{alone, by_store}
 use Rattle.bt_report.proofs.Reports.{PrintsOneOf-among}
 use Rattle.bt_load.proofs.Loads.{StopsAtLoad-moved}
 

@@ -28,7 +28,7 @@ pub(crate) fn report<F: Files, O: Sink>(
     requires { AsksNoStore (asked line) }
     ensures { Reported (record { told = F.told files.old; faults_before = F.fault_count files.old; faults_after = F.fault_count files.new })
         (record { before = O.told out.old; after = O.told out.new; faults_before = O.fault_count out.old; faults_after = O.fault_count out.new })
-        (asked line) result }
+        (asked line.entry) result }
 {
     let outcome = answer(alloc, line, files);
     print(alloc, out, outcome)
@@ -37,7 +37,7 @@ pub(crate) fn report<F: Files, O: Sink>(
 /// What it comes to.
 fn answer<F: Files>(alloc: Global, line: CommandLine<'_>, files: &mut F) -> Result<Report, Stop>
     requires { AsksNoStore (asked line) }
-    ensures { CameTo (Reports (F.told files.old) (Rose (F.fault_count files.old) (F.fault_count files.new)) (asked line)) result }
+    ensures { CameTo (Reports (F.told files.old) (Rose (F.fault_count files.old) (F.fault_count files.new)) (asked line.entry)) result }
 {
     match line {
         CommandLine::Faulty => Ok(faulty_words(alloc)?),

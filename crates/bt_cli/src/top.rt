@@ -93,7 +93,7 @@ fn serve<R: Threads + Wait + Sync, F: Files, O: Sink, K: Keeper + Send>(
     ensures ends { Ends (record { told = F.told files.old; faults_before = F.fault_count files.old; faults_after = F.fault_count files.new })
         (record { before = O.told out.old; after = O.told out.new; faults_before = O.fault_count out.old; faults_after = O.fault_count out.new })
         (record { before = K.told store; after = K.told result.store; faults_before = K.fault_count store; faults_after = K.fault_count result.store })
-        (asked line)
+        (asked line.entry)
         (record { status = result.status; histories = result.histories; events = result.events.items }) }
 {
     match line {

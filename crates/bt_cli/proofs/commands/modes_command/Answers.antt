@@ -2,7 +2,7 @@
 use Rattle.std.proofs.Common.{codes, map, refl}
 use Rattle.std.specs.String.{string_bytes}
 use Rattle.bt_cli.specs.Request.{first_word}
-use Rattle.bt_cli.proofs.Alone.{none_named}
+use Rattle.bt_cli.proofs.ByCommand.{none_named}
 use Rattle.bt_cli.proofs.commands.modes_command.Goals as goal
 
 pub report-requires : goal.report-requires

@@ -1,4 +1,4 @@
-use Rattle.bt_cli.proofs.Complete.{all_served}
+use Rattle.bt_cli.proofs.ByCommand.{all_served}
 use Rattle.bt_cli.proofs.laws.sound_input_is_served.Goals as goal
 
 pub returns : goal.returns

@@ -1,6 +1,6 @@
 -- what is asked runs a script, replays a journal, or does neither
 use Rattle.bt_cli.specs.Request.{asked}
-use Rattle.bt_cli.proofs.Alone.{ended_alone, has_replayed, none_asked}
+use Rattle.bt_cli.proofs.ByCommand.{ended_alone, has_replayed, none_asked}
 use Rattle.bt_cli.proofs.top.serve.Goals as goal
 
 pub report-requires : goal.report-requires
