@@ -58,7 +58,10 @@ pub fn load_matrix<F: Files>(alloc: Global, files: &mut F, name: &str) -> Result
     ensures same { F.told files.new ≡ F.told files.old }
 {
     let bytes = read_file(alloc, files, name)?;
-    read_matrix(alloc, &bytes).map_err(|fault| line_stop(alloc, fault))
+    match read_matrix(alloc, &bytes) {
+        Ok(matrix) => Ok(matrix),
+        Err(fault) => Err(line_stop(alloc, fault)),
+    }
 }
 
 /// The switching schedule in a file, for so many beams.
@@ -78,7 +81,10 @@ pub fn load_schedule<F: Files>(
     ensures same { F.told files.new ≡ F.told files.old }
 {
     let bytes = read_file(alloc, files, name)?;
-    read_schedule(alloc, size, &bytes).map_err(|fault| line_stop(alloc, fault))
+    match read_schedule(alloc, size, &bytes) {
+        Ok(schedule) => Ok(schedule),
+        Err(fault) => Err(line_stop(alloc, fault)),
+    }
 }
 
 /// The demand on a network in a file.
@@ -121,7 +127,10 @@ pub fn load_plan<F: Files>(
     ensures same { F.told files.new ≡ F.told files.old }
 {
     let bytes = read_file(alloc, files, name)?;
-    read_plan(alloc, net, &bytes).map_err(|fault| line_stop(alloc, fault))
+    match read_plan(alloc, net, &bytes) {
+        Ok(plan) => Ok(plan),
+        Err(fault) => Err(line_stop(alloc, fault)),
+    }
 }
 
 /// The network in a file.
@@ -156,7 +165,10 @@ pub fn load_script<F: Files>(
     ensures same { F.told files.new ≡ F.told files.old }
 {
     let bytes = read_file(alloc, files, name)?;
-    Script::read(alloc, net, &bytes).map_err(|fault| line_stop(alloc, fault))
+    match Script::read(alloc, net, &bytes) {
+        Ok(script) => Ok(script),
+        Err(fault) => Err(line_stop(alloc, fault)),
+    }
 }
 
 /// The delays of a network's terminals in a file.
@@ -176,7 +188,10 @@ pub fn load_delays<F: Files>(
     ensures same { F.told files.new ≡ F.told files.old }
 {
     let bytes = read_file(alloc, files, name)?;
-    Timing::read(alloc, net, &bytes).map_err(|fault| line_stop(alloc, fault))
+    match Timing::read(alloc, net, &bytes) {
+        Ok(times) => Ok(times),
+        Err(fault) => Err(line_stop(alloc, fault)),
+    }
 }
 
 /// The bytes of what a run on a network printed.
