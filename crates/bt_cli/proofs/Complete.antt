@@ -77,7 +77,7 @@ pub both_go_on : Lines → (held_by : List ℕ → Option (List ℕ)) (failed : 
 both_go_on lines held_by failed net traffic network links after steady of_net of_traffic fits =
     works.goes_on (StopsAtAsked held_by failed net traffic) (AreLoaded held_by net traffic)
     (one_asked lines.line lines.sum held_by failed net traffic steady (is_told network_file held_by net network of_net) (is_told (demand_file network) held_by traffic links of_traffic))
-    (λ asked. after asked.0 asked.1) (network, links) (spelled network_file held_by net network of_net, spelled (demand_file network) held_by traffic links of_traffic, fits)
+    (λ asked. after asked.0 asked.1) (network, links) (spelled network_file held_by net network of_net, (spelled (demand_file network) held_by traffic links of_traffic, fits))
 
 -- ---- the output
 

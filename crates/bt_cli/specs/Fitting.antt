@@ -26,7 +26,7 @@ NamesOverload net links outcome = (line : Critical) × (sum : ℕ) × IsHeaviest
 
 -- both files were loaded, the network before the demand, and the demand fits
 abbrev pub AreLoaded : (List ℕ → Option (List ℕ)) → List ℕ → List ℕ → Net × List Link → Type 0
-AreLoaded told net traffic asked = IsLoaded network_file told net asked.0 × IsLoaded (demand_file asked.0) told traffic asked.1 × Fits asked.0 asked.1
+AreLoaded told net traffic asked = IsLoaded network_file told net asked.0 × (IsLoaded (demand_file asked.0) told traffic asked.1 × Fits asked.0 asked.1)
 
 -- the network was loaded, and the demand was not; or it was, and does not fit
 abbrev pub StopsAtDemand : (List ℕ → Option (List ℕ)) → Type 0 → List ℕ → Net → Outcome → Type 0
