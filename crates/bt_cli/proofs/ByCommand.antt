@@ -182,6 +182,11 @@ has_replayed {Store} tell count input output given left back status net end no_h
     let Ended : ℕ → Type 0 = λ n. EndsReplay input output (stored_of tell count given left) net n in
     record { histories = no_histories; events = no_events; ends = subst Ended (sym ended) (subst Left (sym same) so) }
 
+-- what holds at a command line holds at one that is it
+pub ends_at : (input : Input) (output : Output) (stored : Stored) (line given : CommandLine) (end : End) → line ≡ given → Ends input output stored (asked given) end
+    → Ends input output stored (asked line) end
+ends_at input output stored line given end is so = subst (λ (l : CommandLine). Ends input output stored (asked l) end) (sym is) so
+
 -- ---- a command that asks for no store
 
 -- it ends so, with the store that was given and the status that its report gave back

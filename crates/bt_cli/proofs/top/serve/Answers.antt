@@ -1,19 +1,23 @@
 -- what is asked runs a script, replays a journal, or does neither
 use Rattle.bt_cli.specs.Request.{asked}
-use Rattle.bt_cli.proofs.ByCommand.{ended_alone, has_replayed, none_asked}
+use Rattle.bt_cli.proofs.ByCommand.{ended_alone, ends_at, has_replayed, none_asked}
 use Rattle.bt_cli.proofs.top.serve.Goals as goal
 
 pub report-requires : goal.report-requires
 report-requires g c = none_asked c.args.line c.in_default.not-RunScript c.in_default.not-ReplayJournal
 
+pub returns-in-RunScript : goal.returns-in-RunScript
+returns-in-RunScript g c = record { ends = ends_at _ _ _ c.args.line _ _ c.in-RunScript.is c.run_files.ensures.ends }
+
 pub returns-in-ReplayJournal : goal.returns-in-ReplayJournal
 returns-in-ReplayJournal g c = record {
-  ends = has_replayed g.K.Keeper.told g.K.Keeper.fault_count _ _ _ _ c.replay_files-status.result.1 c.replay_files-status.result.0 c.in-ReplayJournal.net.now _
-      c.without_run.ensures.histories c.without_run.ensures.events c.without_run.ensures.store c.without_run.ensures.status c.replay_files-status.ensures;
+  ends = ends_at _ _ _ c.args.line _ _ c.in-ReplayJournal.is
+      (has_replayed g.K.Keeper.told g.K.Keeper.fault_count _ _ _ _ c.replay_files-status.result.1 c.replay_files-status.result.0 c.in-ReplayJournal.net.now _
+      c.without_run.ensures.histories c.without_run.ensures.events c.without_run.ensures.store c.without_run.ensures.status c.replay_files-status.ensures);
 }
 
 pub returns-in_default : goal.returns-in_default
 returns-in_default g c = record {
   ends = ended_alone g.K.Keeper.told g.K.Keeper.fault_count _ _ _ _ _ (asked c.args.line) _ (none_asked c.args.line c.in_default.not-RunScript c.in_default.not-ReplayJournal)
-      c.without_run.ensures.histories c.without_run.ensures.events c.without_run.ensures.store c.without_run.ensures.status c.report.ensures;
+      c.without_run-in_default.ensures.histories c.without_run-in_default.ensures.events c.without_run-in_default.ensures.store c.without_run-in_default.ensures.status c.report.ensures;
 }
