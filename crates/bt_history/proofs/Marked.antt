@@ -214,18 +214,6 @@ cut_or_marked net old new (inl same) = inl same
 cut_or_marked net None new (inr cut) = inr (0, cut)
 cut_or_marked net (Some bytes) new (inr cut) = inr (0, cut ∙ ap Some (sym (append-nil (whole bytes))))
 
--- nor is a store that is marked whole any other than one that is marked in part
-all_taken : (net : Net) (bytes : List ℕ) → mark_owed net bytes ≡ take (length (mark_of net)) (mark_owed net bytes)
-all_taken net bytes = ⊎_elim
-    (λ (owed : IsMarkWhere net (has_mark net (whole bytes)) (length (whole bytes))).
-    sym (take_all (length (mark_of net)) (mark_owed net bytes) (omega (arith, ap length owed.is))))
-    (λ (none : mark_owed net bytes ≡ []). sym (take_all (length (mark_of net)) (mark_owed net bytes) (omega (arith, ap length none))))
-    (mark_or_none net (has_mark net (whole bytes)) (length (whole bytes)))
-
-pub maybe_marked : (net : Net) (old new : Option (List ℕ)) → new ≡ option_map (marked net) old → MaybeMarked net old new
-maybe_marked net None new is = inr (0, is)
-maybe_marked net (Some bytes) new is = inr (length (mark_of net), is ∙ ap (λ (m : List ℕ). Some (whole bytes ++ m)) (all_taken net bytes))
-
 -- a text without a newline is behind the last one
 tail-none : (rest : List ℕ) → lines rest ≡ rest ∷ [] → tail_of rest ≡ rest
 tail-none rest none = ap (λ (ls : List (List ℕ)). slice_index_or ls (length ls - 1) []) none

@@ -39,7 +39,7 @@ impl<T: Talk> KeptTalk<T> {
 
     /// The turns so far.
     pub fn turns(&self) -> &[KeptTurn]
-        ensures { Some (map turn_of result.now) ≡ ⟦<KeptTalk<T> as Talk>⟧.turns self.now }
+        ensures turns { Some (map turn_of result.now) ≡ ⟦<KeptTalk<T> as Talk>⟧.turns self.now }
     {
         self.turns.as_slice()
     }

@@ -22,7 +22,7 @@ pub enum ScriptCode {
 impl ScriptCode {
     /// The code, as it is printed.
     pub fn name(self) -> &'static str
-        ensures { result.now ≡ code_name self }
+        ensures name { result.now ≡ code_name self }
     {
         match self {
             ScriptCode::S1 => "S1",

@@ -53,7 +53,7 @@ fn add_item(
 
 /// The round of the lines in front of the next round or restart, of all lines where they have none.
 pub fn round_in_front(alloc: Global, said: &[ScriptLine]) -> Result<Round, OutOfMemory>
-    requires { length said.now ≤ MOST_LINES }
+    requires few { length said.now ≤ MOST_LINES }
     ensures round { IfOk result (λ round. round ≡ round_of (round_lines said.now)) }
     ensures terminals { IfOk result (λ round. (net : Net) → All (IsSaidFor net) said.now → IsRoundFor net round) }
 {

@@ -22,7 +22,7 @@ pub fn answer_text(alloc: Global, at: u64, step: &Step) -> Result<Vec<u8>, OutOf
 
 /// Appends that so many lines were heard, and the next may come.
 pub fn add_ready(alloc: Global, at: u64, text: &mut Vec<u8>) -> Result<(), OutOfMemory>
-    ensures { OnOk result (text.new.items ≡ text.old.items ++ ready_line at) }
+    ensures line { OnOk result (text.new.items ≡ text.old.items ++ ready_line at) }
 {
     add_line(alloc, &[Word::Text("ready"), Word::Number(at)], text)
 }
@@ -34,7 +34,7 @@ fn add_fault(
     at: u64,
     text: &mut Vec<u8>,
 ) -> Result<(), OutOfMemory>
-    ensures { OnOk result (text.new.items ≡ text.old.items ++ fault_line code at) }
+    ensures line { OnOk result (text.new.items ≡ text.old.items ++ fault_line code at) }
 {
     let words = [
         Word::Text("fault"),
@@ -46,7 +46,7 @@ fn add_fault(
 
 /// Appends that the input failed.
 pub fn add_input_fault(alloc: Global, text: &mut Vec<u8>) -> Result<(), OutOfMemory>
-    ensures { OnOk result (text.new.items ≡ text.old.items ++ input_fault_line) }
+    ensures line { OnOk result (text.new.items ≡ text.old.items ++ input_fault_line) }
 {
     add_line(alloc, &[Word::Text("fault"), Word::Text("input")], text)
 }
