@@ -7,18 +7,20 @@ mod pages;
 
 use bt_chart::chart_main;
 use bt_outside::{DirFiles, StdSink};
-use bt_report::{DONE, OUT_OF_MEMORY, Program, Reason, print_text, words_after_name};
+use bt_report::{
+    DONE, OUT_OF_MEMORY, Program, Reason, print_text, put_standard_input, words_after_name,
+};
 use std::alloc::{AllocError, Global};
+use std::env::Env;
 use std::process::ExitCode;
 
-/// The file that standard input is on this system.
-const STANDARD_INPUT: &str = "/dev/stdin";
+/// The place of the file that may be standard input, among the words.
+const FILE: usize = 2;
 
 fn main(rt: HostRuntime) -> ExitCode {
     let alloc = rt.alloc();
     let mut out = StdSink::new(rt.stdout());
-    let asked = words_after_name(&rt, alloc).and_then(|words| with_standard_input(alloc, words));
-    let status = match asked {
+    let status = match asked(&rt, alloc) {
         Ok(words) => match pages::page_of(alloc, &words) {
             Ok(Some(page)) => print_text(alloc, page.as_slice(), DONE, &mut out),
             Ok(None) => chart_main(alloc, &words, &mut DirFiles::new(&rt), &mut out),
@@ -33,13 +35,9 @@ fn main(rt: HostRuntime) -> ExitCode {
     ExitCode::from(status)
 }
 
-/// The words, with standard input in the place of a `-` as the second file.
-fn with_standard_input(alloc: Global, mut words: Vec<String>) -> Result<Vec<String>, AllocError> {
-    match words.as_mut_slice() {
-        [_, _, file, ..] if file.as_str() == "-" => {
-            *file = String::from_str(alloc, STANDARD_INPUT)?;
-        }
-        _ => {}
-    }
+/// The words after the program's name, with standard input in the place of a `-` as the second file.
+fn asked<R: Env + Alloc<A = Global>>(rt: &R, alloc: Global) -> Result<Vec<String>, AllocError> {
+    let mut words = words_after_name(rt, alloc)?;
+    put_standard_input(alloc, &mut words, FILE)?;
     Ok(words)
 }

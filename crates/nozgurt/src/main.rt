@@ -4,12 +4,15 @@
 //! the top call (`bt_cli`).
 #![tactic(auto)]
 
+mod dash;
 mod pages;
 
 use bt_cli::{centre_main, journal_of};
 use bt_disk::{FileDisk, LineKeeper};
 use bt_outside::{DirFiles, StdSink};
-use bt_report::{DONE, OUT_OF_MEMORY, Program, Reason, print_text, words_after_name};
+use bt_report::{
+    DONE, OUT_OF_MEMORY, Program, Reason, print_text, put_standard_input, words_after_name,
+};
 use std::alloc::{AllocError, Global};
 use std::env::Env;
 use std::process::ExitCode;
@@ -36,13 +39,15 @@ fn main(rt: HostRuntime) -> ExitCode {
     ExitCode::from(status)
 }
 
-/// The words after the program's name, and the file of the journal that they ask for. Any other words have none, which is never
-/// opened: the top call hands the store of such words back untouched.
+/// The words after the program's name, with standard input in the place of a `-`, and the file of the journal that they ask for.
+/// Any other words have none, which is never opened: the top call hands the store of such words back untouched.
 fn asked<R: Env + Alloc<A = Global>>(
     rt: &R,
     alloc: Global,
 ) -> Result<(Vec<String>, String), AllocError> {
-    let words = words_after_name(rt, alloc)?;
+    let mut words = words_after_name(rt, alloc)?;
+    let place = dash::place_of_dash(&words);
+    put_standard_input(alloc, &mut words, place)?;
     let journal = String::from_str(alloc, journal_of(&words).unwrap_or(""))?;
     Ok((words, journal))
 }

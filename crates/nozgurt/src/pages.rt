@@ -105,6 +105,9 @@ commands
   --help      prints this page
   --version   prints the version
 
+One file of a command that is read may be the word `-`, standard input, but not
+the network; a file of that name is `./-`.
+
 exit status
 ";
 
