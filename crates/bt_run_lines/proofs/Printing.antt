@@ -21,7 +21,10 @@ use Rattle.bt_air.specs.declared.order.Order.TheVariants.{Load, Arm}
 use Rattle.bt_words.specs.Lines.{line_of, desk_name}
 use Rattle.bt_timeline.specs.Air.{sent_line, got_line, armed_or_none, order_line, unplaced_line}
 use Rattle.bt_timeline.specs.Timeline.{answer_line}
-use Rattle.bt_run_lines.specs.Printers.{printed_line, sent_printed, status_printed, got_printed, edit_printed, plan_printed, order_printed, unplaced_printed}
+use Rattle.bt_script.specs.declared.fault.ScriptCode.{ScriptCode}
+use Rattle.bt_script.specs.declared.fault.ScriptCode.TheVariants.{S1, S2, S3, S4, S5}
+use Rattle.bt_talk.specs.Answers.{fault_line}
+use Rattle.bt_run_lines.specs.Printers.{printed_line, line, numbers, form_of_fault, sent_printed, status_printed, got_printed, edit_printed, plan_printed, order_printed, unplaced_printed}
 
 -- a line of words is they with single spaces between, and a newline
 line_of-spaced : (first : List ℕ) (rest : List (List ℕ)) → line_of (first ∷ rest) ≡ spaced (first ∷ rest) ++ 10 ∷ []
@@ -105,3 +108,10 @@ unplaced_lines net (reply.NotInstalled newest) = simp append_assoc
 unplaced_lines net reply.StoreFault = simp append_assoc
 unplaced_lines net reply.Stopped = simp append_assoc
 unplaced_lines net _ = tt
+
+pub fault_lines : (net : Net) (code : ScriptCode) (at : ℕ) → fault_line code at ≡ printed_line net (line (form_of_fault code) (numbers (at ∷ [])))
+fault_lines net S1 at = simp append_assoc
+fault_lines net S2 at = simp append_assoc
+fault_lines net S3 at = simp append_assoc
+fault_lines net S4 at = simp append_assoc
+fault_lines net S5 at = simp append_assoc

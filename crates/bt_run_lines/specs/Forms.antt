@@ -1,4 +1,4 @@
--- The forms of the lines that a run prints: what stands at each place of them.
+-- The forms of the lines that a run and a session print: what stands at each place of them.
 use Rattle.std.specs.Prelude.{ℕ, if◌then◌else◌, List, [], ◌∷◌, codes, Bool, true, false, count_by, not}
 use Rattle.bt_text.specs.Text.{is_word}
 use Rattle.bt_run_lines.specs.declared.form.Form.{Form}
@@ -103,6 +103,13 @@ parts_of form.StandbyNotForMe = Text (codes "standby") ∷ Text (codes "hears") 
 parts_of form.StandbyNotSent = Text (codes "standby") ∷ Text (codes "hears") ∷ Number ∷ Text (codes "not") ∷ Text (codes "sent") ∷ []
 parts_of form.StandbyBurst = Text (codes "standby") ∷ Text (codes "burst") ∷ []
 parts_of form.StoreFault = Text (codes "fault") ∷ Text (codes "store") ∷ []
+parts_of form.Ready = Text (codes "ready") ∷ Count ∷ []
+parts_of form.LineFaultS1 = Text (codes "fault") ∷ Text (codes "S1") ∷ Count ∷ []
+parts_of form.LineFaultS2 = Text (codes "fault") ∷ Text (codes "S2") ∷ Count ∷ []
+parts_of form.LineFaultS3 = Text (codes "fault") ∷ Text (codes "S3") ∷ Count ∷ []
+parts_of form.LineFaultS4 = Text (codes "fault") ∷ Text (codes "S4") ∷ Count ∷ []
+parts_of form.LineFaultS5 = Text (codes "fault") ∷ Text (codes "S5") ∷ Count ∷ []
+parts_of form.InputFault = Text (codes "fault") ∷ Text (codes "input") ∷ []
 
 -- the forms whose first word is this one
 abbrev pub forms_from : List ℕ → List Form
@@ -128,5 +135,6 @@ forms_from head =
     if is_word (codes "order") head then form.OrderLoad ∷ form.OrderArm ∷ form.OrderBookFull ∷ form.OrderOutOfTurn ∷ form.OrderNotInstalled ∷ form.OrderStoreFault ∷ form.OrderStopped ∷ [] else
     if is_word (codes "reset") head then form.Reset ∷ [] else
     if is_word (codes "standby") head then form.StandbyNoted ∷ form.StandbyWrongMark ∷ form.StandbyNotForMe ∷ form.StandbyNotSent ∷ form.StandbyBurst ∷ [] else
-    if is_word (codes "fault") head then form.StoreFault ∷ [] else
+    if is_word (codes "fault") head then form.StoreFault ∷ form.LineFaultS1 ∷ form.LineFaultS2 ∷ form.LineFaultS3 ∷ form.LineFaultS4 ∷ form.LineFaultS5 ∷ form.InputFault ∷ [] else
+    if is_word (codes "ready") head then form.Ready ∷ [] else
     []

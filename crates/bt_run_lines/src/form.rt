@@ -1,4 +1,4 @@
-// The forms of the lines that a run prints.
+// The forms of the lines that a run and a session print.
 
 /// The form of a printed line. `specs/Forms.antt` has the words of each.
 #[derive(Clone, Copy, PartialEq, Eq)]
@@ -64,4 +64,11 @@ pub enum Form {
     StandbyNotSent,
     StandbyBurst,
     StoreFault,
+    Ready,
+    LineFaultS1,
+    LineFaultS2,
+    LineFaultS3,
+    LineFaultS4,
+    LineFaultS5,
+    InputFault,
 }

@@ -1,4 +1,4 @@
-// Laws of the printed lines: each has one spelling and is read back from it, and what a run prints is such lines.
+// Laws of the printed lines: each has one spelling and is read back from it, and what a run and a session print is such lines.
 ghost use Rattle.std.specs.Prelude.{◌≡◌, ℕ, List, [], ◌∷◌, length, codes, decimal, Option, Some, IfSome};
 ghost use Rattle.bt_frame.specs.declared.numbers.EditionNo.{EditionNo};
 ghost use Rattle.bt_frame.specs.declared.numbers.Mark.{Mark};
@@ -13,6 +13,8 @@ ghost use Rattle.bt_air.specs.declared.sent.Sent.{Sent};
 ghost use Rattle.bt_standby.specs.declared.standby.Noticed.{Noticed};
 ghost use Rattle.bt_journal.specs.declared.call.Call.{Call};
 ghost use Rattle.bt_journal.specs.declared.reply.Reply.{Reply};
+ghost use Rattle.bt_script.specs.declared.fault.ScriptCode.{ScriptCode};
+ghost use Rattle.bt_talk.specs.Answers as talk;
 ghost use Rattle.bt_words.specs.Lines.{desk_name, frame_name, line_of};
 ghost use Rattle.bt_timeline.specs.Air as air;
 ghost use Rattle.bt_timeline.specs.Timeline as timeline;
@@ -21,7 +23,7 @@ ghost use Rattle.bt_run_lines.specs.declared.printed.Printed.{Printed};
 ghost use Rattle.bt_run_lines.specs.declared.printed.Value.TheVariants as value;
 ghost use Rattle.bt_run_lines.specs.Lines.{line_in};
 ghost use Rattle.bt_run_lines.specs.Spelled.{Suits, spelled};
-ghost use Rattle.bt_run_lines.specs.Printers.{printed_line, line, numbers, sent_printed, got_printed, burst_printed, order_printed, edit_printed, plan_printed, unplaced_printed};
+ghost use Rattle.bt_run_lines.specs.Printers.{printed_line, line, numbers, sent_printed, got_printed, burst_printed, order_printed, edit_printed, plan_printed, unplaced_printed, form_of_fault};
 
 /// Of the lines that are read as a printed line, it has one spelling.
 pub fn printed_lines_have_one_spelling()
@@ -104,4 +106,12 @@ pub fn marks_are_printed_lines()
     ensures not_sent { (net : Net) → (number : ℕ)
         → air.unsent_line number ≡ printed_line net (line form.StandbyNotSent (numbers (number ∷ []))) }
     ensures burst { (net : Net) → air.standby_burst_line ≡ printed_line net (line form.StandbyBurst []) }
+{}
+
+/// What a session prints beside what its run does is printed lines.
+pub fn answers_are_printed_lines()
+    ensures ready { (net : Net) → (at : ℕ) → talk.ready_line at ≡ printed_line net (line form.Ready (numbers (at ∷ []))) }
+    ensures fault { (net : Net) → (code : ScriptCode) → (at : ℕ)
+        → talk.fault_line code at ≡ printed_line net (line (form_of_fault code) (numbers (at ∷ []))) }
+    ensures input { (net : Net) → talk.input_fault_line ≡ printed_line net (line form.InputFault []) }
 {}

@@ -98,6 +98,13 @@ pub(crate) fn tokens_of(form: Form) -> &'static [Token]
         Form::StandbyNotSent    => &[Text("standby"), Text("hears"), Number, Text("not"), Text("sent")],
         Form::StandbyBurst      => &[Text("standby"), Text("burst")],
         Form::StoreFault        => &[Text("fault"), Text("store")],
+        Form::Ready             => &[Text("ready"), Count],
+        Form::LineFaultS1       => &[Text("fault"), Text("S1"), Count],
+        Form::LineFaultS2       => &[Text("fault"), Text("S2"), Count],
+        Form::LineFaultS3       => &[Text("fault"), Text("S3"), Count],
+        Form::LineFaultS4       => &[Text("fault"), Text("S4"), Count],
+        Form::LineFaultS5       => &[Text("fault"), Text("S5"), Count],
+        Form::InputFault        => &[Text("fault"), Text("input")],
     }
 }
 
@@ -195,7 +202,17 @@ pub(crate) fn forms_from(head: &[u8]) -> &'static [Form]
             Form::StandbyBurst,
         ]
     } else if is_word(head, b"fault") {
-        &[Form::StoreFault]
+        &[
+            Form::StoreFault,
+            Form::LineFaultS1,
+            Form::LineFaultS2,
+            Form::LineFaultS3,
+            Form::LineFaultS4,
+            Form::LineFaultS5,
+            Form::InputFault,
+        ]
+    } else if is_word(head, b"ready") {
+        &[Form::Ready]
     } else {
         &[]
     }
