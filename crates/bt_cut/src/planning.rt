@@ -5,6 +5,7 @@ ghost use Rattle.bt_matrix.specs.Traffic.{IsHeaviest};
 ghost use Rattle.bt_demand.specs.Plan.{IsGoodPlan};
 ghost use Rattle.bt_demand.specs.Apart.{AreBetweenTerminals};
 ghost use Rattle.bt_demand.specs.Traffic.{matrix_of, AreOfNetwork, HasSumsTo};
+ghost use Rattle.bt_modes.specs.Few.{HasFewModes};
 
 use crate::cut;
 use bt_demand::{Demand, Plan, traffic_of};
@@ -27,6 +28,7 @@ pub fn make_plan(
     ensures terminals { IfOk result (λ plan. AreBetweenTerminals net.now plan.bursts) }
     ensures good { IfOk result (λ plan. IsGoodPlan net.now demand.now plan) }
     ensures heaviest { IfOk result (λ plan. IsHeaviest (matrix_of net.now demand.now) plan.schedule.critical plan.schedule.length) }
+    ensures few { IfOk result (λ plan. HasFewModes (matrix_of net.now demand.now) plan.schedule) }
 {
     let matrix = traffic_of(alloc, net, demand)?;
     make_plan_for(alloc, net, demand, &matrix, edition)
@@ -47,6 +49,7 @@ pub fn make_plan_for(
     ensures terminals { IfOk result (λ plan. AreBetweenTerminals net.now plan.bursts) }
     ensures good { IfOk result (λ plan. IsGoodPlan net.now demand.now plan) }
     ensures heaviest { IfOk result (λ plan. IsHeaviest (matrix_of net.now demand.now) plan.schedule.critical plan.schedule.length) }
+    ensures few { IfOk result (λ plan. HasFewModes (matrix_of net.now demand.now) plan.schedule) }
 {
     let modes = schedule(alloc, matrix)?;
     cut(alloc, net, demand, edition, modes)

@@ -30,6 +30,8 @@ impl<T: Talk> KeptTalk<T> {
     /// The same talk, whose turns are kept from here on.
     pub fn new(alloc: Global, talk: T) -> KeptTalk<T>
         ensures turns { ⟦<KeptTalk<T> as Talk>⟧.turns result ≡ Some [] }
+        ensures coming { ⟦<KeptTalk<T> as Talk>⟧.coming result ≡ T.coming talk }
+        ensures unheard { ⟦<KeptTalk<T> as Talk>⟧.unheard result ≡ T.unheard talk }
     {
         KeptTalk {
             talk,

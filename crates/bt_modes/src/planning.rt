@@ -1,9 +1,9 @@
 // The switching schedule of the least length.
-ghost use Rattle.std.specs.Prelude.{◌≡◌, ◌+◌, ◌*◌, ◌<◌, ◌≤◌, length, IfOk};
+ghost use Rattle.std.specs.Prelude.{◌≡◌, ◌<◌, IfOk};
 ghost use Rattle.bt_matrix.specs.Good.{IsGood, total_duration};
 ghost use Rattle.bt_matrix.specs.Traffic.{IsHeaviest};
-ghost use Rattle.bt_matrix.specs.Walk.{positive_entries};
 ghost use Rattle.bt_modes.specs.Decomposition.{DecomposesTo};
+ghost use Rattle.bt_modes.specs.Few.{HasFewModes};
 
 use crate::decomposition::decompose;
 use crate::padding::Padded;
@@ -20,7 +20,7 @@ use std::sync::ledger::{Blank, Ledger};
 pub fn schedule(alloc: Global, matrix: &Dense) -> Result<Schedule, OutOfMemory>
     ensures heaviest { IfOk result (λ schedule. IsHeaviest matrix.now schedule.critical schedule.length) }
     ensures good { IfOk result (λ schedule. IsGood matrix.now schedule) }
-    ensures few { IfOk result (λ schedule. length schedule.modes ≤ positive_entries matrix.now + 2 * length matrix.now) }
+    ensures few { IfOk result (λ schedule. HasFewModes matrix.now schedule) }
 {
     let (critical, length) = matrix.heaviest();
     let modes = serve(alloc, matrix, length)?;

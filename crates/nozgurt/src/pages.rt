@@ -29,8 +29,8 @@ commands
       example: nozgurt modes examples/two-beams.matrix
 
   trans K MATRIX
-      The same for a satellite with K transponders, 1 to 16, which makes K
-      connections at once at most. The length is the greater of the greatest line
+      Prints a switching schedule in the least length for a satellite with K
+      transponders, 1 to 16, which makes K connections at once at most. The length is the greater of the greatest line
       sum and of all slots shared among K, rounded up; `bound` says which it is.
       An uplink beam that is silent in a mode is printed `-`. The matrix has 16
       beams at most and K at least: else `fault X3`.
@@ -83,10 +83,10 @@ commands
       Prints what the journal in the file JOURNAL comes to on the network in the
       file NET: the last edition, the newest plan, how many orders were placed,
       and each link of the demand with its slots. Bytes behind the last newline
-      are no line, and are cut off the file. Where the file has no mark, a line
-      `journal 2 BEAMS TERMINALS` that says of which network it is, it is
-      appended. Else the first line that is wrong is named, as in `fault J2 3`,
-      and nothing is changed:
+      are no line, and are cut off the file. Where the file has no mark, it is
+      appended: a line `journal 2 BEAMS TERMINALS` that says of which network the
+      journal is. Where a line is wrong, the first such line is named, as in
+      `fault J2 3`, and nothing is changed:
         J1 LINE               it is no line of a journal
         J2 LINE               its change does not follow those before it, or its
                               mark is of another network, or the second
