@@ -13,7 +13,8 @@ use Rattle.bt_history.specs.declared.fault.RecoverFault.TheVariants.{J1, J2, Sto
 use Rattle.bt_history.specs.Book.{Books}
 use Rattle.bt_history.specs.Causes.{Follows}
 use Rattle.bt_history.specs.Machine.{running}
-use Rattle.bt_history.specs.Recovery.{IsOutside, IsReadable, IsRecoverFault, MaybeRecovered, Recovered, marked}
+use Rattle.bt_history.specs.Recovery.{IsOutside, IsReadable, IsRecoverFault, MaybeRecovered, Recovered, TellsSome, marked}
+use Rattle.bt_history.proofs.Holding.{tells_some}
 use Rattle.bt_history.specs.Store.{IsKept, IsNextOpening, IsStored, lost_of}
 use Rattle.bt_script.specs.declared.script.Item.TheVariants as item
 use Rattle.bt_events.specs.Fits.{IsWorld}
@@ -216,12 +217,14 @@ restarts laws net old new book again air over text told faults sound is air_is n
 -- memory ran out over what was recovered
 pub breaks_behind : (net : Net) (old : Hand) (book again : Books) (air : AirState) (over : List History) (left : Left) (told : Option (List ℕ)) (faults : ℕ) → book ≡ old.book → air ≡ old.air → old.book.net ≡ net
     → Follows net old.book.state.changes → IsStored book.net book.told book.state.changes (lost_of book.history) → told ≡ book.told → again.told ≡ option_map (marked net) told
-    → faults ≡ book.faults → faults ≤ again.faults → IsLeftBehind again air over left → over ≡ histories_in old → IsLeftEarly old left
-breaks_behind net old book again air over left told faults is air_is network follow stored told_is again_told faults_are later behind all =
+    → IfSome told (λ bytes. Recovered net bytes again.state.changes) → faults ≡ book.faults → faults ≤ again.faults → IsLeftBehind again air over left → over ≡ histories_in old → IsLeftEarly old left
+breaks_behind net old book again air over left told faults is air_is network follow stored told_is again_told tells faults_are later behind all =
     let kept = subst (λ (b : Books). IsKept b.net b.told b.state.changes (lost_of b.history)) is stored.kept in
-    let there : left.told ≡ option_map (marked net) old.book.told = behind.told ∙ again_told ∙ ap (option_map (marked net)) (told_is ∙ ap (λ (b : Books). b.told) is) in
+    let same : told ≡ old.book.told = told_is ∙ ap (λ (b : Books). b.told) is in
+    let there : left.told ≡ option_map (marked net) old.book.told = behind.told ∙ again_told ∙ ap (option_map (marked net)) same in
+    let some = subst (λ (o : Option (List ℕ)). TellsSome net o) same (tells_some net told again.state.changes tells) in
     left_behind net old left network follow (behind.histories ∙ all) (omega (arith, later, faults_are, ap (λ (b : Books). b.faults) is, behind.faults))
-    (subst (λ (a : AirState). IsWorld a.life.opening (reverse left.events)) air_is behind.world) kept (inr (inl there))
+    (subst (λ (a : AirState). IsWorld a.life.opening (reverse left.events)) air_is behind.world) kept (inr (inl (there, some)))
 
 -- the world of the centre's worker
 pub world_at : (air old : AirState) (events : List Event) → air ≡ old → events ≡ air.life.events → IsWorld air.life.opening (reverse air.life.events) → IsWorld old.life.opening (reverse events)

@@ -20,11 +20,11 @@ use Rattle.bt_outside.specs.declared.keeper.KeepFault.TheVariants as keep
 use Rattle.bt_history.specs.Faults.{recover_fault}
 use Rattle.bt_history.specs.declared.fault.RecoverFault.{RecoverFault}
 use Rattle.bt_history.specs.declared.fault.RecoverFault.TheVariants.{J1, J2, StoreFault as store_fault, TooLong, OutOfMemory}
-use Rattle.bt_history.specs.Recovery.{IsRecoverFault, MaybeCut, Recovered, mark_owed, marked_in_part, whole}
+use Rattle.bt_history.specs.Recovery.{IsRecoverFault, MaybeCut, Recovered, TellsSome, mark_owed, marked_in_part, whole}
 use Rattle.bt_history.specs.Store.{IsStored, is_lost, lost_of}
 use Rattle.bt_history.specs.Crash.{IsLeftByRecovery, TellsNext, TellsSame, asked_for}
 use Rattle.bt_history.specs.Book.{Books, Survives}
-use Rattle.bt_history.proofs.Marked.{cut_or_marked, gained_part, part_tells}
+use Rattle.bt_history.proofs.Marked.{cut_or_marked, cut_or_trimmed, gained_part, part_tells}
 use Rattle.bt_history.proofs.NextOpening.{next_opening}
 use Rattle.bt_history.proofs.OneJournal.{AreLines}
 use Rattle.bt_history.proofs.Replies.{made_no_fault, no_fault_not_lost, refusal_no_fault, refusal_not_made}
@@ -240,6 +240,11 @@ pub read_tells : (net : Net) (told : Option (List ℕ)) (bytes : List ℕ) (chan
 read_tells net None bytes changes gives tells = tt
 read_tells net (Some held) bytes changes gives tells = subst (λ (b : List ℕ). Recovered net b changes) gives tells
 
+-- and it tells some
+pub tells_some : (net : Net) (told : Option (List ℕ)) (changes : List Change) → IfSome told (λ held. Recovered net held changes) → TellsSome net told
+tells_some net None changes tells = tt
+tells_some net (Some held) changes tells = (changes, tells)
+
 -- what a crash leaves of a recovery that only reads
 pub left_by_read : (net : Net) (told : Option (List ℕ)) (old new : Option Crashes) → LeavesSince old new (CouldBeLeft old) → LeavesSince old new (IsLeftOrCut net told old)
 left_by_read net told old new since = leaves_since_weaker old new (CouldBeLeft old) (IsLeftOrCut net told old) (λ left could. inl could) since
@@ -287,17 +292,17 @@ rose_later before mid now later rose = ⊎_elim
     rose
 
 -- what a recovery says whose append of the mark failed
-pub mark_fault : (net : Net) (told : Option (List ℕ)) (bytes piece : List ℕ) (cut new : Option (List ℕ)) (before mid now : ℕ) (fault : RecoverFault) → Gives told bytes
+pub mark_fault : (net : Net) (told : Option (List ℕ)) (bytes piece : List ℕ) (cut new : Option (List ℕ)) (before mid now : ℕ) (fault : RecoverFault) → TellsSome net told → Gives told bytes
     → piece ≡ mark_owed net bytes → cut ≡ option_map whole told → before ≤ mid → IsAppendFault piece cut new mid now fault → IsRecoverFault net told new before now fault
-mark_fault net told bytes piece cut new before mid now (J1 number) gives is cut_is later failed = absurd failed
-mark_fault net told bytes piece cut new before mid now (J2 number) gives is cut_is later failed = absurd failed
-mark_fault net told bytes piece cut new before mid now store_fault gives is cut_is later failed =
+mark_fault net told bytes piece cut new before mid now (J1 number) tells gives is cut_is later failed = absurd failed
+mark_fault net told bytes piece cut new before mid now (J2 number) tells gives is cut_is later failed = absurd failed
+mark_fault net told bytes piece cut new before mid now store_fault tells gives is cut_is later failed =
     let gains = failed.0 in
     let there : new ≡ option_map (marked_in_part net gains.0) told =
     gains.1 ∙ (ap (λ (t : Option (List ℕ)). gained t (take gains.0 piece)) cut_is ∙ gained_part net told bytes piece gains.0 gives is) in
-    (inr (gains.0, there), rose_later before mid now later failed.1)
-mark_fault net told bytes piece cut new before mid now TooLong gives is cut_is later failed = absurd failed
-mark_fault net told bytes piece cut new before mid now OutOfMemory gives is cut_is later failed = inr (failed ∙ cut_is)
+    (inr ((gains.0, there), tells), rose_later before mid now later failed.1)
+mark_fault net told bytes piece cut new before mid now TooLong tells gives is cut_is later failed = absurd failed
+mark_fault net told bytes piece cut new before mid now OutOfMemory tells gives is cut_is later failed = inr (failed ∙ cut_is, tells)
 
 -- what an append that failed says
 pub append_fault : {T : Type 0} (piece : List ℕ) (old new : Option (List ℕ)) (before now : ℕ) (fault : KeepFault) → (IsErrOf {T = T} (Err fault) keep.Failed → GainsPrefix old piece new)
@@ -308,12 +313,12 @@ append_fault piece old new before now keep.TooLong failed memory long cause = ab
 append_fault piece old new before now keep.OutOfMemory failed memory long cause = memory refl
 
 -- what a recovery says whose cut failed
-pub cut_fault : {T : Type 0} (net : Net) (told new held : Option (List ℕ)) (before mid now : ℕ) (fault : KeepFault) → held ≡ told → before ≤ mid → MaybeCut held new
+pub cut_fault : {T : Type 0} (net : Net) (told new held : Option (List ℕ)) (before mid now : ℕ) (fault : KeepFault) → TellsSome net told → held ≡ told → before ≤ mid → MaybeCut held new
     → (IsErrOf {T = T} (Err fault) keep.TooLong → ⊥) → HasCause {T = T} keep.Failed mid now (Err fault) → IsRecoverFault net told new before now (recover_fault fault)
-cut_fault net told new held before mid now keep.Failed same later cut long cause =
-    (cut_or_marked net told new (subst (λ (t : Option (List ℕ)). MaybeCut t new) same cut), rose_later before mid now later (cause.failed refl))
-cut_fault net told new held before mid now keep.TooLong same later cut long cause = absurd (long refl)
-cut_fault net told new held before mid now keep.OutOfMemory same later cut long cause = subst (λ (t : Option (List ℕ)). MaybeCut t new) same cut
+cut_fault net told new held before mid now keep.Failed tells same later cut long cause =
+    (cut_or_marked net told new tells (subst (λ (t : Option (List ℕ)). MaybeCut t new) same cut), rose_later before mid now later (cause.failed refl))
+cut_fault net told new held before mid now keep.TooLong tells same later cut long cause = absurd (long refl)
+cut_fault net told new held before mid now keep.OutOfMemory tells same later cut long cause = cut_or_trimmed net told new tells (subst (λ (t : Option (List ℕ)). MaybeCut t new) same cut)
 
 -- where nothing is cut
 pub left_uncut : (told : Option (List ℕ)) (now : Option Crashes) → IsSettled told now → LeavesSince now now (λ left. (Some left ≡ told) ⊎ (Some left ≡ option_map whole told))

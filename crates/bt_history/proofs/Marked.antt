@@ -18,7 +18,7 @@ use Rattle.bt_journal.specs.Kept.{Keeps, changes_in, lines_said, marks_in}
 use Rattle.bt_journal.specs.Mark.{mark_of, text_of_mark}
 use Rattle.bt_history.specs.Machine.{State}
 use Rattle.bt_history.specs.Records.{Records, TakesText, marks_where}
-use Rattle.bt_history.specs.Recovery.{AreInRange, MaybeCut, MaybeMarked, Recovered, has_mark, mark_owed, mark_where, marked, marked_in_part, tail_of, whole}
+use Rattle.bt_history.specs.Recovery.{AreInRange, MaybeCut, MaybeMarked, MaybeTrimmed, Recovered, TellsSome, has_mark, mark_owed, mark_where, marked, marked_in_part, tail_of, whole}
 use Rattle.bt_history.proofs.OneJournal.{AreLines}
 use Rattle.bt_history.proofs.NextOpening.{part_of, told_lines, whole_kept}
 use Rattle.bt_history.proofs.Replayed.{Stands, one_mark_at_most}
@@ -209,10 +209,15 @@ gained_all net None bytes piece gives is = refl
 gained_all net (Some held) bytes piece gives is = ap (λ (m : List ℕ). Some (whole held ++ m)) (is ∙ ap (mark_owed net) gives)
 
 -- a fault in the cut is one in the mark, of which nothing is appended
-pub cut_or_marked : (net : Net) (old new : Option (List ℕ)) → MaybeCut old new → MaybeMarked net old new
-cut_or_marked net old new (inl same) = inl same
-cut_or_marked net None new (inr cut) = inr (0, cut)
-cut_or_marked net (Some bytes) new (inr cut) = inr (0, cut ∙ ap Some (sym (append-nil (whole bytes))))
+pub cut_or_marked : (net : Net) (old new : Option (List ℕ)) → TellsSome net old → MaybeCut old new → MaybeMarked net old new
+cut_or_marked net old new tells (inl same) = inl same
+cut_or_marked net None new tells (inr cut) = inr ((0, cut), tells)
+cut_or_marked net (Some bytes) new tells (inr cut) = inr ((0, cut ∙ ap Some (sym (append-nil (whole bytes)))), tells)
+
+-- and so is one where memory ran out
+pub cut_or_trimmed : (net : Net) (old new : Option (List ℕ)) → TellsSome net old → MaybeCut old new → MaybeTrimmed net old new
+cut_or_trimmed net old new tells (inl same) = inl same
+cut_or_trimmed net old new tells (inr cut) = inr (cut, tells)
 
 -- a text without a newline is behind the last one
 tail-none : (rest : List ℕ) → lines rest ≡ rest ∷ [] → tail_of rest ≡ rest

@@ -128,18 +128,27 @@ marked net bytes = whole bytes ++ mark_owed net bytes
 abbrev pub marked_in_part : Net → ℕ → List ℕ → List ℕ
 marked_in_part net kept bytes = whole bytes ++ take kept (mark_owed net bytes)
 
+-- the bytes, where they are told, tell changes: each line is right
+abbrev pub TellsSome : Net → Option (List ℕ) → Type 0
+TellsSome net told = IfSome told (λ bytes. (changes : List Change) × Recovered net bytes changes)
+
 -- as before, or with what stands behind the last newline cut
 abbrev pub MaybeCut : Option (List ℕ) → Option (List ℕ) → Type 0
 MaybeCut old new = (new ≡ old) ⊎ (new ≡ option_map whole old)
 
--- as before, or with what stands behind the last newline cut, and then maybe a first part of the mark appended
-abbrev pub MaybeMarked : Net → Option (List ℕ) → Option (List ℕ) → Type 0
-MaybeMarked net old new = (new ≡ old) ⊎ ((kept : ℕ) × (new ≡ option_map (marked_in_part net kept) old))
+-- as before, or, where each line is right, with what stands behind the last newline cut
+abbrev pub MaybeTrimmed : Net → Option (List ℕ) → Option (List ℕ) → Type 0
+MaybeTrimmed net old new = (new ≡ old) ⊎ ((new ≡ option_map whole old) × TellsSome net old)
 
--- What a recovery leaves where memory ran out over it or behind it: as before, or with what stands behind the last newline cut, or with
--- the mark behind that where it is owed. A first part of the mark stands there only where the store failed between these counts.
+-- as before, or, where each line is right, with what stands behind the last newline cut, and then maybe a first part of the mark appended
+abbrev pub MaybeMarked : Net → Option (List ℕ) → Option (List ℕ) → Type 0
+MaybeMarked net old new = (new ≡ old) ⊎ (((kept : ℕ) × (new ≡ option_map (marked_in_part net kept) old)) × TellsSome net old)
+
+-- What a recovery leaves where memory ran out over it or behind it: as before, or, where each line is right, with what stands behind
+-- the last newline cut, or with the mark behind that where it is owed. A first part of the mark stands there only where the store
+-- failed between these counts.
 abbrev pub MaybeRecovered : Net → Option (List ℕ) → Option (List ℕ) → ℕ → ℕ → Type 0
-MaybeRecovered net old new before now = MaybeCut old new ⊎ (new ≡ option_map (marked net) old) ⊎ (MaybeMarked net old new × Rose before now)
+MaybeRecovered net old new before now = MaybeTrimmed net old new ⊎ ((new ≡ option_map (marked net) old) × TellsSome net old) ⊎ (MaybeMarked net old new × Rose before now)
 
 -- no more bytes are told than are read from a store
 abbrev pub IsReadable : Option (List ℕ) → Type 0
@@ -151,7 +160,7 @@ IsRecoverFault net old new before now (J1 number) = (new ≡ old) × IsReadable 
 IsRecoverFault net old new before now (J2 number) = (new ≡ old) × IsReadable old × IfSome old (λ bytes. IsFirstStray net bytes number)
 IsRecoverFault net old new before now StoreFault = MaybeMarked net old new × Rose before now
 IsRecoverFault net old new before now TooLong = (new ≡ old) × IsLonger old MOST_JOURNAL_BYTES
-IsRecoverFault net old new before now OutOfMemory = MaybeCut old new
+IsRecoverFault net old new before now OutOfMemory = MaybeTrimmed net old new
 
 -- the fault says nothing of the lines: the store failed or holds too much, or memory ran out
 abbrev pub IsOutside : RecoverFault → Type 0

@@ -7,7 +7,7 @@ use Rattle.bt_outside.proofs.Moments.{elapses_further}
 use Rattle.bt_net.specs.Network.{Net}
 use Rattle.bt_history.specs.Records.{TakesText}
 use Rattle.bt_history.specs.Recovery.{mark_owed, mark_where, whole}
-use Rattle.bt_history.proofs.Holding.{cut_fault, left_by_cut, left_by_mark, left_by_read, mark_fault, read_tells}
+use Rattle.bt_history.proofs.Holding.{cut_fault, left_by_cut, left_by_mark, left_by_read, mark_fault, read_tells, tells_some}
 use Rattle.bt_history.proofs.Marked.{gained_all, owed_taken}
 use Rattle.bt_history.proofs.OneJournal.{are_lines}
 use Rattle.bt_book.proofs.recover.take_store.Goals as goal
@@ -26,10 +26,18 @@ returns-in_err-taken-clause-crash g c =
 pub returns-in_err-cut_tail-clause-fault : goal.returns-in_err-cut_tail-clause-fault
 returns-in_err-cut_tail-clause-fault g c =
     let e = c.in_err-cut_tail.ensures in
+    let net = c.args.machine.now.net in
+    let told = g.K.Keeper.told c.args.store.now in
+    let bytes = c.in_ok-bytes.bytes.items in
+    let taken = c.in_ok-taken.taken in
+    let state = c.take_lines.new.self.state in
+    let same : c.as_slice.result.now ≡ bytes = search rules in
+    let text = subst (λ (b : List ℕ). TakesText net b state taken.kept taken.marked) same c.in_ok-taken.ensures.taken in
+    let tells = read_tells net told bytes state.changes c.in_ok-bytes.ensures.bytes text.told in
     let p = err_from_is_err_and c.from_residual-in_err-cut_tail.result c.from_residual-in_err-cut_tail.ensures.1 in
-    rw (p.1, p.2) (cut_fault c.args.machine.now.net (g.K.Keeper.told c.args.store.now) (g.K.Keeper.told c.cut_tail.new.store) (g.K.Keeper.told c.read_all.new.self)
+    rw (p.1, p.2) (cut_fault net told (g.K.Keeper.told c.cut_tail.new.store) (g.K.Keeper.told c.read_all.new.self)
     (g.K.Keeper.fault_count c.args.store.now) (g.K.Keeper.fault_count c.read_all.new.self) (g.K.Keeper.fault_count c.cut_tail.new.store) c.in_err-cut_tail.field-0.0
-    c.read_all.ensures.same c.read_all.ensures.cause.later e.err e.not_too_long e.cause)
+    (tells_some net told state.changes tells) c.read_all.ensures.same c.read_all.ensures.cause.later e.err e.not_too_long e.cause)
 
 pub returns-in_err-cut_tail-clause-crash : goal.returns-in_err-cut_tail-clause-crash
 returns-in_err-cut_tail-clause-crash g c =
@@ -60,6 +68,7 @@ returns-in_err-put_mark-clause-fault g c =
     let same : c.as_slice.result.now ≡ bytes = search rules in
     let text = subst (λ (b : List ℕ). TakesText net b state taken.kept taken.marked) same c.in_ok-taken.ensures.taken in
     let gives = c.in_ok-bytes.ensures.bytes in
+    let tells = tells_some net told state.changes (read_tells net told bytes state.changes gives text.told) in
     let are = are_lines net c.network-net.ensures.sound c.lines_end_once.ensures.cut c.lines_tell_changes.ensures.change c.lines_tell_changes.ensures.edition c.marks_tell_sizes.ensures.short
     c.marks_tell_sizes.ensures.cut c.marks_tell_sizes.ensures.beams c.marks_tell_sizes.ensures.terminals c.marks_tell_sizes.ensures.no_change in
     let stays : c.network.result.now ≡ net = c.network.ensures.same ∙ c.in_ok-taken.ensures.net in
@@ -69,7 +78,7 @@ returns-in_err-put_mark-clause-fault g c =
     let p = err_from_is_err_and c.from_residual-in_err-put_mark.result c.from_residual-in_err-put_mark.ensures.1 in
     rw (p.1, p.2) (mark_fault net told bytes piece (g.K.Keeper.told c.cut_tail.new.store) (g.K.Keeper.told c.put_mark.new.store)
     (g.K.Keeper.fault_count c.args.store.now) (g.K.Keeper.fault_count c.cut_tail.new.store) (g.K.Keeper.fault_count c.put_mark.new.store) c.in_err-put_mark.field-0.0
-    gives owed cut_is (omega (arith, c.read_all.ensures.cause.later, c.cut_tail.ensures.cause.later)) c.in_err-put_mark.ensures.fault)
+    tells gives owed cut_is (omega (arith, c.read_all.ensures.cause.later, c.cut_tail.ensures.cause.later)) c.in_err-put_mark.ensures.fault)
 
 pub returns-in_err-put_mark-clause-crash : goal.returns-in_err-put_mark-clause-crash
 returns-in_err-put_mark-clause-crash g c =

@@ -1,6 +1,7 @@
 use Rattle.std.proofs.Common.{◌∙◌, inl, inr, subst, sym, IfSome}
 use Rattle.bt_history.specs.Book.{Books}
 use Rattle.bt_history.specs.Recovery.{Recovered}
+use Rattle.bt_history.proofs.Holding.{tells_some}
 use Rattle.bt_centre.proofs.Restarts.{open_fault}
 use Rattle.bt_centre.proofs.open.open.Goals as goal
 
@@ -11,7 +12,9 @@ returns-in-Ok-begin-clause-changes g c =
 
 -- memory ran out behind the recovery, which left the store marked
 pub returns-in-Err-begin-clause-fault : goal.returns-in-Err-begin-clause-fault
-returns-in-Err-begin-clause-fault g c = inr (inl (c.in-Err-begin.ensures.told ∙ c.in-Ok.ensures.told))
+returns-in-Err-begin-clause-fault g c =
+    let told = g.K.Keeper.told c.args.store in
+    inr (inl (c.in-Err-begin.ensures.told ∙ c.in-Ok.ensures.told, tells_some c.args.net.now told c.in-Ok.book.state.changes c.in-Ok.ensures.changes))
 
 -- or the recovery failed
 pub returns-in-Err-clause-fault : goal.returns-in-Err-clause-fault

@@ -53,7 +53,7 @@ returns-in-Err-begin_again-clause-failed g c =
           (breaks_behind net old c.book_and_centre-book.result.0 c.in-Ok-recover.book c.book_and_centre-book.result.1 c.push_reserved.new.self.items c.in-Err-begin_again.remains
           (g.K.Keeper.told c.into_parts-store.result.0) (g.K.Keeper.fault_count c.into_parts-store.result.0) is c.book_and_centre-book.ensures.centre
           (ap (λ (hand : Hand). hand.book.net) view ∙ c.requires.network) (subst (λ (hand : Hand). Follows net hand.book.state.changes) (sym view) c.requires.follow)
-          c.into_parts-store.ensures.kept c.into_parts-store.ensures.told c.in-Ok-recover.ensures.told c.into_parts-store.ensures.faults c.in-Ok-recover.ensures.later c.in-Err-begin_again.ensures.left all),
+          c.into_parts-store.ensures.kept c.into_parts-store.ensures.told c.in-Ok-recover.ensures.told c.in-Ok-recover.ensures.changes c.into_parts-store.ensures.faults c.in-Ok-recover.ensures.later c.in-Err-begin_again.ensures.left all),
     )
 
 pub returns-in-Err-clause-failed : goal.returns-in-Err-clause-failed
