@@ -11,9 +11,9 @@ usage: chart COMMAND WORDS..
 
 commands
   plan NET PLAN
-      Draws the burst time plan in the file PLAN for the network in the file NET:
-      the frame from left to right, the modes of the switch above, and a lane for
-      each uplink and each downlink beam with the bursts in it. A plan is drawn
+      Draws the burst time plan in the file PLAN for the network in the file NET.
+      The frame goes from left to right, with the modes of the switch above. Each
+      uplink and each downlink beam has a lane with the bursts in it. A plan is drawn
       whether it is good or not; `nozgurt check` says what is wrong with one.
       example: chart plan examples/six-beams.net examples/six-beams.plan
 

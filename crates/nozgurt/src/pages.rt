@@ -55,10 +55,10 @@ commands
                examples/two-beams.plan
 
   timing NET TRAFFIC PLAN DELAYS
-      Prints when each burst of that plan is to be sent, in ticks from the begin
-      of the frame at the satellite, so that it arrives in its slots by the
-      delays in the file DELAYS: `send AT TICKS FROM TO`. Where `check` says
-      that the plan is not good, it prints that, and ends with status 9.
+      Prints when each burst of that plan is to be sent: `send AT TICKS FROM TO`.
+      TICKS are counted from the begin of the frame at the satellite, so that by
+      the delays in the file DELAYS the burst arrives in its slots. Where `check`
+      says that the plan is not good, it prints that, and ends with status 9.
       example: nozgurt timing examples/six-beams.net examples/six-beams.traffic
                examples/six-beams.plan examples/six-beams.delays
 
@@ -72,8 +72,8 @@ commands
       A file that is not there is made, and is an empty journal.
       The line `back E` of a script has the centre go back: from its next turn
       on it wants the plan of edition E in front. `ahead` has it want the newest
-      again, and so has a restart. A standby is a second reference station: by
-      `standby hears K` it hears message K, a status of the satellite, and by
+      again, and so has a restart. A standby is a second reference station. By
+      `standby hears K` it hears message K, a status of the satellite. By
       `standby burst` it names the edition in front by the last one that it heard
       in the present superframe, or none.
       example: nozgurt run examples/two-beams.net
