@@ -6,9 +6,10 @@ ghost use Rattle.bt_cli.specs.Request.{first_word};
 use crate::ending::Ending;
 use bt_base::{Fail, Files, MemFiles, MemKeeper, MemSink, Sink, SureKeeper, SureSink};
 use bt_cli::{
-    History, centre_main, check_command, make_command, modes_command, plan_command, replay_command,
-    timing_command, trans_command,
+    History, centre_main, check_command, live_main, make_command, modes_command, plan_command,
+    replay_command, timing_command, trans_command,
 };
+use bt_input::{Console, MemSource};
 use bt_report::WRITE_FAILED;
 use bt_sheet::{CaseFault, Part, Result, Shelf, number_of};
 use std::alloc::Global;
@@ -21,6 +22,9 @@ const MOST_WRITES: u32 = 1000;
 /// What the next command meets, and what becomes of its text.
 #[derive(Drop)]
 pub struct Meeting {
+    /// The lines that a session hears, and how many of them it is given before its input fails.
+    pub input: Vec<u8>,
+    pub heard: u64,
     /// The reads, the writes and the calls on the store that fail.
     pub reads: Vec<Fail>,
     pub writes: Vec<Fail>,
@@ -45,6 +49,8 @@ impl Meeting {
     /// Nothing fails, and the whole text is shown.
     pub fn plain(alloc: Global) -> Meeting {
         Meeting {
+            input: Vec::new(alloc),
+            heard: u64::MAX,
             reads: Vec::new(alloc),
             writes: Vec::new(alloc),
             keeps: Vec::new(alloc),
@@ -70,6 +76,10 @@ pub fn set_meeting(alloc: Global, next: &mut Meeting, words: &[&str]) -> Result<
 fn set_fail(next: &mut Meeting, words: &[&str]) -> Result<bool> {
     match *words {
         ["fail", "read", call] => add_fail(&mut next.reads, call, "0"),
+        ["fail", "input", call] => {
+            next.heard = u64::from(number_of(call)?);
+            Ok(true)
+        }
         ["fail", what, call, kept] => set_kept_fail(next, what, call, kept),
         _ => Ok(false),
     }
@@ -176,6 +186,12 @@ impl Outside {
         Ok(true)
     }
 
+    /// The next session hears the lines of these bytes; true, as for each line that is taken.
+    pub fn set_input(&mut self, alloc: Global, bytes: &[u8]) -> Result<bool> {
+        self.next.input = bytes.to_vec(alloc)?;
+        Ok(true)
+    }
+
     /// Runs a command with the files as they are, and appends what it writes and its status.
     fn run_whole<R: Threads + Wait + Sync>(
         &mut self,
@@ -277,10 +293,12 @@ impl Outside {
         shelf: &Shelf,
         words: &[&str],
     ) -> Result<Ending> {
-        if matches!(words, ["run", ..]) && !self.next.goes_on {
+        if matches!(words, ["run" | "live", ..]) && !self.next.goes_on {
             self.store.clear();
         }
-        if self.next.is_sure {
+        if matches!(words, ["live", ..]) {
+            self.session_end_of(rt, alloc, shelf, words)
+        } else if self.next.is_sure {
             self.sure_end_of(rt, alloc, shelf, words)
         } else {
             self.met_end_of(rt, alloc, shelf, words)
@@ -323,6 +341,27 @@ impl Outside {
     ) -> Result<Ending> {
         let mut sink = MemSink::new(alloc, self.next.writes.clone()?);
         let status = self.status_of(rt, alloc, files, &mut sink, words);
+        Ending::of(alloc, sink.written(), status)
+    }
+
+    /// What a session says whose input, files and output may fail, and its status.
+    fn session_end_of<R: Threads + Wait + Sync>(
+        &mut self,
+        rt: &R,
+        alloc: Global,
+        shelf: &Shelf,
+        words: &[&str],
+    ) -> Result<Ending> {
+        let mut files = shelf.failing(self.next.reads.clone()?)?;
+        let source = MemSource::new(self.next.input.clone()?, self.next.heard);
+        let sink = MemSink::new(alloc, self.next.writes.clone()?);
+        let mut talk = Console::new(source, sink);
+        let owned = owned_words(alloc, words)?;
+        let store = self.met_store()?;
+        let ended = live_main(rt, alloc, &owned, &mut files, &mut talk, store);
+        let histories = ended.histories.as_slice();
+        let status = self.keep_left(alloc, ended.store.kept(), histories, ended.status);
+        let (_, sink) = talk.into_parts();
         Ending::of(alloc, sink.written(), status)
     }
 

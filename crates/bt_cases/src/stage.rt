@@ -93,6 +93,9 @@ impl Stage {
         if let ["store", name] = *words {
             return self.outside.set_store(alloc, self.shelf.text(name)?);
         }
+        if let ["input", name] = *words {
+            return self.outside.set_input(alloc, self.shelf.text(name)?);
+        }
         if set_files(alloc, &mut self.shelf, words)? {
             return Ok(true);
         }
