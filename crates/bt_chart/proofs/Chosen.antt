@@ -1,14 +1,17 @@
--- The names and the output of a run, looked at after the network.
-use Rattle.std.proofs.Common.{◌≡◌, ℕ, ◌≤◌, inl, inr, List, Option}
-use Rattle.bt_outside.specs.Told.{Rose}
+-- The names of a run, looked up in its network.
+use Rattle.std.proofs.Common.{◌≡◌, ℕ, inl, inr, List, Option, Ok, false}
+use Rattle.std.specs.List.{list_all}
 use Rattle.bt_net.specs.Network.{Net}
-use Rattle.bt_report.specs.Outcome.{Outcome}
-use Rattle.bt_load.specs.Kinds.{output_file}
-use Rattle.bt_load.proofs.Loads.{Loads-moved}
-use Rattle.bt_chart.specs.Runs.{ChartsChosen, DrawsRun}
+use Rattle.bt_report.specs.declared.report.Report.{Report}
+use Rattle.bt_report.specs.Faults.{SaysFaultyWords}
+use Rattle.bt_report.specs.Printing.{CameTo}
+use Rattle.bt_report.specs.Report.{ReportIs}
+use Rattle.bt_load.specs.Files.{IsLoaded}
+use Rattle.bt_load.specs.Kinds.{network_file}
+use Rattle.bt_load.specs.Loaders.{Loads}
+use Rattle.bt_chart.specs.Runs.{DrawsRun, is_terminal, output_files}
 
-pub chosen_sooner : (told now : List ℕ → Option (List ℕ)) (before between end : ℕ) (output : List ℕ) (names : List (List ℕ)) (net : Net) → now ≡ told → before ≤ between → (outcome : Outcome)
-    → ChartsChosen now (Rose between end) output names net outcome → ChartsChosen told (Rose before end) output names net outcome
-chosen_sooner told now before between end output names net same sooner outcome (inl stranger) = inl stranger
-chosen_sooner told now before between end output names net same sooner outcome (inr (all, so)) =
-    inr (all, Loads-moved (output_file net) told now before between end output (λ printed. DrawsRun) same sooner outcome so)
+-- one of them is that of no terminal
+pub came_to_stranger : (told : List ℕ → Option (List ℕ)) (failed : Type 0) (net output : List ℕ) (names : List (List ℕ)) (network : Net) → IsLoaded network_file told net network → list_all (is_terminal network) names ≡ false
+    → (report : Report) → ReportIs SaysFaultyWords report → CameTo (Loads (output_files net output names) (λ both. DrawsRun) told failed) (Ok report)
+came_to_stranger told failed net output names network loaded stranger report says = inl (inl (inr (network, loaded, (stranger, says))))

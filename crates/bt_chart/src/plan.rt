@@ -1,7 +1,9 @@
 // `plan NET PLAN`.
 ghost use Rattle.bt_outside.specs.Told.{Rose};
 ghost use Rattle.bt_report.specs.Printing.{CameTo};
-ghost use Rattle.bt_chart.specs.Plans.{ChartsPlan, ChartsPlanText};
+ghost use Rattle.bt_load.specs.Kinds.{plan_file};
+ghost use Rattle.bt_load.specs.Loaders.{Loads, file};
+ghost use Rattle.bt_chart.specs.Plans.{DrawsPlan, plan_files};
 
 use bt_load::{load_network, load_plan};
 use bt_net::Network;
@@ -17,7 +19,7 @@ pub fn chart_plan<F: Files>(
     net: &str,
     plan: &str,
 ) -> Result<Report, Stop>
-    ensures { CameTo (ChartsPlan (F.told files.old) (Rose (F.fault_count files.old) (F.fault_count files.new)) net.now plan.now) result }
+    ensures { CameTo (Loads (plan_files net.now plan.now) (λ both. DrawsPlan both.0 both.1) (F.told files.old) (Rose (F.fault_count files.old) (F.fault_count files.new))) result }
 {
     let net = load_network(alloc, files, net)?;
     chart_plan_file(alloc, files, &net, plan)
@@ -29,7 +31,7 @@ fn chart_plan_file<F: Files>(
     net: &Network,
     plan: &str,
 ) -> Result<Report, Stop>
-    ensures { CameTo (ChartsPlanText (F.told files.old) (Rose (F.fault_count files.old) (F.fault_count files.new)) plan.now net.now) result }
+    ensures { CameTo (Loads (file (plan_file net.now) plan.now) (DrawsPlan net.now) (F.told files.old) (Rose (F.fault_count files.old) (F.fault_count files.new))) result }
 {
     let plan = load_plan(alloc, files, plan, net)?;
     let mut text = Vec::new(alloc);

@@ -5,7 +5,9 @@ ghost use Rattle.std.specs.String.{string_bytes};
 ghost use Rattle.bt_net.specs.Terminals.{IsTerminal};
 ghost use Rattle.bt_outside.specs.Told.{Rose};
 ghost use Rattle.bt_report.specs.Printing.{CameTo};
-ghost use Rattle.bt_chart.specs.Runs.{ChartsChosen, ChartsOutput, ChartsRun, is_terminal};
+ghost use Rattle.bt_load.specs.Kinds.{output_file};
+ghost use Rattle.bt_load.specs.Loaders.{Loads, file};
+ghost use Rattle.bt_chart.specs.Runs.{DrawsRun, is_terminal, output_files};
 
 use bt_frame::{OutOfMemory, TermNo};
 use bt_load::{load_network, load_output};
@@ -23,26 +25,13 @@ pub fn chart_run<F: Files>(
     output: &str,
     names: &[String],
 ) -> Result<Report, Stop>
-    ensures { CameTo (ChartsRun (F.told files.old) (Rose (F.fault_count files.old) (F.fault_count files.new)) net.now output.now (map string_bytes names.now)) result }
+    ensures { CameTo (Loads (output_files net.now output.now (map string_bytes names.now)) (λ both. DrawsRun) (F.told files.old) (Rose (F.fault_count files.old) (F.fault_count files.new))) result }
 {
     let net = load_network(alloc, files, net)?;
-    chart_chosen(alloc, files, &net, output, names)
-}
-
-fn chart_chosen<F: Files>(
-    alloc: Global,
-    files: &mut F,
-    net: &Network,
-    output: &str,
-    names: &[String],
-) -> Result<Report, Stop>
-    ensures { CameTo (ChartsChosen (F.told files.old) (Rose (F.fault_count files.old) (F.fault_count files.new)) output.now (map string_bytes names.now) net.now) result }
-{
-    if !are_terminals(net, names) {
+    if !are_terminals(&net, names) {
         return Ok(faulty_words(alloc)?);
     }
-    let chosen = terminals_named(alloc, net, names)?;
-    chart_output(alloc, files, net, output, &chosen)
+    chart_output(alloc, files, &net, output, names)
 }
 
 /// Whether each word is the name of a terminal.
@@ -81,14 +70,14 @@ fn chart_output<F: Files>(
     files: &mut F,
     net: &Network,
     output: &str,
-    chosen: &[TermNo],
+    names: &[String],
 ) -> Result<Report, Stop>
-    requires { All (IsTerminal net.now) chosen.now }
-    ensures { CameTo (ChartsOutput (F.told files.old) (Rose (F.fault_count files.old) (F.fault_count files.new)) output.now net.now) result }
+    ensures { CameTo (Loads (file (output_file net.now) output.now) (λ printed. DrawsRun) (F.told files.old) (Rose (F.fault_count files.old) (F.fault_count files.new))) result }
 {
+    let chosen = terminals_named(alloc, net, names)?;
     let text = load_output(alloc, files, output, net)?;
     let mut picture = Vec::new(alloc);
-    run_picture(alloc, net, &text, chosen, &mut picture)?;
+    run_picture(alloc, net, &text, &chosen, &mut picture)?;
     Ok(Report {
         text: picture,
         status: DONE,

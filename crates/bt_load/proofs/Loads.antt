@@ -1,12 +1,15 @@
 -- Loads that follow one another: what a later load says of its own start holds from the first one's start on.
-use Rattle.std.proofs.Common.{◌≡◌, ℕ, ◌≤◌, inl, inr, List, Option, Result, subst, arith}
+use Rattle.std.proofs.Common.{◌≡◌, ℕ, ◌≤◌, inl, inr, List, Option, Some, Result, subst, arith}
 use Rattle.bt_outside.specs.Told.{Rose}
 use Rattle.bt_report.specs.declared.report.Report.{Report}
 use Rattle.bt_report.specs.declared.report.Stop.{Stop}
-use Rattle.bt_report.specs.Outcome.{Outcome}
+use Rattle.bt_report.specs.declared.report.Stop.TheVariants.{Early, OutOfMemory}
+use Rattle.bt_report.specs.Outcome.{Outcome, text_alone}
 use Rattle.bt_report.specs.Printing.{CameTo}
+use Rattle.bt_report.specs.Report.{StopIs}
 use Rattle.bt_report.proofs.Reports.{CameTo-among}
-use Rattle.bt_load.specs.Files.{Kind, IsLoaded, CannotRead, Loads, StopsAtLoad}
+use Rattle.bt_load.specs.Files.{Kind, CannotRead}
+use Rattle.bt_load.specs.Loaders.{Loader, Loads, and_then, file, nothing, only_where, tested}
 
 -- a count that rose since a later moment rose since an earlier one
 pub Rose-sooner : (before between now : ℕ) → before ≤ between → Rose between now → Rose before now
@@ -18,38 +21,76 @@ pub CannotRead-sooner : (told : List ℕ → Option (List ℕ)) (later sooner : 
 CannotRead-sooner told later sooner rise name outcome (inl fault) = inl (rise fault.0, fault.1)
 CannotRead-sooner told later sooner rise name outcome (inr long) = inr long
 
-stops_sooner : {Value Fault : Type 0} (kind : Kind Value Fault) (told : List ℕ → Option (List ℕ)) (later sooner : Type 0) → (later → sooner) → (name : List ℕ) (outcome : Outcome) → StopsAtLoad kind told later name outcome → StopsAtLoad kind told sooner name outcome
-stops_sooner kind told later sooner rise name outcome (inl unread) = inl (CannotRead-sooner told later sooner rise name outcome unread)
-stops_sooner kind told later sooner rise name outcome (inr misspelt) = inr misspelt
+-- a load stops alike where fewer failures count
+abbrev pub StopsSooner : {Value : Type 0} → Loader Value → Type 1
+StopsSooner load = (told : List ℕ → Option (List ℕ)) (later sooner : Type 0) → (later → sooner) → (outcome : Outcome) → load.stops told later outcome → load.stops told sooner outcome
 
-pub StopsAtLoad-moved : {Value Fault : Type 0} (kind : Kind Value Fault) (told now : List ℕ → Option (List ℕ)) (before between end : ℕ) (name : List ℕ) → now ≡ told → before ≤ between → (outcome : Outcome) → StopsAtLoad kind now (Rose between end) name outcome → StopsAtLoad kind told (Rose before end) name outcome
-StopsAtLoad-moved kind told now before between end name same sooner outcome so =
-    let P : (List ℕ → Option (List ℕ)) → Type 0 = λ held. StopsAtLoad kind held (Rose between end) name outcome in
-    stops_sooner kind told (Rose between end) (Rose before end) (Rose-sooner before between end sooner) name outcome (subst P same so)
+pub file_sooner : {Value Fault : Type 0} (kind : Kind Value Fault) (name : List ℕ) → StopsSooner (file kind name)
+file_sooner kind name told later sooner rise outcome (inl unread) = inl (CannotRead-sooner told later sooner rise name outcome unread)
+file_sooner kind name told later sooner rise outcome (inr misspelt) = inr misspelt
 
-pub Loads-sooner : {Value Fault : Type 0} (kind : Kind Value Fault) (told : List ℕ → Option (List ℕ)) (later sooner : Type 0) → (later → sooner) → (name : List ℕ) (after : Value → Outcome → Type 0) (outcome : Outcome) → Loads kind told later name after outcome → Loads kind told sooner name after outcome
-Loads-sooner kind told later sooner rise name after outcome (inl (inl unread)) = inl (inl (CannotRead-sooner told later sooner rise name outcome unread))
-Loads-sooner kind told later sooner rise name after outcome (inl (inr misspelt)) = inl (inr misspelt)
-Loads-sooner kind told later sooner rise name after outcome (inr loaded) = inr loaded
+pub then_sooner : {A B : Type 0} (first : Loader A) (next : A → Loader B) → StopsSooner first → ((value : A) → StopsSooner (next value)) → StopsSooner (and_then first next)
+then_sooner first next one others told later sooner rise outcome (inl stopped) = inl (one told later sooner rise outcome stopped)
+then_sooner first next one others told later sooner rise outcome (inr (value, given, stopped)) = inr (value, given, others value told later sooner rise outcome stopped)
 
--- a load went well, and what comes after it came to one of its outcomes
-pub CameTo-loaded : {Value Fault : Type 0} (kind : Kind Value Fault) (told : List ℕ → Option (List ℕ)) (failed : Type 0) (name : List ℕ) (after : Value → Outcome → Type 0) (value : Value) → IsLoaded kind told name value → (result : Result Report Stop) → CameTo (after value) result → CameTo (Loads kind told failed name after) result
-CameTo-loaded kind told failed name after value loaded result came =
-    CameTo-among (after value) (Loads kind told failed name after) (λ outcome so. inr (value, loaded, so)) result came
+pub tested_sooner : {Value : Type 0} (good : Value → Type 0) (bad : Value → Outcome → Type 0) (load : Loader Value) → StopsSooner load → StopsSooner (tested good bad load)
+tested_sooner good bad load one told later sooner rise outcome (inl stopped) = inl (one told later sooner rise outcome stopped)
+tested_sooner good bad load one told later sooner rise outcome (inr found) = inr found
+
+pub where_sooner : {Value : Type 0} (holds : Type 0) (load : Loader Value) → StopsSooner load → StopsSooner (only_where holds load)
+where_sooner holds load one told later sooner rise outcome (so, stopped) = (so, one told later sooner rise outcome stopped)
+
+-- the same between two moments
+pub stops_moved : {Value : Type 0} (load : Loader Value) → StopsSooner load → (told now : List ℕ → Option (List ℕ)) (before between end : ℕ) → now ≡ told → before ≤ between → (outcome : Outcome)
+    → load.stops now (Rose between end) outcome → load.stops told (Rose before end) outcome
+stops_moved load moves told now before between end same sooner outcome so =
+    let P : (List ℕ → Option (List ℕ)) → Type 0 = λ held. load.stops held (Rose between end) outcome in
+    moves told (Rose between end) (Rose before end) (Rose-sooner before between end sooner) outcome (subst P same so)
 
 -- a load after another: its own start is the later one, with the same files
-pub CameTo-sooner : {Value Fault : Type 0} (kind : Kind Value Fault) (told now : List ℕ → Option (List ℕ)) (before between end : ℕ) (name : List ℕ) (after : Value → Outcome → Type 0) → now ≡ told → before ≤ between → (result : Result Report Stop) → CameTo (Loads kind now (Rose between end) name after) result → CameTo (Loads kind told (Rose before end) name after) result
-CameTo-sooner kind told now before between end name after same sooner result came =
-    let P : (List ℕ → Option (List ℕ)) → Type 0 = λ held. CameTo (Loads kind held (Rose between end) name after) result in
-    CameTo-among (Loads kind told (Rose between end) name after) (Loads kind told (Rose before end) name after) (λ outcome so. Loads-sooner kind told (Rose between end) (Rose before end) (Rose-sooner before between end sooner) name after outcome so) result (subst P same came)
+pub then_stops : {A B : Type 0} (first : Loader A) (next : A → Loader B) (told now : List ℕ → Option (List ℕ)) (before between end : ℕ) (value : A) → StopsSooner (next value) → now ≡ told → before ≤ between → first.gives told value
+    → (stop : Stop) → StopIs ((next value).stops now (Rose between end)) stop → StopIs ((and_then first next).stops told (Rose before end)) stop
+then_stops first next told now before between end value moves same sooner given OutOfMemory stops = tt
+then_stops first next told now before between end value moves same sooner given (Early report) stops =
+    inr (value, given, stops_moved (next value) moves told now before between end same sooner (text_alone report.text.items report.status) stops)
 
--- the same for a run, whose histories stand in its outcome
-pub Loads-moved : {Value Fault : Type 0} (kind : Kind Value Fault) (told now : List ℕ → Option (List ℕ)) (before between end : ℕ) (name : List ℕ) (after : Value → Outcome → Type 0) → now ≡ told → before ≤ between → (outcome : Outcome) → Loads kind now (Rose between end) name after outcome → Loads kind told (Rose before end) name after outcome
-Loads-moved kind told now before between end name after same sooner outcome so =
-    let P : (List ℕ → Option (List ℕ)) → Type 0 = λ held. Loads kind held (Rose between end) name after outcome in
-    Loads-sooner kind told (Rose between end) (Rose before end) (Rose-sooner before between end sooner) name after outcome (subst P same so)
+-- and the work behind it
+pub then_goes_on : {A B : Type 0} (first : Loader A) (next : A → Loader B) (after : A × B → Outcome → Type 0) (told now : List ℕ → Option (List ℕ)) (before between end : ℕ) (value : A) → StopsSooner (next value) → now ≡ told → before ≤ between
+    → first.gives told value → (outcome : Outcome) → Loads (next value) (λ other. after (value, other)) now (Rose between end) outcome → Loads (and_then first next) after told (Rose before end) outcome
+then_goes_on first next after told now before between end value moves same sooner given outcome (inl stopped) =
+    inl (inr (value, given, stops_moved (next value) moves told now before between end same sooner outcome stopped))
+then_goes_on first next after told now before between end value moves same sooner given outcome (inr (other, also, so)) =
+    let P : (List ℕ → Option (List ℕ)) → Type 0 = λ held. (next value).gives held other in
+    inr ((value, other), (given, subst P same also), so)
+
+pub came_then : {A B : Type 0} (first : Loader A) (next : A → Loader B) (after : A × B → Outcome → Type 0) (told now : List ℕ → Option (List ℕ)) (before between end : ℕ) (value : A) → StopsSooner (next value) → now ≡ told → before ≤ between
+    → first.gives told value → (result : Result Report Stop) → CameTo (Loads (next value) (λ other. after (value, other)) now (Rose between end)) result → CameTo (Loads (and_then first next) after told (Rose before end)) result
+came_then first next after told now before between end value moves same sooner given result came =
+    CameTo-among (Loads (next value) (λ other. after (value, other)) now (Rose between end)) (Loads (and_then first next) after told (Rose before end))
+    (then_goes_on first next after told now before between end value moves same sooner given) result came
+
+-- a load went well, and what comes after it came to one of its outcomes
+pub came_on : {Value : Type 0} (load : Loader Value) (after : Value → Outcome → Type 0) (told : List ℕ → Option (List ℕ)) (failed : Type 0) (value : Value) → load.gives told value → (result : Result Report Stop) → CameTo (after value) result
+    → CameTo (Loads load after told failed) result
+came_on load after told failed value given result came = CameTo-among (after value) (Loads load after told failed) (λ outcome so. inr (value, given, so)) result came
+
+-- there was nothing to load
+pub came_alone : (after : Outcome → Type 0) (told : List ℕ → Option (List ℕ)) (failed : Type 0) (result : Result Report Stop) → CameTo after result → CameTo (Loads nothing (λ none. after) told failed) result
+came_alone after told failed result came = came_on nothing (λ none. after) told failed tt tt result came
+
+-- a load that is made only where this holds, which it does
+goes_on_where : {Value : Type 0} (holds : Type 0) (load : Loader Value) (after : Option Value → Outcome → Type 0) (told : List ℕ → Option (List ℕ)) (failed : Type 0) → holds → (outcome : Outcome)
+    → Loads load (λ value. after (Some value)) told failed outcome → Loads (only_where holds load) after told failed outcome
+goes_on_where holds load after told failed so outcome (inl stopped) = inl (so, stopped)
+goes_on_where holds load after told failed so outcome (inr (value, given, done)) = inr (Some value, (so, given), done)
+
+pub came_where : {Value : Type 0} (holds : Type 0) (load : Loader Value) (after : Option Value → Outcome → Type 0) (told : List ℕ → Option (List ℕ)) (failed : Type 0) → holds → (result : Result Report Stop)
+    → CameTo (Loads load (λ value. after (Some value)) told failed) result → CameTo (Loads (only_where holds load) after told failed) result
+came_where holds load after told failed so result came =
+    CameTo-among (Loads load (λ value. after (Some value)) told failed) (Loads (only_where holds load) after told failed) (goes_on_where holds load after told failed so) result came
 
 -- a load with fewer outcomes behind it
-pub Loads-among : {Value Fault : Type 0} (kind : Kind Value Fault) (told : List ℕ → Option (List ℕ)) (failed : Type 0) (name : List ℕ) (after also : Value → Outcome → Type 0) → ((value : Value) (outcome : Outcome) → after value outcome → also value outcome) → (outcome : Outcome) → Loads kind told failed name after outcome → Loads kind told failed name also outcome
-Loads-among kind told failed name after also among outcome (inl stopped) = inl stopped
-Loads-among kind told failed name after also among outcome (inr (value, loaded, so)) = inr (value, loaded, among value outcome so)
+pub Loads-among : {Value : Type 0} (load : Loader Value) (after also : Value → Outcome → Type 0) (told : List ℕ → Option (List ℕ)) (failed : Type 0) → ((value : Value) (outcome : Outcome) → after value outcome → also value outcome) → (outcome : Outcome)
+    → Loads load after told failed outcome → Loads load also told failed outcome
+Loads-among load after also told failed among outcome (inl stopped) = inl stopped
+Loads-among load after also told failed among outcome (inr (value, given, so)) = inr (value, given, among value outcome so)

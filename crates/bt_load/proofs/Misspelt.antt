@@ -14,6 +14,7 @@ use Rattle.bt_plan.specs.PlanText.{plan_reading}
 use Rattle.bt_plan.specs.ScheduleText.{schedule_of}
 use Rattle.bt_plan.specs.declared.text_fault.TextCode.{TextCode}
 use Rattle.bt_script.specs.declared.fault.ScriptCode.{ScriptCode}
+use Rattle.bt_script.specs.Codes as script_code
 use Rattle.bt_script.specs.ScriptText.{script_of}
 use Rattle.bt_timing.specs.declared.fault.TimingCode.{TimingCode}
 use Rattle.bt_timing.specs.DelayText.{times_of}
@@ -24,7 +25,7 @@ use Rattle.bt_report.specs.declared.report.Stop.TheVariants as stop
 use Rattle.bt_report.specs.Report.{StopIs}
 use Rattle.bt_load.specs.Files.{IsContent, IsOfItsKind, StopsAtLoad}
 use Rattle.bt_load.specs.Kinds.{text_file, delay_file, demand_file, matrix_file, network_file, output_file, plan_file, schedule_file, script_file}
-use Rattle.bt_load.specs.Lines.{code_name, output_code_name, script_code_name, timing_code_name}
+use Rattle.bt_load.specs.Lines.{code_name, output_code_name, timing_code_name}
 use Rattle.bt_load.specs.Stops.{NamesLineFault, NamesNetworkFault}
 
 -- ---- texts
@@ -52,8 +53,8 @@ pub plan_misspelt : (net : Net) (told : List ℕ → Option (List ℕ)) (failed 
 plan_misspelt net = text_misspelt code_name (plan_reading net)
 
 pub script_misspelt : (net : Net) (told : List ℕ → Option (List ℕ)) (failed : Type 0) (name bytes : List ℕ) (fault : LineFault ScriptCode) (why : Stop)
-    → IsContent told name bytes → IsFaultOf (script_of net bytes) fault → StopIs (NamesLineFault script_code_name fault) why → StopIs (StopsAtLoad (script_file net) told failed name) why
-script_misspelt net = text_misspelt script_code_name (script_of net)
+    → IsContent told name bytes → IsFaultOf (script_of net bytes) fault → StopIs (NamesLineFault script_code.code_name fault) why → StopIs (StopsAtLoad (script_file net) told failed name) why
+script_misspelt net = text_misspelt script_code.code_name (script_of net)
 
 pub delays_misspelt : (net : Net) (told : List ℕ → Option (List ℕ)) (failed : Type 0) (name bytes : List ℕ) (fault : LineFault TimingCode) (why : Stop)
     → IsContent told name bytes → IsFaultOf (times_of net bytes) fault → StopIs (NamesLineFault timing_code_name fault) why → StopIs (StopsAtLoad (delay_file net) told failed name) why

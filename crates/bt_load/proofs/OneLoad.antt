@@ -1,11 +1,13 @@
--- Where the files are told and no read failed, a load has one outcome.
-use Rattle.std.proofs.Common.{◌≡◌, ℕ, ◌<◌, ◌≤◌, ◌⊎◌, inl, inr, List, length, Option, Some, Result, Ok, Err, sym, ap, ◌∙◌, subst, arith}
+-- Where the files are told and no read failed, a load has one outcome; and where nothing is at fault in them, it gives a value.
+use Rattle.std.proofs.Common.{◌≡◌, ℕ, ◌<◌, ◌≤◌, inl, inr, List, length, Option, Some, None, Result, Ok, Err, refl, sym, ap, ◌∙◌, subst, arith}
 use Rattle.bt_outside.specs.Told.{Gives, IsLonger}
 use Rattle.bt_words.specs.Lines.{line_of}
 use Rattle.bt_report.specs.declared.status.TheConstants.{DONE}
 use Rattle.bt_report.specs.Outcome.{Outcome, text_alone}
-use Rattle.bt_report.proofs.Works.{Does-same, IsOneLoad}
-use Rattle.bt_load.specs.Files.{IsContent, IsLoaded, IsTold, Kind, Loads, Misspells, StopsAtLoad}
+use Rattle.bt_report.proofs.Works.{IsOneLoad, one_tested, one_then}
+use Rattle.bt_load.specs.Choice.{Choice, AreAlike, Exactly, AnyGood}
+use Rattle.bt_load.specs.Files.{IsContent, IsLoaded, IsSpelled, IsTold, Kind, Misspells, StopsAtLoad}
+use Rattle.bt_load.specs.Loaders.{GivesWhere, Loader, Loads, and_then, file, nothing, only_where, tested}
 
 -- a told file has one content
 pub one_content : (told : List ℕ → Option (List ℕ)) (name held bytes : List ℕ) → told name ≡ Some held → IsContent told name bytes → bytes ≡ held
@@ -82,23 +84,99 @@ one_file kind told failed name steady (held, is) = record {
   never = never_stops kind told failed name held steady is;
 }
 
--- so it has one outcome, where what comes after it has one
-pub Loads-same : {Value Fault : Type 0} (One : Outcome → Outcome → Type 0) → ((a b : Outcome) → a ≡ b → One a b) → (kind : Kind Value Fault) (told : List ℕ → Option (List ℕ)) (name held : List ℕ) → told name ≡ Some held → (after : Value → Outcome → Type 0) → ((v : Value) (a b : Outcome) → after v a → after v b → One a b) → (a b : Outcome) → Loads kind told ⊥ name after a → Loads kind told ⊥ name after b → One a b
-Loads-same One one kind told name held is = Does-same One one (StopsAtLoad kind told ⊥ name) (IsLoaded kind told name) (one_file kind told ⊥ name (λ never. never) (held, is))
+-- a file that spells a value is told, and loaded as that value
+spelled_told : {Value Fault : Type 0} (kind : Kind Value Fault) (told : List ℕ → Option (List ℕ)) (name : List ℕ) → IsSpelled kind told name → IsTold told name
+spelled_told kind told name (value, (held, is, short, reads)) = (held, is)
+
+spelled_loaded : {Value Fault : Type 0} (kind : Kind Value Fault) (told : List ℕ → Option (List ℕ)) (name : List ℕ) → IsSpelled kind told name → (value : Value) × IsLoaded kind told name value
+spelled_loaded kind told name (value, (held, is, short, reads)) = let P : Option (List ℕ) → Type 0 = λ o. Gives o held in (value, (held, (subst P (sym is) refl, short), reads))
+
+-- ---- what holds of each load
+
+-- where its files are told and no read failed, it stops in one way or gives one value, and not both; and where nothing is at fault in them, it does not stop
+pub record IsLawful {Value : Type 0} (load : Loader Value) : Type 1 where
+  pub one : (told : List ℕ → Option (List ℕ)) (failed : Type 0) → ¬ failed → load.needs told → IsOneLoad (load.stops told failed) (load.gives told)
+  pub never : (told : List ℕ → Option (List ℕ)) (failed : Type 0) → ¬ failed → load.sound told → (outcome : Outcome) → load.stops told failed outcome → ⊥
+
+pub nothing_lawful : IsLawful nothing
+nothing_lawful = record {
+  one = λ told failed steady is. record { stop = λ a b stopped also. absurd stopped; value = λ v w one other. refl; never = λ a v stopped given. stopped };
+  never = λ told failed steady sound outcome stopped. stopped;
+}
+
+pub file_lawful : {Value Fault : Type 0} (kind : Kind Value Fault) (name : List ℕ) → IsLawful (file kind name)
+file_lawful kind name = record {
+  one = λ told failed steady is. one_file kind told failed name steady is;
+  never = λ told failed steady sound outcome stopped.
+      let found = spelled_loaded kind told name sound in
+      (one_file kind told failed name steady (spelled_told kind told name sound)).never outcome found.0 stopped found.1;
+}
+
+then_never : {A B : Type 0} (first : Loader A) (next : A → Loader B) → IsLawful first → ((value : A) → IsLawful (next value)) → (told : List ℕ → Option (List ℕ)) (failed : Type 0) → ¬ failed
+    → (and_then first next).sound told → (outcome : Outcome) → (and_then first next).stops told failed outcome → ⊥
+then_never first next one others told failed steady sound outcome (inl stopped) = one.never told failed steady sound.0 outcome stopped
+then_never first next one others told failed steady sound outcome (inr (value, given, stopped)) = (others value).never told failed steady (sound.1 value given) outcome stopped
+
+pub then_lawful : {A B : Type 0} (first : Loader A) (next : A → Loader B) → IsLawful first → ((value : A) → IsLawful (next value)) → IsLawful (and_then first next)
+then_lawful first next one others = record {
+  one = λ told failed steady needs.
+      one_then (first.stops told failed) (first.gives told) (λ value. (next value).stops told failed) (λ value. (next value).gives told)
+      (one.one told failed steady needs.0) (λ value. (others value).one told failed steady (needs.1 value));
+  never = then_never first next one others;
+}
+
+tested_never : {Value : Type 0} (good : Value → Type 0) (bad : Value → Outcome → Type 0) (load : Loader Value) → IsLawful load → ((v : Value) (a : Outcome) → bad v a → good v → ⊥) → (told : List ℕ → Option (List ℕ)) (failed : Type 0) → ¬ failed
+    → (tested good bad load).sound told → (outcome : Outcome) → (tested good bad load).stops told failed outcome → ⊥
+tested_never good bad load one apart told failed steady sound outcome (inl stopped) = one.never told failed steady sound.0 outcome stopped
+tested_never good bad load one apart told failed steady sound outcome (inr (value, given, fault)) = apart value outcome fault (sound.1 value given)
+
+-- where a bad value is named in one way, and no value is good and bad
+pub tested_lawful : {Value : Type 0} (good : Value → Type 0) (bad : Value → Outcome → Type 0) (load : Loader Value) → IsLawful load → ((v : Value) (a b : Outcome) → bad v a → bad v b → a ≡ b)
+    → ((v : Value) (a : Outcome) → bad v a → good v → ⊥) → IsLawful (tested good bad load)
+tested_lawful good bad load one same apart = record {
+  one = λ told failed steady needs. one_tested (load.stops told failed) (load.gives told) good bad (one.one told failed steady needs) same apart;
+  never = tested_never good bad load one apart;
+}
+
+where_value : {Value : Type 0} (holds : Type 0) (stops : Outcome → Type 0) (gives : Value → Type 0) → (holds → IsOneLoad stops gives) → (v w : Option Value) → GivesWhere holds gives v → GivesWhere holds gives w → v ≡ w
+where_value holds stops gives one None None first second = refl
+where_value holds stops gives one None (Some w) first second = absurd (first second.0)
+where_value holds stops gives one (Some v) None first second = absurd (second first.0)
+where_value holds stops gives one (Some v) (Some w) first second = ap Some ((one first.0).value v w first.1 second.1)
+
+where_never : {Value : Type 0} (holds : Type 0) (stops : Outcome → Type 0) (gives : Value → Type 0) → (holds → IsOneLoad stops gives) → (a : Outcome) (v : Option Value) → holds × stops a → GivesWhere holds gives v → ⊥
+where_never holds stops gives one a None stopped given = given stopped.0
+where_never holds stops gives one a (Some v) stopped given = (one given.0).never a v stopped.1 given.1
+
+pub where_lawful : {Value : Type 0} (holds : Type 0) (load : Loader Value) → IsLawful load → IsLawful (only_where holds load)
+where_lawful holds load one = record {
+  one = λ told failed steady needs.
+      let loads = λ (so : holds). one.one told failed steady (needs so) in
+      record {
+        stop = λ a b first second. (loads first.0).stop a b first.1 second.1;
+        value = where_value holds (load.stops told failed) (load.gives told) loads;
+        never = where_never holds (load.stops told failed) (load.gives told) loads;
+      };
+  never = λ told failed steady sound outcome stopped. one.never told failed steady (sound stopped.0) outcome stopped.1;
+}
+
+-- ---- reports
 
 -- outcomes that are the same are one
-abbrev pub IsOne : Outcome → Outcome → Type 0
-IsOne a b = a ≡ b
+pub same_alike : (choice : Choice) (a b : Outcome) → a ≡ b → AreAlike choice a b
+same_alike Exactly a b same = same
+same_alike AnyGood a b same = (ap (λ (o : Outcome). o.status) same, inr same)
 
-pub is_one : (a b : Outcome) → a ≡ b → IsOne a b
-is_one a b same = same
-
--- two outcomes of which each is as good as the other where the work was done
-abbrev pub AreAlike : Outcome → Outcome → Type 0
-AreAlike a b = (a.status ≡ b.status) × ((a.status ≡ DONE) ⊎ (a ≡ b))
-
-pub same_alike : (a b : Outcome) → a ≡ b → AreAlike a b
-same_alike a b same = (ap (λ (o : Outcome). o.status) same, inr same)
-
-pub done_alike : (a b : Outcome) → a.status ≡ DONE → b.status ≡ DONE → AreAlike a b
+-- and so are those of work that was done, where any may stand for another
+pub done_alike : (a b : Outcome) → a.status ≡ DONE → b.status ≡ DONE → AreAlike AnyGood a b
 done_alike a b first second = (first ∙ sym second, inl first)
+
+-- So a load has one report, where what comes after it has one. What comes after may be told otherwise of the two.
+pub Loads-same : {Value : Type 0} (choice : Choice) (load : Loader Value) → IsLawful load → (told : List ℕ → Option (List ℕ)) → load.needs told → (after also : Value → Outcome → Type 0)
+    → ((v : Value) (a b : Outcome) → after v a → also v b → AreAlike choice a b) → (a b : Outcome) → Loads load after told ⊥ a → Loads load also told ⊥ b → AreAlike choice a b
+Loads-same choice load one told needs after also same a b (inl stopped) (inl other) = same_alike choice a b ((one.one told ⊥ (λ never. never) needs).stop a b stopped other)
+Loads-same choice load one told needs after also same a b (inl stopped) (inr (v, given, so)) = absurd ((one.one told ⊥ (λ never. never) needs).never a v stopped given)
+Loads-same choice load one told needs after also same a b (inr (v, given, so)) (inl stopped) = absurd ((one.one told ⊥ (λ never. never) needs).never b v stopped given)
+Loads-same {Value} choice load one told needs after also same a b (inr (v, given, so)) (inr (w, other, too)) =
+    let P : Value → Type 0 = λ x. also x b in
+    same v a b so (subst P ((one.one told ⊥ (λ never. never) needs).value w v other given) too)

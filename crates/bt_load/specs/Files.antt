@@ -1,7 +1,4 @@
 -- What may come of a file.
---
--- Possible outcomes are put together from 'what comes after' functions in the order of the work, so that each refusal
--- stands where its step stands.
 use Rattle.std.specs.Prelude.{◌≡◌, ℕ, ◌≤◌, ◌⊎◌, List, [], ◌∷◌, length, codes, Option, Some, Result, Err, Ok}
 use Rattle.bt_frame.specs.declared.limits.TheConstants.{MOST_FILE_BYTES}
 use Rattle.bt_outside.specs.Told.{Gives, IsLonger}
@@ -30,6 +27,14 @@ IsLoaded kind told name value = (bytes : List ℕ) × IsContent told name bytes 
 abbrev pub IsOfItsKind : {Value Fault : Type 0} → Kind Value Fault → (List ℕ → Option (List ℕ)) → List ℕ → Type 0
 IsOfItsKind {Value} kind told name = (value : Value) × IsLoaded kind told name value
 
+-- the file is told, in no more bytes than a file may have, and spells this value
+abbrev pub Spells : {Value Fault : Type 0} → Kind Value Fault → (List ℕ → Option (List ℕ)) → List ℕ → Value → Type 0
+Spells kind told name value = (held : List ℕ) × (told name ≡ Some held) × (length held ≤ MOST_FILE_BYTES) × (kind.reading held ≡ Ok value)
+
+-- the file is told, in no more bytes than a file may have, and spells some value
+abbrev pub IsSpelled : {Value Fault : Type 0} → Kind Value Fault → (List ℕ → Option (List ℕ)) → List ℕ → Type 0
+IsSpelled {Value} kind told name = (value : Value) × Spells kind told name value
+
 -- the file could not be read, or is too long
 abbrev pub CannotRead : (List ℕ → Option (List ℕ)) → Type 0 → List ℕ → Outcome → Type 0
 CannotRead told failed name outcome =
@@ -44,9 +49,3 @@ Misspells {Value} {Fault} kind told name outcome =
 -- no value comes of the file
 abbrev pub StopsAtLoad : {Value Fault : Type 0} → Kind Value Fault → (List ℕ → Option (List ℕ)) → Type 0 → List ℕ → Outcome → Type 0
 StopsAtLoad kind told failed name outcome = CannotRead told failed name outcome ⊎ Misspells kind told name outcome
-
--- a file is loaded, and then the work goes on with its value
-abbrev pub Loads : {Value Fault : Type 0} → Kind Value Fault → (List ℕ → Option (List ℕ)) → Type 0 → List ℕ → (Value → Outcome → Type 0) → Outcome → Type 0
-Loads {Value} kind told failed name after outcome =
-    StopsAtLoad kind told failed name outcome
-    ⊎ ((value : Value) × IsLoaded kind told name value × after value outcome)

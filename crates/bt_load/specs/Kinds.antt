@@ -12,6 +12,7 @@ use Rattle.bt_plan.specs.MatrixText.{matrix_reading}
 use Rattle.bt_plan.specs.TrafficText.{demand_of}
 use Rattle.bt_plan.specs.PlanText.{plan_reading}
 use Rattle.bt_plan.specs.ScheduleText.{schedule_of}
+use Rattle.bt_script.specs.Codes as script_code
 use Rattle.bt_script.specs.ScriptText.{script_of}
 use Rattle.bt_script.specs.declared.fault.ScriptCode.{ScriptCode}
 use Rattle.bt_script.specs.declared.script.Script.{Script}
@@ -23,7 +24,7 @@ use Rattle.bt_run_lines.specs.declared.printed.Printed.{Printed}
 use Rattle.bt_run_lines.specs.Lines.{output_of}
 use Rattle.bt_report.specs.declared.status.TheConstants.{FAULTY_TEXT, NO_NETWORK}
 use Rattle.bt_report.specs.Faults.{line_fault_words}
-use Rattle.bt_load.specs.Lines.{code_name, network_fault, output_code_name, script_code_name, timing_code_name}
+use Rattle.bt_load.specs.Lines.{code_name, network_fault, output_code_name, timing_code_name}
 use Rattle.bt_load.specs.Files.{Kind}
 
 -- a text that is read line by line, by the names of its codes
@@ -52,7 +53,7 @@ network_file = record { reading = network_in; fault_words = network_fault; fault
 
 -- a script for a network
 abbrev pub script_file : Net → Kind Script (ScriptCode × ℕ)
-script_file net = text_file script_code_name (script_of net)
+script_file net = text_file script_code.code_name (script_of net)
 
 -- the delays of a network's terminals
 abbrev pub delay_file : Net → Kind Times (TimingCode × ℕ)

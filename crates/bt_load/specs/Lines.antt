@@ -3,8 +3,6 @@ use Rattle.std.specs.Prelude.{ℕ, List, [], ◌∷◌, codes, decimal}
 use Rattle.bt_net.specs.declared.fault.NetFault.{NetFault}
 use Rattle.bt_net.specs.declared.fault.NetFault.TheVariants as net_fault
 use Rattle.bt_net.specs.Fault.{path_text}
-use Rattle.bt_script.specs.declared.fault.ScriptCode.{ScriptCode}
-use Rattle.bt_script.specs.declared.fault.ScriptCode.TheVariants.{S1, S2, S3, S4, S5}
 use Rattle.bt_timing.specs.declared.fault.TimingCode.{TimingCode}
 use Rattle.bt_timing.specs.declared.fault.TimingCode.TheVariants.{G1, G2, G3, G4, G5}
 use Rattle.bt_plan.specs.declared.text_fault.TextCode.{TextCode}
@@ -35,14 +33,6 @@ network_fault (net_fault.N4 path) = codes "fault" ∷ codes "N4" ∷ path_text p
 network_fault (net_fault.N5 path) = codes "fault" ∷ codes "N5" ∷ path_text path ∷ []
 network_fault (net_fault.N6 path) = codes "fault" ∷ codes "N6" ∷ path_text path ∷ []
 network_fault net_fault.OutOfMemory = codes "fault" ∷ []
-
--- the code of a script's fault
-abbrev pub script_code_name : ScriptCode → List ℕ
-script_code_name S1 = codes "S1"
-script_code_name S2 = codes "S2"
-script_code_name S3 = codes "S3"
-script_code_name S4 = codes "S4"
-script_code_name S5 = codes "S5"
 
 -- the code of a delay file's fault
 abbrev pub timing_code_name : TimingCode → List ℕ

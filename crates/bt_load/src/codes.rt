@@ -1,6 +1,7 @@
 // The codes of the faults of texts, as they are printed.
 ghost use Rattle.std.specs.Prelude.{◌≡◌, ℕ, List};
-ghost use Rattle.bt_load.specs.Lines.{code_name, output_code_name, script_code_name, timing_code_name};
+ghost use Rattle.bt_script.specs.Codes as script_code;
+ghost use Rattle.bt_load.specs.Lines.{code_name, output_code_name, timing_code_name};
 
 use bt_plan::TextCode;
 use bt_run_lines::OutputCode;
@@ -38,16 +39,10 @@ impl FaultCode for TextCode {
 }
 
 impl FaultCode for ScriptCode {
-    ghost name = { script_code_name };
+    ghost name = { script_code.code_name };
 
     fn text(self) -> &'static str {
-        match self {
-            ScriptCode::S1 => "S1",
-            ScriptCode::S2 => "S2",
-            ScriptCode::S3 => "S3",
-            ScriptCode::S4 => "S4",
-            ScriptCode::S5 => "S5",
-        }
+        self.name()
     }
 }
 

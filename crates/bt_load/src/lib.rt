@@ -1,10 +1,10 @@
 //! Files, read and tested one after the other, and the reports that name their faults.
 //!
 //! It stands on the readers of files, and on what a program ends with (`bt_report`).
-//! Promises: `specs/Files.antt` says what comes of a file, in words that each program's promise is put together of, in the order
-//! of the work; `specs/Kinds.antt` has the kinds of files, and `specs/Lines.antt` the codes of their faults. `Stops` says the
-//! same of what the code hands on. Each load reads one file, and its report stands in the place of the command's own where
-//! nothing comes of the file.
+//! Promises: `specs/Files.antt` says what comes of a file, and `specs/Loaders.antt` how the loads of a command are put together in
+//! the order of its work; `specs/Choice.antt` says which reports may stand for one another. `specs/Kinds.antt` has the kinds of
+//! files, and `specs/Lines.antt` the codes of their faults. `Stops` says the same of what the code hands on. Each load reads one
+//! file, and its report stands in the place of the command's own where nothing comes of the file.
 #![tactic(auto)]
 
 mod codes;
