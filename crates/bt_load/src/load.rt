@@ -203,6 +203,7 @@ pub fn load_output<F: Files>(
     net: &Network,
 ) -> Result<Vec<u8>, Stop>
     ensures loaded { OnOk result (IsOfItsKind (output_file net.now) (F.told files.old) name.now) }
+    ensures content { IfOk result (λ bytes. IsContent (F.told files.old) name.now bytes.items) }
     ensures stops { IfErr result (StopIs (StopsAtLoad (output_file net.now) (F.told files.old)
         (Rose (F.fault_count files.old) (F.fault_count files.new)) name.now)) }
     ensures later { F.fault_count files.old ≤ F.fault_count files.new }
