@@ -1,0 +1,166 @@
+// The lines of a text, and what may be wrong with the bytes of any line.
+use crate::cause::Cause;
+use crate::lines::{Lines, Words};
+use crate::page::is_printed;
+use bt_text::number;
+
+/// A line of a text, its newline left out.
+#[derive(Clone, Copy)]
+pub struct Line<'a> {
+    pub bytes: &'a [u8],
+    /// A newline stands behind it.
+    pub is_ended: bool,
+}
+
+/// Line `number` of a text, counted from 1; None where nothing stands there.
+pub fn line_at(text: &[u8], number: u32) -> Option<Line<'_>> {
+    let mut rest = text;
+    let mut next: u32 = 1;
+    for (at, line) in Lines::of(text) {
+        if at == number {
+            return Some(Line {
+                bytes: line,
+                is_ended: true,
+            });
+        }
+        // a newline stands behind the line
+        rest = rest
+            .get(line.len()..)
+            .unwrap_or(&[])
+            .get(1..)
+            .unwrap_or(&[]);
+        next = at.saturating_add(1);
+    }
+    if next == number && !rest.is_empty() {
+        Some(Line {
+            bytes: rest,
+            is_ended: false,
+        })
+    } else {
+        None
+    }
+}
+
+/// The word of that number, from 0, of a line; no bytes where it has none.
+pub fn word_of(line: &[u8], index: usize) -> &[u8] {
+    let mut at: usize = 0;
+    for (_, word) in Words::of(line) {
+        if at == index {
+            return word;
+        }
+        at = at.saturating_add(1);
+    }
+    &[]
+}
+
+/// The number that the word of that number is, where it is one of 32 bits.
+pub fn number_at(line: &[u8], index: usize) -> Option<u32> {
+    match number(word_of(line, index)) {
+        Some(number) => u32::try_from(number).ok(),
+        None => None,
+    }
+}
+
+/// Where the word of that number begins in a line, and how many bytes it has; the end where there is none.
+pub fn place_of(line: &[u8], index: usize) -> (usize, usize) {
+    let mut at: usize = 0;
+    for (begin, word) in Words::of(line) {
+        if at == index {
+            return (begin, word.len());
+        }
+        at = at.saturating_add(1);
+    }
+    (line.len(), 1)
+}
+
+/// Looks for what no line of any text may have.
+pub fn find_bytes(line: Line<'_>, cause: &mut Cause) {
+    if !line.is_ended {
+        cause.say_at(
+            line.bytes.len(),
+            1,
+            "no newline stands behind this last line",
+        );
+        cause.hint.add("the file may be cut off");
+    } else {
+        find_in_line(line.bytes, cause);
+    }
+}
+
+fn find_in_line(line: &[u8], cause: &mut Cause) {
+    match line {
+        [] => cause.say("a line without words may not stand here"),
+        [b'\r'] => say_return(0, cause),
+        [0xEF, 0xBB, 0xBF, ..] => cause.say_at(
+            0,
+            3,
+            "a byte order mark stands in front of the text, which is ASCII",
+        ),
+        [.., b'\r'] => say_return(line.len() - 1, cause),
+        [b'#', ..] => cause.say_at(
+            0,
+            1,
+            "a remark may not stand in this file: scripts alone have remarks",
+        ),
+        _ => find_byte(line, cause),
+    }
+}
+
+fn say_return(at: usize, cause: &mut Cause) {
+    cause.say_at(
+        at,
+        1,
+        "a carriage return stands at the end of the line, which a newline alone ends",
+    );
+    cause
+        .hint
+        .add("take the carriage returns out of the file: tr -d '\\r'");
+}
+
+/// Looks for the first byte that stands wrong, wherever it is.
+fn find_byte(line: &[u8], cause: &mut Cause) {
+    let mut before = b' ';
+    let mut at: usize = 0;
+    for byte in line {
+        if !is_printed(*byte) {
+            return say_byte(at, *byte, cause);
+        }
+        if *byte == b' ' && before == b' ' {
+            return say_space(at, cause);
+        }
+        if *byte == b'#' && before == b' ' {
+            return cause.say_at(at, 1, "a remark may not stand behind the words of a line");
+        }
+        before = *byte;
+        at = at.saturating_add(1);
+    }
+    if before == b' ' {
+        cause.say_at(
+            at.saturating_sub(1),
+            1,
+            "a space stands behind the last word",
+        );
+    }
+}
+
+fn say_byte(at: usize, byte: u8, cause: &mut Cause) {
+    if byte == b'\t' {
+        cause.say_at(at, 1, "a tab stands here; a single space parts two words");
+    } else {
+        cause.say_at(at, 1, "a byte of value ");
+        cause.why.add_number(u64::from(byte));
+        cause.say(" stands here, which no word has");
+    }
+}
+
+fn say_space(at: usize, cause: &mut Cause) {
+    if at == 0 {
+        cause.say_at(0, 1, "a space stands in front of the first word");
+    } else {
+        cause.say_at(
+            at,
+            1,
+            "two spaces stand between two words, and one is enough",
+        );
+    }
+}

@@ -1,0 +1,96 @@
+// What is wrong with a line of a journal, where its words have a form.
+use crate::bytes::{number_at, place_of, word_of};
+use crate::cause::Cause;
+use crate::fault::Fault;
+use crate::lines::Lines;
+use crate::near::ask_terminal;
+use bt_net::Network;
+use bt_text::is_word;
+use std::alloc::Global;
+
+/// Finds out why a line of a journal is at fault that has a form.
+pub fn find_journal(alloc: Global, fault: &Fault<'_>, cause: &mut Cause) {
+    if fault.digit == b'1' {
+        find_stranger(alloc, fault, cause);
+    } else if is_word(word_of(fault.line, 0), b"journal") {
+        find_mark(fault, cause);
+    } else if is_word(word_of(fault.line, 0), b"edit") {
+        find_edit(fault, cause);
+    } else {
+        cause.say("the book would refuse this change where it stands");
+    }
+}
+
+/// Looks for a name of an edit that no terminal has.
+fn find_stranger(alloc: Global, fault: &Fault<'_>, cause: &mut Cause) {
+    if is_word(word_of(fault.line, 0), b"plan") {
+        return cause.say("what stands behind 'plan' is no plan for this network");
+    }
+    let Some(net) = fault.net else {
+        return;
+    };
+    if is_word(word_of(fault.line, 0), b"edit") {
+        find_stranger_of(alloc, net, fault.line, cause);
+    }
+}
+
+fn find_stranger_of(alloc: Global, net: &Network, line: &[u8], cause: &mut Cause) {
+    let behind: usize = if is_word(word_of(line, 2), b"move") {
+        7
+    } else {
+        5
+    };
+    for index in 3..behind {
+        let name = word_of(line, index);
+        if net.terminal_named(name).is_none() {
+            let (at, bytes) = place_of(line, index);
+            cause.say_at(at, bytes, "no terminal has this name");
+            return ask_terminal(alloc, net, name, &mut cause.hint);
+        }
+    }
+}
+
+/// Says why a mark does not stand rightly.
+fn find_mark(fault: &Fault<'_>, cause: &mut Cause) {
+    let (beams, terminals) = match fault.net {
+        Some(net) => (net.beam_count(), net.terminal_count()),
+        None => (0, 0),
+    };
+    if number_at(fault.line, 2) == Some(beams) && number_at(fault.line, 3) == Some(terminals) {
+        cause.say("this is a second mark, and a journal has one");
+    } else {
+        cause.say("this mark is of another network: this one has ");
+        cause.why.add_number(u64::from(beams));
+        cause.say(" beams and ");
+        cause.why.add_number(u64::from(terminals));
+        cause.say(" terminals");
+    }
+}
+
+/// Says why an edit does not follow.
+fn find_edit(fault: &Fault<'_>, cause: &mut Cause) {
+    let next = edits_above(fault).saturating_add(1);
+    if number_at(fault.line, 1) == Some(next) {
+        cause.say(
+            "the book would refuse this edit where it stands: its ends are one terminal, it takes more than there is, or a beam would have more slots than a frame",
+        );
+    } else {
+        let (at, bytes) = place_of(fault.line, 1);
+        cause.say_at(at, bytes, "the edit that follows here makes edition ");
+        cause.why.add_number(u64::from(next));
+    }
+}
+
+/// How many edits stand above a line.
+fn edits_above(fault: &Fault<'_>) -> u32 {
+    let mut edits: u32 = 0;
+    for (at, line) in Lines::of(fault.text) {
+        if at >= fault.at {
+            return edits;
+        }
+        if is_word(word_of(line, 0), b"edit") {
+            edits = edits.saturating_add(1);
+        }
+    }
+    edits
+}

@@ -1,0 +1,39 @@
+//! What went wrong, for the person at the terminal: the file by its name, the line with its text, the word that is meant, why,
+//! and what may help.
+//!
+//! It looks again at what a program read and at the last line that it printed, and finds by itself what is wrong there. It
+//! stands on the words of texts (`bt_text`), on networks (`bt_net`), on the outside (`bt_outside`) and on statuses (`bt_report`).
+//! No function here promises anything but that it is safe and returns: what standard error says is claimed nowhere. The outside
+//! that is remembered here, an output (`last_line.rt`) and files (`kept_files.rt`), keeps what the outside promises.
+//!
+//! `telling.rt` is where a program asks; `fault.rt` goes by the code. `cause.rt` is what is said, `page.rt` the text of it.
+#![tactic(auto)]
+
+mod asked;
+mod bytes;
+mod cause;
+mod delays;
+mod fault;
+mod fit;
+mod form;
+mod journal;
+mod json;
+mod kept_files;
+mod last_line;
+mod lines;
+mod near;
+mod network;
+mod output;
+mod page;
+mod plan;
+mod script;
+mod telling;
+mod traffic;
+mod unread;
+mod verdict;
+mod walk;
+mod words;
+
+pub use kept_files::KeptFiles;
+pub use last_line::LastLine;
+pub use telling::{Done, tell, tell_status};

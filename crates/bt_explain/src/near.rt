@@ -1,0 +1,81 @@
+// The name that may have been meant.
+use crate::page::Page;
+use bt_frame::TermNo;
+use bt_net::Network;
+use std::alloc::Global;
+use strsim::levenshtein;
+
+/// How many letters a name may be away, at most, to be taken for the one that was meant.
+const MOST_EDITS: usize = 2;
+
+/// The most terminals of a network that are named one by one.
+const MOST_NAMED: u32 = 8;
+
+/// A word that is none of those that may stand there, and the nearest one of these so far.
+#[derive(Drop)]
+pub struct Near<'a> {
+    word: &'a str,
+    nearest: Option<&'a str>,
+    edits: usize,
+}
+
+impl<'a> Near<'a> {
+    /// No other word was looked at yet.
+    pub fn to(word: &'a [u8]) -> Near<'a> {
+        let word = str::from_utf8(word).unwrap_or("");
+        Near {
+            word,
+            nearest: None,
+            // a word of one letter is near to each other one
+            edits: word.len().min(MOST_EDITS.saturating_add(1)),
+        }
+    }
+
+    /// Looks at a word.
+    pub fn look(&mut self, alloc: Global, other: &'a str) {
+        if self.word.eq_ignore_ascii_case(other) {
+            self.nearest = Some(other);
+            self.edits = 0;
+        } else if self.word.len() <= 32
+            && let Ok(edits) = levenshtein(alloc, self.word, other)
+            && edits < self.edits
+        {
+            self.nearest = Some(other);
+            self.edits = edits;
+        }
+    }
+
+    /// Whether one is near.
+    pub fn is_found(&self) -> bool {
+        self.nearest.is_some()
+    }
+
+    /// Asks whether the nearest one was meant, where one is near.
+    pub fn ask(&self, page: &mut Page) {
+        if let Some(nearest) = self.nearest {
+            page.add("did you mean '");
+            page.add(nearest);
+            page.add("'?");
+        }
+    }
+}
+
+/// Asks for the terminal whose name is near to a word, or names them all where they are few.
+pub fn ask_terminal(alloc: Global, net: &Network, word: &[u8], page: &mut Page) {
+    let mut near = Near::to(word);
+    for number in 0..net.terminal_count() {
+        near.look(alloc, net.name_of(TermNo(number as u8)));
+    }
+    near.ask(page);
+    if page.is_empty() && net.terminal_count() <= MOST_NAMED {
+        add_terminals(net, page);
+    }
+}
+
+fn add_terminals(net: &Network, page: &mut Page) {
+    page.add("the terminals of the network are");
+    for number in 0..net.terminal_count() {
+        page.add(" ");
+        page.add(net.name_of(TermNo(number as u8)));
+    }
+}

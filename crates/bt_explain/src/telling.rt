@@ -1,0 +1,229 @@
+// What a program says on standard error when it ends.
+use crate::asked::file_of;
+use crate::bytes::{number_at, word_of};
+use crate::fault::{Named, tell_line};
+use crate::fit::{tell_fit, tell_size};
+use crate::kept_files::KeptFiles;
+use crate::network::tell_network;
+use crate::page::Page;
+use crate::plan::beams_of;
+use crate::unread::{tell_journal, tell_too_long, tell_unread};
+use crate::verdict::tell_verdict;
+use crate::words::tell_words;
+use bt_frame::MOST_JOURNAL_BYTES;
+use bt_net::Network;
+use bt_outside::Files;
+use bt_report::{
+    FAULTY_JOURNAL, FAULTY_TEXT, FAULTY_WORDS, NO_NETWORK, NOT_GOOD, Program, READ_FAILED, Reason,
+    STORE_FAILED, TOO_LONG,
+};
+use std::alloc::Global;
+use std::rt;
+
+/// What a program did.
+#[derive(Clone, Copy)]
+pub struct Done<'a> {
+    pub program: Program,
+    /// The words after its name.
+    pub words: &'a [String],
+    /// The last line that it printed.
+    pub line: &'a [u8],
+    /// The status with which it ends.
+    pub status: u8,
+}
+
+/// Says on standard error why a program ends as it does: what is known of the last line that it printed, or the sentence of
+/// its status. Nothing is said where its work was done.
+pub fn tell<R: Eprint + rt::Files, F: Files>(
+    rt: &R,
+    alloc: Global,
+    done: &Done<'_>,
+    files: &mut KeptFiles<F>,
+) {
+    let mut page = Page::new(alloc);
+    let is_told = explain(rt, alloc, done, files, &mut page);
+    // where standard error cannot be written either, the status alone tells
+    match page.text() {
+        Some(text) if is_told => {
+            let _told = rt.eprint(text);
+        }
+        _ => tell_status(rt, done.program, done.status),
+    }
+}
+
+/// Says the sentence of a status on standard error.
+pub fn tell_status<R: Eprint>(rt: &R, program: Program, status: u8) {
+    if let Some(reason) = Reason::of(program, status) {
+        let name = name_of(program);
+        let _told = eprintln!(rt; "{name}: {reason}");
+    }
+}
+
+/// Appends what is known of the last line. Says whether anything is.
+fn explain<R: rt::Files, F: Files>(
+    rt: &R,
+    alloc: Global,
+    done: &Done<'_>,
+    files: &mut KeptFiles<F>,
+    page: &mut Page,
+) -> bool {
+    match done.status {
+        READ_FAILED => tell_unread(rt, alloc, done, rest_behind(done.line, "fault read "), page),
+        STORE_FAILED => match file_of(done, b'J') {
+            Some(journal) => tell_journal(rt, alloc, done, journal, page),
+            None => false,
+        },
+        TOO_LONG => explain_too_long(done, page),
+        FAULTY_WORDS | NO_NETWORK | FAULTY_TEXT | FAULTY_JOURNAL | NOT_GOOD => {
+            keep_journal(alloc, done, files);
+            explain_kept(alloc, done, files, page)
+        }
+        _ => false,
+    }
+}
+
+/// What stands behind the words in front of a line.
+fn rest_behind<'a>(line: &'a [u8], front: &str) -> &'a str {
+    let rest = line.get(front.len()..).unwrap_or(&[]);
+    str::from_utf8(rest).unwrap_or("")
+}
+
+fn explain_too_long(done: &Done<'_>, page: &mut Page) -> bool {
+    let name = rest_behind(done.line, "fault too long ");
+    match file_of(done, b'J') {
+        // a file of this name is read where another word names it
+        Some(journal) if name == "store" => tell_too_long(done, journal, true, page),
+        _ => tell_too_long(done, name, false, page),
+    }
+}
+
+/// Keeps the journal, where a line of it is at fault.
+fn keep_journal<F: Files>(alloc: Global, done: &Done<'_>, files: &mut KeptFiles<F>) {
+    if done.status == FAULTY_JOURNAL
+        && let Some(journal) = file_of(done, b'J')
+    {
+        let _read = files.read(alloc, journal, MOST_JOURNAL_BYTES);
+    }
+}
+
+/// Appends what is known of files that were read.
+fn explain_kept<F>(alloc: Global, done: &Done<'_>, files: &KeptFiles<F>, page: &mut Page) -> bool {
+    let net = network_of(alloc, done, files);
+    let kept = Kept {
+        done: *done,
+        net: net.as_ref(),
+        beams: beams(done, files, net.as_ref()),
+    };
+    let code = word_of(done.line, 1);
+    match done.status {
+        FAULTY_WORDS => tell_words(alloc, done, net.as_ref(), page),
+        NO_NETWORK => match kept.named(files, b'N') {
+            Some(named) => tell_network(alloc, done, named, code, word_of(done.line, 2), page),
+            None => false,
+        },
+        FAULTY_TEXT | FAULTY_JOURNAL => explain_text(alloc, &kept, files, code, page),
+        NOT_GOOD => explain_verdict(alloc, &kept, files, page),
+        _ => false,
+    }
+}
+
+/// What is known beside the files.
+#[derive(Clone, Copy)]
+struct Kept<'a> {
+    done: Done<'a>,
+    net: Option<&'a Network>,
+    beams: u32,
+}
+
+impl<'a> Kept<'a> {
+    /// The file of a letter, and what it held.
+    fn named<F>(&self, files: &'a KeptFiles<F>, letter: u8) -> Option<Named<'a>> {
+        let file = file_of(&self.done, letter)?;
+        let text = files.kept(file)?;
+        Some(Named {
+            file,
+            text,
+            net: self.net,
+            beams: self.beams,
+        })
+    }
+}
+
+/// Appends what is known of the fault of a text.
+fn explain_text<F>(
+    alloc: Global,
+    kept: &Kept<'_>,
+    files: &KeptFiles<F>,
+    code: &[u8],
+    page: &mut Page,
+) -> bool {
+    let letter = code.first().copied().unwrap_or(b'?');
+    let Some(named) = kept.named(files, letter) else {
+        return false;
+    };
+    match *code {
+        [b'T', b'6'] => tell_fit(alloc, &kept.done, named, page),
+        [b'X', b'3'] => tell_size(alloc, &kept.done, named, page),
+        _ => match number_at(kept.done.line, 2) {
+            Some(at) => tell_line(alloc, &kept.done, named, code, at, page),
+            None => false,
+        },
+    }
+}
+
+/// Appends what is known of a verdict.
+fn explain_verdict<F>(
+    alloc: Global,
+    kept: &Kept<'_>,
+    files: &KeptFiles<F>,
+    page: &mut Page,
+) -> bool {
+    let (plan, asked) = if kept.net.is_some() {
+        (b'P', b'T')
+    } else {
+        (b'M', b'X')
+    };
+    match (kept.named(files, plan), kept.named(files, asked)) {
+        (Some(plan), Some(asked)) => tell_verdict(alloc, &kept.done, plan, asked, page),
+        _ => false,
+    }
+}
+
+/// The network that the words name, where it is one.
+fn network_of<F>(alloc: Global, done: &Done<'_>, files: &KeptFiles<F>) -> Option<Network> {
+    match kept_of(done, files, b'N') {
+        Some(bytes) => Network::read(alloc, bytes).ok(),
+        None => None,
+    }
+}
+
+/// What the file of a letter held.
+fn kept_of<'a, F>(done: &Done<'_>, files: &'a KeptFiles<F>, letter: u8) -> Option<&'a [u8]> {
+    match file_of(done, letter) {
+        Some(file) => files.kept(file),
+        None => None,
+    }
+}
+
+/// How many beams there are, by the network or by the matrix; 0 where that is not known.
+fn beams<F>(done: &Done<'_>, files: &KeptFiles<F>, net: Option<&Network>) -> u32 {
+    match (net, kept_of(done, files, b'X')) {
+        (Some(net), _) => net.beam_count(),
+        (None, Some(matrix)) => beams_of(matrix),
+        (None, None) => 0,
+    }
+}
+
+/// Appends the name of the program, which stands in front of all that it says.
+pub fn add_program(done: &Done<'_>, page: &mut Page) {
+    page.add(name_of(done.program));
+    page.add(": ");
+}
+
+/// The name of a program.
+pub fn name_of(program: Program) -> &'static str {
+    match program {
+        Program::Nozgurt => "nozgurt",
+        Program::Chart => "chart",
+    }
+}

@@ -1,0 +1,93 @@
+// Files that could not be read, or are too long, and a journal that failed.
+use crate::page::Page;
+use crate::telling::{Done, add_program};
+use bt_frame::{MOST_FILE_BYTES, MOST_JOURNAL_BYTES};
+use std::alloc::Global;
+use std::fs::File;
+use std::rt::Files;
+use std::{fs, io};
+
+/// Tells why a file could not be read, as far as the system says it now.
+pub fn tell_unread<R: Files>(
+    rt: &R,
+    alloc: Global,
+    done: &Done<'_>,
+    name: &str,
+    page: &mut Page,
+) -> bool {
+    add_program(done, page);
+    page.add_name(name);
+    page.add(": the file could not be read");
+    add_reason(rt, alloc, name, page);
+    page.add("\n");
+    true
+}
+
+/// Tells that the journal of that name failed.
+pub fn tell_journal<R: Files>(
+    rt: &R,
+    alloc: Global,
+    done: &Done<'_>,
+    name: &str,
+    page: &mut Page,
+) -> bool {
+    add_program(done, page);
+    page.add_name(name);
+    if done.line == b"fault store".as_slice() {
+        page.add(": the journal could not be read, cut or marked");
+    } else {
+        page.add(": the journal failed over the line of a change, and no later change was taken");
+    }
+    add_reason(rt, alloc, name, page);
+    page.add("\n");
+    true
+}
+
+/// Tells that a file is longer than any that is read.
+pub fn tell_too_long(done: &Done<'_>, name: &str, is_journal: bool, page: &mut Page) -> bool {
+    add_program(done, page);
+    page.add_name(name);
+    page.add(if is_journal {
+        ": the journal has more than "
+    } else {
+        ": the file has more than "
+    });
+    page.add_number(if is_journal {
+        MOST_JOURNAL_BYTES
+    } else {
+        MOST_FILE_BYTES
+    });
+    page.add(" bytes, the most that are read\n");
+    true
+}
+
+/// Appends what the system says of a file, where it says that something is wrong.
+fn add_reason<R: Files>(rt: &R, alloc: Global, name: &str, page: &mut Page) {
+    match state_of(rt, name) {
+        Ok(true) => page.add(": it is a folder"),
+        Ok(false) => {}
+        Err(error) => {
+            page.add(": ");
+            if let Ok(text) = format!(in alloc; "{error}") {
+                page.add(without_number(text.as_str()));
+            }
+        }
+    }
+}
+
+/// What the system says, without the number of its error.
+fn without_number(reason: &str) -> &str {
+    match reason.split_once(" (os error ") {
+        Some((text, _)) => text,
+        None => reason,
+    }
+}
+
+/// Whether a folder stands there. A file that is none, as a pipe, is not opened again.
+fn state_of<R: Files>(rt: &R, name: &str) -> io::Result<bool> {
+    let metadata = fs::metadata(rt, name)?;
+    if metadata.is_file() {
+        let _file = File::open(rt, name)?;
+    }
+    Ok(metadata.is_dir())
+}

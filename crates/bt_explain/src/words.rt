@@ -1,0 +1,184 @@
+// Words that are none of a command: which of them, and what is wanted.
+use crate::bytes::word_of;
+use crate::lines::Words;
+use crate::near::{Near, ask_terminal};
+use crate::page::Page;
+use crate::telling::{Done, add_program, name_of};
+use bt_frame::MOST_NUMBERED_BEAMS;
+use bt_net::Network;
+use bt_report::Program;
+use bt_text::{is_word, number};
+use std::alloc::Global;
+
+/// The forms of nozgurt's commands: the command, and the names of its words.
+const NOZGURT: [&str; 9] = [
+    "check MATRIX MODES",
+    "check NET TRAFFIC PLAN",
+    "modes MATRIX",
+    "trans K MATRIX",
+    "plan NET TRAFFIC",
+    "timing NET TRAFFIC PLAN DELAYS",
+    "run NET SCRIPT JOURNAL",
+    "replay NET JOURNAL",
+    "make N NUMBER",
+];
+
+/// The forms of chart's commands.
+const CHART: [&str; 2] = ["plan NET PLAN", "run NET OUTPUT [NAME ..]"];
+
+fn usages_of(program: Program) -> &'static [&'static str] {
+    match program {
+        Program::Nozgurt => NOZGURT.as_slice(),
+        Program::Chart => CHART.as_slice(),
+    }
+}
+
+/// Tells which word of a command line is wrong. `net` is the network that the words name, where it is one.
+pub fn tell_words(alloc: Global, done: &Done<'_>, net: Option<&Network>, page: &mut Page) -> bool {
+    add_program(done, page);
+    match done.words.split_first() {
+        None => page.add("no command was given"),
+        Some((command, _)) if !is_command(done.program, command) => {
+            say_command(alloc, done.program, command, page);
+        }
+        Some((command, behind)) => say_behind(alloc, done, command, behind, net, page),
+    }
+    page.add("\n");
+    add_usages(done, page);
+    true
+}
+
+/// Whether a form begins with that command.
+fn is_form_of(usage: &str, command: &str) -> bool {
+    is_word(word_of(usage.as_bytes(), 0), command.as_bytes())
+}
+
+fn is_command(program: Program, command: &str) -> bool {
+    usages_of(program)
+        .iter()
+        .any(|usage| is_form_of(usage, command))
+}
+
+/// Says that there is no such command, and asks for one that is near.
+fn say_command(alloc: Global, program: Program, command: &str, page: &mut Page) {
+    page.add("no command is called '");
+    page.add_name(command);
+    page.add("'");
+    let mut near = Near::to(command.as_bytes());
+    for usage in usages_of(program) {
+        if let Some((name, _)) = usage.split_once(' ') {
+            near.look(alloc, name);
+        }
+    }
+    if near.is_found() {
+        page.add("; ");
+        near.ask(page);
+    }
+}
+
+/// Says what is wrong with the words behind a command.
+fn say_behind(
+    alloc: Global,
+    done: &Done<'_>,
+    command: &str,
+    behind: &[String],
+    net: Option<&Network>,
+    page: &mut Page,
+) {
+    let has_empty = behind.iter().any(|word| word.as_str().is_empty());
+    if !is_counted(done.program, command, behind.len()) {
+        page.add(command);
+        page.add(" does not take so many words: ");
+        page.add_number(behind.len() as u64);
+    } else if has_empty {
+        page.add("one of the words is empty");
+    } else if done.program == Program::Chart {
+        say_stranger(alloc, behind, net, page);
+    } else {
+        say_numbers(behind, page);
+    }
+}
+
+/// Whether a form of a command has so many words.
+fn is_counted(program: Program, command: &str, count: usize) -> bool {
+    usages_of(program).iter().any(|usage| {
+        is_form_of(usage, command) && has_count(usage.as_bytes(), count)
+    })
+}
+
+fn has_count(usage: &[u8], count: usize) -> bool {
+    // the command itself is none of them
+    let mut wanted: usize = 0;
+    for (at, word) in Words::of(usage) {
+        if let [b'[', ..] = word {
+            return count >= wanted;
+        }
+        if at > 0 {
+            wanted = wanted.saturating_add(1);
+        }
+    }
+    count == wanted
+}
+
+/// Says which NAME is that of no terminal.
+fn say_stranger(alloc: Global, behind: &[String], net: Option<&Network>, page: &mut Page) {
+    page.add("a NAME is that of no terminal");
+    let (Some(net), [_, _, names @ ..]) = (net, behind) else {
+        return;
+    };
+    for name in names {
+        if net.terminal_named(name.as_bytes()).is_none() {
+            page.add(": '");
+            page.add_name(name);
+            page.add("'");
+            return ask_stranger(alloc, net, name, page);
+        }
+    }
+}
+
+fn ask_stranger(alloc: Global, net: &Network, name: &str, page: &mut Page) {
+    let mut hint = Page::new(alloc);
+    ask_terminal(alloc, net, name.as_bytes(), &mut hint);
+    if !hint.is_empty() {
+        page.add("; ");
+        page.add_page(&hint);
+    }
+}
+
+/// Says which word is no number, or out of its range: those of `make` and of `trans` are the only ones.
+fn say_numbers(behind: &[String], page: &mut Page) {
+    match behind {
+        [first, ..] if is_small(first) => {
+            page.add("NUMBER is to be 0 to 18446744073709551615, in digits without a 0 in front");
+        }
+        [_, ..] => page.add("the first word is to be a number, 1 to 16, without a 0 in front"),
+        [] => {}
+    }
+}
+
+fn is_small(word: &str) -> bool {
+    match number(word.as_bytes()) {
+        Some(number) => 1 <= number && number <= u64::from(MOST_NUMBERED_BEAMS),
+        None => false,
+    }
+}
+
+/// Appends the forms of the command, or of all where there is no such one.
+fn add_usages(done: &Done<'_>, page: &mut Page) {
+    let command = match done.words {
+        [command, ..] if is_command(done.program, command) => command.as_str(),
+        _ => "",
+    };
+    for usage in usages_of(done.program) {
+        if command.is_empty() || is_form_of(usage, command) {
+            page.add("usage: ");
+            page.add(name_of(done.program));
+            page.add(" ");
+            page.add(usage);
+            page.add("\n");
+        }
+    }
+    page.add("       ");
+    page.add(name_of(done.program));
+    page.add(" --help has a page on all of it\n");
+}
