@@ -2,9 +2,9 @@
 //!
 //! It stands on the loader of files (`bt_load`) and on what a report is (`bt_report`), and on the pictures of a plan
 //! (`bt_plan_chart`) and of a run (`bt_run_chart`).
-//! Promises: `specs/Top.antt` says what is drawn and how the program ends, by the command, in the words of `bt_load`'s
-//! `specs/Files.antt`; `specs/Request.antt` says which words are a command, `specs/Plans.antt` and
-//! `specs/Runs.antt` what comes of a plan and of a run. For bodies alone: `CommandLine`.
+//! Promises: `specs/Top.antt` has the table of the commands, and says what is drawn and how the program ends; `specs/Request.antt`
+//! says which words are a command, `specs/Plans.antt` and `specs/Runs.antt` what is loaded for a plan and for a run, in the words
+//! of `bt_load`'s `specs/Loaders.antt`, and what is drawn. For bodies alone: `CommandLine`.
 #![tactic(auto)]
 
 mod command_line;

@@ -1,156 +1,104 @@
 -- What goes over all commands.
-use Rattle.std.proofs.Common.{◌≡◌, ℕ, List, [], codes, Option, Some, IfSome, Bor, true, false, refl, sym, ap, ◌∙◌, subst, length}
+use Rattle.std.proofs.Common.{◌≡◌, ℕ, ◌⊎◌, inr, List, [], codes, Option, Some, IfSome, Bor, Result, true, false, refl, sym, ap, ◌∙◌, subst}
 use Rattle.std.specs.Str.{bytes_eq}
 use Rattle.std.proofs.lemmas.Option.{same_Some}
 use Rattle.std.proofs.lemmas.Slice.Eq.{bytes_eq-Decides}
+use Rattle.bt_air.specs.declared.event.Event.{Event}
+use Rattle.bt_centre.specs.declared.history.History.{History}
+use Rattle.bt_report.specs.declared.status.TheConstants.{DONE, WRITE_FAILED}
 use Rattle.bt_report.specs.Input.{Input, FilesFailed}
-use Rattle.bt_report.specs.Outcome.{Outcome}
+use Rattle.bt_report.specs.Outcome.{Outcome, PrintsOneOf}
 use Rattle.bt_report.specs.Output.{Output}
 use Rattle.bt_report.specs.Stored.{Stored}
+use Rattle.bt_load.specs.Choice.{AnyGood, AreAlike}
+use Rattle.bt_load.specs.Kinds.{matrix_file, network_file}
+use Rattle.bt_load.proofs.OneLoad.{done_alike, file_lawful, nothing_lawful}
 use Rattle.bt_cli.specs.declared.command_line.CommandLine.{CommandLine}
 use Rattle.bt_cli.specs.declared.command_line.CommandLine.TheVariants as command
-use Rattle.bt_cli.specs.Request.{Request, Faulty, CheckModes, CheckPlan, PlanModes, PlanDemand, RunScript, ReplayJournal, PlanDrawn, TimeSends, PlanPart, asked, name_of}
-use Rattle.bt_cli.specs.Replay.{EndsReplay, HasReplayed}
-use Rattle.bt_cli.specs.Run.{BeginsNoRun, End}
-use Rattle.bt_cli.specs.Top.{AsksNoStore, Ends, EndsAlone, Reported, Reports, ReportsWith, AreTold, IsOneReport, Serves}
-use Rattle.bt_verdict.specs.PlanVerdict.{IsPlanVerdict}
-use Rattle.bt_verdict.specs.Verdict.{IsVerdict}
-use Rattle.bt_cli.specs.CheckPlan.{ChecksPlanText, JudgesPlan}
-use Rattle.bt_cli.specs.Plans.{PrintsPlan}
-use Rattle.bt_cli.specs.Timing.{TimesDelays, TimesPlanText, WhereItIsGood}
-use Rattle.bt_load.proofs.OneLoad.{AreAlike, IsOne, Loads-same, done_alike, is_one, same_alike}
-use Rattle.bt_load.specs.Kinds.{matrix_file, schedule_file, plan_file}
-use Rattle.bt_cli.specs.Check.{ChecksSchedule, Judges}
-use Rattle.bt_cli.specs.Modes.{PrintsSchedule}
-use Rattle.bt_cli.specs.Trans.{PrintsWhereItSuits}
-use Rattle.bt_cli.proofs.LoadsAsked.{LoadsAsked-same}
 use Rattle.bt_cli.specs.Complete.{NothingFails}
+use Rattle.bt_cli.specs.Make.{PrintsSummary}
+use Rattle.bt_cli.specs.Modes.{PrintsSchedule}
+use Rattle.bt_cli.specs.Plans.{PrintsPlan}
+use Rattle.bt_load.specs.Loaders.{file}
+use Rattle.bt_report.specs.declared.report.Report.{Report}
+use Rattle.bt_report.specs.declared.report.Stop.{Stop}
+use Rattle.bt_report.specs.Printing.{CameTo}
+use Rattle.bt_cli.specs.Command.{EndsBy, no_store}
+use Rattle.bt_cli.specs.Replay.{EndsReplay, HasReplayed, without_run}
+use Rattle.bt_cli.specs.Request.{Request, Faulty, CheckModes, CheckPlan, PlanModes, PlanDemand, RunScript, ReplayJournal, PlanDrawn, TimeSends, PlanPart, asked, name_of}
+use Rattle.bt_cli.specs.Run.{BeginsNoRun, End}
+use Rattle.bt_cli.specs.Top.{AreOneStore, AreTold, AsksNoStore, Ends, IsOneReport, Reported, Reports, Serves, command_of}
+use Rattle.bt_cli.specs.Trans.{PrintsPart}
+use Rattle.bt_cli.proofs.Finished.{FinishReports, FinishServes, LawsAs, ended_as, none_reports, none_serves, reported_as, same_as, served_as}
+use Rattle.bt_cli.proofs.Complete.{recovery_done, run_done}
+use Rattle.bt_cli.proofs.LoadsAsked.{Lines, asked_lawful}
+use Rattle.bt_cli.proofs.Lawful.{delay_lawful, modes_lawful, plan_lawful, script_lawful}
 use Rattle.bt_cli.proofs.OneJournal as journal
-use Rattle.bt_cli.proofs.OneReport.{Laws, ChecksPlanText-same, Judges-same, PrintsWhereItSuits-same, TimesPlanText-same}
-use Rattle.bt_cli.proofs.Complete.{Lines, both_go_on, done, files_done, goes_on, judged, replay_done, status_of, suits_on, timed_status}
+use Rattle.bt_cli.proofs.OneReplay.{one_replay}
+use Rattle.bt_cli.proofs.OneReport.{OneVerdict, Judges-same, JudgesPlan-same, TellsTimes-same, suited_lawful}
+use Rattle.bt_cli.proofs.OneRun.{one_run}
+use Rattle.bt_cli.proofs.Runs.{recovery_reported, run_reported}
+use Rattle.bt_cli.proofs.Timed.{OnePlanVerdict}
 
--- what holds of a run, of a replay, and of each command that asks for no store holds of each
-pub by_store : (P : Request → Type 0) → ((net script journal : List ℕ) → P (RunScript net script journal)) → ((net journal : List ℕ) → P (ReplayJournal net journal))
-    → ((request : Request) → AsksNoStore request → P request) → (request : Request) → P request
-by_store P run replay alone (RunScript net script journal) = run net script journal
-by_store P run replay alone (ReplayJournal net journal) = replay net journal
-by_store P run replay alone Faulty = alone Faulty tt
-by_store P run replay alone (CheckModes matrix modes) = alone (CheckModes matrix modes) tt
-by_store P run replay alone (CheckPlan net traffic plan) = alone (CheckPlan net traffic plan) tt
-by_store P run replay alone (PlanModes matrix) = alone (PlanModes matrix) tt
-by_store P run replay alone (PlanDemand net traffic) = alone (PlanDemand net traffic) tt
-by_store P run replay alone (PlanDrawn beams seed) = alone (PlanDrawn beams seed) tt
-by_store P run replay alone (TimeSends net traffic plan delays) = alone (TimeSends net traffic plan delays) tt
-by_store P run replay alone (PlanPart transponders matrix) = alone (PlanPart transponders matrix) tt
+-- the laws of heaviest lines, of verdicts and of journals
+pub record Laws : Type 0 where
+  pub lines : Lines
+  pub verdict : OneVerdict
+  pub plan_verdict : OnePlanVerdict
+  pub journals : journal.Laws
 
--- how a command ends that asks for no store, and what it reports
-pub record IsAlone (request : Request) : Type 1 where
-  pub ends : (input : Input) (output : Output) (stored : Stored) (end : End) → Ends input output stored request end → EndsAlone input output stored request end
-  pub ended : (input : Input) (output : Output) (stored : Stored) (end : End) → EndsAlone input output stored request end → Ends input output stored request end
-  pub reports : (told : List ℕ → Option (List ℕ)) (failed : Type 0) (stored : Stored) (outcome : Outcome) → ReportsWith told failed stored request outcome → Reports told failed request outcome
-  pub reported : (told : List ℕ → Option (List ℕ)) (failed : Type 0) (stored : Stored) (outcome : Outcome) → Reports told failed request outcome → ReportsWith told failed stored request outcome
+-- two outcomes whose statuses say that the work was done
+alike : {Tells : Outcome → Type 0} → ((o : Outcome) → Tells o → o.status ≡ DONE) → (a b : Outcome) → Tells a → Tells b → AreAlike AnyGood a b
+alike so a b one other = done_alike a b (so a one) (so b other)
 
-pub alone : (request : Request) → AsksNoStore request → IsAlone request
-alone (RunScript net script journal) none = absurd none
-alone (ReplayJournal net journal) none = absurd none
-alone Faulty none = record { ends = λ i o s e so. so; ended = λ i o s e so. so; reports = λ t f s o so. so; reported = λ t f s o so. so }
-alone (CheckModes matrix modes) none = record { ends = λ i o s e so. so; ended = λ i o s e so. so; reports = λ t f s o so. so; reported = λ t f s o so. so }
-alone (CheckPlan net traffic plan) none = record { ends = λ i o s e so. so; ended = λ i o s e so. so; reports = λ t f s o so. so; reported = λ t f s o so. so }
-alone (PlanModes matrix) none = record { ends = λ i o s e so. so; ended = λ i o s e so. so; reports = λ t f s o so. so; reported = λ t f s o so. so }
-alone (PlanDemand net traffic) none = record { ends = λ i o s e so. so; ended = λ i o s e so. so; reports = λ t f s o so. so; reported = λ t f s o so. so }
-alone (PlanDrawn beams seed) none = record { ends = λ i o s e so. so; ended = λ i o s e so. so; reports = λ t f s o so. so; reported = λ t f s o so. so }
-alone (TimeSends net traffic plan delays) none = record { ends = λ i o s e so. so; ended = λ i o s e so. so; reports = λ t f s o so. so; reported = λ t f s o so. so }
-alone (PlanPart transponders matrix) none = record { ends = λ i o s e so. so; ended = λ i o s e so. so; reports = λ t f s o so. so; reported = λ t f s o so. so }
-
--- a command line that is no run and no replay asks for none
-pub none_asked : (read : CommandLine) → ((net script journal : Bor (List ℕ)) → read ≡ command.RunScript net script journal → ⊥)
-    → ((net journal : Bor (List ℕ)) → read ≡ command.ReplayJournal net journal → ⊥) → AsksNoStore (asked read)
-none_asked command.Faulty no_run no_replay = tt
-none_asked (command.CheckModes _ _) no_run no_replay = tt
-none_asked (command.CheckPlan _ _ _) no_run no_replay = tt
-none_asked (command.PlanModes _) no_run no_replay = tt
-none_asked (command.PlanDemand _ _) no_run no_replay = tt
-none_asked (command.PlanDrawn _ _) no_run no_replay = tt
-none_asked (command.TimeSends _ _ _ _) no_run no_replay = tt
-none_asked (command.PlanPart _ _) no_run no_replay = tt
-none_asked (command.RunScript net script journal) no_run no_replay = absurd (no_run net script journal refl)
-none_asked (command.ReplayJournal net journal) no_run no_replay = absurd (no_replay net journal refl)
+-- for each command: its loads stop in one way or give one value, and with that it has one report, or one as good as another
+laws_of : Laws → (request : Request) → LawsAs (command_of request)
+laws_of laws Faulty = record { lawful = nothing_lawful; same = λ one other kept none a b first second. first ∙ sym second }
+laws_of laws (CheckModes matrix modes) = record { lawful = modes_lawful matrix modes; same = λ one other kept both. Judges-same laws.verdict both.0 both.1 }
+laws_of laws (CheckPlan net traffic plan) = record { lawful = plan_lawful laws.lines net traffic plan; same = λ one other kept both. JudgesPlan-same laws.plan_verdict both.0.0 both.0.1 both.1 }
+laws_of laws (PlanModes matrix) = record { lawful = file_lawful matrix_file matrix; same = λ one other kept rows. alike {Tells = PrintsSchedule rows} (λ o is. ap (λ (x : Outcome). x.status) is.3) }
+laws_of laws (PlanDemand net traffic) = record { lawful = asked_lawful laws.lines net traffic; same = λ one other kept asked. alike {Tells = PrintsPlan asked.0 asked.1} (λ o is. ap (λ (x : Outcome). x.status) is.printed) }
+laws_of laws (TimeSends net traffic plan delays) = record { lawful = delay_lawful laws.lines net traffic plan delays; same = λ one other kept all. TellsTimes-same laws.plan_verdict all.0.0 all.0.1 all.1.0 all.1.1 }
+laws_of laws (PlanDrawn beams seed) = record { lawful = nothing_lawful; same = λ one other kept none. alike {Tells = PrintsSummary beams seed} (λ o is. ap (λ (x : Outcome). x.status) is.1.printed) }
+laws_of laws (PlanPart transponders matrix) = record { lawful = suited_lawful transponders matrix; same = λ one other kept rows. alike {Tells = PrintsPart transponders rows} (λ o is. ap (λ (x : Outcome). x.status) is.printed) }
+laws_of laws (RunScript net script _) = record { lawful = script_lawful net script; same = λ one other kept both. one_run laws.journals both.0 both.1 one other kept }
+laws_of laws (ReplayJournal net _) = record { lawful = file_lawful network_file net; same = λ one other kept network. one_replay laws.journals network one other kept }
 
 -- ---- one report
 
--- what is asked has one report, where it asks for no store; of several good schedules or plans any may be printed
-pub Reports-same : Laws → (told : List ℕ → Option (List ℕ)) (request : Request) → AreTold told request → (a b : Outcome) → Reports told ⊥ request a → Reports told ⊥ request b → IsOneReport request a b
-Reports-same laws told Faulty _ a b first second = first ∙ sym second
-Reports-same laws told (CheckModes matrix modes) (of_matrix, of_modes) a b first second =
-    Loads-same IsOne is_one matrix_file told matrix of_matrix.0 of_matrix.1 (λ rows. ChecksSchedule told ⊥ modes rows) (λ rows. Loads-same IsOne is_one (schedule_file (length rows)) told modes of_modes.0 of_modes.1 (λ schedule. Judges rows schedule) (λ schedule. Judges-same laws.verdict rows schedule)) a b first second
-Reports-same laws told (CheckPlan net traffic plan) (of_net, of_traffic, of_plan) a b first second =
-    LoadsAsked-same laws.line laws.sum IsOne is_one told net traffic of_net of_traffic (ChecksPlanText told ⊥ plan) (ChecksPlanText-same laws told plan of_plan.0 of_plan.1) a b first second
-Reports-same laws told (PlanModes matrix) of_matrix a b first second =
-    Loads-same AreAlike same_alike matrix_file told matrix of_matrix.0 of_matrix.1 (λ rows. PrintsSchedule rows) (λ rows a b one other. done_alike a b (ap (λ (o : Outcome). o.status) one.3) (ap (λ (o : Outcome). o.status) other.3)) a b first second
-Reports-same laws told (PlanDemand net traffic) (of_net, of_traffic) a b first second =
-    LoadsAsked-same laws.line laws.sum AreAlike same_alike told net traffic of_net of_traffic PrintsPlan (λ network links a b one other. done_alike a b (ap (λ (o : Outcome). o.status) one.printed) (ap (λ (o : Outcome). o.status) other.printed)) a b first second
-Reports-same laws told (TimeSends net traffic plan delays) (of_net, of_traffic, of_plan, of_delays) a b first second =
-    LoadsAsked-same laws.line laws.sum IsOne is_one told net traffic of_net of_traffic (TimesPlanText told ⊥ plan delays) (TimesPlanText-same laws told plan delays of_plan of_delays) a b first second
-Reports-same laws told (PlanDrawn _ _) of_files a b one other = done_alike a b (ap (λ (o : Outcome). o.status) one.1.printed) (ap (λ (o : Outcome). o.status) other.1.printed)
-Reports-same laws told (PlanPart transponders matrix) of_matrix a b first second =
-    Loads-same AreAlike same_alike matrix_file told matrix of_matrix.0 of_matrix.1 (λ rows. PrintsWhereItSuits transponders rows) (λ rows. PrintsWhereItSuits-same transponders rows) a b first second
-Reports-same laws told (RunScript _ _ _) of_files a b first second = absurd first
-Reports-same laws told (ReplayJournal net _) of_net a b first second = absurd first
+pub Reports-same : Laws → (told : List ℕ → Option (List ℕ)) (one other : Stored) (request : Request) → AreTold told request → AreOneStore request one other
+    → (a b : Outcome) → Reports told ⊥ one request a → Reports told ⊥ other request b → IsOneReport request a b
+Reports-same laws told one other request of_files kept = same_as (command_of request) (laws_of laws request) told one other of_files kept
 
--- ---- sound input
+-- ---- how a command ends with its value
 
--- each is served
-pub all_served : Lines → journal.Laws → (input : Input) (output : Output) (stored : Stored) (request : Request) (end : End) → NothingFails input output stored → Ends input output stored request end
+finish_reported : (request : Request) (output : Output) (stored : Stored) (end : End) → FinishReports (command_of request) output stored end
+finish_reported (RunScript net script _) output stored end = λ both ends. run_reported both.0 both.1 output stored end.status end.histories end.events ends.0 ends.1
+finish_reported (ReplayJournal net _) output stored end = λ network ends. inr (recovery_reported network output stored end.status ends.ends)
+finish_reported request output stored end = none_reports (command_of request) tt output stored end
+
+pub ends_reported : (input : Input) (output : Output) (stored : Stored) (request : Request) (end : End) → Ends input output stored request end
+    → (end.status ≡ WRITE_FAILED) ⊎ PrintsOneOf output (Reports input.told (FilesFailed input) stored request) end.status
+ends_reported input output stored request end ends = reported_as (command_of request) input output stored end (finish_reported request output stored end) ends
+
+finish_served : journal.Laws → (request : Request) (input : Input) (output : Output) (stored : Stored) (end : End) → NothingFails input output stored → FinishServes (command_of request) output stored end
+finish_served laws (RunScript net script _) input output stored end steady = λ both ends. inr (λ tells. run_done laws both.0 both.1 output stored end.status end.histories end.events ends.0 steady.store steady.sink tells ends.1)
+finish_served laws (ReplayJournal net _) input output stored end steady = λ network ends. inr (λ tells. recovery_done laws network output stored end.status steady.sink steady.store tells ends.ends)
+finish_served laws request input output stored end steady = none_serves (command_of request) tt input output stored end steady
+
+pub all_served : Laws → (input : Input) (output : Output) (stored : Stored) (request : Request) (end : End) → NothingFails input output stored → Ends input output stored request end
     → Serves input.told stored request end.status
-all_served lines laws input output stored Faulty end steady ends = tt
-all_served lines laws input output stored (CheckModes matrix modes) end steady ends = λ rows schedule of_matrix of_modes.
-    let failed = FilesFailed input in
-    judged output (Reports input.told failed (CheckModes matrix modes)) (IsVerdict rows schedule) end.status steady.sink
-    (λ outcome is.
-    let read = goes_on matrix_file input.told failed matrix rows (λ of_rows. ChecksSchedule input.told failed modes of_rows) steady.files of_matrix outcome is in
-    let found = goes_on (schedule_file (length rows)) input.told failed modes schedule (λ one. Judges rows one) steady.files of_modes outcome read in
-    (found.0, found.1, status_of outcome _ found.2))
-    ends.1
-all_served lines laws input output stored (CheckPlan net traffic plan) end steady ends = λ network links read of_net of_traffic fits of_plan.
-    let failed = FilesFailed input in
-    judged output (Reports input.told failed (CheckPlan net traffic plan)) (IsPlanVerdict network links read) end.status steady.sink
-    (λ outcome is.
-    let fitting = both_go_on lines input.told failed net traffic network links (ChecksPlanText input.told failed plan) steady.files of_net of_traffic fits outcome is in
-    let found = goes_on (plan_file network) input.told failed plan read (λ one. JudgesPlan network links one) steady.files of_plan outcome fitting in
-    (found.verdict, found.is, status_of outcome _ found.says))
-    ends.1
-all_served lines laws input output stored (PlanModes matrix) end steady ends = λ rows of_matrix.
-    let failed = FilesFailed input in
-    done output (Reports input.told failed (PlanModes matrix)) end.status steady.sink
-    (λ outcome is. status_of outcome _ (goes_on matrix_file input.told failed matrix rows (λ of_rows. PrintsSchedule of_rows) steady.files of_matrix outcome is).3)
-    ends.1
-all_served lines laws input output stored (PlanDemand net traffic) end steady ends = λ network links of_net of_traffic fits.
-    let failed = FilesFailed input in
-    done output (Reports input.told failed (PlanDemand net traffic)) end.status steady.sink
-    (λ outcome is.
-    status_of outcome _ (both_go_on lines input.told failed net traffic network links PrintsPlan steady.files of_net of_traffic fits outcome is).printed)
-    ends.1
-all_served lines laws input output stored (TimeSends net traffic plan delays) end steady ends = λ network links read of_net of_traffic fits of_plan of_delays.
-    let failed = FilesFailed input in
-    judged output (Reports input.told failed (TimeSends net traffic plan delays)) (IsPlanVerdict network links read) end.status steady.sink
-    (λ outcome is.
-    let fitting = both_go_on lines input.told failed net traffic network links (TimesPlanText input.told failed plan delays) steady.files of_net of_traffic fits outcome is in
-    let found = goes_on (plan_file network) input.told failed plan read (λ one. WhereItIsGood network links one (TimesDelays input.told failed delays network one)) steady.files of_plan outcome fitting in
-    timed_status input delays network links read steady.files of_delays outcome found)
-    ends.1
-all_served lines laws input output stored (PlanDrawn beams seed) end steady ends =
-    done output (Reports input.told (FilesFailed input) (PlanDrawn beams seed)) end.status steady.sink (λ outcome is. status_of outcome _ is.1.printed) ends.1
-all_served lines laws input output stored (PlanPart transponders matrix) end steady ends = λ rows of_matrix suits.
-    let failed = FilesFailed input in
-    done output (Reports input.told failed (PlanPart transponders matrix)) end.status steady.sink
-    (λ outcome is.
-    let on = goes_on matrix_file input.told failed matrix rows (λ of_rows. PrintsWhereItSuits transponders of_rows) steady.files of_matrix outcome is in
-    status_of outcome _ (suits_on transponders rows suits outcome on).printed)
-    ends.1
-all_served lines laws input output stored (RunScript net script _) end steady ends = files_done laws input output stored net script end steady ends
-all_served lines laws input output stored (ReplayJournal net _) end steady ends = replay_done laws input output stored net end.status steady ends.ends
+all_served laws input output stored request end steady ends =
+    served_as (command_of request) (laws_of laws request) input output stored end steady (finish_served laws.journals request input output stored end steady) ends
 
 -- ---- by its name
+
+-- a command line that is no run and no replay asks for no store
+pub none_asked : (read : CommandLine) → ((net script journal : Bor (List ℕ)) → read ≡ command.RunScript net script journal → ⊥)
+    → ((net journal : Bor (List ℕ)) → read ≡ command.ReplayJournal net journal → ⊥) → AsksNoStore (asked read)
+none_asked (command.RunScript net script journal) no_run no_replay = absurd (no_run net script journal refl)
+none_asked (command.ReplayJournal net journal) no_run no_replay = absurd (no_replay net journal refl)
+none_asked _ no_run no_replay = tt
 
 -- no word is two names
 two_names : (name text : List ℕ) (first : Option (List ℕ)) → bytes_eq name text ≡ false → first ≡ Some name → first ≡ Some text → ⊥
@@ -168,31 +116,41 @@ none_named read first name named is no_run no_replay =
     (λ net script journal same. two_names (codes "run") name first no_run (subst P same named) is)
     (λ net journal same. two_names (codes "replay") name first no_replay (subst P same named) is)
 
--- ---- a replay
+-- ---- from call to call
 
 -- what a store tells between two calls
 abbrev pub stored_of : {Store : Type 0} → (Store → Option (List ℕ)) → (Store → ℕ) → Store → Store → Stored
 stored_of tell count given left = record { before = tell given; after = tell left; faults_before = count given; faults_after = count left }
 
+-- what a call without a run gives back
+end_is : (end : End) (status : ℕ) → end.histories ≡ [] → end.events ≡ [] → end.status ≡ status → end ≡ without_run status
+end_is end status no_histories no_events ended =
+    let with_status : ℕ → End = λ n. record { status = n; histories = end.histories; events = end.events } in
+    let with_histories : List History → End = λ h. record { status = status; histories = h; events = end.events } in
+    let with_events : List Event → End = λ e. record { status = status; histories = []; events = e } in
+    ap with_status ended ∙ ap with_histories no_histories ∙ ap with_events no_events
+
 -- a replay ends so, with the store and the status that its call gave back
 pub has_replayed : {Store : Type 0} (tell : Store → Option (List ℕ)) (count : Store → ℕ) (input : Input) (output : Output) (given left back : Store) (status : ℕ) (net : List ℕ) (end : End)
-    → end.histories ≡ [] → end.events ≡ [] → left ≡ back → end.status ≡ status → EndsReplay input output (stored_of tell count given back) net status → HasReplayed input output (stored_of tell count given left) net end
+    → end.histories ≡ [] → end.events ≡ [] → left ≡ back → end.status ≡ status → EndsReplay input output (stored_of tell count given back) net status → EndsBy (file network_file net) HasReplayed input output (stored_of tell count given left) end
 has_replayed {Store} tell count input output given left back status net end no_histories no_events same ended so =
     let Left : Store → Type 0 = λ store. EndsReplay input output (stored_of tell count given store) net status in
-    let Ended : ℕ → Type 0 = λ n. EndsReplay input output (stored_of tell count given left) net n in
-    record { histories = no_histories; events = no_events; ends = subst Ended (sym ended) (subst Left (sym same) so) }
+    let Ended : End → Type 0 = λ one. EndsBy (file network_file net) HasReplayed input output (stored_of tell count given left) one in
+    subst Ended (sym (end_is end status no_histories no_events ended)) (subst Left (sym same) so)
 
 -- what holds at a command line holds at one that is it
 pub ends_at : (input : Input) (output : Output) (stored : Stored) (line given : CommandLine) (end : End) → line ≡ given → Ends input output stored (asked given) end
     → Ends input output stored (asked line) end
 ends_at input output stored line given end is so = subst (λ (l : CommandLine). Ends input output stored (asked l) end) (sym is) so
 
--- ---- a command that asks for no store
+pub came_at : (told : List ℕ → Option (List ℕ)) (failed : Type 0) (line given : CommandLine) → line ≡ given → (result : Result Report Stop) → CameTo (Reports told failed no_store (asked given)) result
+    → CameTo (Reports told failed no_store (asked line)) result
+came_at told failed line given is result came = subst (λ (l : CommandLine). CameTo (Reports told failed no_store (asked l)) result) (sym is) came
 
--- it ends so, with the store that was given and the status that its report gave back
+-- a command that asks for no store ends so, with the store that was given and the status that its report gave back
 pub ended_alone : {Store : Type 0} (tell : Store → Option (List ℕ)) (count : Store → ℕ) (input : Input) (output : Output) (given left : Store) (status : ℕ) (request : Request) (end : End) → AsksNoStore request
     → end.histories ≡ [] → end.events ≡ [] → left ≡ given → end.status ≡ status → Reported input output request status → Ends input output (stored_of tell count given left) request end
 ended_alone tell count input output given left status request end none no_histories no_events same ended so =
     let Ended : ℕ → Type 0 = λ n. Reported input output request n in
     let begins : BeginsNoRun (stored_of tell count given left) end = record { histories = no_histories; events = no_events; store = record { bytes = ap tell same; faults = ap count same } } in
-    (alone request none).ended input output (stored_of tell count given left) end (begins, subst Ended (sym ended) so)
+    ended_as (command_of request) none input output (stored_of tell count given left) end begins (subst Ended (sym ended) so)

@@ -53,10 +53,6 @@ pub record IsTooLong (bytes : List ℕ) (outcome : Outcome) : Type 0 where
 abbrev pub Comes : (List Change → Outcome → Type 0) → Net → List ℕ → Outcome → Type 0
 Comes Done net bytes outcome = HasChanges Done net bytes outcome ⊎ HasNoLine net bytes outcome ⊎ HasStray net bytes outcome ⊎ IsTooLong bytes outcome
 
--- the same of a sound network
-abbrev pub ComesOn : (List Change → Outcome → Type 0) → List ℕ → Net → Outcome → Type 0
-ComesOn Done held net outcome = IsSound net × Comes Done net held outcome
-
 -- what is said of the bytes where they are told
 pub told : (o : Option (List ℕ)) (held : List ℕ) (P : List ℕ → Type 0) → o ≡ Some held → IfSome o P → P held
 told o held P is so = subst (λ (t : Option (List ℕ)). IfSome t P) is so

@@ -19,16 +19,14 @@ use Rattle.bt_report.specs.Output.{Output}
 use Rattle.bt_centre.specs.RecoverFaults.{PrintsFault, recover_line, recover_status, recover_words}
 use Rattle.bt_centre.specs.Run.{EndsFrom, RunsTo, RunsToRestart, RunsWhole, lost_in}
 use Rattle.bt_report.specs.Stored.{IsSteady, Stored}
-use Rattle.bt_load.specs.Kinds.{network_file, script_file}
-use Rattle.bt_load.specs.Files.{IsTold, Loads}
+use Rattle.bt_load.specs.Choice.{AnyGood, AreAlike}
 use Rattle.bt_report.specs.Outcome.{Outcome, Says, text_alone}
-use Rattle.bt_cli.specs.Run.{PrintsRun, Runs, RunsScript, sink_with}
-use Rattle.bt_cli.specs.Top.{IsOneStore}
+use Rattle.bt_cli.specs.Command.{IsOneStore}
+use Rattle.bt_cli.specs.Run.{PrintsRun, sink_with}
 use Rattle.bt_cli.proofs.Kept.{kept_status}
-use Rattle.bt_load.proofs.Loads.{Loads-among}
-use Rattle.bt_load.proofs.OneLoad.{AreAlike, Loads-same, done_alike, same_alike}
+use Rattle.bt_load.proofs.OneLoad.{done_alike, same_alike}
 use Rattle.bt_cli.proofs.NamedFaults.{named}
-use Rattle.bt_cli.proofs.OneJournal.{Comes, ComesOn, Laws, fault_comes, one_coming, told}
+use Rattle.bt_cli.proofs.OneJournal.{Comes, Laws, fault_comes, one_coming, told}
 
 -- a run that came to its end, whatever its changes were
 abbrev HasEnded : List Change → Outcome → Type 0
@@ -93,31 +91,9 @@ run_comes net script held stored outcome histories events is steady memory (inr 
       done = parts_ended net held script.items outcome.text stored run.opening outcome.status histories events is steady memory run.ends;
     })
 
--- what came of the journal on the network and the script of the files
-abbrev Ran : List ℕ → Net → Script → Outcome → Type 0
-Ran held net script outcome = ComesOn HasEnded held net outcome
-
-abbrev RanOn : (List ℕ → Option (List ℕ)) → List ℕ → List ℕ → Net → Outcome → Type 0
-RanOn told script held net outcome = Loads (script_file net) told ⊥ script (Ran held net) outcome
-
-script_comes : (told : List ℕ → Option (List ℕ)) (script held : List ℕ) (stored : Stored) → stored.before ≡ Some held → IsSteady stored → (net : Net) (outcome : Outcome)
-    → RunsScript told ⊥ stored script net outcome → RanOn told script held net outcome
-script_comes told script held stored is steady net outcome so =
-    Loads-among (script_file net) told ⊥ script (λ read. PrintsRun net read stored) (Ran held net)
-    (λ read o one. (one.sound, run_comes net read held stored o one.histories one.events is steady one.memory one.ends)) outcome so
-
-file_comes : (told : List ℕ → Option (List ℕ)) (net script held : List ℕ) (stored : Stored) → stored.before ≡ Some held → IsSteady stored → (outcome : Outcome) → Runs told ⊥ stored net script outcome
-    → Loads network_file told ⊥ net (RanOn told script held) outcome
-file_comes told net script held stored is steady outcome so =
-    Loads-among network_file told ⊥ net (RunsScript told ⊥ stored script) (RanOn told script held) (λ network o one. script_comes told script held stored is steady network o one) outcome so
-
 -- so runs of one script have one status, and where that is not 0 one outcome
-pub one_run : Laws → (told : List ℕ → Option (List ℕ)) (net script : List ℕ) (one other : Stored) → IsTold told net → IsTold told script → IsOneStore one other → (a b : Outcome)
-    → Runs told ⊥ one net script a → Runs told ⊥ other net script b → AreAlike a b
-one_run laws told net script one other of_net of_script kept a b first second =
-    Loads-same AreAlike same_alike network_file told net of_net.0 of_net.1 (RanOn told script kept.held)
-    (λ network. Loads-same AreAlike same_alike (script_file network) told script of_script.0 of_script.1 (Ran kept.held network)
-    (λ read x y p q. one_coming laws AreAlike same_alike HasEnded (λ changes u v one two. done_alike u v one two) network p.0 kept.held x y p.1 q.1))
-    a b
-    (file_comes told net script kept.held one kept.told kept.steady a first)
-    (file_comes told net script kept.held other kept.also kept.steadily b second)
+pub one_run : Laws → (net : Net) (script : Script) (one other : Stored) → IsOneStore one other → (a b : Outcome) → PrintsRun net script one a → PrintsRun net script other b → AreAlike AnyGood a b
+one_run laws net script one other kept a b first second =
+    one_coming laws (AreAlike AnyGood) (same_alike AnyGood) HasEnded (λ changes u v done also. done_alike u v done also) net first.sound kept.held a b
+    (run_comes net script kept.held one a first.histories first.events kept.told kept.steady first.memory first.ends)
+    (run_comes net script kept.held other b second.histories second.events kept.also kept.steadily second.memory second.ends)

@@ -1,5 +1,5 @@
 -- `plan NET TRAFFIC`: the network is loaded, then the demand, and a good plan for it is printed.
-use Rattle.std.specs.Prelude.{◌≡◌, ℕ, List, Option, AllPairs}
+use Rattle.std.specs.Prelude.{◌≡◌, List, AllPairs}
 use Rattle.bt_net.specs.Network.{Net}
 use Rattle.bt_matrix.specs.Traffic.{IsHeaviest}
 use Rattle.bt_demand.specs.declared.demand.Link.{Link}
@@ -9,7 +9,6 @@ use Rattle.bt_demand.specs.Plan.{IsGoodPlan}
 use Rattle.bt_plan.specs.PlanSpelling.{plan_spelling}
 use Rattle.bt_demand.specs.Traffic.{matrix_of}
 use Rattle.bt_report.specs.declared.status.TheConstants.{DONE}
-use Rattle.bt_cli.specs.Fitting.{LoadsAsked}
 use Rattle.bt_report.specs.Outcome.{Outcome, text_alone}
 
 -- the text of a good plan of edition 1, with its bursts in order and the first of the heaviest lines, and nothing else
@@ -20,7 +19,3 @@ pub record PrintsPlan (net : Net) (links : List Link) (outcome : Outcome) : Type
   pub ordered : AllPairs IsNotAfter plan.bursts
   pub heaviest : IsHeaviest (matrix_of net links) plan.schedule.critical plan.schedule.length
   pub printed : outcome ≡ text_alone (plan_spelling net plan) DONE
-
--- the network and the demand are loaded, and where it fits, a plan for it is printed
-abbrev pub Plans : (List ℕ → Option (List ℕ)) → Type 0 → List ℕ → List ℕ → Outcome → Type 0
-Plans told failed net traffic = LoadsAsked told failed net traffic PrintsPlan

@@ -1,5 +1,5 @@
 -- `replay NET JOURNAL`: the network is loaded, then the store is recovered, and what its journal comes to is printed.
-use Rattle.std.specs.Prelude.{◌≡◌, ℕ, ◌⊎◌, List, [], length, Option, IfSome, option_map}
+use Rattle.std.specs.Prelude.{◌≡◌, ℕ, ◌⊎◌, List, [], length, IfSome, option_map}
 use Rattle.bt_net.specs.Network.{Net, IsSound}
 use Rattle.bt_demand.specs.declared.demand.Link.{Link}
 use Rattle.bt_journal.specs.declared.call.Change.{Change}
@@ -15,8 +15,9 @@ use Rattle.bt_report.specs.Stored.{IsAsGiven, Stored}
 use Rattle.bt_load.specs.Kinds.{network_file}
 use Rattle.bt_report.specs.Faults.{SaysFaultyWords}
 use Rattle.bt_report.specs.Outcome.{Outcome, PrintsOneOf, Says, text_alone}
-use Rattle.bt_report.specs.Input.{Input, FilesFailed}
-use Rattle.bt_load.specs.Files.{IsLoaded, Loads, StopsAtLoad}
+use Rattle.bt_report.specs.Input.{Input}
+use Rattle.bt_load.specs.Loaders.{file}
+use Rattle.bt_cli.specs.Command.{EndsBy}
 use Rattle.bt_cli.specs.Request.{Request, ReplayJournal}
 use Rattle.bt_cli.specs.Run.{End}
 
@@ -54,23 +55,25 @@ EndsUnrecovered net output stored status = (fault : RecoverFault) × IsNotRecove
 abbrev pub EndsRecovery : Net → Output → Stored → ℕ → Type 0
 EndsRecovery net output stored status = IsSound net × (EndsRecovered net output stored status ⊎ EndsUnrecovered net output stored status)
 
+-- a replay ended so, and nothing was run
+pub record HasReplayed (net : Net) (output : Output) (stored : Stored) (end : End) : Type 0 where
+  pub histories : end.histories ≡ []
+  pub events : end.events ≡ []
+  pub ends : EndsRecovery net output stored end.status
+
+-- a program that ran nothing ends with this status
+abbrev pub without_run : ℕ → End
+without_run status = record { status = status; histories = []; events = [] }
+
 -- the network was loaded, and then the store was recovered; or why it could not be loaded was printed, and the store is
 -- as it was given
 abbrev pub EndsReplay : Input → Output → Stored → List ℕ → ℕ → Type 0
-EndsReplay input output stored net status =
-    (IsAsGiven stored × PrintsOneOf output (StopsAtLoad network_file input.told (FilesFailed input) net) status)
-    ⊎ ((network : Net) × IsLoaded network_file input.told net network × EndsRecovery network output stored status)
+EndsReplay input output stored net status = EndsBy (file network_file net) HasReplayed input output stored (without_run status)
 
 -- the same for the words of a replay; for words of no command the store is as it was given
 abbrev pub EndsReplayWords : Input → Output → Stored → Request → ℕ → Type 0
 EndsReplayWords input output stored (ReplayJournal net _) status = EndsReplay input output stored net status
 EndsReplayWords input output stored _ status = IsAsGiven stored × PrintsOneOf output SaysFaultyWords status
-
--- a replay ended so, and nothing was run
-pub record HasReplayed (input : Input) (output : Output) (stored : Stored) (net : List ℕ) (end : End) : Type 0 where
-  pub histories : end.histories ≡ []
-  pub events : end.events ≡ []
-  pub ends : EndsReplay input output stored net end.status
 
 -- the text of what the store's journal comes to
 abbrev pub PrintsRecovered : Stored → Net → Outcome → Type 0
@@ -83,7 +86,3 @@ PrintsUnrecovered stored net outcome = (fault : RecoverFault) × IsNotRecovered 
 -- on a sound network one of these
 abbrev pub PrintsJournal : Stored → Net → Outcome → Type 0
 PrintsJournal stored net outcome = IsSound net × (PrintsRecovered stored net outcome ⊎ PrintsUnrecovered stored net outcome)
-
--- the network is loaded, and then the store
-abbrev pub Replays : (List ℕ → Option (List ℕ)) → Type 0 → Stored → List ℕ → Outcome → Type 0
-Replays told failed stored net = Loads network_file told failed net (λ network. PrintsJournal stored network)

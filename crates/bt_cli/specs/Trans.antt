@@ -1,6 +1,6 @@
 -- `trans K MATRIX`: the matrix is loaded, and a schedule that is good for it with so many transponders is printed, where these
 -- suit its size.
-use Rattle.std.specs.Prelude.{◌≡◌, ◌⊎◌, ℕ, ◌<◌, ◌≤◌, List, [], ◌∷◌, length, codes, Option}
+use Rattle.std.specs.Prelude.{◌≡◌, ◌⊎◌, ℕ, ◌<◌, ◌≤◌, List, [], ◌∷◌, length, codes}
 use Rattle.bt_trans.specs.declared.part.TheConstants.{MOST_PART_BEAMS}
 use Rattle.bt_trans.specs.declared.part.PartSchedule.{PartSchedule}
 use Rattle.bt_trans.specs.Part.{IsGoodPart, IsNamed}
@@ -8,7 +8,7 @@ use Rattle.bt_trans.specs.PartText.{part_spelling}
 use Rattle.bt_report.specs.declared.status.TheConstants.{DONE, FAULTY_TEXT}
 use Rattle.bt_load.specs.Kinds.{matrix_file}
 use Rattle.bt_report.specs.Outcome.{Outcome, Says, text_alone}
-use Rattle.bt_load.specs.Files.{Loads}
+use Rattle.bt_load.specs.Loaders.{Loader, file, tested}
 
 -- the matrix has as many beams as there are transponders at least, and no more than a schedule is made for
 abbrev pub Suits : ℕ → List (List ℕ) → Type 0
@@ -26,10 +26,6 @@ pub record PrintsPart (transponders : ℕ) (rows : List (List ℕ)) (outcome : O
   pub named : IsNamed rows schedule.length schedule.bound
   pub printed : outcome ≡ text_alone (part_spelling rows schedule) DONE
 
--- the transponders suit the matrix, and a schedule is printed; or its size is at fault
-abbrev pub PrintsWhereItSuits : ℕ → List (List ℕ) → Outcome → Type 0
-PrintsWhereItSuits transponders rows outcome = NamesSize transponders rows outcome ⊎ (Suits transponders rows × PrintsPart transponders rows outcome)
-
--- the matrix is loaded, and then a schedule for it is printed
-abbrev pub PlansPart : (List ℕ → Option (List ℕ)) → Type 0 → ℕ → List ℕ → Outcome → Type 0
-PlansPart told failed transponders matrix = Loads matrix_file told failed matrix (λ rows. PrintsWhereItSuits transponders rows)
+-- a matrix is loaded that so many transponders suit
+abbrev pub suited_file : ℕ → List ℕ → Loader (List (List ℕ))
+suited_file transponders matrix = tested (Suits transponders) (NamesSize transponders) (file matrix_file matrix)

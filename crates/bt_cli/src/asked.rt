@@ -5,7 +5,7 @@ ghost use Rattle.bt_demand.specs.Traffic.{matrix_of, AreOfNetwork, HasSumsTo};
 ghost use Rattle.bt_report.specs.Report.{StopIs};
 ghost use Rattle.bt_load.specs.Files.{IsLoaded};
 ghost use Rattle.bt_load.specs.Kinds.{demand_file};
-ghost use Rattle.bt_cli.specs.Fitting.{AreLoaded, Fits, StopsAtAsked, StopsAtDemand};
+ghost use Rattle.bt_cli.specs.Fitting.{Fits, asked_files, fitting_file};
 
 use crate::fit::fitting_matrix;
 use bt_demand::Demand;
@@ -25,19 +25,18 @@ pub struct Asked {
 }
 
 /// The network and the demand in two files, where the demand fits.
-#[tactic(auto, using(crate::proofs::LoadsAsked::demand_stops))]
 pub fn load_asked<F: Files>(
     alloc: Global,
     files: &mut F,
     net: &str,
     traffic: &str,
 ) -> Result<Asked, Stop>
-    ensures loaded { IfOk result (λ asked. AreLoaded (F.told files.old) net.now traffic.now (asked.net, asked.demand)) }
+    ensures loaded { IfOk result (λ asked. (asked_files net.now traffic.now).gives (F.told files.old) (asked.net, asked.demand)) }
     ensures terminals { IfOk result (λ asked. AreOfNetwork asked.net asked.demand) }
     ensures sums { IfOk result (λ asked. HasSumsTo MOST_SUM (matrix_of asked.net asked.demand)) }
     ensures matrix { IfOk result (λ asked. asked.matrix ≡ matrix_of asked.net asked.demand) }
-    ensures stops { IfErr result (StopIs (StopsAtAsked (F.told files.old)
-        (Rose (F.fault_count files.old) (F.fault_count files.new)) net.now traffic.now)) }
+    ensures stops { IfErr result (StopIs ((asked_files net.now traffic.now).stops (F.told files.old)
+        (Rose (F.fault_count files.old) (F.fault_count files.new)))) }
     ensures later { F.fault_count files.old ≤ F.fault_count files.new }
     ensures same { F.told files.new ≡ F.told files.old }
 {
@@ -63,8 +62,8 @@ fn load_fitting<F: Files>(
     ensures terminals { IfOk result (λ found. AreOfNetwork net.now found.0) }
     ensures sums { IfOk result (λ found. HasSumsTo MOST_SUM (matrix_of net.now found.0)) }
     ensures matrix { IfOk result (λ found. found.1 ≡ matrix_of net.now found.0) }
-    ensures stops { IfErr result (StopIs (StopsAtDemand (F.told files.old)
-        (Rose (F.fault_count files.old) (F.fault_count files.new)) traffic.now net.now)) }
+    ensures stops { IfErr result (StopIs ((fitting_file net.now traffic.now).stops (F.told files.old)
+        (Rose (F.fault_count files.old) (F.fault_count files.new)))) }
     ensures later { F.fault_count files.old ≤ F.fault_count files.new }
     ensures same { F.told files.new ≡ F.told files.old }
 {

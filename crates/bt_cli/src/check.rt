@@ -1,8 +1,10 @@
 // `check MATRIX MODES`.
-ghost use Rattle.std.specs.Prelude.{◌≡◌, None};
+ghost use Rattle.std.specs.Prelude.{◌≡◌, None, length};
 ghost use Rattle.bt_outside.specs.Told.{Rose};
 ghost use Rattle.bt_matrix.specs.Traffic.{IsLine};
-ghost use Rattle.bt_cli.specs.Check.{ChecksModes, ChecksSchedule, Judges, verdict_status};
+ghost use Rattle.bt_load.specs.Kinds.{schedule_file};
+ghost use Rattle.bt_load.specs.Loaders.{Loads, file};
+ghost use Rattle.bt_cli.specs.Check.{Judges, schedule_files, verdict_status};
 ghost use Rattle.bt_report.specs.Printing.{CameTo};
 ghost use Rattle.bt_timeline.specs.Verdicts.{CanName};
 ghost use Rattle.bt_verdict.specs.Verdict.{IsVerdict};
@@ -23,7 +25,7 @@ pub fn check_files<F: Files>(
     matrix: &str,
     modes: &str,
 ) -> Result<Report, Stop>
-    ensures { CameTo (ChecksModes (F.told files.old) (Rose (F.fault_count files.old) (F.fault_count files.new)) matrix.now modes.now) result }
+    ensures { CameTo (Loads (schedule_files matrix.now modes.now) (λ both. Judges both.0 both.1) (F.told files.old) (Rose (F.fault_count files.old) (F.fault_count files.new))) result }
 {
     let matrix = load_matrix(alloc, files, matrix)?;
     check_modes_file(alloc, files, &matrix, modes)
@@ -35,7 +37,7 @@ fn check_modes_file<F: Files>(
     matrix: &Dense,
     modes: &str,
 ) -> Result<Report, Stop>
-    ensures { CameTo (ChecksSchedule (F.told files.old) (Rose (F.fault_count files.old) (F.fault_count files.new)) modes.now matrix.now) result }
+    ensures { CameTo (Loads (file (schedule_file (length matrix.now)) modes.now) (Judges matrix.now) (F.told files.old) (Rose (F.fault_count files.old) (F.fault_count files.new))) result }
 {
     let schedule = load_schedule(alloc, files, modes, matrix.size())?;
     judge(alloc, matrix, &schedule)

@@ -4,7 +4,9 @@ ghost use Rattle.bt_outside.specs.Told.{Rose};
 ghost use Rattle.bt_frame.specs.Critical.{IsOfBeams};
 ghost use Rattle.bt_verdict.specs.PlanVerdict.{AreBetweenTerminals, IsPlanVerdict};
 ghost use Rattle.bt_demand.specs.Traffic.{matrix_of, AreOfNetwork, HasSumsTo};
-ghost use Rattle.bt_cli.specs.CheckPlan.{ChecksPlan, ChecksPlanText, JudgesPlan};
+ghost use Rattle.bt_load.specs.Kinds.{plan_file};
+ghost use Rattle.bt_load.specs.Loaders.{Loads, file};
+ghost use Rattle.bt_cli.specs.CheckPlan.{JudgesPlan, plan_files};
 ghost use Rattle.bt_timeline.specs.Verdicts.{CanName};
 ghost use Rattle.bt_report.specs.Printing.{CameTo};
 
@@ -28,7 +30,7 @@ pub fn check_plan_files<F: Files>(
     traffic: &str,
     plan: &str,
 ) -> Result<Report, Stop>
-    ensures judged { CameTo (ChecksPlan (F.told files.old) (Rose (F.fault_count files.old) (F.fault_count files.new)) net.now traffic.now plan.now) result }
+    ensures judged { CameTo (Loads (plan_files net.now traffic.now plan.now) (λ both. JudgesPlan both.0.0 both.0.1 both.1) (F.told files.old) (Rose (F.fault_count files.old) (F.fault_count files.new))) result }
 {
     let asked = load_asked(alloc, files, net, traffic)?;
     check_plan_file(alloc, files, &asked.net, &asked.demand, plan)
@@ -43,7 +45,7 @@ fn check_plan_file<F: Files>(
 ) -> Result<Report, Stop>
     requires terminals { AreOfNetwork net.now demand.now }
     requires sums { HasSumsTo MOST_SUM (matrix_of net.now demand.now) }
-    ensures { CameTo (ChecksPlanText (F.told files.old) (Rose (F.fault_count files.old) (F.fault_count files.new)) plan.now net.now demand.now) result }
+    ensures { CameTo (Loads (file (plan_file net.now) plan.now) (JudgesPlan net.now demand.now) (F.told files.old) (Rose (F.fault_count files.old) (F.fault_count files.new))) result }
 {
     let plan = load_plan(alloc, files, plan, net)?;
     judge_plan(alloc, net, demand, &plan)

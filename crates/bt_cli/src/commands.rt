@@ -4,6 +4,7 @@ ghost use Rattle.std.specs.String.{string_bytes};
 ghost use Rattle.bt_outside.specs.Told.{Rose};
 ghost use Rattle.bt_report.specs.Printing.{CameTo};
 ghost use Rattle.bt_cli.specs.Request.{asked, first_word, request_of};
+ghost use Rattle.bt_cli.specs.Command.{no_store};
 ghost use Rattle.bt_cli.specs.Top.{AsksNoStore, Reported, Reports};
 
 use crate::check::check_files;
@@ -37,7 +38,7 @@ pub(crate) fn report<F: Files, O: Sink>(
 /// What it comes to.
 fn answer<F: Files>(alloc: Global, line: CommandLine<'_>, files: &mut F) -> Result<Report, Stop>
     requires { AsksNoStore (asked line) }
-    ensures { CameTo (Reports (F.told files.old) (Rose (F.fault_count files.old) (F.fault_count files.new)) (asked line.entry)) result }
+    ensures { CameTo (Reports (F.told files.old) (Rose (F.fault_count files.old) (F.fault_count files.new)) no_store (asked line.entry)) result }
 {
     match line {
         CommandLine::Faulty => Ok(faulty_words(alloc)?),

@@ -23,7 +23,7 @@ ghost use Rattle.bt_cli.specs.Request.{Request};
 ghost use Rattle.bt_report.specs.Output.{Output};
 ghost use Rattle.bt_report.specs.Stored.{Stored};
 ghost use Rattle.bt_cli.specs.Run.{End};
-ghost use Rattle.bt_cli.specs.Top.{AreOneStore, AreTold, Ends, IsOneReport, ReportsWith, Serves};
+ghost use Rattle.bt_cli.specs.Top.{AreOneStore, AreTold, Ends, IsOneReport, Reports, Serves};
 
 use bt_book::journals_tell_one_thing;
 use bt_demand::{good_plans_are_flyable, links_tell_demands};
@@ -37,7 +37,7 @@ use bt_verdict::{one_plan_verdict, one_verdict};
 pub fn one_report()
     ensures same { (told : List ℕ → Option (List ℕ)) (one other : Stored) (request : Request)
         → AreTold told request → AreOneStore request one other
-        → (a b : Outcome) → ReportsWith told ⊥ one request a → ReportsWith told ⊥ other request b
+        → (a b : Outcome) → Reports told ⊥ one request a → Reports told ⊥ other request b
         → IsOneReport request a b }
 {
     one_verdict();
@@ -51,7 +51,7 @@ pub fn one_report()
 /// outcomes that the promise allows was printed with its status.
 pub fn ends_are_reports()
     ensures printed { (input : Input) (output : Output) (stored : Stored) (request : Request) (end : End) → Ends input output stored request end
-        → (end.status ≡ WRITE_FAILED) ⊎ PrintsOneOf output (ReportsWith input.told (FilesFailed input) stored request) end.status }
+        → (end.status ≡ WRITE_FAILED) ⊎ PrintsOneOf output (Reports input.told (FilesFailed input) stored request) end.status }
 {}
 
 /// Where the words are a command's, each file that is read is told, within its limit and of its grammar, the demand fits
@@ -61,6 +61,8 @@ pub fn sound_input_is_served()
     ensures served { (input : Input) (output : Output) (stored : Stored) (request : Request) (end : End)
         → NothingFails input output stored → Ends input output stored request end → Serves input.told stored request end.status }
 {
+    one_verdict();
+    one_plan_verdict();
     one_line_is_heaviest();
     links_tell_demands();
     journals_tell_one_thing();

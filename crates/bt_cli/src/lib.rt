@@ -3,9 +3,9 @@
 //! It stands on the loader of files (`bt_load`) and on what a report is (`bt_report`), on the planners and checkers, on the
 //! book and what its store tells (`bt_book`), on the run of scripts over a store (`bt_centre`) and on the printed lines
 //! (`bt_timeline`).
-//! Promises: `specs/Top.antt` says how the program ends and what it leaves in the store, case by case in the order of the
-//! work, and the files that it names say so of each command, in the words of `bt_load`'s `specs/Files.antt`. For bodies
-//! alone: `CommandLine`.
+//! Promises: `specs/Top.antt` has the table of the commands, from which how the program ends and what it leaves in the store is
+//! read off by the words of `specs/Command.antt`; the files that it names say of each command what it loads, in the words of
+//! `bt_load`'s `specs/Loaders.antt`, and what it prints. For bodies alone: `CommandLine`.
 #![tactic(auto)]
 
 mod asked;

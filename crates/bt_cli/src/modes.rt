@@ -1,7 +1,9 @@
 // `modes MATRIX`.
 ghost use Rattle.bt_outside.specs.Told.{Rose};
 ghost use Rattle.bt_report.specs.Printing.{CameTo};
-ghost use Rattle.bt_cli.specs.Modes.{PrintsModes, PrintsSchedule};
+ghost use Rattle.bt_load.specs.Kinds.{matrix_file};
+ghost use Rattle.bt_load.specs.Loaders.{Loads, file};
+ghost use Rattle.bt_cli.specs.Modes.{PrintsSchedule};
 
 use bt_load::load_matrix;
 use bt_matrix::Dense;
@@ -12,7 +14,7 @@ use std::alloc::Global;
 
 /// A schedule of the least length for the matrix in a file.
 pub fn plan_modes<F: Files>(alloc: Global, files: &mut F, matrix: &str) -> Result<Report, Stop>
-    ensures { CameTo (PrintsModes (F.told files.old) (Rose (F.fault_count files.old) (F.fault_count files.new)) matrix.now) result }
+    ensures { CameTo (Loads (file matrix_file matrix.now) PrintsSchedule (F.told files.old) (Rose (F.fault_count files.old) (F.fault_count files.new))) result }
 {
     let matrix = load_matrix(alloc, files, matrix)?;
     schedule_report(alloc, &matrix)

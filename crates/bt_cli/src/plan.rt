@@ -3,8 +3,9 @@ ghost use Rattle.std.specs.Prelude.{◌≡◌};
 ghost use Rattle.bt_outside.specs.Told.{Rose};
 ghost use Rattle.bt_demand.specs.Traffic.{matrix_of, AreOfNetwork};
 ghost use Rattle.bt_report.specs.Printing.{CameTo};
-ghost use Rattle.bt_cli.specs.Fitting.{Fits};
-ghost use Rattle.bt_cli.specs.Plans.{Plans, PrintsPlan};
+ghost use Rattle.bt_load.specs.Loaders.{Loads};
+ghost use Rattle.bt_cli.specs.Fitting.{Fits, asked_files};
+ghost use Rattle.bt_cli.specs.Plans.{PrintsPlan};
 
 use crate::asked::load_asked;
 use bt_cut::make_plan_for;
@@ -27,7 +28,7 @@ pub fn plan_files<F: Files>(
     net: &str,
     traffic: &str,
 ) -> Result<Report, Stop>
-    ensures { CameTo (Plans (F.told files.old) (Rose (F.fault_count files.old) (F.fault_count files.new)) net.now traffic.now) result }
+    ensures { CameTo (Loads (asked_files net.now traffic.now) (λ asked. PrintsPlan asked.0 asked.1) (F.told files.old) (Rose (F.fault_count files.old) (F.fault_count files.new))) result }
 {
     let asked = load_asked(alloc, files, net, traffic)?;
     plan_report(alloc, &asked.net, &asked.demand, &asked.matrix)

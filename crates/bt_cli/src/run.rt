@@ -1,6 +1,9 @@
 // `run NET SCRIPT JOURNAL`.
 ghost use Rattle.std.specs.Prelude.{◌≤◌};
-ghost use Rattle.bt_cli.specs.Run.{EndsRun, EndsScript};
+ghost use Rattle.bt_load.specs.Kinds.{script_file};
+ghost use Rattle.bt_load.specs.Loaders.{file};
+ghost use Rattle.bt_cli.specs.Command.{EndsBy};
+ghost use Rattle.bt_cli.specs.Run.{HasRun, script_files};
 
 use crate::Ended;
 use bt_centre::{NoGate, run_script};
@@ -23,10 +26,10 @@ pub fn run_files<R: Threads + Wait + Sync, F: Files, O: Sink, K: Keeper + Send>(
     out: &mut O,
     store: K,
 ) -> Ended<K>
-    ensures ends { EndsRun (record { told = F.told files.old; faults_before = F.fault_count files.old; faults_after = F.fault_count files.new })
+    ensures ends { EndsBy (script_files net.now script.now) (λ both. HasRun both.0 both.1) (record { told = F.told files.old; faults_before = F.fault_count files.old; faults_after = F.fault_count files.new })
         (record { before = O.told out.old; after = O.told out.new; faults_before = O.fault_count out.old; faults_after = O.fault_count out.new })
         (record { before = K.told store; after = K.told result.store; faults_before = K.fault_count store; faults_after = K.fault_count result.store })
-        net.now script.now (record { status = result.status; histories = result.histories; events = result.events.items }) }
+        (record { status = result.status; histories = result.histories; events = result.events.items }) }
 {
     match load_network(alloc, files, net) {
         Ok(net) => run_script_file(rt, alloc, &net, script, files, out, store),
@@ -44,10 +47,10 @@ fn run_script_file<R: Threads + Wait + Sync, F: Files, O: Sink, K: Keeper + Send
     out: &mut O,
     store: K,
 ) -> Ended<K>
-    ensures ends { EndsScript (record { told = F.told files.old; faults_before = F.fault_count files.old; faults_after = F.fault_count files.new })
+    ensures ends { EndsBy (file (script_file net.now) script.now) (HasRun net.now) (record { told = F.told files.old; faults_before = F.fault_count files.old; faults_after = F.fault_count files.new })
         (record { before = O.told out.old; after = O.told out.new; faults_before = O.fault_count out.old; faults_after = O.fault_count out.new })
         (record { before = K.told store; after = K.told result.store; faults_before = K.fault_count store; faults_after = K.fault_count result.store })
-        script.now net.now (record { status = result.status; histories = result.histories; events = result.events.items }) }
+        (record { status = result.status; histories = result.histories; events = result.events.items }) }
     ensures later { F.fault_count files.old ≤ F.fault_count files.new }
 {
     // This is there for what holds of each network: it is sound.

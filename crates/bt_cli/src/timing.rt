@@ -12,7 +12,9 @@ ghost use Rattle.bt_cli.specs.Fitting.{Fits};
 ghost use Rattle.bt_report.specs.Outcome.{Says};
 ghost use Rattle.bt_report.specs.Printing.{CameTo};
 ghost use Rattle.bt_report.specs.Report.{StopIs};
-ghost use Rattle.bt_cli.specs.Timing.{NamesVerdict, PrintsSends, TimesDelays, TimesPlanText, TimesSends, WhereItIsGood};
+ghost use Rattle.bt_load.specs.Kinds.{delay_file};
+ghost use Rattle.bt_load.specs.Loaders.{Loads, file};
+ghost use Rattle.bt_cli.specs.Timing.{NamesVerdict, PrintsSends, TellsTimes, delay_files, delays_of_good, timed_plan};
 
 use crate::asked::load_asked;
 use crate::check_plan::verdict_on;
@@ -24,7 +26,7 @@ use bt_outside::Files;
 use bt_report::{DONE, NOT_GOOD, Report, Stop};
 use bt_timeline::verdict_text;
 use bt_timing::{Timing, sends_text};
-use bt_verdict::Verdict;
+use bt_verdict::{Verdict, one_plan_verdict};
 use std::alloc::Global;
 
 /// The times of the plan in a file, for the demand and the network in two others and by the delays in a fourth.
@@ -36,7 +38,7 @@ pub fn time_files<F: Files>(
     plan: &str,
     delays: &str,
 ) -> Result<Report, Stop>
-    ensures { CameTo (TimesSends (F.told files.old) (Rose (F.fault_count files.old) (F.fault_count files.new)) net.now traffic.now plan.now delays.now) result }
+    ensures { CameTo (Loads (delay_files net.now traffic.now plan.now delays.now) (λ all. TellsTimes all.0.0 all.0.1 all.1.0 all.1.1) (F.told files.old) (Rose (F.fault_count files.old) (F.fault_count files.new))) result }
 {
     let asked = load_asked(alloc, files, net, traffic)?;
     time_plan_file(alloc, files, &asked.net, &asked.demand, plan, delays)
@@ -53,7 +55,7 @@ fn time_plan_file<F: Files>(
     requires terminals { AreOfNetwork net.now demand.now }
     requires sums { HasSumsTo MOST_SUM (matrix_of net.now demand.now) }
     requires fits { Fits net.now demand.now }
-    ensures { CameTo (TimesPlanText (F.told files.old) (Rose (F.fault_count files.old) (F.fault_count files.new)) plan.now delays.now net.now demand.now) result }
+    ensures { CameTo (Loads (timed_plan net.now demand.now plan.now delays.now) (λ both. TellsTimes net.now demand.now both.0 both.1) (F.told files.old) (Rose (F.fault_count files.old) (F.fault_count files.new))) result }
 {
     let plan = load_plan(alloc, files, plan, net)?;
     time_plan(alloc, files, net, demand, &plan, delays)
@@ -73,8 +75,9 @@ fn time_plan<F: Files>(
     requires critical { IsOfBeams (length net.now.beams) plan.now.schedule.critical }
     requires sums { HasSumsTo MOST_SUM (matrix_of net.now demand.now) }
     requires fits { Fits net.now demand.now }
-    ensures { CameTo (WhereItIsGood net.now demand.now plan.now (TimesDelays (F.told files.old) (Rose (F.fault_count files.old) (F.fault_count files.new)) delays.now net.now plan.now)) result }
+    ensures { CameTo (Loads (delays_of_good net.now demand.now plan.now delays.now) (TellsTimes net.now demand.now plan.now) (F.told files.old) (Rose (F.fault_count files.old) (F.fault_count files.new))) result }
 {
+    one_plan_verdict();
     test_good(alloc, net, demand, plan)?;
     time_by_file(alloc, files, net, demand, plan, delays)
 }
@@ -123,7 +126,7 @@ fn time_by_file<F: Files>(
     requires bursts { AreBetweenTerminals net.now plan.now.bursts }
     requires good { IsGoodPlan net.now demand.now plan.now }
     requires fits { Fits net.now demand.now }
-    ensures { CameTo (TimesDelays (F.told files.old) (Rose (F.fault_count files.old) (F.fault_count files.new)) delays.now net.now plan.now) result }
+    ensures { CameTo (Loads (file (delay_file net.now) delays.now) (PrintsSends net.now plan.now) (F.told files.old) (Rose (F.fault_count files.old) (F.fault_count files.new))) result }
 {
     let timing = load_delays(alloc, files, delays, net)?;
     sends_report(alloc, net, demand, plan, &timing)

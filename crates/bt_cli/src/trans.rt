@@ -1,12 +1,12 @@
 // `trans K MATRIX`.
-ghost use Rattle.std.specs.Prelude.{◌≤◌, length, OnOk, IfErr};
+ghost use Rattle.std.specs.Prelude.{◌≤◌, OnOk, IfErr};
 ghost use Rattle.bt_frame.specs.declared.limits.TheConstants.{MOST_SUM};
 ghost use Rattle.bt_outside.specs.Told.{Rose};
 ghost use Rattle.bt_trans.specs.Part.{total_slots};
-ghost use Rattle.bt_trans.specs.declared.part.TheConstants.{MOST_PART_BEAMS};
 ghost use Rattle.bt_report.specs.Printing.{CameTo};
 ghost use Rattle.bt_report.specs.Report.{StopIs};
-ghost use Rattle.bt_cli.specs.Trans.{NamesSize, PlansPart, PrintsPart, PrintsWhereItSuits, Suits};
+ghost use Rattle.bt_load.specs.Loaders.{Loads};
+ghost use Rattle.bt_cli.specs.Trans.{NamesSize, PrintsPart, Suits, suited_file};
 
 use crate::number_word::Transponders;
 use bt_frame::MOST_SUM;
@@ -25,20 +25,11 @@ pub fn plan_part<F: Files>(
     transponders: Transponders,
     matrix: &str,
 ) -> Result<Report, Stop>
-    ensures { CameTo (PlansPart (F.told files.old) (Rose (F.fault_count files.old) (F.fault_count files.new)) transponders.count matrix.now) result }
+    ensures { CameTo (Loads (suited_file transponders.count matrix.now) (PrintsPart transponders.count) (F.told files.old) (Rose (F.fault_count files.old) (F.fault_count files.new))) result }
 {
     let matrix = load_matrix(alloc, files, matrix)?;
-    part_of_matrix(alloc, transponders.count, &matrix)
-}
-
-/// The text of a schedule for the matrix, or the report that its size is at fault.
-fn part_of_matrix(alloc: Global, transponders: u32, matrix: &Dense) -> Result<Report, Stop>
-    requires some { 1 ≤ transponders }
-    requires total { length matrix.now ≤ MOST_PART_BEAMS → total_slots matrix.now ≤ MOST_SUM }
-    ensures { CameTo (PrintsWhereItSuits transponders matrix.now) result }
-{
-    test_size(alloc, transponders, matrix)?;
-    part_report(alloc, transponders, matrix)
+    test_size(alloc, transponders.count, &matrix)?;
+    part_report(alloc, transponders.count, &matrix)
 }
 
 /// The transponders suit the matrix, or the report that its size is at fault.

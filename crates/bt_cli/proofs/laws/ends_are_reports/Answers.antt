@@ -1,4 +1,4 @@
-use Rattle.bt_cli.proofs.Runs.{ends_reported}
+use Rattle.bt_cli.proofs.ByCommand.{ends_reported}
 use Rattle.bt_cli.proofs.laws.ends_are_reports.Goals as goal
 
 pub returns : goal.returns

@@ -1,0 +1,24 @@
+-- what is asked is what the command line says
+use Rattle.bt_outside.specs.Told.{Rose}
+use Rattle.bt_cli.proofs.ByCommand.{came_at}
+use Rattle.bt_cli.proofs.commands.answer.Goals as goal
+
+pub returns-in-CheckModes : goal.returns-in-CheckModes
+returns-in-CheckModes g c =
+    came_at (g.F.Files.told c.args.files.now) (Rose (g.F.Files.fault_count c.args.files.now) (g.F.Files.fault_count c.check_files.new.files)) c.args.line _ c.in-CheckModes.is c.check_files.result c.check_files.ensures
+
+pub returns-in-CheckPlan : goal.returns-in-CheckPlan
+returns-in-CheckPlan g c =
+    came_at (g.F.Files.told c.args.files.now) (Rose (g.F.Files.fault_count c.args.files.now) (g.F.Files.fault_count c.check_plan_files.new.files)) c.args.line _ c.in-CheckPlan.is c.check_plan_files.result c.check_plan_files.ensures.judged
+
+pub returns-in-PlanDemand : goal.returns-in-PlanDemand
+returns-in-PlanDemand g c =
+    came_at (g.F.Files.told c.args.files.now) (Rose (g.F.Files.fault_count c.args.files.now) (g.F.Files.fault_count c.plan_files.new.files)) c.args.line _ c.in-PlanDemand.is c.plan_files.result c.plan_files.ensures
+
+pub returns-in-TimeSends : goal.returns-in-TimeSends
+returns-in-TimeSends g c =
+    came_at (g.F.Files.told c.args.files.now) (Rose (g.F.Files.fault_count c.args.files.now) (g.F.Files.fault_count c.time_files.new.files)) c.args.line _ c.in-TimeSends.is c.time_files.result c.time_files.ensures
+
+pub returns-in-PlanPart : goal.returns-in-PlanPart
+returns-in-PlanPart g c =
+    came_at (g.F.Files.told c.args.files.now) (Rose (g.F.Files.fault_count c.args.files.now) (g.F.Files.fault_count c.plan_part.new.files)) c.args.line _ c.in-PlanPart.is c.plan_part.result c.plan_part.ensures
