@@ -36,7 +36,7 @@ use Rattle.bt_centre.proofs.Played.{changes_are, gained-append, item_goes_on, it
 use Rattle.bt_centre.proofs.Times.{rose_still}
 
 -- a first part of what comes behind a text
-prefix_behind : (told between after : Option (List ℕ)) (text more : List ℕ) → between ≡ gained told text → GainsPrefix between more after → GainsPrefix told (text ++ more) after
+pub prefix_behind : (told between after : Option (List ℕ)) (text more : List ℕ) → between ≡ gained told text → GainsPrefix between more after → GainsPrefix told (text ++ more) after
 prefix_behind told between after text more is (kept, wrote) = (
   length text + kept,
   wrote ∙ ap (λ (t : Option (List ℕ)). gained t (take kept more)) is ∙ gained-append told text (take kept more) ∙ ap (gained told) (sym (take-append-add text more kept)),
@@ -51,7 +51,7 @@ abbrev pub output_of : Option (List ℕ) → Option (List ℕ) → ℕ → ℕ �
 output_of before after faults now = record { before = before; after = after; faults_before = faults; faults_after = now }
 
 -- these parts were run
-run_of : (net : Net) (begun : Books) (items : List Item) (hand : Hand) (lines : List ℕ) (histories : List History) (events : List Event) → AreGood net
+unfoldable pub run_of : (net : Net) (begun : Books) (items : List Item) (hand : Hand) (lines : List ℕ) (histories : List History) (events : List Event) → AreGood net
     → (so : ItemsDone net begun items hand lines) → histories ≡ histories_in hand → events ≡ hand.air.life.events
     → IsRun net (is_some begun.told) begun.state.changes items histories events lines
 run_of net begun items hand lines histories events good so all same = record {
@@ -64,7 +64,7 @@ run_of net begun items hand lines histories events good so all same = record {
 }
 
 -- the store is left as the book says
-left_of : (net : Net) (begun : Books) (items : List Item) (hand : Hand) (lines : List ℕ) (told : Option (List ℕ)) (faults : ℕ) (histories : List History)
+pub left_of : (net : Net) (begun : Books) (items : List Item) (hand : Hand) (lines : List ℕ) (told : Option (List ℕ)) (faults : ℕ) (histories : List History)
     → (so : ItemsDone net begun items hand lines) → told ≡ hand.book.told → faults ≡ hand.book.faults → histories ≡ histories_in hand
     → IsKept hand.book.net hand.book.told hand.book.state.changes (lost_of hand.book.history)
     → LeavesStore net (record { before = begun.told; after = told; faults_before = begun.faults; faults_after = faults }) histories so.end
@@ -78,7 +78,7 @@ left_of net begun items hand lines told faults histories so told_is faults_are a
 }
 
 -- the world in which a run stops
-world_of : (net : Net) (begun : Books) (opening : List Change) (hand : Hand) (events : List Event) → IsLegalHand net begun opening hand → IsWorld hand.air.life.opening (reverse events)
+pub world_of : (net : Net) (begun : Books) (opening : List Change) (hand : Hand) (events : List Event) → IsLegalHand net begun opening hand → IsWorld hand.air.life.opening (reverse events)
     → IsWorld (opening_on net begun.state.changes) (reverse events)
 world_of net begun opening hand events so world = subst (λ (o : Opening). IsWorld o (reverse events)) so.world world
 
@@ -145,7 +145,8 @@ only_fault (Some bytes) (Some others) P same is = is
 only_fault None (Some others) P same is = absurd cc
 only_fault told None P same is = tt
 
-rose_from : (f0 f1 f2 : ℕ) → f0 ≤ f1 → Rose f1 f2 → Rose f0 f2
+-- a count that rose since, and did not fall before
+pub rose_from : (f0 f1 f2 : ℕ) → f0 ≤ f1 → Rose f1 f2 → Rose f0 f2
 rose_from f0 f1 f2 later (inl rose) = inl (omega (arith, later, rose))
 rose_from f0 f1 f2 later (inr end) = inr end
 

@@ -39,20 +39,21 @@ AreSafe = (opening : Opening) (events : List Event) (bursts : List Burst) → Ar
     → IsSafe opening.net (modes_in_front opening (log opening events)) bursts
 
 -- each frame of a world is safe
-frames_safe : AreFlown → AreSafe → (opening : Opening) (events : List Event) → IsWorld opening events → FramesAreSafe opening events
+pub frames_safe : AreFlown → AreSafe → (opening : Opening) (events : List Event) → IsWorld opening events → FramesAreSafe opening events
 frames_safe flown safe opening events world =
     λ later earlier bursts is air. safe opening earlier bursts (flown opening earlier (world_before opening later Frame earlier (subst (IsWorld opening) is world))) air
 
 -- what a store tells and counts, from a moment before
-abbrev stored_from : Option (List ℕ) → Option (List ℕ) → ℕ → ℕ → Stored
+abbrev pub stored_from : Option (List ℕ) → Option (List ℕ) → ℕ → ℕ → Stored
 stored_from before after faults now = record { before = before; after = after; faults_before = faults; faults_after = now }
 
-leaves_from : (net : Net) (told given after : Option (List ℕ)) (faults begun now : ℕ) (histories : List History) (end : Stand) → faults ≤ begun
+-- the store is left so from an earlier moment too
+pub leaves_from : (net : Net) (told given after : Option (List ℕ)) (faults begun now : ℕ) (histories : List History) (end : Stand) → faults ≤ begun
     → LeavesStore net (stored_from told after begun now) histories end → LeavesStore net (stored_from given after faults now) histories end
 leaves_from net told given after faults begun now histories end later left = record { bytes = left.bytes; count = rose_since (length (lost_in histories)) faults begun now later left.count }
 
 -- a run over a store is one over another that tells its bytes where that one does
-run_over : (net : Net) (tells other : Bool) (opening : List Change) (items : List Item) (histories : List History) (events : List Event) (lines : List ℕ) → tells ≡ other
+unfoldable pub run_over : (net : Net) (tells other : Bool) (opening : List Change) (items : List Item) (histories : List History) (events : List Event) (lines : List ℕ) → tells ≡ other
     → IsRun net tells opening items histories events lines → IsRun net other opening items histories events lines
 run_over net tells other opening items histories events lines same run = record {
   end = run.end;

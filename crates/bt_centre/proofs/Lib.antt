@@ -12,3 +12,5 @@ pub mod OrdersJoin
 pub mod Lawful
 pub mod TurnsPlayed
 pub mod TurnsKnow
+pub mod Sessions
+pub mod SessionEnds

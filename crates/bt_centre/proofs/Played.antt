@@ -33,7 +33,7 @@ one_more : (n : ℕ) → n + 1 ≡ suc n
 one_more n = omega arith
 
 -- no part yet
-pub items_begin : (net : Net) (hand : Hand) → IsBegun net hand → ItemsDone net hand.book [] hand []
+unfoldable pub items_begin : (net : Net) (hand : Hand) → IsBegun net hand → ItemsDone net hand.book [] hand []
 items_begin net hand begun = record {
   so_far = legal_begins net hand begun;
   end = at_start net hand.book.state.changes;
@@ -80,9 +80,14 @@ newest_later net round old new text one follow =
       ap (λ (c : List Change). (newest c).edition.0) is,
     )
 
+-- a part more, and the way from where the parts before it led
+pub record Further (net : Net) (begun : Books) (items : List Item) (one : Item) (new : Hand) (lines own : List ℕ) (before : Stand) : Type 0 where
+  pub done : ItemsDone net begun (items ++ one ∷ []) new (lines ++ own)
+  pub way : PlaysItem net (is_some begun.told) before one own done.end
+
 -- a round more
 items_go_on : (net : Net) (begun : Books) (items : List Item) (round : Round) (old new : Hand) (lines own : List ℕ)
-    → ItemsDone net begun items old lines → RoundPlayed net round old new own → ItemsDone net begun (items ++ item.Round round ∷ []) new (lines ++ own)
+    → (so : ItemsDone net begun items old lines) → RoundPlayed net round old new own → Further net begun items (item.Round round) new lines own so.end
 items_go_on net begun items round old new lines own so one =
     let tells = is_some begun.told in
     let before = so.end in
@@ -115,17 +120,20 @@ items_go_on net begun items round old new lines own so one =
       printed = done.printed;
     } in
     record {
-      so_far = legal;
-      end = after;
-      played = play_more net tells (at_start net begun.state.changes) before after items (item.Round round) lines own so.played played;
-      over_is = so.over_is ∙ sym one.goes.over;
-      history_is = refl;
-      air_is = refl;
-      rounds_are = refl;
-      old = All-append (λ (sight : Sight). sight.plan.edition.0 ≤ newest_at new.book) before.sights done.sights
-          (λ k d within. omega (arith, so.old k d within, newest_later net round old new own one legal.follow))
-          (λ k d within. (done.seen k d within).last);
-      ascend = ascend;
+      way = played;
+      done = record {
+        so_far = legal;
+        end = after;
+        played = play_more net tells (at_start net begun.state.changes) before after items (item.Round round) lines own so.played played;
+        over_is = so.over_is ∙ sym one.goes.over;
+        history_is = refl;
+        air_is = refl;
+        rounds_are = refl;
+        old = All-append (λ (sight : Sight). sight.plan.edition.0 ≤ newest_at new.book) before.sights done.sights
+            (λ k d within. omega (arith, so.old k d within, newest_later net round old new own one legal.follow))
+            (λ k d within. (done.seen k d within).last);
+        ascend = ascend;
+      };
     }
 
 -- the stand after a restart
@@ -148,7 +156,7 @@ same_histories stand hand over before history =
 
 -- a restart more
 items_restart : (net : Net) (begun : Books) (items : List Item) (old new : Hand) (lines own : List ℕ)
-    → ItemsDone net begun items old lines → RestartPlayed net old new own → ItemsDone net begun (items ++ item.Restart ∷ []) new (lines ++ own)
+    → (so : ItemsDone net begun items old lines) → RestartPlayed net old new own → Further net begun items item.Restart new lines own so.end
 items_restart net begun items old new lines own so one =
     let tells = is_some begun.told in
     let before = so.end in
@@ -168,26 +176,34 @@ items_restart net begun items old new lines own so one =
       printed = centre.printed;
     } in
     record {
-      so_far = legal_restarts net begun before.opening old new own one was;
-      end = after;
-      played = play_more net tells (at_start net begun.state.changes) before after items item.Restart lines own so.played played;
-      over_is = refl;
-      history_is = sym one.none;
-      air_is = refl;
-      rounds_are = refl;
-      old = All-nil (λ (sight : Sight). sight.plan.edition.0 ≤ newest_at new.book);
-      ascend = λ i j d less within. absurd (omega (arith, within));
+      way = played;
+      done = record {
+        so_far = legal_restarts net begun before.opening old new own one was;
+        end = after;
+        played = play_more net tells (at_start net begun.state.changes) before after items item.Restart lines own so.played played;
+        over_is = refl;
+        history_is = sym one.none;
+        air_is = refl;
+        rounds_are = refl;
+        old = All-nil (λ (sight : Sight). sight.plan.edition.0 ≤ newest_at new.book);
+        ascend = λ i j d less within. absurd (omega (arith, within));
+      };
     }
 
 -- the line of a run's start
 pub start_is : (net : Net) (hand : Hand) → IsBegun net hand → start_of hand ≡ first_line net hand.book.state.changes
 start_is net hand begins = ap (λ (a : AirState). start_line (edition hand.book.state.changes) (newest hand.book.state.changes).edition.0 (mark_of a).0) begins.air
 
+-- a part more, with the way that it took
+pub item_goes_further : (net : Net) (begun : Books) (items : List Item) (one : Item) (old new : Hand) (lines own : List ℕ)
+    → (so : ItemsDone net begun items old lines) → ItemPlayed net one old new own → Further net begun items one new lines own so.end
+item_goes_further net begun items (item.Round round) old new lines own so played = items_go_on net begun items round old new lines own so played
+item_goes_further net begun items item.Restart old new lines own so played = items_restart net begun items old new lines own so played
+
 -- a part more
 pub item_goes_on : (net : Net) (begun : Books) (items : List Item) (one : Item) (old new : Hand) (lines own : List ℕ)
     → ItemsDone net begun items old lines → ItemPlayed net one old new own → ItemsDone net begun (items ++ one ∷ []) new (lines ++ own)
-item_goes_on net begun items (item.Round round) old new lines own so played = items_go_on net begun items round old new lines own so played
-item_goes_on net begun items item.Restart old new lines own so played = items_restart net begun items old new lines own so played
+item_goes_on net begun items one old new lines own so played = (item_goes_further net begun items one old new lines own so played).done
 
 -- what is written in two pieces
 pub gained-append : (told : Option (List ℕ)) (a b : List ℕ) → gained (gained told a) b ≡ gained told (a ++ b)

@@ -1,7 +1,10 @@
+pub mod Answering
 pub mod Joining
 pub mod Lines
 pub mod Parts
 pub mod Progress
 pub mod RecoverFaults
 pub mod Run
+pub mod Session
+pub mod Talked
 pub mod Turns

@@ -1,5 +1,5 @@
 // The line and the status of a recovery that failed.
-ghost use Rattle.std.specs.Prelude.{◌≡◌, ◌≢◌, ◌≤◌, ◌++◌, [], OnOk};
+ghost use Rattle.std.specs.Prelude.{◌≡◌, ◌≢◌, ◌≤◌, ◌++◌, [], IfOk, OnOk};
 ghost use Rattle.bt_timeline.specs.Timeline.{restart_line};
 ghost use Rattle.bt_centre.specs.RecoverFaults.{PrintsNamed, recover_line, recover_status};
 
@@ -17,7 +17,10 @@ pub fn print_fault<O: Sink>(alloc: Global, fault: RecoverFault, out: &mut O) -> 
         [] fault result }
     ensures later { O.fault_count out.old ≤ O.fault_count out.new }
 {
-    print_behind(alloc, Vec::new(alloc), fault, out)
+    match fault_text(alloc, fault) {
+        Ok(text) => print_text(alloc, text.as_slice(), recover_status(fault), out),
+        Err(_) => OUT_OF_MEMORY,
+    }
 }
 
 /// Prints the line of a restart, and behind it that of the recovery that failed there; gives the status to end with.
@@ -26,23 +29,40 @@ pub(crate) fn print_restart_fault<O: Sink>(alloc: Global, fault: RecoverFault, o
         restart_line fault result }
     ensures later { O.fault_count out.old ≤ O.fault_count out.new }
 {
-    let mut text = Vec::new(alloc);
-    if restart_text(alloc, &mut text).is_err() {
-        return OUT_OF_MEMORY;
+    match restart_fault_text(alloc, fault) {
+        Ok(text) => print_text(alloc, text.as_slice(), recover_status(fault), out),
+        Err(_) => OUT_OF_MEMORY,
     }
-    print_behind(alloc, text, fault, out)
 }
 
-/// Prints a text and the line of a fault behind it, and gives the status to end with.
-fn print_behind<O: Sink>(alloc: Global, mut text: Vec<u8>, fault: RecoverFault, out: &mut O) -> u8
-    ensures printed { PrintsNamed (record { before = O.told out.old; after = O.told out.new; faults_before = O.fault_count out.old; faults_after = O.fault_count out.new })
-        text.items fault result }
-    ensures later { O.fault_count out.old ≤ O.fault_count out.new }
+/// The line of a recovery that failed. Want of memory has none.
+pub(crate) fn fault_text(alloc: Global, fault: RecoverFault) -> Result<Vec<u8>, OutOfMemory>
+    ensures named { OnOk result (fault ≢ RecoverFault.OutOfMemory) }
+    ensures text { IfOk result (λ text. text.items ≡ recover_line fault) }
 {
-    if fault == RecoverFault::OutOfMemory || add_fault(alloc, fault, &mut text).is_err() {
-        return OUT_OF_MEMORY;
+    with_fault(alloc, Vec::new(alloc), fault)
+}
+
+/// The line of a restart, and behind it that of the recovery that failed there.
+pub(crate) fn restart_fault_text(alloc: Global, fault: RecoverFault) -> Result<Vec<u8>, OutOfMemory>
+    ensures named { OnOk result (fault ≢ RecoverFault.OutOfMemory) }
+    ensures text { IfOk result (λ text. text.items ≡ restart_line ++ recover_line fault) }
+{
+    let mut text = Vec::new(alloc);
+    restart_text(alloc, &mut text)?;
+    with_fault(alloc, text, fault)
+}
+
+/// A text and the line of a fault behind it.
+fn with_fault(alloc: Global, mut text: Vec<u8>, fault: RecoverFault) -> Result<Vec<u8>, OutOfMemory>
+    ensures named { OnOk result (fault ≢ RecoverFault.OutOfMemory) }
+    ensures text { IfOk result (λ all. all.items ≡ text.items ++ recover_line fault) }
+{
+    if fault == RecoverFault::OutOfMemory {
+        return Err(OutOfMemory);
     }
-    print_text(alloc, text.as_slice(), recover_status(fault), out)
+    add_fault(alloc, fault, &mut text)?;
+    Ok(text)
 }
 
 /// Appends the line of a recovery that failed, which is not for want of memory.
@@ -76,7 +96,7 @@ fn add_fault(alloc: Global, fault: RecoverFault, text: &mut Vec<u8>) -> Result<(
 }
 
 /// The status of a recovery that failed.
-fn recover_status(fault: RecoverFault) -> u8
+pub(crate) fn recover_status(fault: RecoverFault) -> u8
     ensures { result ≡ recover_status fault }
 {
     match fault {

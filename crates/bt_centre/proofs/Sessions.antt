@@ -1,0 +1,261 @@
+-- Lines of a session, played and answered one after the other.
+use Rattle.std.proofs.Common.{◌≡◌, ℕ, ◌+◌, ◌≤◌, Bool, List, [], ◌∷◌, ◌++◌, length, length-append, Option, Some, None, refl, sym, ap, ◌∙◌, subst, append_assoc, arith}
+use Rattle.std.specs.Option.{is_some}
+use Rattle.std.proofs.lemmas.List.{append-nil, map-append}
+use Rattle.bt_outside.specs.Told.{gained}
+use Rattle.bt_input.specs.declared.source.Incoming.{Incoming}
+use Rattle.bt_input.specs.Input.{Comes, said_by}
+use Rattle.bt_input.specs.Talk.{Turn, Heard, Said, heard, said, took}
+use Rattle.bt_net.specs.Network.{Net}
+use Rattle.bt_history.specs.Book.{Books}
+use Rattle.bt_journal.specs.declared.call.Change.{Change}
+use Rattle.bt_script.specs.declared.script.Item.{Item}
+use Rattle.bt_talk.specs.declared.block.Step.{Step}
+use Rattle.bt_talk.specs.declared.block.Step.TheVariants as step
+use Rattle.bt_talk.specs.Answers.{answer_of, ready_line}
+use Rattle.bt_talk.specs.Asked.{open_behind, part_in, parts_of}
+use Rattle.bt_talk.specs.Block.{Open, row_of}
+use Rattle.bt_centre.specs.Answering.{GaveSince, SessionDone, SessionGoing, SessionSaid, StepPlayed, Took}
+use Rattle.bt_centre.specs.Progress.{Hand, IsBegun, start_of}
+use Rattle.bt_centre.specs.Run.{Stand, at_start}
+use Rattle.bt_centre.specs.Session.{Exchange, PlaysLines, PlaysStep, heard_in, opening_text, session_turns, turns_in}
+use Rattle.bt_centre.specs.Talked.{spoken}
+use Rattle.bt_centre.proofs.Played.{gained-append, item_goes_further, items_begin, rounds_more, start_is}
+
+-- what came of an input
+abbrev pub Came : Type 0
+Came = Option (List ℕ)
+
+-- what is said in two lists of turns
+spoken-append : (a b : List Turn) → spoken (a ++ b) ≡ spoken a ++ spoken b
+spoken-append [] b = refl
+spoken-append (Heard line ∷ a) b = spoken-append a b
+spoken-append (Said piece ∷ a) b = ap (λ (t : List ℕ). piece ++ t) (spoken-append a b) ∙ sym (append_assoc piece (spoken a) (spoken b))
+
+-- turns that were taken one list after the other
+took-append : (turns : Option (List Turn)) (a b : List Turn) → took (took turns a) b ≡ took turns (a ++ b)
+took-append None a b = refl
+took-append (Some turns) a b = ap Some (append_assoc turns a b)
+
+-- where none were taken
+took-nil : (turns : Option (List Turn)) → turns ≡ took turns []
+took-nil None = refl
+took-nil (Some turns) = ap Some (sym (append-nil turns))
+
+gained-nil : (told : Option (List ℕ)) → told ≡ gained told []
+gained-nil None = refl
+gained-nil (Some held) = ap Some (sym (append-nil held))
+
+-- no turn yet
+pub took_none : (told : Option (List ℕ)) (turns : Option (List Turn)) → Took [] told told turns turns
+took_none told turns = record { wrote = gained-nil told; turn = took-nil turns }
+
+-- a piece more was said
+pub took_said : (turns : List Turn) (piece : List ℕ) (before between after : Option (List ℕ)) (t0 t1 t2 : Option (List Turn)) → Took turns before between t0 t1
+    → after ≡ gained between piece → t2 ≡ took t1 (said piece) → Took (turns ++ Said piece ∷ []) before after t0 t2
+took_said turns piece before between after t0 t1 t2 so wrote turn = record {
+  wrote = wrote ∙ ap (λ (t : Option (List ℕ)). gained t piece) so.wrote ∙ gained-append before (spoken turns) piece
+      ∙ ap (gained before) (sym (spoken-append turns (Said piece ∷ []) ∙ ap (λ (t : List ℕ). spoken turns ++ t) (append-nil piece)));
+  turn = turn ∙ ap (λ (t : Option (List Turn)). took t (said piece)) so.turn ∙ took-append t0 turns (said piece);
+}
+
+-- a line more was heard
+pub took_heard : (turns : List Turn) (came : Incoming) (before between after : Option (List ℕ)) (t0 t1 t2 : Option (List Turn)) → Took turns before between t0 t1
+    → after ≡ between → t2 ≡ took t1 (heard (Some came)) → Took (turns ++ Heard (said_by came) ∷ []) before after t0 t2
+took_heard turns came before between after t0 t1 t2 so same turn = record {
+  wrote = same ∙ so.wrote ∙ ap (gained before) (sym (spoken-append turns (Heard (said_by came) ∷ []) ∙ append-nil (spoken turns)));
+  turn = turn ∙ ap (λ (t : Option (List Turn)). took t (heard (Some came))) so.turn ∙ took-append t0 turns (heard (Some came));
+}
+
+-- the end of the input was heard
+pub took_end : (turns : List Turn) (before between after : Option (List ℕ)) (t0 t1 t2 : Option (List Turn)) → Took turns before between t0 t1
+    → after ≡ between → t2 ≡ took t1 [] → Took turns before after t0 t2
+took_end turns before between after t0 t1 t2 so same turn = record { wrote = same ∙ so.wrote; turn = turn ∙ sym (took-nil t1) ∙ so.turn }
+
+-- the same turns
+pub took_same : (turns : List Turn) (before between after : Option (List ℕ)) (t0 t1 t2 : Option (List Turn)) → Took turns before between t0 t1
+    → after ≡ between → t2 ≡ t1 → Took turns before after t0 t2
+took_same turns before between after t0 t1 t2 so same turn = record { wrote = same ∙ so.wrote; turn = turn ∙ so.turn }
+
+-- the lines with one more
+pub heard_more : (exchanges : List Exchange) (one : Exchange) → heard_in (exchanges ++ one ∷ []) ≡ heard_in exchanges ++ one.line ∷ []
+heard_more exchanges one = map-append (λ (e : Exchange). e.line) exchanges (one ∷ [])
+
+turns_more : (exchanges : List Exchange) (one : Exchange) → turns_in (exchanges ++ one ∷ []) ≡ turns_in exchanges ++ Heard one.line ∷ Said one.piece ∷ []
+turns_more [] one = refl
+turns_more (first ∷ exchanges) one = ap (λ (l : List Turn). Heard first.line ∷ Said first.piece ∷ l) (turns_more exchanges one)
+
+-- the turns with those of one exchange more
+pub session_turns_more : (net : Net) (opening : List Change) (exchanges : List Exchange) (one : Exchange)
+    → session_turns net opening (exchanges ++ one ∷ []) ≡ (session_turns net opening exchanges ++ Heard one.line ∷ []) ++ Said one.piece ∷ []
+session_turns_more net opening exchanges one =
+    ap (λ (l : List Turn). Said (opening_text net opening) ∷ l) (turns_more exchanges one)
+    ∙ sym (append_assoc (session_turns net opening exchanges) (Heard one.line ∷ []) (Said one.piece ∷ []))
+
+-- a line more is played
+pub lines_more : (net : Net) (tells : Bool) (at : ℕ) (block : Open) (before between after : Stand) (exchanges : List Exchange) (one : Exchange) (stp : Step) (own : List ℕ) (n : ℕ)
+    → PlaysLines net tells at block before exchanges between → stp ≡ (row_of net (open_behind net block (heard_in exchanges)) one.line).1 → n ≡ at + length (heard_in exchanges)
+    → PlaysStep net tells between stp own after → one.piece ≡ own ++ answer_of n stp → PlaysLines net tells at block before (exchanges ++ one ∷ []) after
+lines_more net tells at block before between after [] one stp own n same is number played piece = (
+  after,
+  own,
+  subst (λ (s : Stand). PlaysStep net tells s (row_of net block one.line).1 own after) same (subst (λ (s : Step). PlaysStep net tells between s own after) is played),
+  refl,
+  piece ∙ ap (λ (m : ℕ). own ++ answer_of m stp) (omega (arith, number)) ∙ ap (λ (s : Step). own ++ answer_of at s) is,
+)
+lines_more net tells at block before between after (first ∷ exchanges) one stp own n (next, begun, started, going, text_is) is number played piece = (
+  next,
+  begun,
+  started,
+  lines_more net tells (at + 1) (row_of net block first.line).0 next between after exchanges one stp own n going is (omega (arith, number)) played piece,
+  text_is,
+)
+
+-- the parts that they ask
+pub parts_more : (net : Net) (block : Open) (lines : List Came) (one : Came) → parts_of net block (lines ++ one ∷ []) ≡ parts_of net block lines ++ part_in (row_of net (open_behind net block lines) one).1
+parts_more net block [] one = append-nil (part_in (row_of net block one).1)
+parts_more net block (first ∷ lines) one =
+    let own = part_in (row_of net block first).1 in
+    let next = (row_of net block first).0 in
+    ap (λ (l : List Item). own ++ l) (parts_more net next lines one)
+    ∙ sym (append_assoc own (parts_of net next lines) (part_in (row_of net (open_behind net next lines) one).1))
+
+-- the block behind them
+pub open_more : (net : Net) (block : Open) (lines : List Came) (one : Came) → open_behind net block (lines ++ one ∷ []) ≡ (row_of net (open_behind net block lines) one).0
+open_more net block [] one = refl
+open_more net block (first ∷ lines) one = open_more net (row_of net block first).0 lines one
+
+-- no line yet
+pub session_begins : (net : Net) (hand : Hand) → IsBegun net hand → SessionDone net hand.book [] hand
+unfolding items_begin
+session_begins net hand begun = record {
+  parts = [];
+  parts_are = refl;
+  lines = [];
+  done = items_begin net hand begun;
+  played = refl;
+}
+
+-- the part of a line more
+asked_more : (net : Net) (exchanges : List Exchange) (one : Exchange) (stp : Step) (parts : List Item) → parts ≡ parts_of net None (heard_in exchanges)
+    → stp ≡ (row_of net (open_behind net None (heard_in exchanges)) one.line).1 → parts ++ part_in stp ≡ parts_of net None (heard_in (exchanges ++ one ∷ []))
+asked_more net exchanges one stp parts parts_are is =
+    let lines = heard_in exchanges in
+    ap (λ (l : List Item). l ++ part_in stp) parts_are ∙ ap (λ (s : Step). parts_of net None lines ++ part_in s) is ∙ sym (parts_more net None lines one.line)
+    ∙ ap (parts_of net None) (sym (heard_more exchanges one))
+
+-- a line more, which plays nothing
+nothing_more : (net : Net) (begun : Books) (exchanges : List Exchange) (one : Exchange) (stp : Step) (hand : Hand) (own : List ℕ) (n : ℕ) → (so : SessionDone net begun exchanges hand)
+    → stp ≡ (row_of net (open_behind net None (heard_in exchanges)) one.line).1 → n ≡ 1 + length (heard_in exchanges) → part_in stp ≡ []
+    → PlaysStep net (is_some begun.told) so.done.end stp own so.done.end → one.piece ≡ own ++ answer_of n stp → SessionDone net begun (exchanges ++ one ∷ []) hand
+nothing_more net begun exchanges one stp hand own n so is number none played piece = record {
+  parts = so.parts;
+  parts_are = sym (append-nil so.parts) ∙ ap (λ (l : List Item). so.parts ++ l) (sym none) ∙ asked_more net exchanges one stp so.parts so.parts_are is;
+  lines = so.lines;
+  done = so.done;
+  played = lines_more net (is_some begun.told) 1 None (at_start net begun.state.changes) so.done.end so.done.end exchanges one stp own n so.played is number played piece;
+}
+
+-- a line more
+pub session_goes_on : (net : Net) (begun : Books) (exchanges : List Exchange) (one : Exchange) (stp : Step) (old new : Hand) (own : List ℕ) (n : ℕ) → (so : SessionDone net begun exchanges old)
+    → stp ≡ (row_of net (open_behind net None (heard_in exchanges)) one.line).1 → n ≡ 1 + length (heard_in exchanges) → StepPlayed net stp old new own → one.piece ≡ own ++ answer_of n stp
+    → SessionDone net begun (exchanges ++ one ∷ []) new
+session_goes_on net begun exchanges one (step.Plays part) old new own n so is number played piece =
+    let further = item_goes_further net begun so.parts part old new so.lines own so.done played in
+    record {
+      parts = so.parts ++ part ∷ [];
+      parts_are = asked_more net exchanges one (step.Plays part) so.parts so.parts_are is;
+      lines = so.lines ++ own;
+      done = further.done;
+      played = lines_more net (is_some begun.told) 1 None (at_start net begun.state.changes) so.done.end further.done.end exchanges one (step.Plays part) own n so.played is number further.way piece;
+    }
+session_goes_on net begun exchanges one step.Nothing old new own n so is number (same, nothing) piece =
+    subst (SessionDone net begun (exchanges ++ one ∷ [])) (sym same)
+    (nothing_more net begun exchanges one step.Nothing old own n so is number refl (nothing, refl) piece)
+session_goes_on net begun exchanges one (step.Fault code) old new own n so is number (same, nothing) piece =
+    subst (SessionDone net begun (exchanges ++ one ∷ [])) (sym same)
+    (nothing_more net begun exchanges one (step.Fault code) old own n so is number refl (nothing, refl) piece)
+
+-- the first piece is that of a session that begins so
+pub opening_is : (net : Net) (hand : Hand) → IsBegun net hand → start_of hand ++ ready_line 0 ≡ opening_text net hand.book.state.changes
+opening_is net hand begins = ap (λ (t : List ℕ). t ++ ready_line 0) (start_is net hand begins)
+
+-- it was said
+pub session_first : (net : Net) (hand : Hand) → IsBegun net hand → (before after : Option (List ℕ)) (t0 t1 : Option (List Turn)) → after ≡ gained before (start_of hand ++ ready_line 0)
+    → t1 ≡ took t0 (said (start_of hand ++ ready_line 0)) → SessionSaid net hand.book [] hand before after t0 t1
+session_first net hand begins before after t0 t1 wrote turn = record {
+  done = session_begins net hand begins;
+  taken = subst (λ (p : List ℕ). Took (Said p ∷ []) before after t0 t1) (opening_is net hand begins)
+      (took_said [] (start_of hand ++ ready_line 0) before before after t0 t0 t1 (took_none before t0) wrote turn);
+}
+
+-- a line more was answered
+pub session_more : (net : Net) (begun : Books) (exchanges : List Exchange) (came : Incoming) (stp : Step) (old new : Hand) (own piece : List ℕ) (n : ℕ) (before between after : Option (List ℕ)) (t0 t1 t2 : Option (List Turn))
+    → SessionDone net begun exchanges old → Took (session_turns net begun.state.changes exchanges ++ Heard (said_by came) ∷ []) before between t0 t1
+    → stp ≡ (row_of net (open_behind net None (heard_in exchanges)) (said_by came)).1 → n ≡ 1 + length (heard_in exchanges)
+    → StepPlayed net stp old new own → piece ≡ own ++ answer_of n stp → after ≡ gained between piece → t2 ≡ took t1 (said piece)
+    → SessionSaid net begun (exchanges ++ record { line = said_by came; piece = piece } ∷ []) new before after t0 t2
+session_more net begun exchanges came stp old new own piece n before between after t0 t1 t2 so taken is number played piece_is wrote turn =
+    let one : Exchange = record { line = said_by came; piece = piece } in
+    let turns = session_turns net begun.state.changes exchanges ++ Heard (said_by came) ∷ [] in
+    record {
+      done = session_goes_on net begun exchanges one stp old new own n so is number played piece_is;
+      taken = subst (λ (l : List Turn). Took l before after t0 t2) (sym (session_turns_more net begun.state.changes exchanges one)) (took_said turns piece before between after t0 t1 t2 taken wrote turn);
+    }
+
+-- a line plays one round at most
+pub rounds_behind : (net : Net) (stp : Step) (old new : Hand) (text : List ℕ) (k : ℕ) → StepPlayed net stp old new text → old.rounds + 1 ≤ k → new.rounds + 1 ≤ k + 1
+rounds_behind net (step.Plays one) old new text k played few = omega (arith, rounds_more net one old new text (old.rounds) played (omega arith), few)
+rounds_behind net step.Nothing old new text k (same, nothing) few = omega (arith, ap (λ (h : Hand). h.rounds) same, few)
+rounds_behind net (step.Fault code) old new text k (same, nothing) few = omega (arith, ap (λ (h : Hand). h.rounds) same, few)
+
+-- an input gave one more
+pub gave_more : (coming now next : Option (List ℕ)) (lines : List Came) (came : Incoming) → GaveSince coming now lines → Comes 4096 now (Some came) next → GaveSince coming next (lines ++ said_by came ∷ [])
+gave_more (Some bytes) (Some rest) (Some left) lines came gave comes =
+    gave ∙ ap (λ (l : List Came). lines ++ l) comes ∙ sym (append_assoc lines (said_by came ∷ []) _)
+gave_more None None None lines came gave comes = tt
+gave_more (Some bytes) (Some rest) None lines came gave comes = absurd comes
+gave_more (Some bytes) None next lines came gave comes = absurd gave
+gave_more None (Some rest) next lines came gave comes = absurd gave
+gave_more None None (Some left) lines came gave comes = absurd comes
+
+-- an input gave nothing yet
+pub gave_none : (coming : Option (List ℕ)) → GaveSince coming coming []
+gave_none (Some bytes) = refl
+gave_none None = tt
+
+-- a session at its start
+pub going_first : (net : Net) (hand : Hand) → IsBegun net hand → (coming now before after : Option (List ℕ)) (t0 t1 : Option (List Turn)) → now ≡ coming → after ≡ gained before (start_of hand ++ ready_line 0)
+    → t1 ≡ took t0 (said (start_of hand ++ ready_line 0)) → SessionGoing net hand.book 1 None hand coming now before after t0 t1
+going_first net hand begins coming now before after t0 t1 same wrote turn = record {
+  exchanges = [];
+  count = refl;
+  open_is = refl;
+  gave = subst (λ (c : Option (List ℕ)). GaveSince coming c []) (sym same) (gave_none coming);
+  said = session_first net hand begins before after t0 t1 wrote turn;
+}
+
+-- the row of a line in the block that is open
+pub row_is : (net : Net) (block behind : Open) (lines : List Came) (one : Came) (stp : Step) → block ≡ open_behind net None lines → (let row : Open × Step = (behind, stp) in row ≡ row_of net block one)
+    → stp ≡ (row_of net (open_behind net None lines) one).1
+row_is net block behind lines one stp is row = ap (λ (r : Open × Step). r.1) (row ∙ ap (λ (o : Open). row_of net o one) is)
+
+-- a session goes on
+pub going_more : (net : Net) (begun : Books) (at : ℕ) (block behind : Open) (came : Incoming) (stp : Step) (old new : Hand) (own piece : List ℕ) (coming now next rest before b1 b2 after : Option (List ℕ)) (t0 t1 t2 t3 : Option (List Turn))
+    → SessionGoing net begun at block old coming now before b1 t0 t1 → Comes 4096 now (Some came) next → b2 ≡ b1 → t2 ≡ took t1 (heard (Some came))
+    → (let row : Open × Step = (behind, stp) in row ≡ row_of net block (said_by came)) → StepPlayed net stp old new own
+    → piece ≡ own ++ answer_of at stp → after ≡ gained b2 piece → t3 ≡ took t2 (said piece) → rest ≡ next → SessionGoing net begun (at + 1) behind new coming rest before after t0 t3
+going_more net begun at block behind came stp old new own piece coming now next rest before b1 b2 after t0 t1 t2 t3 so comes same turn row played piece_is wrote answered input =
+    let one : Exchange = record { line = said_by came; piece = piece } in
+    let lines = heard_in so.exchanges in
+    let here : row_of net block one.line ≡ row_of net (open_behind net None lines) one.line = ap (λ (o : Open). row_of net o one.line) so.open_is in
+    record {
+      exchanges = so.exchanges ++ one ∷ [];
+      count = omega (arith, so.count, length-append lines (one.line ∷ []), ap (λ (l : List Came). length l) (heard_more so.exchanges one));
+      open_is = ap (λ (r : Open × Step). r.0) (row ∙ here) ∙ sym (open_more net None lines one.line) ∙ ap (open_behind net None) (sym (heard_more so.exchanges one));
+      gave = subst (λ (c : Option (List ℕ)). GaveSince coming c (heard_in (so.exchanges ++ one ∷ []))) (sym input)
+          (subst (GaveSince coming next) (sym (heard_more so.exchanges one)) (gave_more coming now next lines came so.gave comes));
+      said = session_more net begun so.exchanges came stp old new own piece at before b2 after t0 t2 t3 so.said.done
+          (took_heard (session_turns net begun.state.changes so.exchanges) came before b1 b2 t0 t1 t2 so.said.taken same turn)
+          (row_is net block behind lines one.line stp so.open_is row) (omega (arith, so.count)) played piece_is wrote answered;
+    }

@@ -1,0 +1,16 @@
+use Rattle.std.proofs.Common.{◌+◌, ◌≤◌}
+use Rattle.bt_talk.specs.Block.{IsOpenFor}
+use Rattle.bt_centre.specs.Answering.{SessionGoing}
+use Rattle.bt_centre.proofs.session.play_lines.Given as goal
+
+-- the lines so far were played and answered
+abbrev pub invariant-loop-at : goal.invariant-loop-at
+invariant-loop-at g l = record {
+  later : g.T.Sink.fault_count l.fn.talk ≤ g.T.Sink.fault_count l.talk;
+  heard : g.T.Talk.unheard l.fn.talk ≤ g.T.Talk.unheard l.talk;
+  few : l.playing.rounds + 1 ≤ l.at;
+  last : l.at ≤ 9223372036854775808;
+  names : IsOpenFor l.net l.block;
+  going : SessionGoing l.net l.fn.playing.book l.at l.block l.playing (g.T.Talk.coming l.fn.talk) (g.T.Talk.coming l.talk) (g.T.Sink.told l.fn.talk) (g.T.Sink.told l.talk)
+      (g.T.Talk.turns l.fn.talk) (g.T.Talk.turns l.talk);
+}

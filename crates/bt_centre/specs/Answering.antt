@@ -1,0 +1,84 @@
+-- How far a session has come: what its lines made of what a run has in hand.
+use Rattle.std.specs.Prelude.{◌≡◌, ◌≢◌, ◌⊎◌, ℕ, ◌+◌, ◌++◌, List, [], length, reverse, Option, Some, None}
+use Rattle.std.specs.Option.{is_some}
+use Rattle.bt_outside.specs.Told.{gained}
+use Rattle.bt_input.specs.Input.{given_by}
+use Rattle.bt_input.specs.Talk.{Turn, took}
+use Rattle.bt_net.specs.Network.{Net}
+use Rattle.bt_script.specs.declared.script.Item.{Item}
+use Rattle.bt_events.specs.Fits.{IsWorld}
+use Rattle.bt_history.specs.Book.{Books}
+use Rattle.bt_history.specs.declared.fault.RecoverFault.{RecoverFault}
+use Rattle.bt_history.specs.declared.fault.RecoverFault.TheVariants.{OutOfMemory}
+use Rattle.bt_talk.specs.declared.block.Step.{Step}
+use Rattle.bt_talk.specs.declared.block.Step.TheVariants as step
+use Rattle.bt_talk.specs.Asked.{open_behind, parts_of}
+use Rattle.bt_talk.specs.Block.{Open}
+use Rattle.bt_report.specs.declared.status.TheConstants.{OUT_OF_MEMORY}
+use Rattle.bt_centre.specs.declared.session.InputEnd.{InputEnd}
+use Rattle.bt_centre.specs.declared.session.TheConstants.{MOST_LINE_BYTES}
+use Rattle.bt_centre.specs.Progress.{Hand, ItemFailed, ItemPlayed, ItemsDone, Left}
+use Rattle.bt_centre.specs.RecoverFaults.{recover_line, recover_status}
+use Rattle.bt_centre.specs.Run.{at_start, opening_on}
+use Rattle.bt_centre.specs.Session.{Exchange, PlaysLines, SessionEndsFrom, StopsHearing, heard_in, session_turns}
+use Rattle.bt_centre.specs.Talked.{Says, Talked, spoken}
+
+-- memory ran out, or the line of a recovery's fault, which has one, was said behind this text
+abbrev pub SaysNamed : Talked → List ℕ → RecoverFault → ℕ → Type 0
+SaysNamed talk text fault status = (status ≡ OUT_OF_MEMORY) ⊎ ((fault ≢ OutOfMemory) × Says talk (text ++ recover_line fault) (recover_status fault) status)
+
+-- what a line comes to was played
+abbrev pub StepPlayed : Net → Step → Hand → Hand → List ℕ → Type 0
+StepPlayed net (step.Plays one) old new text = ItemPlayed net one old new text
+StepPlayed net step.Nothing old new text = (new ≡ old) × (text ≡ [])
+StepPlayed net (step.Fault code) old new text = (new ≡ old) × (text ≡ [])
+
+-- it could not be played
+abbrev pub StepFailed : Net → Step → Hand → Left → RecoverFault → Type 0
+StepFailed net (step.Plays one) old left fault = ItemFailed net one old left fault
+StepFailed net step.Nothing old left fault = ⊥
+StepFailed net (step.Fault code) old left fault = ⊥
+
+-- these turns were taken between two moments of a talk, of which this was told
+pub record Took (turns : List Turn) (before after : Option (List ℕ)) (turns_before turns_after : Option (List Turn)) : Type 0 where
+  pub wrote : after ≡ gained before (spoken turns)
+  pub turn : turns_after ≡ took turns_before turns
+
+-- lines were played on the way
+pub record SessionDone (net : Net) (begun : Books) (exchanges : List Exchange) (hand : Hand) : Type 0 where
+  pub parts : List Item
+  pub parts_are : parts ≡ parts_of net None (heard_in exchanges)
+  pub lines : List ℕ
+  pub done : ItemsDone net begun parts hand lines
+  pub played : PlaysLines net (is_some begun.told) 1 None (at_start net begun.state.changes) exchanges done.end
+
+-- the same, and the first piece was said, and each of them was answered
+pub record SessionSaid (net : Net) (begun : Books) (exchanges : List Exchange) (hand : Hand) (before after : Option (List ℕ)) (turns_before turns_after : Option (List Turn)) : Type 0 where
+  pub done : SessionDone net begun exchanges hand
+  pub taken : Took (session_turns net begun.state.changes exchanges) before after turns_before turns_after
+
+-- an input gave these between two moments
+abbrev pub GaveSince : Option (List ℕ) → Option (List ℕ) → List (Option (List ℕ)) → Type 0
+GaveSince (Some bytes) (Some rest) lines = given_by MOST_LINE_BYTES bytes ≡ lines ++ given_by MOST_LINE_BYTES rest
+GaveSince (Some bytes) None lines = ⊥
+GaveSince None (Some rest) lines = ⊥
+GaveSince None None lines = Unit {0}
+
+-- a session before its line `at`
+pub record SessionGoing (net : Net) (begun : Books) (at : ℕ) (block : Open) (hand : Hand) (coming now before after : Option (List ℕ)) (turns_before turns_after : Option (List Turn)) : Type 0 where
+  pub exchanges : List Exchange
+  pub count : length (heard_in exchanges) + 1 ≡ at
+  pub open_is : block ≡ open_behind net None (heard_in exchanges)
+  pub gave : GaveSince coming now (heard_in exchanges)
+  pub said : SessionSaid net begun exchanges hand before after turns_before turns_after
+
+-- a session whose input ended so
+pub record SessionHeard (net : Net) (begun : Books) (talk : Talked) (hand : Hand) (end : InputEnd) : Type 0 where
+  pub exchanges : List Exchange
+  pub stops : StopsHearing talk (heard_in exchanges) end
+  pub said : SessionSaid net begun exchanges hand talk.output.before talk.output.after talk.turns_before talk.turns_after
+
+-- how a session ended, from a book on, and the world in which it did
+pub record SessionEnded (net : Net) (talk : Talked) (begun : Books) (left : Left) (status : ℕ) : Type 0 where
+  pub world : IsWorld (opening_on net begun.state.changes) (reverse left.events)
+  pub ends : SessionEndsFrom net talk (record { before = begun.told; after = left.told; faults_before = begun.faults; faults_after = left.faults }) begun.state.changes status left.histories left.events

@@ -1,0 +1,181 @@
+-- A session: a run whose parts are asked by lines that come one by one. Each is played and answered before the next is heard.
+use Rattle.std.specs.Prelude.{◌≡◌, ◌≢◌, ◌⊎◌, ℕ, ◌+◌, ◌≤◌, ◌++◌, Bool, List, [], ◌∷◌, length, map, reverse, Option, None, IfSome, if◌then◌else◌}
+use Rattle.std.specs.Option.{is_some}
+use Rattle.bt_outside.specs.Told.{Rose}
+use Rattle.bt_input.specs.Input.{given_by}
+use Rattle.bt_input.specs.Talk.{Turn, Heard, Said}
+use Rattle.bt_net.specs.Network.{Net}
+use Rattle.bt_air.specs.declared.event.Event.{Event}
+use Rattle.bt_events.specs.Fits.{IsWorld}
+use Rattle.bt_journal.specs.declared.call.Change.{Change}
+use Rattle.bt_history.specs.declared.fault.RecoverFault.{RecoverFault}
+use Rattle.bt_history.specs.declared.fault.RecoverFault.TheVariants.{OutOfMemory, StoreFault}
+use Rattle.bt_history.specs.Recovery.{IsRecoverFault}
+use Rattle.bt_script.specs.declared.script.Item.{Item}
+use Rattle.bt_script.specs.declared.script.Item.TheVariants as item
+use Rattle.bt_talk.specs.declared.block.Step.{Step}
+use Rattle.bt_talk.specs.declared.block.Step.TheVariants as step
+use Rattle.bt_talk.specs.Answers.{answer_of, input_fault_line, ready_line}
+use Rattle.bt_talk.specs.Asked.{open_behind, parts_of}
+use Rattle.bt_talk.specs.Block.{Open, row_of}
+use Rattle.bt_timeline.specs.Timeline.{restart_line}
+use Rattle.bt_report.specs.declared.status.TheConstants.{DONE, READ_FAILED, STORE_FAILED, WRITE_FAILED}
+use Rattle.bt_report.specs.Stored.{Stored}
+use Rattle.bt_centre.specs.declared.history.History.{History}
+use Rattle.bt_centre.specs.declared.session.InputEnd.{InputEnd}
+use Rattle.bt_centre.specs.declared.session.InputEnd.TheVariants as ending
+use Rattle.bt_centre.specs.declared.session.TheConstants.{MOST_ANSWERS, MOST_LINE_BYTES}
+use Rattle.bt_centre.specs.Lines.{total_of}
+use Rattle.bt_centre.specs.RecoverFaults.{recover_line, recover_status}
+use Rattle.bt_centre.specs.Run.{BreaksEarly, BreaksOff, FramesAreSafe, IsOpening, IsRun, LeavesStore, PlaysItem, RunsNone, Stand, at_start, entries_of, first_line, has_lost, opening_on}
+use Rattle.bt_centre.specs.Talked.{Says, SaysPart, Talked, behind}
+
+-- a line that was heard, or None where what came is no line, and the piece that was said to it
+pub record Exchange : Type 0 where
+  pub line : Option (List ℕ)
+  pub piece : List ℕ
+
+-- the lines that were heard
+abbrev pub heard_in : List Exchange → List (Option (List ℕ))
+heard_in exchanges = map (λ (one : Exchange). one.line) exchanges
+
+-- the turns of exchanges: each line is heard, and its piece is said before the next is heard
+abbrev pub turns_in : List Exchange → List Turn
+turns_in [] = []
+turns_in (first ∷ exchanges) = Heard first.line ∷ Said first.piece ∷ turns_in exchanges
+
+-- what a line comes to is played: a part of a run, or nothing
+abbrev pub PlaysStep : Net → (tells : Bool) → Stand → Step → List ℕ → Stand → Type 0
+PlaysStep net tells before (step.Plays one) text after = PlaysItem net tells before one text after
+PlaysStep net tells before step.Nothing text after = (text ≡ []) × (after ≡ before)
+PlaysStep net tells before (step.Fault code) text after = (text ≡ []) × (after ≡ before)
+
+-- lines one after the other, the first of them line `at`: each is played, and the piece said to it is the text of that with its answer
+-- behind
+abbrev pub PlaysLines : Net → (tells : Bool) → (at : ℕ) → Open → Stand → List Exchange → Stand → Type 0
+PlaysLines net tells at block before [] after = after ≡ before
+PlaysLines net tells at block before (first ∷ exchanges) after =
+    (between : Stand) × (own : List ℕ) × PlaysStep net tells before (row_of net block first.line).1 own between
+    × PlaysLines net tells (at + 1) (row_of net block first.line).0 between exchanges after × (first.piece ≡ own ++ answer_of at (row_of net block first.line).1)
+
+-- A session of these exchanges, from these changes on: it is a run of the parts that its lines ask, and what is said to each line is the
+-- text of what it plays, with its answer behind.
+pub record IsSession (net : Net) (tells : Bool) (opening : List Change) (exchanges : List Exchange) (histories : List History) (events : List Event) : Type 0 where
+  pub parts : List Item
+  pub parts_are : parts ≡ parts_of net None (heard_in exchanges)
+  pub lines : List ℕ
+  pub run : IsRun net tells opening parts histories events lines
+  pub played : PlaysLines net tells 1 None (at_start net opening) exchanges run.end
+
+-- the first line of a session, and that the first line may come
+abbrev pub opening_text : Net → List Change → List ℕ
+opening_text net opening = first_line net opening ++ ready_line 0
+
+-- the turns of a session: that is said, and then each line is heard and answered
+abbrev pub session_turns : Net → List Change → List Exchange → List Turn
+session_turns net opening exchanges = Said (opening_text net opening) ∷ turns_in exchanges
+
+-- what is said of the end of the input
+abbrev pub input_text : InputEnd → List ℕ
+input_text ending.Over = []
+input_text ending.Failed = input_fault_line
+
+-- its status
+abbrev pub input_status : InputEnd → ℕ
+input_status ending.Over = DONE
+input_status ending.Failed = READ_FAILED
+
+-- the last piece of a session: what is said of the end of its input, and the line that counts the edits of all times
+abbrev pub closing_text : InputEnd → List History → List ℕ
+closing_text end histories = input_text end ++ total_of (entries_of histories)
+
+-- the status of a session that came to the end of its input: that the store lost a change goes before
+abbrev pub status_behind : InputEnd → List History → ℕ
+status_behind end histories = if has_lost histories then STORE_FAILED else input_status end
+
+-- these are the first lines that the input gives, where its bytes are told
+abbrev pub WereGiven : Talked → List (Option (List ℕ)) → Type 0
+WereGiven talk lines = IfSome talk.coming (λ bytes. (more : List (Option (List ℕ))) × (given_by MOST_LINE_BYTES bytes ≡ lines ++ more))
+
+-- these are all that it gives
+abbrev pub AllGiven : Talked → List (Option (List ℕ)) → Type 0
+AllGiven talk lines = IfSome talk.coming (λ bytes. given_by MOST_LINE_BYTES bytes ≡ lines)
+
+-- why no line was heard behind these: none was left, or as many were heard as are counted; or the input failed
+abbrev pub StopsHearing : Talked → List (Option (List ℕ)) → InputEnd → Type 0
+StopsHearing talk lines ending.Over = AllGiven talk lines ⊎ ((length lines + 1 ≡ MOST_ANSWERS) × WereGiven talk lines)
+StopsHearing talk lines ending.Failed = Rose talk.unheard_before talk.unheard_after × WereGiven talk lines
+
+-- the lines were played and answered up to the end of the input, and the last piece was said, or the sink failed over it
+pub record SessionWhole (net : Net) (talk : Talked) (stored : Stored) (opening : List Change) (status : ℕ) (histories : List History) (events : List Event) : Type 0 where
+  pub exchanges : List Exchange
+  pub session : IsSession net (is_some stored.before) opening exchanges histories events
+  pub left : LeavesStore net stored histories session.run.end
+  pub end : InputEnd
+  pub stops : StopsHearing talk (heard_in exchanges) end
+  pub said : Says (behind talk (session_turns net opening exchanges)) (closing_text end histories) (status_behind end histories) status
+
+-- The sink failed over the last of these turns, which is the first piece of the session or what was to be said to the last of its lines.
+-- That line was played; the turns before were taken, and no other.
+pub record SessionUnsaid (net : Net) (talk : Talked) (stored : Stored) (opening : List Change) (status : ℕ) (histories : List History) (events : List Event) : Type 0 where
+  pub exchanges : List Exchange
+  pub session : IsSession net (is_some stored.before) opening exchanges histories events
+  pub left : LeavesStore net stored histories session.run.end
+  pub given : WereGiven talk (heard_in exchanges)
+  pub turns : List Turn
+  pub piece : List ℕ
+  pub last : session_turns net opening exchanges ≡ turns ++ Said piece ∷ []
+  pub part : SaysPart (behind talk turns) piece
+  pub status_is : status ≡ WRITE_FAILED
+
+-- The recovery at a restart failed: the lines before the one that asked it were played and answered, that one was heard, and the line
+-- `restart` was said to it with that of the fault behind, or the sink failed over it. The store told these bytes before that recovery,
+-- and its count of faults was this. A store that tells its bytes can only have failed.
+pub record SessionToRestart (net : Net) (talk : Talked) (stored : Stored) (opening : List Change) (status : ℕ) (histories : List History) (events : List Event) : Type 0 where
+  pub exchanges : List Exchange
+  pub last : Option (List ℕ)
+  pub session : IsSession net (is_some stored.before) opening exchanges histories events
+  pub asked : (row_of net (open_behind net None (heard_in exchanges)) last).1 ≡ step.Plays item.Restart
+  pub given : WereGiven talk (heard_in exchanges ++ last ∷ [])
+  pub told : Option (List ℕ)
+  pub faults : ℕ
+  pub left : LeavesStore net (record stored { after = told; faults_after = faults }) histories session.run.end
+  pub fault : RecoverFault
+  pub failed : IsRecoverFault net told stored.after faults stored.faults_after fault
+  pub later : faults ≤ stored.faults_after
+  pub named : fault ≢ OutOfMemory
+  pub only : IfSome stored.before (λ _. fault ≡ StoreFault)
+  pub said : Says (behind talk (session_turns net opening exchanges ++ Heard last ∷ [])) (restart_line ++ recover_line fault) (recover_status fault) status
+
+-- how a session ends, from these changes on: memory ran out, or its lines were played to the end of the input, up to a piece that could
+-- not be said, or up to a restart at which the changes could not be recovered again
+abbrev pub SessionEndsFrom : Net → Talked → Stored → List Change → ℕ → List History → List Event → Type 0
+SessionEndsFrom net talk stored opening status histories events =
+    BreaksOff net stored opening status histories
+    ⊎ SessionWhole net talk stored opening status histories events
+    ⊎ SessionUnsaid net talk stored opening status histories events
+    ⊎ SessionToRestart net talk stored opening status histories events
+
+-- the store's changes were recovered, what happened on the air from then on is a world, and each of its frames is safe; and so the
+-- session ended
+pub record SessionFrom (net : Net) (talk : Talked) (stored : Stored) (status : ℕ) (histories : List History) (events : List Event) : Type 0 where
+  pub opening : List Change
+  pub opens : IsOpening net stored opening
+  pub world : IsWorld (opening_on net opening) (reverse events)
+  pub safe : FramesAreSafe (opening_on net opening) (reverse events)
+  pub ends : SessionEndsFrom net talk stored opening status histories events
+
+-- the first recovery failed: nothing was played and no line was heard; its fault was said, or the sink failed over it
+pub record SessionNothing (net : Net) (talk : Talked) (stored : Stored) (status : ℕ) (histories : List History) (events : List Event) : Type 0 where
+  pub fault : RecoverFault
+  pub failed : IsRecoverFault net stored.before stored.after stored.faults_before stored.faults_after fault
+  pub named : fault ≢ OutOfMemory
+  pub none : RunsNone stored histories events
+  pub said : Says talk (recover_line fault) (recover_status fault) status
+
+-- how a session ends: memory ran out early; or the store's changes could not be recovered; or they were, and it went on from them
+abbrev pub SessionTo : Net → Talked → Stored → ℕ → List History → List Event → Type 0
+SessionTo net talk stored status histories events =
+    BreaksEarly net stored status histories events
+    ⊎ SessionNothing net talk stored status histories events
+    ⊎ SessionFrom net talk stored status histories events
