@@ -6,8 +6,9 @@
 mod pages;
 
 use bt_chart::chart_main;
+use bt_explain::{Done, KeptFiles, LastLine, tell, tell_status};
 use bt_outside::{DirFiles, StdSink};
-use bt_report::{DONE, OUT_OF_MEMORY, Program, Reason, print_text, words_after_name};
+use bt_report::{DONE, OUT_OF_MEMORY, Program, print_text, words_after_name};
 use std::alloc::{AllocError, Global};
 use std::process::ExitCode;
 
@@ -16,20 +17,28 @@ const STANDARD_INPUT: &str = "/dev/stdin";
 
 fn main(rt: HostRuntime) -> ExitCode {
     let alloc = rt.alloc();
-    let mut out = StdSink::new(rt.stdout());
+    let mut out = LastLine::new(alloc, StdSink::new(rt.stdout()));
     let asked = words_after_name(&rt, alloc).and_then(|words| with_standard_input(alloc, words));
     let status = match asked {
         Ok(words) => match pages::page_of(alloc, &words) {
             Ok(Some(page)) => print_text(alloc, page.as_slice(), DONE, &mut out),
-            Ok(None) => chart_main(alloc, &words, &mut DirFiles::new(&rt), &mut out),
+            Ok(None) => {
+                let mut files = KeptFiles::new(alloc, DirFiles::new(&rt));
+                let status = chart_main(alloc, &words, &mut files, &mut out);
+                let done = Done {
+                    program: Program::Chart,
+                    words: &words,
+                    line: out.line(),
+                    status,
+                };
+                tell(&rt, alloc, &done, &mut files);
+                return ExitCode::from(status);
+            }
             Err(_) => OUT_OF_MEMORY,
         },
         Err(_) => OUT_OF_MEMORY,
     };
-    if let Some(reason) = Reason::of(Program::Chart, status) {
-        // where standard error cannot be written either, the status alone tells
-        let _told = eprintln!(rt; "chart: {reason}");
-    }
+    tell_status(&rt, Program::Chart, status);
     ExitCode::from(status)
 }
 

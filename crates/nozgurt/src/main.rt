@@ -8,31 +8,37 @@ mod pages;
 
 use bt_cli::{centre_main, journal_of};
 use bt_disk::{FileDisk, LineKeeper};
+use bt_explain::{Done, KeptFiles, LastLine, tell, tell_status};
 use bt_outside::{DirFiles, StdSink};
-use bt_report::{DONE, OUT_OF_MEMORY, Program, Reason, print_text, words_after_name};
+use bt_report::{DONE, OUT_OF_MEMORY, Program, print_text, words_after_name};
 use std::alloc::{AllocError, Global};
 use std::env::Env;
 use std::process::ExitCode;
 
 fn main(rt: HostRuntime) -> ExitCode {
     let alloc = rt.alloc();
-    let mut out = StdSink::new(rt.stdout());
+    let mut out = LastLine::new(alloc, StdSink::new(rt.stdout()));
     let status = match asked(&rt, alloc) {
         Ok((words, journal)) => match pages::page_of(alloc, &words) {
             Ok(Some(page)) => print_text(alloc, page.as_slice(), DONE, &mut out),
             Ok(None) => {
-                let mut files = DirFiles::new(&rt);
+                let mut files = KeptFiles::new(alloc, DirFiles::new(&rt));
                 let store = LineKeeper::open(FileDisk::new(&rt, journal));
-                centre_main(&rt, alloc, &words, &mut files, &mut out, store).status
+                let status = centre_main(&rt, alloc, &words, &mut files, &mut out, store).status;
+                let done = Done {
+                    program: Program::Nozgurt,
+                    words: &words,
+                    line: out.line(),
+                    status,
+                };
+                tell(&rt, alloc, &done, &mut files);
+                return ExitCode::from(status);
             }
             Err(_) => OUT_OF_MEMORY,
         },
         Err(_) => OUT_OF_MEMORY,
     };
-    if let Some(reason) = Reason::of(Program::Nozgurt, status) {
-        // where standard error cannot be written either, the status alone tells
-        let _told = eprintln!(rt; "nozgurt: {reason}");
-    }
+    tell_status(&rt, Program::Nozgurt, status);
     ExitCode::from(status)
 }
 
