@@ -1,48 +1,54 @@
 // Which files the words after a program's name ask for.
+use crate::lines::Words;
 use crate::telling::Done;
-use bt_report::Program;
+use crate::words::{has_count, is_form_of};
+use bt_text::is_word;
 
-/// The letters of the files that a command has, in the order of its words: that of the codes of each. A point stands for a
-/// word that names no file.
-fn letters_of(program: Program, command: &str, words: usize) -> &'static [u8] {
-    match program {
-        Program::Nozgurt => nozgurt_letters(command, words),
-        Program::Chart => chart_letters(command),
-    }
-}
-
-fn nozgurt_letters(command: &str, words: usize) -> &'static [u8] {
-    if command == "check" && words == 3 {
-        b"XM"
-    } else if command == "check" || command == "timing" {
-        b"NTPG"
-    } else if command == "modes" {
-        b"X"
-    } else if command == "trans" {
-        b".X"
-    } else if command == "plan" {
-        b"NT"
-    } else if command == "run" {
-        b"NSJ"
-    } else if command == "replay" {
-        b"NJ"
+/// The letter of the codes of a file, by what the form of a command calls it; a point where it names no file.
+fn letter_of(name: &[u8]) -> u8 {
+    if is_word(name, b"MATRIX") {
+        b'X'
+    } else if is_word(name, b"MODES") {
+        b'M'
+    } else if is_word(name, b"NET") {
+        b'N'
+    } else if is_word(name, b"TRAFFIC") {
+        b'T'
+    } else if is_word(name, b"PLAN") {
+        b'P'
+    } else if is_word(name, b"DELAYS") {
+        b'G'
+    } else if is_word(name, b"SCRIPT") {
+        b'S'
+    } else if is_word(name, b"JOURNAL") {
+        b'J'
+    } else if is_word(name, b"OUTPUT") {
+        b'O'
     } else {
-        b""
+        b'.'
     }
-}
-
-fn chart_letters(command: &str) -> &'static [u8] {
-    if command == "plan" { b"NP" } else { b"NO" }
 }
 
 /// The file of a letter that the words name.
 pub fn file_of<'a>(done: &Done<'a>, letter: u8) -> Option<&'a str> {
     let (command, files) = done.words.split_first()?;
-    let letters = letters_of(done.program, command.as_str(), done.words.len());
-    for (its, file) in letters.iter().zip(files) {
-        if *its == letter {
+    let mut names = Words::of(form_of(done, command.as_str(), files.len()).as_bytes());
+    let _command = names.next();
+    for file in files {
+        let (_, name) = names.next()?;
+        if letter_of(name) == letter {
             return Some(file.as_str());
         }
     }
     None
+}
+
+/// The form of a command with so many words; empty where it has none.
+fn form_of<'a>(done: &Done<'a>, command: &str, count: usize) -> &'a str {
+    for form in done.forms {
+        if is_form_of(form, command) && has_count(form.as_bytes(), count) {
+            return *form;
+        }
+    }
+    ""
 }

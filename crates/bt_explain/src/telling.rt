@@ -7,7 +7,7 @@ use crate::kept_files::KeptFiles;
 use crate::network::tell_network;
 use crate::page::Page;
 use crate::plan::beams_of;
-use crate::unread::{tell_journal, tell_too_long, tell_unread};
+use crate::unread::{tell_input, tell_journal, tell_too_long, tell_unread};
 use crate::verdict::tell_verdict;
 use crate::words::tell_words;
 use bt_frame::MOST_JOURNAL_BYTES;
@@ -17,6 +17,7 @@ use bt_report::{
     FAULTY_JOURNAL, FAULTY_TEXT, FAULTY_WORDS, NO_NETWORK, NOT_GOOD, Program, READ_FAILED, Reason,
     STORE_FAILED, TOO_LONG,
 };
+use bt_text::is_word;
 use std::alloc::Global;
 use std::rt;
 
@@ -24,6 +25,8 @@ use std::rt;
 #[derive(Clone, Copy)]
 pub struct Done<'a> {
     pub program: Program,
+    /// The forms of its commands: of each the command, and the names of its words.
+    pub forms: &'a [&'a str],
     /// The words after its name.
     pub words: &'a [String],
     /// The last line that it printed.
@@ -68,7 +71,10 @@ fn explain<R: rt::Files, F: Files>(
     page: &mut Page,
 ) -> bool {
     match done.status {
-        READ_FAILED => tell_unread(rt, alloc, done, rest_behind(done.line, "fault read "), page),
+        READ_FAILED if is_word(word_of(done.line, 1), b"read") => {
+            tell_unread(rt, alloc, done, rest_behind(done.line, "fault read "), page)
+        }
+        READ_FAILED => tell_input(done, page),
         STORE_FAILED => match file_of(done, b'J') {
             Some(journal) => tell_journal(rt, alloc, done, journal, page),
             None => false,

@@ -23,6 +23,13 @@ pub fn tell_unread<R: Files>(
     true
 }
 
+/// Tells that the input of a session failed.
+pub fn tell_input(done: &Done<'_>, page: &mut Page) -> bool {
+    add_program(done, page);
+    page.add("standard input could not be read; what was answered until then is done\n");
+    true
+}
+
 /// Tells that the journal of that name failed.
 pub fn tell_journal<R: Files>(
     rt: &R,

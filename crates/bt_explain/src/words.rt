@@ -10,36 +10,13 @@ use bt_report::Program;
 use bt_text::{is_word, number};
 use std::alloc::Global;
 
-/// The forms of nozgurt's commands: the command, and the names of its words.
-const NOZGURT: [&str; 9] = [
-    "check MATRIX MODES",
-    "check NET TRAFFIC PLAN",
-    "modes MATRIX",
-    "trans K MATRIX",
-    "plan NET TRAFFIC",
-    "timing NET TRAFFIC PLAN DELAYS",
-    "run NET SCRIPT JOURNAL",
-    "replay NET JOURNAL",
-    "make N NUMBER",
-];
-
-/// The forms of chart's commands.
-const CHART: [&str; 2] = ["plan NET PLAN", "run NET OUTPUT [NAME ..]"];
-
-fn usages_of(program: Program) -> &'static [&'static str] {
-    match program {
-        Program::Nozgurt => NOZGURT.as_slice(),
-        Program::Chart => CHART.as_slice(),
-    }
-}
-
 /// Tells which word of a command line is wrong. `net` is the network that the words name, where it is one.
 pub fn tell_words(alloc: Global, done: &Done<'_>, net: Option<&Network>, page: &mut Page) -> bool {
     add_program(done, page);
     match done.words.split_first() {
         None => page.add("no command was given"),
-        Some((command, _)) if !is_command(done.program, command) => {
-            say_command(alloc, done.program, command, page);
+        Some((command, _)) if !is_command(done.forms, command) => {
+            say_command(alloc, done.forms, command, page);
         }
         Some((command, behind)) => say_behind(alloc, done, command, behind, net, page),
     }
@@ -49,23 +26,23 @@ pub fn tell_words(alloc: Global, done: &Done<'_>, net: Option<&Network>, page: &
 }
 
 /// Whether a form begins with that command.
-fn is_form_of(usage: &str, command: &str) -> bool {
+pub fn is_form_of(usage: &str, command: &str) -> bool {
     is_word(word_of(usage.as_bytes(), 0), command.as_bytes())
 }
 
-fn is_command(program: Program, command: &str) -> bool {
-    usages_of(program)
+fn is_command(forms: &[&str], command: &str) -> bool {
+    forms
         .iter()
         .any(|usage| is_form_of(usage, command))
 }
 
 /// Says that there is no such command, and asks for one that is near.
-fn say_command(alloc: Global, program: Program, command: &str, page: &mut Page) {
+fn say_command(alloc: Global, forms: &[&str], command: &str, page: &mut Page) {
     page.add("no command is called '");
     page.add_name(command);
     page.add("'");
     let mut near = Near::to(command.as_bytes());
-    for usage in usages_of(program) {
+    for usage in forms {
         if let Some((name, _)) = usage.split_once(' ') {
             near.look(alloc, name);
         }
@@ -86,7 +63,7 @@ fn say_behind(
     page: &mut Page,
 ) {
     let has_empty = behind.iter().any(|word| word.as_str().is_empty());
-    if !is_counted(done.program, command, behind.len()) {
+    if !is_counted(done.forms, command, behind.len()) {
         page.add(command);
         page.add(" does not take so many words: ");
         page.add_number(behind.len() as u64);
@@ -100,13 +77,14 @@ fn say_behind(
 }
 
 /// Whether a form of a command has so many words.
-fn is_counted(program: Program, command: &str, count: usize) -> bool {
-    usages_of(program).iter().any(|usage| {
-        is_form_of(usage, command) && has_count(usage.as_bytes(), count)
-    })
+fn is_counted(forms: &[&str], command: &str, count: usize) -> bool {
+    forms
+        .iter()
+        .any(|usage| is_form_of(usage, command) && has_count(usage.as_bytes(), count))
 }
 
-fn has_count(usage: &[u8], count: usize) -> bool {
+/// Whether a form has so many words behind its command; from a `[` on they may be wanting.
+pub fn has_count(usage: &[u8], count: usize) -> bool {
     // the command itself is none of them
     let mut wanted: usize = 0;
     for (at, word) in Words::of(usage) {
@@ -166,10 +144,10 @@ fn is_small(word: &str) -> bool {
 /// Appends the forms of the command, or of all where there is no such one.
 fn add_usages(done: &Done<'_>, page: &mut Page) {
     let command = match done.words {
-        [command, ..] if is_command(done.program, command) => command.as_str(),
+        [command, ..] if is_command(done.forms, command) => command.as_str(),
         _ => "",
     };
-    for usage in usages_of(done.program) {
+    for usage in done.forms {
         if command.is_empty() || is_form_of(usage, command) {
             page.add("usage: ");
             page.add(name_of(done.program));

@@ -40,6 +40,9 @@ const LETTERS: &str = "  The letter of a CODE names the file that is at fault: N
   explains each code, and docs/pictures.md explains the pictures.
 ";
 
+/// The forms of the commands: of each its word, and the names of the words behind it.
+pub const FORMS: [&str; 2] = ["plan NET PLAN", "run NET OUTPUT [NAME ..]"];
+
 /// What `--version` prints.
 const VERSION: &str = "chart 0.2.0\n";
 

@@ -118,6 +118,19 @@ const LETTERS: &str = "  The letter of a CODE names the file that is at fault: N
   docs/formats.md has the texts of all files and explains each code.
 ";
 
+/// The forms of the commands: of each its word, and the names of the words behind it.
+pub const FORMS: [&str; 9] = [
+    "check MATRIX MODES",
+    "modes MATRIX",
+    "trans K MATRIX",
+    "plan NET TRAFFIC",
+    "check NET TRAFFIC PLAN",
+    "timing NET TRAFFIC PLAN DELAYS",
+    "run NET SCRIPT JOURNAL",
+    "replay NET JOURNAL",
+    "make N NUMBER",
+];
+
 /// What `--version` prints.
 const VERSION: &str = "nozgurt 0.2.0\n";
 
