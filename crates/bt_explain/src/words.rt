@@ -31,9 +31,7 @@ pub fn is_form_of(usage: &str, command: &str) -> bool {
 }
 
 fn is_command(forms: &[&str], command: &str) -> bool {
-    forms
-        .iter()
-        .any(|usage| is_form_of(usage, command))
+    forms.iter().any(|usage| is_form_of(usage, command))
 }
 
 /// Says that there is no such command, and asks for one that is near.
@@ -78,9 +76,7 @@ fn say_behind(
 
 /// Whether a form of a command has so many words.
 fn is_counted(forms: &[&str], command: &str, count: usize) -> bool {
-    forms
-        .iter()
-        .any(|usage| is_form_of(usage, command) && has_count(usage.as_bytes(), count))
+    forms.iter().any(|usage| is_form_of(usage, command) && has_count(usage.as_bytes(), count))
 }
 
 /// Whether a form has so many words behind its command; from a `[` on they may be wanting.

@@ -9,9 +9,7 @@ mod pages;
 use bt_chart::chart_main;
 use bt_explain::{Done, KeptFiles, LastLine, tell, tell_status};
 use bt_outside::{DirFiles, StdSink};
-use bt_report::{
-    DONE, OUT_OF_MEMORY, Program, print_text, put_standard_input, words_after_name,
-};
+use bt_report::{DONE, OUT_OF_MEMORY, Program, print_text, put_standard_input, words_after_name};
 use std::alloc::{AllocError, Global};
 use std::env::Env;
 use std::process::ExitCode;

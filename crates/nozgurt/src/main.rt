@@ -13,9 +13,7 @@ use bt_disk::{FileDisk, LineKeeper};
 use bt_explain::{Done, KeptFiles, LastLine, tell, tell_status};
 use bt_input::{Console, StdSource};
 use bt_outside::{DirFiles, StdSink};
-use bt_report::{
-    DONE, OUT_OF_MEMORY, Program, print_text, put_standard_input, words_after_name,
-};
+use bt_report::{DONE, OUT_OF_MEMORY, Program, print_text, put_standard_input, words_after_name};
 use std::alloc::{AllocError, Global};
 use std::env::Env;
 use std::io::BufReader;
@@ -34,8 +32,9 @@ fn main(rt: HostRuntime) -> ExitCode {
                     match BufReader::new(alloc, rt.stdin()) {
                         Ok(reader) => {
                             let mut talk = Console::new(StdSource::new(reader), out);
-                            let status =
-                                live_main(&rt, alloc, &words, &mut files, &mut talk, store).status;
+                            let status = live_main(
+                                &rt, alloc, &words, &mut files, &mut talk, store,
+                            ).status;
                             let (_, said) = talk.into_parts();
                             out = said;
                             status
