@@ -51,7 +51,7 @@ is_content : (held_by : List ℕ → Option (List ℕ)) (name held : List ℕ) �
 is_content held_by name held is short = let P : Option (List ℕ) → Type 0 = λ o. Gives o held in (subst P (sym is) refl, short)
 
 -- a file that spells a value is loaded as that value
-spelled : {Value Fault : Type 0} (kind : Kind Value Fault) (held_by : List ℕ → Option (List ℕ)) (name : List ℕ) (value : Value) → Spells kind held_by name value → IsLoaded kind held_by name value
+pub spelled : {Value Fault : Type 0} (kind : Kind Value Fault) (held_by : List ℕ → Option (List ℕ)) (name : List ℕ) (value : Value) → Spells kind held_by name value → IsLoaded kind held_by name value
 spelled kind held_by name value (held, is, short, reads) = (held, is_content held_by name held is short, reads)
 
 -- so that it is told
@@ -59,7 +59,7 @@ is_told : {Value Fault : Type 0} (kind : Kind Value Fault) (held_by : List ℕ �
 is_told kind held_by name value (held, is, short, reads) = (held, is)
 
 -- and its load does not stop
-never_stops : {Value Fault : Type 0} (kind : Kind Value Fault) (held_by : List ℕ → Option (List ℕ)) (failed : Type 0) (name : List ℕ) (value : Value) → ¬ failed → Spells kind held_by name value
+pub never_stops : {Value Fault : Type 0} (kind : Kind Value Fault) (held_by : List ℕ → Option (List ℕ)) (failed : Type 0) (name : List ℕ) (value : Value) → ¬ failed → Spells kind held_by name value
     → (outcome : Outcome) → StopsAtLoad kind held_by failed name outcome → ⊥
 never_stops kind held_by failed name value steady spells outcome stopped =
     (one_file kind held_by failed name steady (is_told kind held_by name value spells)).never outcome value stopped (spelled kind held_by name value spells)
@@ -137,7 +137,7 @@ timed_status input delays net links plan steady spells outcome (inr (good, so)) 
 -- ---- the store
 
 -- the recovery of a store that tells changes, and does not fail, can only want memory
-wants_memory : Laws → (net : Net) (stored : Stored) (fault : RecoverFault) → IsSound net → IsSteady stored → TellsChanges net stored → IsNotRecovered net stored fault → fault ≡ OutOfMemory
+pub wants_memory : Laws → (net : Net) (stored : Stored) (fault : RecoverFault) → IsSound net → IsSteady stored → TellsChanges net stored → IsNotRecovered net stored fault → fault ≡ OutOfMemory
 wants_memory laws net stored (J1 number) sound steady tells failed =
     absurd (laws.no_line net tells.held tells.changes number sound tells.recovered (told stored.before tells.held (λ bytes. IsFirstNoLine net bytes number) tells.told failed.2))
 wants_memory laws net stored (J2 number) sound steady tells failed =

@@ -1,11 +1,11 @@
-//! The commands of the program, and the top call that carries its promise.
+//! The commands of the program, and the top call that carries its promise; that of a session stands beside it.
 //!
 //! It stands on the loader of files (`bt_load`) and on what a report is (`bt_report`), on the planners and checkers, on the
-//! book and what its store tells (`bt_book`), on the run of scripts over a store (`bt_centre`) and on the printed lines
+//! book and what its store tells (`bt_book`), on runs and sessions over a store (`bt_centre`) and on the printed lines
 //! (`bt_timeline`).
 //! Promises: `specs/Top.antt` says how the program ends and what it leaves in the store, case by case in the order of the
 //! work, and the files that it names say so of each command, in the words of `bt_load`'s `specs/Files.antt`. For bodies
-//! alone: `CommandLine`.
+//! alone: `CommandLine`. `specs/Live.antt` says the same of a session.
 #![tactic(auto)]
 
 mod asked;
@@ -15,6 +15,7 @@ mod command_line;
 mod commands;
 mod fit;
 mod laws;
+mod live;
 mod make;
 mod modes;
 mod number_word;
@@ -32,6 +33,7 @@ pub use laws::{
     ends_are_reports, one_report, printed_plans_are_read_back, printed_schedules_are_read_back,
     sound_input_is_served,
 };
+pub use live::{live_main, live_words, sound_sessions_are_served};
 pub use make::{Made, make_command};
 pub use replay::replay_command;
 pub use top::{Ended, centre_main, journal_of};
