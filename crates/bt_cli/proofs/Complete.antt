@@ -35,7 +35,7 @@ memory_alone output Outcomes status never (inr (outcome, is, printed)) = absurd 
 -- ---- the store
 
 -- the recovery of a store that tells changes, and does not fail, can only want memory
-wants_memory : Laws → (net : Net) (stored : Stored) (fault : RecoverFault) → IsSound net → IsSteady stored → TellsChanges net stored → IsNotRecovered net stored fault → fault ≡ OutOfMemory
+pub wants_memory : Laws → (net : Net) (stored : Stored) (fault : RecoverFault) → IsSound net → IsSteady stored → TellsChanges net stored → IsNotRecovered net stored fault → fault ≡ OutOfMemory
 wants_memory laws net stored (J1 number) sound steady tells failed =
     absurd (laws.no_line net tells.held tells.changes number sound tells.recovered (told stored.before tells.held (λ bytes. IsFirstNoLine net bytes number) tells.told failed.2))
 wants_memory laws net stored (J2 number) sound steady tells failed =

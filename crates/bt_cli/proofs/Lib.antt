@@ -15,4 +15,5 @@ pub mod Suited
 pub mod Runs
 pub mod PrintedPlans
 pub mod Complete
+pub mod Sessions
 pub mod ByCommand

@@ -46,13 +46,13 @@ fault_said fault outcome (inl (wrote, is)) = outcome_is outcome (recover_line fa
 fault_said fault outcome (inr (failed, part, six)) = absurd (no_fault failed)
 
 -- a store that does not fail loses nothing
-none_lost : (stored : Stored) (count : ℕ) → IsSteady stored → RoseBy count stored.faults_before stored.faults_after → count ≡ 0
+pub none_lost : (stored : Stored) (count : ℕ) → IsSteady stored → RoseBy count stored.faults_before stored.faults_after → count ≡ 0
 none_lost stored zero steady rose = refl
 none_lost stored (suc n) steady (inl rose) = absurd (steady (inl (omega (arith, rose))))
 none_lost stored (suc n) steady (inr last) = absurd (steady (inr last))
 
 -- and no recovery fails over it at a restart
-rose_later : (count before between now : ℕ) → RoseBy count before between → Rose between now → between ≤ now → Rose before now
+pub rose_later : (count before between now : ℕ) → RoseBy count before between → Rose between now → between ≤ now → Rose before now
 rose_later count before between now (inl first) (inl second) later = inl (omega (arith, first, second))
 rose_later count before between now (inr last) rose later = inr (omega (arith, last, later))
 rose_later count before between now first (inr last) later = inr last

@@ -9,6 +9,7 @@ pub mod Plans
 pub mod CheckPlan
 pub mod Timing
 pub mod Run
+pub mod Live
 pub mod Complete
 pub mod Command
 pub mod Replay

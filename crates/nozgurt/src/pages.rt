@@ -79,6 +79,19 @@ commands
       example: nozgurt run examples/two-beams.net
                examples/calm-change.script calm.journal
 
+  live NET JOURNAL
+      Runs the centre of the network in the file NET by the lines that come on
+      standard input: each is played and answered before the next is read. They
+      are the lines of a script, of which each alone is a round by itself, and
+      two more. `round` opens a block, whose lines wait; `go` plays them as one
+      round; `forget` gives them up. Behind each answer stands `ready N`, which
+      says that line N was answered and the next may come. A line that is at
+      fault has no effect; `fault CODE N` names it, and the session goes on. The
+      end of the input plays no block that is open, and prints the total.
+      It begins with what the file JOURNAL comes to, and each change that is
+      accepted is one line more of it before it is answered.
+      example: nozgurt live examples/two-beams.net live.journal < examples/live.lines
+
   replay NET JOURNAL
       Prints what the journal in the file JOURNAL comes to on the network in the
       file NET: the last edition, the newest plan, how many orders were placed,
@@ -119,7 +132,7 @@ const LETTERS: &str = "  The letter of a CODE names the file that is at fault: N
 ";
 
 /// The forms of the commands: of each its word, and the names of the words behind it.
-pub const FORMS: [&str; 9] = [
+pub const FORMS: [&str; 10] = [
     "check MATRIX MODES",
     "modes MATRIX",
     "trans K MATRIX",
@@ -127,6 +140,7 @@ pub const FORMS: [&str; 9] = [
     "check NET TRAFFIC PLAN",
     "timing NET TRAFFIC PLAN DELAYS",
     "run NET SCRIPT JOURNAL",
+    "live NET JOURNAL",
     "replay NET JOURNAL",
     "make N NUMBER",
 ];

@@ -1,0 +1,40 @@
+-- `live NET JOURNAL`: the network is loaded, and then there is a session on it, from the changes that the store tells.
+use Rattle.std.specs.Prelude.{◌≡◌, ◌⊎◌, ℕ, ◌&&◌, if◌then◌else◌, nat_lt, length, codes, List, [], ◌∷◌, Option, Some, None}
+use Rattle.std.specs.Str.{bytes_eq}
+use Rattle.bt_net.specs.Network.{Net, IsSound}
+use Rattle.bt_report.specs.declared.status.TheConstants.{OUT_OF_MEMORY}
+use Rattle.bt_report.specs.Faults.{SaysFaultyWords}
+use Rattle.bt_report.specs.Input.{Input, FilesFailed}
+use Rattle.bt_report.specs.Outcome.{Outcome}
+use Rattle.bt_report.specs.Stored.{Stored}
+use Rattle.bt_centre.specs.Session.{SessionTo}
+use Rattle.bt_centre.specs.Talked.{Says, Talked}
+use Rattle.bt_load.specs.Files.{IsLoaded, StopsAtLoad}
+use Rattle.bt_load.specs.Kinds.{network_file}
+use Rattle.bt_cli.specs.Run.{BeginsNoRun, End}
+
+-- the files that these words ask for, none of which is an empty word
+abbrev pub live_request : List ℕ → List ℕ → List ℕ → Option (List ℕ × List ℕ)
+live_request command net journal =
+    if bytes_eq command (codes "live") then (if nat_lt 0 (length net) && nat_lt 0 (length journal) then Some (net, journal) else None) else None
+
+-- the files of the network and of the journal of a session, where the words ask for one
+abbrev pub live_words : List (List ℕ) → Option (List ℕ × List ℕ)
+live_words (command ∷ net ∷ journal ∷ []) = live_request command net journal
+live_words _ = None
+
+-- memory ran out; or the work had one of these outcomes, and it was said
+abbrev pub SaysOneOf : Talked → (Outcome → Type 0) → ℕ → Type 0
+SaysOneOf talk Outcomes status = (status ≡ OUT_OF_MEMORY) ⊎ ((outcome : Outcome) × Outcomes outcome × Says talk outcome.text outcome.status status)
+
+-- the network was loaded, which is sound, and there was a session on it; or why it could not be was said, no line was heard, and the
+-- store is as it was given
+abbrev pub EndsOn : Input → Talked → Stored → List ℕ → End → Type 0
+EndsOn input talk stored net end =
+    (BeginsNoRun stored end × SaysOneOf talk (StopsAtLoad network_file input.told (FilesFailed input) net) end.status)
+    ⊎ ((network : Net) × IsLoaded network_file input.told net network × IsSound network × SessionTo network talk stored end.status end.histories end.events)
+
+-- how a session ends whose words ask for these files, or for none
+abbrev pub EndsLive : Input → Talked → Stored → Option (List ℕ × List ℕ) → End → Type 0
+EndsLive input talk stored (Some asked) end = EndsOn input talk stored asked.0 end
+EndsLive input talk stored None end = BeginsNoRun stored end × SaysOneOf talk SaysFaultyWords end.status

@@ -1,0 +1,161 @@
+// `live NET JOURNAL`.
+ghost use Rattle.std.specs.Prelude.{◌≡◌, ℕ, List, Some, map, option_map};
+ghost use Rattle.std.specs.String.{string_bytes};
+ghost use Rattle.bt_outside.specs.Told.{Rose};
+ghost use Rattle.bt_net.specs.Network.{Net};
+ghost use Rattle.bt_load.specs.Kinds.{network_file};
+ghost use Rattle.bt_centre.specs.Talked.{Talked};
+ghost use Rattle.bt_report.specs.Faults.{SaysFaultyWords};
+ghost use Rattle.bt_report.specs.Input.{Input};
+ghost use Rattle.bt_report.specs.Outcome.{Outcome};
+ghost use Rattle.bt_report.specs.Report.{StopIs};
+ghost use Rattle.bt_report.specs.Stored.{Stored};
+ghost use Rattle.bt_load.specs.Files.{Spells};
+ghost use Rattle.bt_cli.specs.Complete.{IsDone, NothingFails, TellsChanges};
+ghost use Rattle.bt_cli.specs.Live.{EndsLive, EndsOn, SaysOneOf, live_request, live_words};
+ghost use Rattle.bt_cli.specs.Run.{End};
+
+use crate::Ended;
+use bt_book::journals_tell_one_thing;
+use bt_centre::{NoGate, run_session, say_text};
+use bt_demand::links_tell_demands;
+use bt_input::Talk;
+use bt_load::load_network;
+use bt_outside::{Files, Keeper};
+use bt_report::{OUT_OF_MEMORY, Stop, faulty_words};
+use std::alloc::Global;
+use std::sync::Wait;
+use std::thread::Threads;
+
+/// The files of the network and of the journal of a session; None where the words ask for none.
+pub fn live_words(words: &[String]) -> Option<(&str, &str)>
+    ensures asked { option_map (λ on. (on.0.now, on.1.now)) result ≡ live_words (map string_bytes words.now) }
+{
+    match words {
+        [command, net, journal] => live_of(command, net, journal),
+        _ => None,
+    }
+}
+
+fn live_of<'a>(command: &str, net: &'a str, journal: &'a str) -> Option<(&'a str, &'a str)>
+    ensures asked { option_map (λ on. (on.0.now, on.1.now)) result ≡ live_request command.now net.now journal.now }
+{
+    if command != "live" || net.is_empty() || journal.is_empty() {
+        None
+    } else {
+        Some((net, journal))
+    }
+}
+
+/// Holds the session that the words after the program's name ask for: hears line after line, plays each on the network in
+/// the file, from the changes that the store tells, and answers it before the next is heard. The store keeps each change
+/// that is made; where there is no session it comes back as it was.
+///
+/// The status is one of the table in `bt_report`, `meaning.rt`.
+pub fn live_main<R: Threads + Wait + Sync, F: Files, T: Talk, K: Keeper + Send>(
+    rt: &R,
+    alloc: Global,
+    words: &[String],
+    files: &mut F,
+    talk: &mut T,
+    store: K,
+) -> Ended<K>
+    ensures ends { EndsLive (record { told = F.told files.old; faults_before = F.fault_count files.old; faults_after = F.fault_count files.new })
+        (record {
+          coming = T.coming talk.old;
+          unheard_before = T.unheard talk.old;
+          unheard_after = T.unheard talk.new;
+          output = record { before = T.told talk.old; after = T.told talk.new; faults_before = T.fault_count talk.old; faults_after = T.fault_count talk.new };
+          turns_before = T.turns talk.old;
+          turns_after = T.turns talk.new;
+        })
+        (record { before = K.told store; after = K.told result.store; faults_before = K.fault_count store; faults_after = K.fault_count result.store })
+        (live_words (map string_bytes words.now))
+        (record { status = result.status; histories = result.histories; events = result.events.items }) }
+{
+    match live_words(words) {
+        Some((net, _)) => live_on(rt, alloc, net, files, talk, store),
+        None => Ended::without_run(alloc, say_faulty_words(alloc, talk), store),
+    }
+}
+
+/// A session on the network in a file.
+fn live_on<R: Threads + Wait + Sync, F: Files, T: Talk, K: Keeper + Send>(
+    rt: &R,
+    alloc: Global,
+    net: &str,
+    files: &mut F,
+    talk: &mut T,
+    store: K,
+) -> Ended<K>
+    ensures ends { EndsOn (record { told = F.told files.old; faults_before = F.fault_count files.old; faults_after = F.fault_count files.new })
+        (record {
+          coming = T.coming talk.old;
+          unheard_before = T.unheard talk.old;
+          unheard_after = T.unheard talk.new;
+          output = record { before = T.told talk.old; after = T.told talk.new; faults_before = T.fault_count talk.old; faults_after = T.fault_count talk.new };
+          turns_before = T.turns talk.old;
+          turns_after = T.turns talk.new;
+        })
+        (record { before = K.told store; after = K.told result.store; faults_before = K.fault_count store; faults_after = K.fault_count result.store })
+        net.now (record { status = result.status; histories = result.histories; events = result.events.items }) }
+{
+    match load_network(alloc, files, net) {
+        Ok(network) => {
+            // This is there for what holds of each network: it is sound.
+            let _beams = network.beam_count();
+            Ended::of_run(run_session(rt, alloc, &network, &NoGate, talk, store))
+        }
+        Err(stop) => Ended::without_run(alloc, say_stop(alloc, stop, talk), store),
+    }
+}
+
+/// Says that the words are no command's, and gives the status to end with.
+fn say_faulty_words<T: Talk>(alloc: Global, talk: &mut T) -> u8
+    ensures said { SaysOneOf
+        (record {
+          coming = T.coming talk.old;
+          unheard_before = T.unheard talk.old;
+          unheard_after = T.unheard talk.new;
+          output = record { before = T.told talk.old; after = T.told talk.new; faults_before = T.fault_count talk.old; faults_after = T.fault_count talk.new };
+          turns_before = T.turns talk.old;
+          turns_after = T.turns talk.new;
+        })
+        SaysFaultyWords result }
+{
+    match faulty_words(alloc) {
+        Ok(report) => say_text(alloc, report.text.as_slice(), report.status, talk),
+        Err(_) => OUT_OF_MEMORY,
+    }
+}
+
+/// Says what kept the session from its start, and gives the status to end with.
+fn say_stop<T: Talk>(alloc: Global, stop: Stop, talk: &mut T) -> u8
+    ensures said { (Outcomes : Outcome → Type 0) → StopIs Outcomes stop → SaysOneOf
+        (record {
+          coming = T.coming talk.old;
+          unheard_before = T.unheard talk.old;
+          unheard_after = T.unheard talk.new;
+          output = record { before = T.told talk.old; after = T.told talk.new; faults_before = T.fault_count talk.old; faults_after = T.fault_count talk.new };
+          turns_before = T.turns talk.old;
+          turns_after = T.turns talk.new;
+        })
+        Outcomes result }
+{
+    match stop {
+        Stop::Early(report) => say_text(alloc, report.text.as_slice(), report.status, talk),
+        Stop::OutOfMemory => OUT_OF_MEMORY,
+    }
+}
+
+/// Where the words ask for a session, the network is told, within its limit and of its grammar, the store is told, within its
+/// limit, and tells changes, and neither a file nor the input, the output nor the store fails in the call, the lines are
+/// played and answered to the end of the input: the status is 0, or that of want of memory.
+pub fn sound_sessions_are_served()
+    ensures served { (input : Input) (talk : Talked) (stored : Stored) (net journal : List ℕ) (end : End)
+        → NothingFails input talk.output stored → ¬ (Rose talk.unheard_before talk.unheard_after) → EndsLive input talk stored (Some (net, journal)) end
+        → (network : Net) → Spells network_file input.told net network → TellsChanges network stored → IsDone end.status }
+{
+    links_tell_demands();
+    journals_tell_one_thing();
+}
