@@ -1,5 +1,5 @@
 -- How a command ends, by its loads and what finishes it.
-use Rattle.std.proofs.Common.{◌≡◌, ℕ, ◌≤◌, ◌⊎◌, inl, inr, List, Option, Err, ◌∙◌, subst}
+use Rattle.std.proofs.Common.{◌≡◌, ℕ, ◌≤◌, ◌⊎◌, inl, inr, List, Option, Err, subst}
 use Rattle.bt_outside.specs.Told.{Rose}
 use Rattle.bt_report.specs.declared.status.TheConstants.{OUT_OF_MEMORY, WRITE_FAILED}
 use Rattle.bt_report.specs.Input.{Input, FilesFailed}
@@ -30,8 +30,11 @@ pub ends_then : {A B : Type 0} (first : Loader A) (next : A → Loader B) (Ends 
     → StopsSooner (next value) → now ≡ told → before ≤ between → first.gives told value
     → EndsBy (next value) (λ other. Ends (value, other)) (input_from now between end) output stored ended → EndsBy (and_then first next) Ends (input_from told before end) output stored ended
 ends_then first next Ends told now before between end output stored ended value moves same sooner given (inl (begins, stopped)) =
-    inl (begins, PrintsOneOf-among output ((next value).stops now (Rose between end)) ((and_then first next).stops told (Rose before end))
-    (λ outcome so. inr (value, given, stops_moved (next value) moves told now before between end same sooner outcome so)) ended.status stopped)
+    inl (
+      begins,
+      PrintsOneOf-among output ((next value).stops now (Rose between end)) ((and_then first next).stops told (Rose before end))
+          (λ outcome so. inr (value, given, stops_moved (next value) moves told now before between end same sooner outcome so)) ended.status stopped,
+    )
 ends_then first next Ends told now before between end output stored ended value moves same sooner given (inr (other, also, so)) =
     let P : (List ℕ → Option (List ℕ)) → Type 0 = λ held. (next value).gives held other in
     inr ((value, other), (given, subst P same also), so)

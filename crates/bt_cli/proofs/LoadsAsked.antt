@@ -1,5 +1,5 @@
 -- A network and a demand on it, loaded before the rest of the work.
-use Rattle.std.proofs.Common.{◌≡◌, ℕ, ◌<◌, ◌≤◌, inr, List, Option, sym, ap, ◌∙◌, arith}
+use Rattle.std.proofs.Common.{◌≡◌, ℕ, ◌≤◌, inr, List, Option, sym, ap, ◌∙◌, arith}
 use Rattle.bt_outside.specs.Told.{Rose}
 use Rattle.bt_frame.specs.declared.schedule.Critical.{Critical}
 use Rattle.bt_net.specs.Network.{Net}

@@ -6,13 +6,13 @@ use Rattle.bt_script.specs.declared.script.Script.{Script}
 use Rattle.bt_history.specs.declared.fault.RecoverFault.{RecoverFault}
 use Rattle.bt_history.specs.declared.fault.RecoverFault.TheVariants.{J1, J2, StoreFault, TooLong, OutOfMemory}
 use Rattle.bt_timeline.specs.Timeline.{restart_line}
-use Rattle.bt_report.specs.declared.status.TheConstants.{DONE, OUT_OF_MEMORY, STORE_FAILED, WRITE_FAILED}
+use Rattle.bt_report.specs.declared.status.TheConstants.{DONE, OUT_OF_MEMORY, STORE_FAILED}
 use Rattle.bt_centre.specs.declared.history.History.{History}
 use Rattle.bt_report.specs.Output.{Output}
 use Rattle.bt_centre.specs.RecoverFaults.{PrintsFault, recover_line, recover_status}
 use Rattle.bt_centre.specs.Run.{EndsFrom, RunsFrom, RunsNothing, RunsTo, RunsToRestart, RunsWhole, first_line, has_lost, status_after, whole_text}
 use Rattle.bt_report.specs.Stored.{Stored}
-use Rattle.bt_report.specs.Outcome.{Outcome, PrintsOneOf, text_alone}
+use Rattle.bt_report.specs.Outcome.{PrintsOneOf, text_alone}
 use Rattle.bt_cli.specs.Replay.{EndsRecovery, NamesRecoverFault, PrintsJournal, PrintsState}
 use Rattle.bt_cli.specs.Run.{PrintsRun, sink_with}
 use Rattle.bt_report.proofs.Reports.{PrintsOneOf-among}

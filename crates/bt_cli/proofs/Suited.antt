@@ -1,5 +1,5 @@
 -- All entries together of a matrix that a text spells.
-use Rattle.std.proofs.Common.{◌≡◌, ℕ, ◌<◌, ◌≤◌, List, length, Ok, arith}
+use Rattle.std.proofs.Common.{◌≡◌, ℕ, ◌≤◌, List, length, Ok, arith}
 use Rattle.bt_plan.specs.MatrixText.{matrix_reading}
 use Rattle.bt_plan.proofs.Spelled.{row_sum-small}
 use Rattle.bt_trans.specs.Part.{total_slots}

@@ -1,5 +1,5 @@
 -- What comes of a command: what it loads, and what finishes it with the value that is loaded.
-use Rattle.std.specs.Prelude.{◌≡◌, ◌⊎◌, ℕ, [], List, Option, Some, None}
+use Rattle.std.specs.Prelude.{◌≡◌, ◌⊎◌, ℕ, List, Option, Some, None}
 use Rattle.bt_net.specs.Network.{Net}
 use Rattle.bt_report.specs.declared.status.TheConstants.{OUT_OF_MEMORY}
 use Rattle.bt_report.specs.Input.{FilesFailed, Input}
