@@ -1,0 +1,6 @@
+pub mod Beams
+pub mod Ends
+pub mod Room
+pub mod Adds
+pub mod Fewest
+pub mod Looking

@@ -1,0 +1,3 @@
+pub mod Room
+pub mod Compact
+pub mod Look
