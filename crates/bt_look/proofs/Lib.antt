@@ -4,3 +4,5 @@ pub mod Room
 pub mod Adds
 pub mod Fewest
 pub mod Looking
+pub mod Told
+pub mod Asked
