@@ -1,0 +1,4 @@
+pub mod Room
+pub mod Compact
+pub mod Look
+pub mod Measure
