@@ -25,7 +25,7 @@ use Rattle.bt_report.specs.declared.report.Stop.{Stop}
 use Rattle.bt_report.specs.Printing.{CameTo}
 use Rattle.bt_cli.specs.Command.{EndsBy, no_store}
 use Rattle.bt_cli.specs.Replay.{EndsReplay, HasReplayed, without_run}
-use Rattle.bt_cli.specs.Request.{Request, Faulty, CheckModes, CheckPlan, PlanModes, PlanDemand, RunScript, ReplayJournal, PlanDrawn, TimeSends, PlanPart, asked, name_of}
+use Rattle.bt_cli.specs.Request.{Request, Faulty, CheckModes, CheckPlan, PlanModes, PlanDemand, RunScript, ReplayJournal, PlanDrawn, TimeSends, PlanPart, TellCapacity, asked, name_of}
 use Rattle.bt_cli.specs.Run.{BeginsNoRun, End}
 use Rattle.bt_cli.specs.Top.{AreOneStore, AreTold, AsksNoStore, Ends, IsOneReport, Reported, Reports, Serves, command_of}
 use Rattle.bt_cli.specs.Trans.{PrintsPart}
@@ -61,6 +61,7 @@ laws_of laws (PlanDemand net traffic) = record { lawful = asked_lawful laws.line
 laws_of laws (TimeSends net traffic plan delays) = record { lawful = delay_lawful laws.lines net traffic plan delays; same = λ one other kept all. TellsTimes-same laws.plan_verdict all.0.0 all.0.1 all.1.0 all.1.1 }
 laws_of laws (PlanDrawn beams seed) = record { lawful = nothing_lawful; same = λ one other kept none. alike {Tells = PrintsSummary beams seed} (λ o is. ap (λ (x : Outcome). x.status) is.1.printed) }
 laws_of laws (PlanPart transponders matrix) = record { lawful = suited_lawful transponders matrix; same = λ one other kept rows. alike {Tells = PrintsPart transponders rows} (λ o is. ap (λ (x : Outcome). x.status) is.printed) }
+laws_of laws (TellCapacity net traffic) = record { lawful = asked_lawful laws.lines net traffic; same = λ one other kept asked a b first second. first ∙ sym second }
 laws_of laws (RunScript net script _) = record { lawful = script_lawful net script; same = λ one other kept both. one_run laws.journals both.0 both.1 one other kept }
 laws_of laws (ReplayJournal net _) = record { lawful = file_lawful network_file net; same = λ one other kept network. one_replay laws.journals network one other kept }
 

@@ -8,6 +8,7 @@ pub mod Fitting
 pub mod Plans
 pub mod CheckPlan
 pub mod Timing
+pub mod Capacity
 pub mod Run
 pub mod Live
 pub mod Complete

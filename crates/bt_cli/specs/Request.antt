@@ -17,6 +17,7 @@ pub data Request : Type 0 where
   PlanDrawn : ℕ → ℕ → Request
   TimeSends : List ℕ → List ℕ → List ℕ → List ℕ → Request
   PlanPart : ℕ → List ℕ → Request
+  TellCapacity : List ℕ → List ℕ → Request
 
 -- `check MATRIX MODES`; a word that names a file is not empty
 abbrev pub check_request : List ℕ → List ℕ → Request
@@ -68,6 +69,10 @@ part_request None matrix = Faulty
 abbrev pub trans_request : List ℕ → List ℕ → Request
 trans_request transponders matrix = part_request (transponders_of transponders) matrix
 
+-- `capacity NET TRAFFIC`
+abbrev pub capacity_request : List ℕ → List ℕ → Request
+capacity_request net traffic = if nat_lt 0 (length net) && nat_lt 0 (length traffic) then TellCapacity net traffic else Faulty
+
 -- what a command with one word asks for
 abbrev pub asked_with_one : List ℕ → List ℕ → Request
 asked_with_one command first = if bytes_eq command (codes "modes") then modes_request first else Faulty
@@ -79,7 +84,8 @@ asked_with_two command first second =
     else (if bytes_eq command (codes "plan") then plan_request first second
     else (if bytes_eq command (codes "replay") then replay_request first second
     else (if bytes_eq command (codes "make") then make_request first second
-    else (if bytes_eq command (codes "trans") then trans_request first second else Faulty))))
+    else (if bytes_eq command (codes "trans") then trans_request first second
+    else (if bytes_eq command (codes "capacity") then capacity_request first second else Faulty)))))
 
 -- what a command with three words asks for
 abbrev pub asked_with_three : List ℕ → List ℕ → List ℕ → List ℕ → Request
@@ -118,6 +124,7 @@ asked (command_line.ReplayJournal net journal) = ReplayJournal net.now journal.n
 asked (command_line.PlanDrawn beams seed) = PlanDrawn beams.count seed
 asked (command_line.TimeSends net traffic plan delays) = TimeSends net.now traffic.now plan.now delays.now
 asked (command_line.PlanPart transponders matrix) = PlanPart transponders.count matrix.now
+asked (command_line.TellCapacity net traffic) = TellCapacity net.now traffic.now
 
 -- the name of its command
 abbrev pub name_of : CommandLine → Option (List ℕ)
@@ -131,6 +138,7 @@ name_of (command_line.ReplayJournal _ _) = Some (codes "replay")
 name_of (command_line.PlanDrawn _ _) = Some (codes "make")
 name_of (command_line.TimeSends _ _ _ _) = Some (codes "timing")
 name_of (command_line.PlanPart _ _) = Some (codes "trans")
+name_of (command_line.TellCapacity _ _) = Some (codes "capacity")
 
 -- the journal that is asked for, where one is
 abbrev pub journal_of : Request → Option (List ℕ)

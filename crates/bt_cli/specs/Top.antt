@@ -8,6 +8,7 @@ use Rattle.bt_report.specs.Stored.{Stored}
 use Rattle.bt_load.specs.Choice.{AnyGood, Exactly}
 use Rattle.bt_load.specs.Kinds.{matrix_file, network_file}
 use Rattle.bt_load.specs.Loaders.{file, nothing}
+use Rattle.bt_cli.specs.Capacity.{TellsCapacity}
 use Rattle.bt_cli.specs.Check.{Judges, schedule_files}
 use Rattle.bt_cli.specs.CheckPlan.{JudgesPlan, plan_files}
 use Rattle.bt_cli.specs.Command.{Answer, AsksNone, Command, EndsAs, IsOneAs, NeedsAs, OneStoreAs, OverStore, ReportsAs, ServesAs, command, no_store}
@@ -16,7 +17,7 @@ use Rattle.bt_cli.specs.Make.{PrintsSummary}
 use Rattle.bt_cli.specs.Modes.{PrintsSchedule}
 use Rattle.bt_cli.specs.Plans.{PrintsPlan}
 use Rattle.bt_cli.specs.Replay.{HasReplayed, PrintsJournal}
-use Rattle.bt_cli.specs.Request.{Request, Faulty, CheckModes, CheckPlan, PlanModes, PlanDemand, RunScript, ReplayJournal, PlanDrawn, TimeSends, PlanPart}
+use Rattle.bt_cli.specs.Request.{Request, Faulty, CheckModes, CheckPlan, PlanModes, PlanDemand, RunScript, ReplayJournal, PlanDrawn, TimeSends, PlanPart, TellCapacity}
 use Rattle.bt_cli.specs.Run.{End, HasRun, PrintsRun, script_files}
 use Rattle.bt_cli.specs.Timing.{TellsTimes, delay_files}
 use Rattle.bt_cli.specs.Trans.{PrintsPart, suited_file}
@@ -32,6 +33,7 @@ command_of (PlanDemand net traffic) = command (asked_files net traffic) (Answer 
 command_of (TimeSends net traffic plan delays) = command (delay_files net traffic plan delays) (Answer (λ all. TellsTimes all.0.0 all.0.1 all.1.0 all.1.1)) Exactly
 command_of (PlanDrawn beams seed) = command nothing (Answer (λ none. PrintsSummary beams seed)) AnyGood
 command_of (PlanPart transponders matrix) = command (suited_file transponders matrix) (Answer (PrintsPart transponders)) AnyGood
+command_of (TellCapacity net traffic) = command (asked_files net traffic) (Answer (λ asked. TellsCapacity asked.0 asked.1)) Exactly
 command_of (RunScript net script _) = command (script_files net script) (OverStore (λ both. both.0) (λ both. HasRun both.0 both.1) (λ stored both. PrintsRun both.0 both.1 stored)) AnyGood
 command_of (ReplayJournal net _) = command (file network_file net) (OverStore (λ network. network) HasReplayed PrintsJournal) Exactly
 

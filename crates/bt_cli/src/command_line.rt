@@ -1,7 +1,7 @@
 // What the words after the program's name ask for.
 ghost use Rattle.std.specs.Prelude.{◌≡◌, Some, map, codes, IfSome};
 ghost use Rattle.std.specs.String.{string_bytes};
-ghost use Rattle.bt_cli.specs.Request.{asked, asked_with_four, asked_with_one, asked_with_three, asked_with_two, check_plan_request, check_request, first_word, make_request, modes_request, name_of, part_request, plan_request, replay_request, request_of, run_request, timing_request, trans_request};
+ghost use Rattle.bt_cli.specs.Request.{asked, asked_with_four, asked_with_one, asked_with_three, asked_with_two, capacity_request, check_plan_request, check_request, first_word, make_request, modes_request, name_of, part_request, plan_request, replay_request, request_of, run_request, timing_request, trans_request};
 
 use crate::number_word::{BeamCount, Transponders, seed_of};
 
@@ -58,6 +58,11 @@ pub enum CommandLine<'a> {
         transponders: Transponders,
         matrix: &'a str,
     },
+    /// `capacity NET TRAFFIC`.
+    TellCapacity {
+        net: &'a str,
+        traffic: &'a str,
+    },
 }
 
 /// The command line that the words are.
@@ -103,6 +108,8 @@ fn with_two<'a>(command: &str, first: &'a str, second: &'a str) -> CommandLine<'
         make_of(first, second)
     } else if command == "trans" {
         trans_of(first, second)
+    } else if command == "capacity" {
+        capacity_of(first, second)
     } else {
         CommandLine::Faulty
     }
@@ -196,6 +203,17 @@ fn plan_of<'a>(net: &'a str, traffic: &'a str) -> CommandLine<'a>
         CommandLine::Faulty
     } else {
         CommandLine::PlanDemand { net, traffic }
+    }
+}
+
+fn capacity_of<'a>(net: &'a str, traffic: &'a str) -> CommandLine<'a>
+    ensures asked { asked result ≡ capacity_request net.now traffic.now }
+    ensures named { IfSome (name_of result) (λ name. name ≡ codes "capacity") }
+{
+    if net.is_empty() || traffic.is_empty() {
+        CommandLine::Faulty
+    } else {
+        CommandLine::TellCapacity { net, traffic }
     }
 }
 

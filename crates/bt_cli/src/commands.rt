@@ -7,6 +7,7 @@ ghost use Rattle.bt_cli.specs.Request.{asked, first_word, request_of};
 ghost use Rattle.bt_cli.specs.Command.{no_store};
 ghost use Rattle.bt_cli.specs.Top.{AsksNoStore, Reported, Reports};
 
+use crate::capacity::tell_capacity;
 use crate::check::check_files;
 use crate::check_plan::check_plan_files;
 use crate::command_line::{CommandLine, command_line_of};
@@ -58,6 +59,7 @@ fn answer<F: Files>(alloc: Global, line: CommandLine<'_>, files: &mut F) -> Resu
             transponders,
             matrix,
         } => plan_part(alloc, files, transponders, matrix),
+        CommandLine::TellCapacity { net, traffic } => tell_capacity(alloc, files, net, traffic),
         CommandLine::PlanDrawn { beams, seed } => drawn_report(alloc, beams, seed),
         CommandLine::RunScript { .. } | CommandLine::ReplayJournal { .. } => unreachable!(),
     }

@@ -10,6 +10,7 @@
 #![tactic(auto)]
 
 mod asked;
+mod capacity;
 mod check;
 mod check_plan;
 mod command_line;

@@ -43,6 +43,14 @@ commands
       row or column and its slots, as in `fault T6 row 0 5`.
       example: nozgurt plan examples/two-beams.net examples/two-beams.traffic
 
+  capacity NET TRAFFIC
+      Prints what the traffic in the file TRAFFIC asks of each beam of the network
+      in the file NET, in slots of the frame, and how many are free there:
+      `up NAME asked K free K` and `down NAME asked K free K`. Then it prints
+      `room FROM TO K` for each two beams between which one link more, or a longer
+      one, could have slots: K is the most that it could have.
+      example: nozgurt capacity examples/two-beams.net examples/two-beams.traffic
+
   check NET TRAFFIC PLAN
       Prints `good` where the burst time plan in the file PLAN carries that
       traffic in the least length. Else it prints what is wrong first, and ends
@@ -132,11 +140,12 @@ const LETTERS: &str = "  The letter of a CODE names the file that is at fault: N
 ";
 
 /// The forms of the commands: of each its word, and the names of the words behind it.
-pub const FORMS: [&str; 10] = [
+pub const FORMS: [&str; 11] = [
     "check MATRIX MODES",
     "modes MATRIX",
     "trans K MATRIX",
     "plan NET TRAFFIC",
+    "capacity NET TRAFFIC",
     "check NET TRAFFIC PLAN",
     "timing NET TRAFFIC PLAN DELAYS",
     "run NET SCRIPT JOURNAL",

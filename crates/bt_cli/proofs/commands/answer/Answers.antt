@@ -22,3 +22,7 @@ returns-in-TimeSends g c =
 pub returns-in-PlanPart : goal.returns-in-PlanPart
 returns-in-PlanPart g c =
     came_at (g.F.Files.told c.args.files.now) (Rose (g.F.Files.fault_count c.args.files.now) (g.F.Files.fault_count c.plan_part.new.files)) c.args.line _ c.in-PlanPart.is c.plan_part.result c.plan_part.ensures
+
+pub returns-in-TellCapacity : goal.returns-in-TellCapacity
+returns-in-TellCapacity g c =
+    came_at (g.F.Files.told c.args.files.now) (Rose (g.F.Files.fault_count c.args.files.now) (g.F.Files.fault_count c.tell_capacity.new.files)) c.args.line _ c.in-TellCapacity.is c.tell_capacity.result c.tell_capacity.ensures
