@@ -10,6 +10,9 @@ use Rattle.bt_history.specs.Recovery.{IsRecoverFault}
 use Rattle.bt_report.specs.Input.{Input, FilesFailed}
 use Rattle.bt_report.specs.Outcome.{Outcome, text_alone}
 use Rattle.bt_report.specs.Output.{HasFailed}
+use Rattle.bt_report.specs.Report.{StopIs}
+use Rattle.bt_report.specs.declared.report.Stop.{Stop}
+use Rattle.bt_report.specs.declared.report.Stop.TheVariants.{Early, OutOfMemory}
 use Rattle.bt_report.specs.Stored.{IsSteady, Stored}
 use Rattle.bt_centre.specs.declared.history.History.{History}
 use Rattle.bt_centre.specs.declared.session.InputEnd.{InputEnd}
@@ -21,7 +24,7 @@ use Rattle.bt_outside.specs.Told.{Gives}
 use Rattle.bt_load.specs.Files.{IsLoaded, Spells, StopsAtLoad}
 use Rattle.bt_load.specs.Kinds.{network_file}
 use Rattle.bt_cli.specs.Complete.{IsDone, NothingFails, TellsChanges}
-use Rattle.bt_cli.specs.Live.{EndsOn, SaysOneOf}
+use Rattle.bt_cli.specs.Live.{EndsOn, SaysOneOf, SaysStop}
 use Rattle.bt_cli.specs.Run.{End}
 use Rattle.bt_load.proofs.OneLoad.{IsLoaded-same, file_lawful}
 use Rattle.bt_cli.proofs.Complete.{wants_memory}
@@ -33,6 +36,11 @@ use Rattle.bt_cli.proofs.OneRun.{none_lost, rose_later}
 pub said_one : (talk : Talked) (Outcomes : Outcome → Type 0) (text : List ℕ) (wanted status : ℕ) → Outcomes (text_alone text wanted) → SaysOrNot talk text wanted status → SaysOneOf talk Outcomes status
 said_one talk Outcomes text wanted status is (inl memory) = inl memory
 said_one talk Outcomes text wanted status is (inr told_so) = inr (text_alone text wanted, is, told_so)
+
+-- and of a stop
+pub said_stop : (talk : Talked) (Outcomes : Outcome → Type 0) (stop : Stop) (status : ℕ) → StopIs Outcomes stop → SaysStop talk stop status → SaysOneOf talk Outcomes status
+said_stop talk Outcomes (Early report) status is told_so = said_one talk Outcomes report.text.items report.status status is told_so
+said_stop talk Outcomes OutOfMemory status is memory = inl memory
 
 -- a session whose input came to its end ended with status 0, where nothing failed
 ended_so : (talk : Talked) (lines : List (Option (List ℕ))) (end : InputEnd) (histories : List History) (status : ℕ) → ¬ (Rose talk.unheard_before talk.unheard_after) → StopsHearing talk lines end

@@ -7,12 +7,10 @@ ghost use Rattle.bt_load.specs.Kinds.{network_file};
 ghost use Rattle.bt_centre.specs.Talked.{Talked};
 ghost use Rattle.bt_report.specs.Faults.{SaysFaultyWords};
 ghost use Rattle.bt_report.specs.Input.{Input};
-ghost use Rattle.bt_report.specs.Outcome.{Outcome};
-ghost use Rattle.bt_report.specs.Report.{StopIs};
 ghost use Rattle.bt_report.specs.Stored.{Stored};
 ghost use Rattle.bt_load.specs.Files.{Spells};
 ghost use Rattle.bt_cli.specs.Complete.{IsDone, NothingFails, TellsChanges};
-ghost use Rattle.bt_cli.specs.Live.{EndsLive, EndsOn, SaysOneOf, live_request, live_words};
+ghost use Rattle.bt_cli.specs.Live.{EndsLive, EndsOn, SaysOneOf, SaysStop, live_request, live_words};
 ghost use Rattle.bt_cli.specs.Run.{End};
 
 use crate::Ended;
@@ -124,14 +122,14 @@ fn say_faulty_words<T: Talk>(alloc: Global, talk: &mut T) -> u8
         SaysFaultyWords result }
 {
     match faulty_words(alloc) {
-        Ok(report) => say_text(alloc, report.text.as_slice(), report.status, talk),
+        Ok(report) => say_stop(alloc, Stop::Early(report), talk),
         Err(_) => OUT_OF_MEMORY,
     }
 }
 
 /// Says what kept the session from its start, and gives the status to end with.
 fn say_stop<T: Talk>(alloc: Global, stop: Stop, talk: &mut T) -> u8
-    ensures said { (Outcomes : Outcome → Type 0) → StopIs Outcomes stop → SaysOneOf
+    ensures said { SaysStop
         (record {
           coming = T.coming talk.old;
           unheard_before = T.unheard talk.old;
@@ -140,7 +138,7 @@ fn say_stop<T: Talk>(alloc: Global, stop: Stop, talk: &mut T) -> u8
           turns_before = T.turns talk.old;
           turns_after = T.turns talk.new;
         })
-        Outcomes result }
+        stop result }
 {
     match stop {
         Stop::Early(report) => say_text(alloc, report.text.as_slice(), report.status, talk),

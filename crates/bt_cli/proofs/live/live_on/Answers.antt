@@ -1,0 +1,32 @@
+-- the network is loaded, and there is a session on it; or why it could not be is said
+use Rattle.std.proofs.Common.{ℕ, inl, inr, sym, ap, subst}
+use Rattle.bt_outside.specs.Told.{Rose}
+use Rattle.bt_centre.specs.Talked.{Talked}
+use Rattle.bt_load.specs.Files.{StopsAtLoad}
+use Rattle.bt_load.specs.Kinds.{network_file}
+use Rattle.bt_cli.specs.Live.{SaysOneOf}
+use Rattle.bt_cli.proofs.Sessions.{said_stop}
+use Rattle.bt_cli.proofs.live.live_on.Goals as goal
+
+pub returns-in-Err : goal.returns-in-Err
+returns-in-Err g c =
+    let talk : Talked = record {
+      coming = g.T.Talk.coming c.args.talk.now;
+      unheard_before = g.T.Talk.unheard c.args.talk.now;
+      unheard_after = g.T.Talk.unheard c.say_stop.new.talk;
+      output = record { before = g.T.Sink.told c.args.talk.now; after = g.T.Sink.told c.say_stop.new.talk; faults_before = g.T.Sink.fault_count c.args.talk.now; faults_after = g.T.Sink.fault_count c.say_stop.new.talk };
+      turns_before = g.T.Talk.turns c.args.talk.now;
+      turns_after = g.T.Talk.turns c.say_stop.new.talk;
+    } in
+    let failed = Rose (g.F.Files.fault_count c.args.files.now) (g.F.Files.fault_count c.load_network.new.files) in
+    let P : ℕ → Type 0 = λ status. SaysOneOf talk (StopsAtLoad network_file (g.F.Files.told c.args.files.now) failed c.args.net.now) status in
+    record {
+      ends = inl (
+          record {
+            histories = c.without_run.ensures.histories;
+            events = c.without_run.ensures.events;
+            store = record { bytes = ap g.K.Keeper.told c.without_run.ensures.store; faults = ap g.K.Keeper.fault_count c.without_run.ensures.store };
+          },
+          subst P (sym c.without_run.ensures.status) (said_stop talk (StopsAtLoad network_file (g.F.Files.told c.args.files.now) failed c.args.net.now) c.in-Err.stop _ c.in-Err.ensures.stops c.say_stop.ensures.said),
+      );
+    }
