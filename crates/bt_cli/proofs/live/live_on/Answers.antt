@@ -22,11 +22,11 @@ returns-in-Err g c =
     let P : ℕ → Type 0 = λ status. SaysOneOf talk (StopsAtLoad network_file (g.F.Files.told c.args.files.now) failed c.args.net.now) status in
     record {
       ends = inl (
-          record {
-            histories = c.without_run.ensures.histories;
-            events = c.without_run.ensures.events;
-            store = record { bytes = ap g.K.Keeper.told c.without_run.ensures.store; faults = ap g.K.Keeper.fault_count c.without_run.ensures.store };
-          },
-          subst P (sym c.without_run.ensures.status) (said_stop talk (StopsAtLoad network_file (g.F.Files.told c.args.files.now) failed c.args.net.now) c.in-Err.stop _ c.in-Err.ensures.stops c.say_stop.ensures.said),
+        record {
+          histories = c.without_run.ensures.histories;
+          events = c.without_run.ensures.events;
+          store = record { bytes = ap g.K.Keeper.told c.without_run.ensures.store; faults = ap g.K.Keeper.fault_count c.without_run.ensures.store };
+        },
+        subst P (sym c.without_run.ensures.status) (said_stop talk (StopsAtLoad network_file (g.F.Files.told c.args.files.now) failed c.args.net.now) c.in-Err.stop _ c.in-Err.ensures.stops c.say_stop.ensures.said),
       );
     }
