@@ -74,10 +74,9 @@ fn asked<R: Env + Alloc<A = Global>>(
     let mut words = words_after_name(rt, alloc)?;
     let place = dash::place_of_dash(&words);
     put_standard_input(alloc, &mut words, place)?;
-    let named = match live_words(&words) {
-        Some((_, journal)) => Some(journal),
-        None => journal_of(&words),
+    let journal = match live_words(&words) {
+        Some((_, journal)) => String::from_str(alloc, journal)?,
+        None => String::from_str(alloc, journal_of(&words).unwrap_or(""))?,
     };
-    let journal = String::from_str(alloc, named.unwrap_or(""))?;
     Ok((words, journal))
 }
