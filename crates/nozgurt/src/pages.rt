@@ -9,7 +9,15 @@ nozgurt, the control centre of a satellite-switched TDMA system
 
 usage: nozgurt COMMAND WORDS..
 
-commands
+commands that plan and check
+  capacity NET TRAFFIC
+      Prints what the traffic in the file TRAFFIC asks of each beam of the network
+      in the file NET, in slots of the frame, and how many are free there:
+      `up NAME asked K free K` and `down NAME asked K free K`. Then it prints
+      `room FROM TO K` for each two beams between which one link more, or a longer
+      one, could have slots: K is the most that it could have.
+      example: nozgurt capacity examples/two-beams.net examples/two-beams.traffic
+
   check MATRIX MODES
       Prints `good` where the switching schedule in the file MODES carries the
       traffic matrix in the file MATRIX in the least length. Else it prints what
@@ -23,34 +31,6 @@ commands
       Modes and beams are counted from 0.
       example: nozgurt check examples/two-beams.matrix examples/two-beams.modes
 
-  modes MATRIX
-      Prints a switching schedule that carries the traffic matrix in the file
-      MATRIX in the least length, as `check` reads it.
-      example: nozgurt modes examples/two-beams.matrix
-
-  trans K MATRIX
-      Prints a switching schedule in the least length for a satellite with K
-      transponders, 1 to 16, which makes K connections at once at most. The length is the greater of the greatest line
-      sum and of all slots shared among K, rounded up; `bound` says which it is.
-      An uplink beam that is silent in a mode is printed `-`. The matrix has 16
-      beams at most and K at least: else `fault X3`.
-      example: nozgurt trans 2 examples/three-beams.matrix
-
-  plan NET TRAFFIC
-      Prints a burst time plan, as edition 1, that carries the traffic of the
-      terminals in the file TRAFFIC on the network in the file NET in the least
-      length. Where the traffic does not fit the frame, it prints the heaviest
-      row or column and its slots, as in `fault T6 row 0 5`.
-      example: nozgurt plan examples/two-beams.net examples/two-beams.traffic
-
-  capacity NET TRAFFIC
-      Prints what the traffic in the file TRAFFIC asks of each beam of the network
-      in the file NET, in slots of the frame, and how many are free there:
-      `up NAME asked K free K` and `down NAME asked K free K`. Then it prints
-      `room FROM TO K` for each two beams between which one link more, or a longer
-      one, could have slots: K is the most that it could have.
-      example: nozgurt capacity examples/two-beams.net examples/two-beams.traffic
-
   check NET TRAFFIC PLAN
       Prints `good` where the burst time plan in the file PLAN carries that
       traffic in the least length. Else it prints what is wrong first, and ends
@@ -62,6 +42,26 @@ commands
       example: nozgurt check examples/two-beams.net examples/two-beams.traffic
                examples/two-beams.plan
 
+  make N NUMBER
+      Draws a demand on a network of N beams, 1 to 16, from the number NUMBER
+      on, 0 to 18446744073709551615, and plans it: for trials of any size.
+      Prints how many links and slots it has, how long the plan is and which row
+      or column asks for so many slots, and how many modes and bursts the plan
+      has. The same numbers draw the same demand.
+      example: nozgurt make 16 7
+
+  modes MATRIX
+      Prints a switching schedule that carries the traffic matrix in the file
+      MATRIX in the least length, as `check` reads it.
+      example: nozgurt modes examples/two-beams.matrix
+
+  plan NET TRAFFIC
+      Prints a burst time plan, as edition 1, that carries the traffic of the
+      terminals in the file TRAFFIC on the network in the file NET in the least
+      length. Where the traffic does not fit the frame, it prints the heaviest
+      row or column and its slots, as in `fault T6 row 0 5`.
+      example: nozgurt plan examples/two-beams.net examples/two-beams.traffic
+
   timing NET TRAFFIC PLAN DELAYS
       Prints when each burst of that plan is to be sent: `send AT TICKS FROM TO`.
       TICKS are counted from the begin of the frame at the satellite, so that by
@@ -70,23 +70,15 @@ commands
       example: nozgurt timing examples/six-beams.net examples/six-beams.traffic
                examples/six-beams.plan examples/six-beams.delays
 
-  run NET SCRIPT JOURNAL
-      Plays the script in the file SCRIPT on the network in the file NET: desks
-      edit the demand, the planner plans, the centre has plans loaded and armed,
-      and frames go on the air. Prints the answer to each edit, each plan, each
-      message with what its receiver did, each frame, and how many edits were
-      done and refused. The run begins with what the file JOURNAL comes to, and
-      each change that is accepted is one line more of it before it is answered.
-      A file that is not there is made, and is an empty journal.
-      The line `back E` of a script has the centre go back: from its next turn
-      on it wants the plan of edition E in front. `ahead` has it want the newest
-      again, and so has a restart. A standby is a second reference station. By
-      `standby hears K` it hears message K, a status of the satellite. By
-      `standby burst` it names the edition in front by the last one that it heard
-      in the present superframe, or none.
-      example: nozgurt run examples/two-beams.net
-               examples/calm-change.script calm.journal
+  trans K MATRIX
+      Prints a switching schedule in the least length for a satellite with K
+      transponders, 1 to 16, which makes K connections at once at most. The length is the greater of the greatest line
+      sum and of all slots shared among K, rounded up; `bound` says which it is.
+      An uplink beam that is silent in a mode is printed `-`. The matrix has 16
+      beams at most and K at least: else `fault X3`.
+      example: nozgurt trans 2 examples/three-beams.matrix
 
+commands of the centre
   live NET JOURNAL
       Runs the centre of the network in the file NET by the lines that come on
       standard input: each is played and answered before the next is read. They
@@ -115,14 +107,25 @@ commands
       example: nozgurt replay examples/two-beams.net
                examples/calm-change.journal
 
-  make N NUMBER
-      Draws a demand on a network of N beams, 1 to 16, from the number NUMBER
-      on, 0 to 18446744073709551615, and plans it: for trials of any size.
-      Prints how many links and slots it has, how long the plan is and which row
-      or column asks for so many slots, and how many modes and bursts the plan
-      has. The same numbers draw the same demand.
-      example: nozgurt make 16 7
+  run NET SCRIPT JOURNAL
+      Plays the script in the file SCRIPT on the network in the file NET: desks
+      edit the demand, the planner plans, the centre has plans loaded and armed,
+      and frames go on the air. Prints the answer to each edit, each plan, each
+      message with what its receiver did, each frame, and how many edits were
+      done and refused. The run begins with what the file JOURNAL comes to, and
+      each change that is accepted is one line more of it before it is answered.
+      A file that is not there is made, and is an empty journal.
+      The line `back E` of a script has the centre go back: from its next turn
+      on it wants the plan of edition E in front. `ahead` has it want the newest
+      again, and so has a restart. A standby is a second reference station. By
+      `standby hears K` it hears message K, a status of the satellite. By
+      `standby burst` it names the edition in front by the last one that it heard
+      in the present superframe, or none.
+      example: nozgurt run examples/two-beams.net
+               examples/calm-change.script calm.journal
 
+commands that look at a journal
+other words
   --help      prints this page
   --version   prints the version
 
@@ -141,17 +144,17 @@ const LETTERS: &str = "  The letter of a CODE names the file that is at fault: N
 
 /// The forms of the commands: of each its word, and the names of the words behind it.
 pub const FORMS: [&str; 11] = [
-    "check MATRIX MODES",
-    "modes MATRIX",
-    "trans K MATRIX",
-    "plan NET TRAFFIC",
     "capacity NET TRAFFIC",
+    "check MATRIX MODES",
     "check NET TRAFFIC PLAN",
+    "make N NUMBER",
+    "modes MATRIX",
+    "plan NET TRAFFIC",
     "timing NET TRAFFIC PLAN DELAYS",
-    "run NET SCRIPT JOURNAL",
+    "trans K MATRIX",
     "live NET JOURNAL",
     "replay NET JOURNAL",
-    "make N NUMBER",
+    "run NET SCRIPT JOURNAL",
 ];
 
 /// What `--version` prints.
