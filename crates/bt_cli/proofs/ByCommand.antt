@@ -56,7 +56,7 @@ laws_of : Laws → (request : Request) → LawsAs (command_of request)
 laws_of laws Faulty = record { lawful = nothing_lawful; same = λ one other kept none a b first second. first ∙ sym second }
 laws_of laws (CheckModes matrix modes) = record { lawful = modes_lawful matrix modes; same = λ one other kept both. Judges-same laws.verdict both.0 both.1 }
 laws_of laws (CheckPlan net traffic plan) = record { lawful = plan_lawful laws.lines net traffic plan; same = λ one other kept both. JudgesPlan-same laws.plan_verdict both.0.0 both.0.1 both.1 }
-laws_of laws (PlanModes matrix) = record { lawful = file_lawful matrix_file matrix; same = λ one other kept rows. alike {Tells = PrintsSchedule rows} (λ o is. ap (λ (x : Outcome). x.status) is.3) }
+laws_of laws (PlanModes matrix) = record { lawful = file_lawful matrix_file matrix; same = λ one other kept rows. alike {Tells = PrintsSchedule rows} (λ o is. ap (λ (x : Outcome). x.status) is.4) }
 laws_of laws (PlanDemand net traffic) = record { lawful = asked_lawful laws.lines net traffic; same = λ one other kept asked. alike {Tells = PrintsPlan asked.0 asked.1} (λ o is. ap (λ (x : Outcome). x.status) is.printed) }
 laws_of laws (TimeSends net traffic plan delays) = record { lawful = delay_lawful laws.lines net traffic plan delays; same = λ one other kept all. TellsTimes-same laws.plan_verdict all.0.0 all.0.1 all.1.0 all.1.1 }
 laws_of laws (PlanDrawn beams seed) = record { lawful = nothing_lawful; same = λ one other kept none. alike {Tells = PrintsSummary beams seed} (λ o is. ap (λ (x : Outcome). x.status) is.1.printed) }
