@@ -4,6 +4,7 @@ use Rattle.std.proofs.lemmas.List.FromFn.{length-map-range_with_len}
 use Rattle.bt_net.specs.Network.{Net}
 use Rattle.bt_net.specs.Numbered.{numbered_beam, numbered_network}
 use Rattle.bt_matrix.specs.Traffic.{IsHeaviest}
+use Rattle.bt_modes.specs.Few.{HasFewModes}
 use Rattle.bt_demand.specs.Plan.{IsGoodPlan}
 use Rattle.bt_demand.specs.Traffic.{matrix_of}
 use Rattle.bt_make.specs.Made.{IsMade}
@@ -21,11 +22,13 @@ returns c =
     let Drawn : Net → Type 0 = λ net. IsMade net c.args.seed links in
     let Good : Net → Type 0 = λ net. IsGoodPlan net links plan in
     let Heaviest : Net → Type 0 = λ net. IsHeaviest (matrix_of net links) plan.schedule.critical plan.schedule.length in
+    let Few : Net → Type 0 = λ net. HasFewModes (matrix_of net links) plan.schedule in
     record {
       links = links;
       drawn = subst Drawn same c.in_ok-made.ensures.made;
       edition = search rules;
       good = subst Good same c.in_ok-plan.ensures.good;
       heaviest = subst Heaviest same c.in_ok-plan.ensures.heaviest;
+      few = subst Few same c.in_ok-plan.ensures.few;
       printed = ap (λ t. text_alone t 0) (c.in_ok-text.ensures.spelled ∙ ap (λ (count : ℕ). summary count c.args.seed links plan) counted);
     }
