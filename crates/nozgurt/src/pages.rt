@@ -72,8 +72,9 @@ commands that plan and check
 
   trans K MATRIX
       Prints a switching schedule in the least length for a satellite with K
-      transponders, 1 to 16, which makes K connections at once at most. The length is the greater of the greatest line
-      sum and of all slots shared among K, rounded up; `bound` says which it is.
+      transponders, 1 to 16, which makes K connections at once at most. The length
+      is the greater of the greatest line sum and of all slots shared among K,
+      rounded up; `bound` says which it is.
       An uplink beam that is silent in a mode is printed `-`. The matrix has 16
       beams at most and K at least: else `fault X3`.
       example: nozgurt trans 2 examples/three-beams.matrix
@@ -130,16 +131,18 @@ other words
   --version   prints the version
 
 One file of a command that is read may be the word `-`, standard input, but not
-the network; a file of that name is `./-`.
+the network, nor a journal that is written; a file of that name is `./-`.
 
 exit status
 ";
 
 /// What it prints behind them.
-const LETTERS: &str = "  The letter of a CODE names the file that is at fault: N the network, X the
+const LETTERS: &str = "  125 the program was not started: it is not built, or another has the journal
+  The letter of a CODE names the file that is at fault: N the network, X the
   matrix, M the modes, T the traffic, P the plan, G the delays, S the script, J
   the journal.
-  docs/formats.md has the texts of all files and explains each code.
+  docs/formats.md, the man page nozgurt-formats(5), has the texts of all files
+  and explains each code.
 ";
 
 /// The forms of the commands: of each its word, and the names of the words behind it.
