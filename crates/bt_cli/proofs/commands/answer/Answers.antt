@@ -26,3 +26,11 @@ returns-in-PlanPart g c =
 pub returns-in-TellCapacity : goal.returns-in-TellCapacity
 returns-in-TellCapacity g c =
     came_at (g.F.Files.told c.args.files.now) (Rose (g.F.Files.fault_count c.args.files.now) (g.F.Files.fault_count c.tell_capacity.new.files)) c.args.line _ c.in-TellCapacity.is c.tell_capacity.result c.tell_capacity.ensures
+
+pub returns-in-TellDemand : goal.returns-in-TellDemand
+returns-in-TellDemand g c =
+    came_at (g.F.Files.told c.args.files.now) (Rose (g.F.Files.fault_count c.args.files.now) (g.F.Files.fault_count c.tell_demand.new.files)) c.args.line _ c.in-TellDemand.is c.tell_demand.result c.tell_demand.ensures
+
+pub returns-in-TellCompact : goal.returns-in-TellCompact
+returns-in-TellCompact g c =
+    came_at (g.F.Files.told c.args.files.now) (Rose (g.F.Files.fault_count c.args.files.now) (g.F.Files.fault_count c.tell_compact.new.files)) c.args.line _ c.in-TellCompact.is c.tell_compact.result c.tell_compact.ensures
