@@ -6,3 +6,6 @@ pub mod Fewest
 pub mod Looking
 pub mod Told
 pub mod Asked
+pub mod Places
+pub mod PlansAsked
+pub mod OneEdition

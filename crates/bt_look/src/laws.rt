@@ -1,22 +1,28 @@
 // What holds of the texts, whatever the program does.
-ghost use Rattle.std.specs.Prelude.{◌≡◌, ◌≢◌, ◌<◌, ◌≤◌, ◌↔◌, ℕ, List, length};
+ghost use Rattle.std.specs.Prelude.{◌≡◌, ◌≢◌, ◌<◌, ◌≤◌, ◌↔◌, ℕ, List, AllPairs, IfSome, None, Ok, Option, Some, length};
 ghost use Rattle.bt_frame.specs.declared.limits.TheConstants.{MOST_UNITS};
 ghost use Rattle.bt_frame.specs.declared.numbers.BeamNo.{BeamNo};
+ghost use Rattle.bt_frame.specs.declared.numbers.EditionNo.{EditionNo};
 ghost use Rattle.bt_frame.specs.declared.numbers.TermNo.{TermNo};
 ghost use Rattle.bt_net.specs.Network.{Net, IsSound};
 ghost use Rattle.bt_net.specs.Terminals.{IsInBeam};
 ghost use Rattle.bt_demand.specs.declared.demand.Link.{Link};
 ghost use Rattle.bt_demand.specs.Traffic.{matrix_of};
+ghost use Rattle.bt_plan.specs.PlanSpelling.{plan_spelling};
+ghost use Rattle.bt_plan.specs.PlanText.{plan_reading};
 ghost use Rattle.bt_journal.specs.declared.call.Change.{Change};
 ghost use Rattle.bt_journal.specs.declared.call.Edit.TheVariants.{Add};
-ghost use Rattle.bt_history.specs.Causes.{Follows};
-ghost use Rattle.bt_history.specs.Changes.{edition, IsDemandAfter};
+ghost use Rattle.bt_history.specs.Causes.{Follows, IsGoodForItsEdition};
+ghost use Rattle.bt_history.specs.Changes.{edition, newest, plans, IsDemandAfter};
 ghost use Rattle.bt_history.specs.EditCauses.{IsGoodEdit};
 ghost use Rattle.bt_history.specs.Recovery.{Recovered};
 ghost use Rattle.bt_look.specs.Compact.{adds_of, compact_lines};
+ghost use Rattle.bt_look.specs.Installed.{plan_asked};
 ghost use Rattle.bt_look.specs.Room.{room};
 
+use bt_book::installed_plans_are_good;
 use bt_journal::{lines_end_once, lines_tell_changes, marks_tell_sizes};
+use bt_plan::plans_have_one_spelling;
 
 /// After changes that follow, an add between two terminals has no cause of a refusal exactly where it asks for no more units
 /// than their beams have room. Where there is room there are two such terminals, and an add may ask for all of it.
@@ -47,3 +53,21 @@ pub fn no_journal_has_fewer_edits()
     ensures edits { (links : List Link) → edition (adds_of links) ≡ length links }
     ensures fewest { (changes : List Change) (links : List Link) → IsDemandAfter changes links → length links ≤ edition changes }
 {}
+
+/// An installed plan that is asked for is the one of that edition, and after changes that follow no other is, or it is the newest.
+/// It carries exactly the demand of its edition in the least length, and of a journal's bytes on a sound network it is read back
+/// from its text.
+pub fn told_plans_are_read_back()
+    ensures edition { (changes : List Change) (number : EditionNo)
+        → IfSome (plan_asked changes (Some number)) (λ plan. plan.edition.0 ≡ number.0) }
+    ensures one { (net : Net) (changes : List Change) → Follows net changes
+        → AllPairs (λ a b. a.edition.0 < b.edition.0) (plans changes) }
+    ensures newest { (changes : List Change) → IfSome (plan_asked changes None) (λ plan. plan ≡ newest changes) }
+    ensures good { (net : Net) (changes : List Change) (asked : Option EditionNo) → Follows net changes
+        → IfSome (plan_asked changes asked) (IsGoodForItsEdition net changes) }
+    ensures read { (net : Net) (bytes : List ℕ) (changes : List Change) (asked : Option EditionNo) → IsSound net
+        → Recovered net bytes changes → IfSome (plan_asked changes asked) (λ plan. plan_reading net (plan_spelling net plan) ≡ Ok plan) }
+{
+    installed_plans_are_good();
+    plans_have_one_spelling();
+}

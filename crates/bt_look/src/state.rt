@@ -1,0 +1,123 @@
+// The state that a journal tells.
+ghost use Rattle.std.specs.Prelude.{◌≡◌, ◌++◌, IfErr, IfOk, OnOk, length};
+ghost use Rattle.bt_history.specs.Causes.{Follows};
+ghost use Rattle.bt_history.specs.Changes.{matrix_after};
+ghost use Rattle.bt_look.specs.Look.{IsLookFault};
+ghost use Rattle.bt_look.specs.State.{TellsState, lines_with, made_lines, plan_line, size_lines, torn_line};
+
+use crate::capacity::add_loads;
+use crate::look::look;
+use crate::measure::{JournalSize, size_of_journal};
+use bt_base::SureKeeper;
+use bt_book::{Book, RecoverFault, demands_fit_the_frame};
+use bt_demand::{Plan, traffic_of};
+use bt_frame::{MOST_JOURNAL_BYTES, OutOfMemory};
+use bt_matrix::Dense;
+use bt_net::Network;
+use bt_words::{Word, add_line};
+use std::alloc::Global;
+
+/// The state that a journal's bytes tell, a line each: the last edition; the newest plan, with its length in slots, its modes and
+/// its bursts; how many orders were placed; the bytes of the lines of its changes and how many a journal of the network may have;
+/// those behind the last newline, where there are some; and what is asked of each beam in slots per frame, and free there.
+pub fn state_text(alloc: Global, net: &Network, bytes: Vec<u8>) -> Result<Vec<u8>, RecoverFault>
+    ensures text { IfOk result (λ text. TellsState net.now bytes.items text.items) }
+    ensures fault { IfErr result (IsLookFault net.now bytes.items) }
+{
+    if bytes.len() as u64 > MOST_JOURNAL_BYTES {
+        return Err(RecoverFault::TooLong);
+    }
+    let size = size_of_journal(alloc, net, bytes.as_slice())?;
+    let book = look(alloc, net, bytes)?;
+    Ok(text_of(alloc, net, &book, size)?)
+}
+
+/// The same of a book that a journal's bytes came to, and of the sizes that were measured.
+fn text_of(
+    alloc: Global,
+    net: &Network,
+    book: &Book<SureKeeper>,
+    size: JournalSize,
+) -> Result<Vec<u8>, OutOfMemory>
+    requires follows { Follows net.now book.now.state.changes }
+    ensures { IfOk result (λ text. text.items ≡ lines_with net.now book.now.state.changes size.bytes size.torn) }
+{
+    let matrix = matrix_in(alloc, net, book)?;
+    let mut text = Vec::new(alloc);
+    add_made(alloc, book, &mut text)?;
+    add_size(alloc, net, size, &mut text)?;
+    add_loads(alloc, net, &matrix, &mut text)?;
+    add_line(alloc, &[Word::Text("end")], &mut text)?;
+    Ok(text)
+}
+
+/// The traffic matrix of a book's demand.
+fn matrix_in(alloc: Global, net: &Network, book: &Book<SureKeeper>) -> Result<Dense, OutOfMemory>
+    requires follows { Follows net.now book.now.state.changes }
+    ensures matrix { IfOk result (λ matrix. matrix ≡ matrix_after net.now book.now.state.changes) }
+    ensures beams { IfOk result (λ matrix. length matrix ≡ length net.now.beams) }
+{
+    // This is there for what holds of each network: it is sound, and so its frame has at most `MOST_SLOTS` slots.
+    let _beams = net.beam_count();
+    demands_fit_the_frame();
+    traffic_of(alloc, net, book.demand())
+}
+
+/// Appends how far a book has come: its edition, its newest plan and how many orders it has.
+fn add_made(alloc: Global, book: &Book<SureKeeper>, out: &mut Vec<u8>) -> Result<(), OutOfMemory>
+    ensures { OnOk result (out.new.items ≡ out.old.items ++ made_lines book.now.state.changes) }
+{
+    let edition = book.edition().0;
+    add_line(alloc, &[Word::Text("edition"), Word::number(edition)], out)?;
+    add_plan(alloc, book.newest(), out)?;
+    let orders = book.order_count();
+    add_line(alloc, &[Word::Text("orders"), Word::number(orders)], out)
+}
+
+/// Appends the line of a plan.
+fn add_plan(alloc: Global, plan: &Plan, out: &mut Vec<u8>) -> Result<(), OutOfMemory>
+    ensures { OnOk result (out.new.items ≡ out.old.items ++ plan_line plan.now) }
+{
+    let modes = plan.schedule.modes.as_slice();
+    let bursts = plan.bursts.as_slice();
+    let words = [
+        Word::Text("plan"),
+        Word::number(plan.edition.0),
+        Word::Text("length"),
+        Word::number(plan.schedule.length),
+        Word::Text("modes"),
+        Word::Number(modes.len() as u64),
+        Word::Text("bursts"),
+        Word::Number(bursts.len() as u64),
+    ];
+    add_line(alloc, &words, out)
+}
+
+/// Appends how full a journal is.
+fn add_size(
+    alloc: Global,
+    net: &Network,
+    size: JournalSize,
+    out: &mut Vec<u8>,
+) -> Result<(), OutOfMemory>
+    ensures { OnOk result (out.new.items ≡ out.old.items ++ size_lines net.now size.bytes size.torn) }
+{
+    let words = [
+        Word::Text("journal"),
+        Word::number(size.bytes),
+        Word::Text("of"),
+        Word::number(net.journal()),
+    ];
+    add_line(alloc, &words, out)?;
+    add_torn(alloc, size.torn, out)
+}
+
+/// Appends the line of the bytes behind the last newline, where there are some.
+fn add_torn(alloc: Global, torn: u32, out: &mut Vec<u8>) -> Result<(), OutOfMemory>
+    ensures { OnOk result (out.new.items ≡ out.old.items ++ torn_line torn) }
+{
+    if torn == 0 {
+        return Ok(());
+    }
+    add_line(alloc, &[Word::Text("torn"), Word::number(torn)], out)
+}
