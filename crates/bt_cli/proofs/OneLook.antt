@@ -1,5 +1,6 @@
 -- A look at one journal has one outcome.
-use Rattle.std.proofs.Common.{◌≡◌, ◌⊎◌, ℕ, ◌≤◌, inl, inr, List, length, Option, None, sym, ap, ◌∙◌, arith}
+use Rattle.std.proofs.Common.{◌≡◌, ◌⊎◌, ℕ, ◌≤◌, inl, inr, List, length, Option, Some, None, option_map, sym, ap, ◌∙◌, arith}
+use Rattle.std.proofs.lemmas.Option.{same_Some}
 use Rattle.bt_frame.specs.declared.limits.TheConstants.{MOST_JOURNAL_BYTES}
 use Rattle.bt_frame.specs.declared.numbers.EditionNo.{EditionNo}
 use Rattle.bt_net.specs.Network.{Net}
@@ -8,15 +9,18 @@ use Rattle.bt_journal.specs.declared.call.Change.{Change}
 use Rattle.bt_history.specs.declared.fault.RecoverFault.{RecoverFault}
 use Rattle.bt_history.specs.declared.fault.RecoverFault.TheVariants.{J1, J2, StoreFault, TooLong, OutOfMemory}
 use Rattle.bt_history.specs.Changes.{IsDemandAfter}
+use Rattle.bt_plan.specs.PlanSpelling.{plan_spelling}
 use Rattle.bt_timeline.specs.Replayed.{link_lines}
 use Rattle.bt_look.specs.Compact.{compact_lines}
+use Rattle.bt_look.specs.Installed.{TellsInstalled, plan_asked}
+use Rattle.bt_look.specs.State.{TellsState, state_lines}
 use Rattle.bt_look.specs.Look.{IsDemandText, IsLookFault, TellsCompact, TellsDemand}
 use Rattle.bt_report.specs.declared.status.TheConstants.{DONE}
 use Rattle.bt_report.specs.Outcome.{Outcome, text_alone}
 use Rattle.bt_load.specs.Kinds.{journal_file, network_file}
 use Rattle.bt_load.specs.Loaders.{file}
 use Rattle.bt_load.proofs.OneLoad.{IsLawful, file_lawful, then_lawful}
-use Rattle.bt_cli.specs.Looks.{NamesLine, PrintsCompact, PrintsDemand, PrintsOrNone, PrintsText, journal_files}
+use Rattle.bt_cli.specs.Looks.{NamesLine, PrintsCompact, PrintsDemand, PrintsInstalled, PrintsJournalState, PrintsOrNone, PrintsText, journal_files}
 use Rattle.bt_cli.specs.Replay.{NamesRecoverFault}
 use Rattle.bt_cli.proofs.OneDemand.{none_behind, one_demand}
 use Rattle.bt_cli.proofs.OneJournal.{Comes, HasChanges, Laws, one_coming}
@@ -38,6 +42,21 @@ look_comes : (Done : List Change → Outcome → Type 0) (Prints : Outcome → T
     → (Prints outcome → HasChanges Done net bytes outcome) → Prints outcome ⊎ NamesLine net bytes outcome → Comes Done net bytes outcome
 look_comes Done Prints net bytes outcome short changes (inl printed) = inl (changes printed)
 look_comes Done Prints net bytes outcome short changes (inr (fault, is, names)) = line_comes Done net bytes fault outcome short is names
+
+-- ---- `state`
+
+abbrev StateOf : Net → List ℕ → List Change → Outcome → Type 0
+StateOf net bytes changes outcome = outcome ≡ text_alone (state_lines net bytes changes) DONE
+
+state_changes : (net : Net) (bytes : List ℕ) (outcome : Outcome) → length bytes ≤ MOST_JOURNAL_BYTES → PrintsText (TellsState net bytes) outcome → HasChanges (StateOf net bytes) net bytes outcome
+state_changes net bytes outcome short (text, tells, is) = record { changes = tells.changes; told = tells.told; short = short; done = is ∙ ap (λ (t : List ℕ). text_alone t DONE) tells.spelled }
+
+pub state_same : Laws → (net : Net) (bytes : List ℕ) (a b : Outcome) → PrintsJournalState net bytes a → PrintsJournalState net bytes b → a ≡ b
+state_same laws net bytes a b first second =
+    let Prints : Outcome → Type 0 = PrintsText (TellsState net bytes) in
+    one_coming laws (λ x y. x ≡ y) (λ x y same. same) (StateOf net bytes) (λ changes x y one other. one ∙ sym other) net first.sound bytes a b
+    (look_comes (StateOf net bytes) Prints net bytes a first.short (state_changes net bytes a first.short) first.comes)
+    (look_comes (StateOf net bytes) Prints net bytes b second.short (state_changes net bytes b second.short) second.comes)
 
 -- ---- `demand`
 
@@ -63,6 +82,37 @@ demand_same laws asked net bytes a b first second =
     one_coming laws (λ x y. x ≡ y) (λ x y same. same) (DemandOf net asked) (demand_printed net asked) net first.sound bytes a b
     (look_comes (DemandOf net asked) Prints net bytes a first.short (demand_changes net bytes asked a first.short) first.comes)
     (look_comes (DemandOf net asked) Prints net bytes b second.short (demand_changes net bytes asked b second.short) second.comes)
+
+-- ---- `installed`
+
+abbrev InstalledText : Net → Option EditionNo → List Change → Option (List ℕ) → Type 0
+InstalledText net asked changes text = text ≡ option_map (plan_spelling net) (plan_asked changes asked)
+
+abbrev InstalledOf : Net → Option EditionNo → List Change → Outcome → Type 0
+InstalledOf net asked changes outcome = PrintsOrNone (InstalledText net asked changes) outcome
+
+installed_changes : (net : Net) (bytes : List ℕ) (asked : Option EditionNo) (outcome : Outcome) → length bytes ≤ MOST_JOURNAL_BYTES → PrintsOrNone (TellsInstalled net bytes asked) outcome
+    → HasChanges (InstalledOf net asked) net bytes outcome
+installed_changes net bytes asked outcome short (inl (text, tells, is)) = record { changes = tells.changes; told = tells.told; short = short; done = inl (text, tells.spelled, is) }
+installed_changes net bytes asked outcome short (inr (tells, says)) = record { changes = tells.changes; told = tells.told; short = short; done = inr (tells.spelled, says) }
+
+-- a text is none that is not there
+never_none : (text : List ℕ) (found : Option (List ℕ)) → Some text ≡ found → None ≡ found → ⊥
+never_none text found is none = cc
+
+installed_printed : (net : Net) (asked : Option EditionNo) (changes : List Change) (a b : Outcome) → InstalledOf net asked changes a → InstalledOf net asked changes b → a ≡ b
+installed_printed net asked changes a b (inl (text, one, is)) (inl (text', other, is')) =
+    is ∙ (ap (λ (t : List ℕ). text_alone t DONE) (same_Some text text' (one ∙ sym other)) ∙ sym is')
+installed_printed net asked changes a b (inl (text, one, is)) (inr (none, says)) = absurd (never_none text _ one none)
+installed_printed net asked changes a b (inr (none, says)) (inl (text, other, is)) = absurd (never_none text _ other none)
+installed_printed net asked changes a b (inr (none, says)) (inr (none', says')) = says ∙ sym says'
+
+pub installed_same : Laws → (asked : Option EditionNo) (net : Net) (bytes : List ℕ) (a b : Outcome) → PrintsInstalled asked net bytes a → PrintsInstalled asked net bytes b → a ≡ b
+installed_same laws asked net bytes a b first second =
+    let Prints : Outcome → Type 0 = PrintsOrNone (TellsInstalled net bytes asked) in
+    one_coming laws (λ x y. x ≡ y) (λ x y same. same) (InstalledOf net asked) (installed_printed net asked) net first.sound bytes a b
+    (look_comes (InstalledOf net asked) Prints net bytes a first.short (installed_changes net bytes asked a first.short) first.comes)
+    (look_comes (InstalledOf net asked) Prints net bytes b second.short (installed_changes net bytes asked b second.short) second.comes)
 
 -- ---- `compact`
 

@@ -1,12 +1,14 @@
--- Looks at a journal, `demand NET JOURNAL [EDITION]` and `compact NET JOURNAL`: the network is loaded, then the bytes of the journal,
--- which stay as they are, and what these tell is printed.
+-- Looks at a journal, `state NET JOURNAL`, `demand NET JOURNAL [EDITION]`, `installed NET JOURNAL [EDITION]` and `compact NET JOURNAL`:
+-- the network is loaded, then the bytes of the journal, which stay as they are, and what these tell is printed.
 use Rattle.std.specs.Prelude.{◌≡◌, ◌⊎◌, ℕ, ◌≤◌, List, length, Option, Some, None}
 use Rattle.bt_frame.specs.declared.limits.TheConstants.{MOST_JOURNAL_BYTES}
 use Rattle.bt_frame.specs.declared.numbers.EditionNo.{EditionNo}
 use Rattle.bt_net.specs.Network.{Net, IsSound}
 use Rattle.bt_history.specs.declared.fault.RecoverFault.{RecoverFault}
 use Rattle.bt_history.specs.declared.fault.RecoverFault.TheVariants.{StoreFault, TooLong}
+use Rattle.bt_look.specs.Installed.{TellsInstalled}
 use Rattle.bt_look.specs.Look.{IsLookFault, TellsCompact, TellsDemand}
+use Rattle.bt_look.specs.State.{TellsState}
 use Rattle.bt_report.specs.declared.status.TheConstants.{DONE}
 use Rattle.bt_report.specs.Faults.{SaysFaultyWords}
 use Rattle.bt_report.specs.Outcome.{Outcome, text_alone}
@@ -37,9 +39,17 @@ PrintsText Tells outcome = (text : List ℕ) × Tells text × (outcome ≡ text_
 abbrev pub PrintsOrNone : (Option (List ℕ) → Type 0) → Outcome → Type 0
 PrintsOrNone Tells outcome = PrintsText (λ text. Tells (Some text)) outcome ⊎ (Tells None × SaysFaultyWords outcome)
 
+-- how far the journal has come, and how full it is
+abbrev pub PrintsJournalState : Net → List ℕ → Outcome → Type 0
+PrintsJournalState net bytes = Looks (PrintsText (TellsState net bytes)) net bytes
+
 -- the links of the demand of an edition, of the last where none is asked for
 abbrev pub PrintsDemand : Option EditionNo → Net → List ℕ → Outcome → Type 0
 PrintsDemand asked net bytes = Looks (PrintsOrNone (TellsDemand net bytes asked)) net bytes
+
+-- the installed plan of an edition, the newest where none is asked for
+abbrev pub PrintsInstalled : Option EditionNo → Net → List ℕ → Outcome → Type 0
+PrintsInstalled asked net bytes = Looks (PrintsOrNone (TellsInstalled net bytes asked)) net bytes
 
 -- the shortest journal of the demand
 abbrev pub PrintsCompact : Net → List ℕ → Outcome → Type 0

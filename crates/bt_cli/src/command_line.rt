@@ -1,7 +1,7 @@
 // What the words after the program's name ask for.
 ghost use Rattle.std.specs.Prelude.{◌≡◌, Some, map, codes, IfSome};
 ghost use Rattle.std.specs.String.{string_bytes};
-ghost use Rattle.bt_cli.specs.Request.{asked, asked_with_four, asked_with_one, asked_with_three, asked_with_two, capacity_request, check_plan_request, check_request, compact_request, demand_at_request, demand_request, first_word, look_with_three, look_with_two, make_request, modes_request, name_of, part_request, plan_request, replay_request, request_of, run_request, timing_request, trans_request};
+ghost use Rattle.bt_cli.specs.Request.{asked, asked_with_four, asked_with_one, asked_with_three, asked_with_two, capacity_request, check_plan_request, check_request, compact_request, demand_at_request, demand_request, first_word, installed_at_request, installed_request, look_with_three, look_with_two, make_request, modes_request, name_of, part_request, plan_request, replay_request, request_of, run_request, state_request, timing_request, trans_request};
 
 use crate::number_word::{BeamCount, Transponders, edition_of, seed_of};
 use bt_frame::EditionNo;
@@ -64,8 +64,19 @@ pub enum CommandLine<'a> {
         net: &'a str,
         traffic: &'a str,
     },
+    /// `state NET JOURNAL`.
+    TellState {
+        net: &'a str,
+        journal: &'a str,
+    },
     /// `demand NET JOURNAL [EDITION]`.
     TellDemand {
+        net: &'a str,
+        journal: &'a str,
+        edition: Option<EditionNo>,
+    },
+    /// `installed NET JOURNAL [EDITION]`.
+    TellInstalled {
         net: &'a str,
         journal: &'a str,
         edition: Option<EditionNo>,
@@ -132,8 +143,12 @@ fn look_with_two<'a>(command: &str, net: &'a str, journal: &'a str) -> CommandLi
     ensures asked { asked result ≡ look_with_two command.now net.now journal.now }
     ensures named { IfSome (name_of result) (λ name. command.now ≡ name) }
 {
-    if command == "demand" {
+    if command == "state" {
+        state_of(net, journal)
+    } else if command == "demand" {
         demand_of(net, journal, None)
+    } else if command == "installed" {
+        installed_of(net, journal, None)
     } else if command == "compact" {
         compact_of(net, journal)
     } else {
@@ -167,6 +182,8 @@ fn look_with_three<'a>(
 {
     if command == "demand" {
         demand_at(net, journal, edition_of(0, edition))
+    } else if command == "installed" {
+        installed_at(net, journal, edition_of(1, edition))
     } else {
         CommandLine::Faulty
     }
@@ -260,6 +277,17 @@ fn capacity_of<'a>(net: &'a str, traffic: &'a str) -> CommandLine<'a>
     }
 }
 
+fn state_of<'a>(net: &'a str, journal: &'a str) -> CommandLine<'a>
+    ensures asked { asked result ≡ state_request net.now journal.now }
+    ensures named { IfSome (name_of result) (λ name. name ≡ codes "state") }
+{
+    if net.is_empty() || journal.is_empty() {
+        CommandLine::Faulty
+    } else {
+        CommandLine::TellState { net, journal }
+    }
+}
+
 fn demand_of<'a>(net: &'a str, journal: &'a str, edition: Option<EditionNo>) -> CommandLine<'a>
     ensures asked { asked result ≡ demand_request net.now journal.now edition }
     ensures named { IfSome (name_of result) (λ name. name ≡ codes "demand") }
@@ -282,6 +310,32 @@ fn demand_at<'a>(net: &'a str, journal: &'a str, edition: Option<EditionNo>) -> 
 {
     match edition {
         Some(edition) => demand_of(net, journal, Some(edition)),
+        None => CommandLine::Faulty,
+    }
+}
+
+fn installed_of<'a>(net: &'a str, journal: &'a str, edition: Option<EditionNo>) -> CommandLine<'a>
+    ensures asked { asked result ≡ installed_request net.now journal.now edition }
+    ensures named { IfSome (name_of result) (λ name. name ≡ codes "installed") }
+{
+    if net.is_empty() || journal.is_empty() {
+        CommandLine::Faulty
+    } else {
+        CommandLine::TellInstalled {
+            net,
+            journal,
+            edition,
+        }
+    }
+}
+
+/// The installed plan of that edition, where its word is one.
+fn installed_at<'a>(net: &'a str, journal: &'a str, edition: Option<EditionNo>) -> CommandLine<'a>
+    ensures asked { asked result ≡ installed_at_request net.now journal.now edition }
+    ensures named { IfSome (name_of result) (λ name. name ≡ codes "installed") }
+{
+    match edition {
+        Some(edition) => installed_of(net, journal, Some(edition)),
         None => CommandLine::Faulty,
     }
 }

@@ -1,4 +1,4 @@
-// Looks at a journal: `demand NET JOURNAL [EDITION]` and `compact NET JOURNAL`.
+// Looks at a journal: `state NET JOURNAL`, `demand NET JOURNAL [EDITION]`, `installed NET JOURNAL [EDITION]` and `compact NET JOURNAL`.
 ghost use Rattle.std.specs.Prelude.{◌≡◌, ◌≤◌, IfErr, IfOk, length};
 ghost use Rattle.bt_frame.specs.declared.limits.TheConstants.{MOST_JOURNAL_BYTES};
 ghost use Rattle.bt_outside.specs.Told.{Rose};
@@ -8,18 +8,31 @@ ghost use Rattle.bt_report.specs.Outcome.{Says};
 ghost use Rattle.bt_report.specs.Printing.{CameTo};
 ghost use Rattle.bt_report.specs.Report.{StopIs};
 ghost use Rattle.bt_load.specs.Loaders.{Loads};
-ghost use Rattle.bt_cli.specs.Looks.{IsOfLines, PrintsCompact, PrintsDemand, journal_files};
+ghost use Rattle.bt_cli.specs.Looks.{IsOfLines, PrintsCompact, PrintsDemand, PrintsInstalled, PrintsJournalState, journal_files};
 ghost use Rattle.bt_cli.specs.Replay.{NamesRecoverFault};
 
 use bt_book::RecoverFault;
 use bt_frame::EditionNo;
 use bt_load::{load_journal, load_network};
-use bt_look::{compact_journal, demand_of_journal};
+use bt_look::{compact_journal, demand_of_journal, installed_of_journal, state_text};
 use bt_net::Network;
 use bt_outside::Files;
 use bt_report::{DONE, FAULTY_JOURNAL, Report, Stop, faulty_words};
 use bt_words::Word;
 use std::alloc::Global;
+
+/// How far the journal in a file has come on the network in another, and how full it is.
+pub fn tell_state<F: Files>(
+    alloc: Global,
+    files: &mut F,
+    net: &str,
+    journal: &str,
+) -> Result<Report, Stop>
+    ensures { CameTo (Loads (journal_files net.now journal.now) (λ both. PrintsJournalState both.0 both.1) (F.told files.old) (Rose (F.fault_count files.old) (F.fault_count files.new))) result }
+{
+    let looked = load_looked(alloc, files, net, journal)?;
+    state_report(alloc, looked)
+}
 
 /// The links of the demand of an edition that the journal in a file comes to on the network in another, of the last without a
 /// number.
@@ -34,6 +47,20 @@ pub fn tell_demand<F: Files>(
 {
     let looked = load_looked(alloc, files, net, journal)?;
     demand_report(alloc, looked, edition)
+}
+
+/// The installed plan of an edition that the journal in a file tells on the network in another, the newest without a number.
+pub fn tell_installed<F: Files>(
+    alloc: Global,
+    files: &mut F,
+    net: &str,
+    journal: &str,
+    edition: Option<EditionNo>,
+) -> Result<Report, Stop>
+    ensures { CameTo (Loads (journal_files net.now journal.now) (λ both. PrintsInstalled edition both.0 both.1) (F.told files.old) (Rose (F.fault_count files.old) (F.fault_count files.new))) result }
+{
+    let looked = load_looked(alloc, files, net, journal)?;
+    installed_report(alloc, looked, edition)
 }
 
 /// The shortest journal of the demand that the journal in a file comes to on the network in another.
@@ -75,6 +102,20 @@ fn load_looked<F: Files>(
     Ok(Looked { net, bytes })
 }
 
+/// The text of the state, where both are at hand.
+fn state_report(alloc: Global, looked: Looked) -> Result<Report, Stop>
+    requires short { length looked.bytes.items ≤ MOST_JOURNAL_BYTES }
+    ensures { CameTo (PrintsJournalState looked.net looked.bytes.items) result }
+{
+    let Looked { net, bytes } = looked;
+    // This is there for what holds of each network: it is sound.
+    let _beams = net.beam_count();
+    match state_text(alloc, &net, bytes) {
+        Ok(text) => Ok(Report { text, status: DONE }),
+        Err(fault) => Err(fault_stop(alloc, fault)),
+    }
+}
+
 /// The text of the demand of an edition, where both are at hand.
 fn demand_report(alloc: Global, looked: Looked, edition: Option<EditionNo>) -> Result<Report, Stop>
     requires short { length looked.bytes.items ≤ MOST_JOURNAL_BYTES }
@@ -84,6 +125,25 @@ fn demand_report(alloc: Global, looked: Looked, edition: Option<EditionNo>) -> R
     // This is there for what holds of each network: it is sound.
     let _beams = net.beam_count();
     match demand_of_journal(alloc, &net, bytes, edition) {
+        Ok(Some(text)) => Ok(Report { text, status: DONE }),
+        Ok(None) => Ok(faulty_words(alloc)?),
+        Err(fault) => Err(fault_stop(alloc, fault)),
+    }
+}
+
+/// The text of the installed plan of an edition, where both are at hand.
+fn installed_report(
+    alloc: Global,
+    looked: Looked,
+    edition: Option<EditionNo>,
+) -> Result<Report, Stop>
+    requires short { length looked.bytes.items ≤ MOST_JOURNAL_BYTES }
+    ensures { CameTo (PrintsInstalled edition looked.net looked.bytes.items) result }
+{
+    let Looked { net, bytes } = looked;
+    // This is there for what holds of each network: it is sound.
+    let _beams = net.beam_count();
+    match installed_of_journal(alloc, &net, bytes, edition) {
         Ok(Some(text)) => Ok(Report { text, status: DONE }),
         Ok(None) => Ok(faulty_words(alloc)?),
         Err(fault) => Err(fault_stop(alloc, fault)),
