@@ -7,6 +7,9 @@ pub mod Kept
 pub mod NamedFaults
 pub mod OneJournal
 pub mod OneReplay
+pub mod OneDemand
+pub mod Looked
+pub mod OneLook
 pub mod OneRun
 pub mod Printed
 pub mod Named

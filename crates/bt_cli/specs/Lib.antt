@@ -14,4 +14,5 @@ pub mod Live
 pub mod Complete
 pub mod Command
 pub mod Replay
+pub mod Looks
 pub mod Top

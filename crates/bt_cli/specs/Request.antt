@@ -1,7 +1,8 @@
 -- What the words after the program's name ask for.
 use Rattle.std.specs.Prelude.{ℕ, ◌&&◌, if◌then◌else◌, nat_lt, length, codes, Bool, List, [], ◌∷◌, Option, Some, None}
 use Rattle.std.specs.Str.{bytes_eq}
-use Rattle.bt_cli.specs.NumberWords.{beam_count_of, seed_of, transponders_of}
+use Rattle.bt_frame.specs.declared.numbers.EditionNo.{EditionNo}
+use Rattle.bt_cli.specs.NumberWords.{beam_count_of, edition_of, seed_of, transponders_of}
 use Rattle.bt_cli.specs.declared.command_line.CommandLine.{CommandLine}
 use Rattle.bt_cli.specs.declared.command_line.CommandLine.TheVariants as command_line
 
@@ -18,6 +19,10 @@ pub data Request : Type 0 where
   TimeSends : List ℕ → List ℕ → List ℕ → List ℕ → Request
   PlanPart : ℕ → List ℕ → Request
   TellCapacity : List ℕ → List ℕ → Request
+  TellState : List ℕ → List ℕ → Request
+  TellDemand : List ℕ → List ℕ → Option EditionNo → Request
+  TellInstalled : List ℕ → List ℕ → Option EditionNo → Request
+  TellCompact : List ℕ → List ℕ → Request
 
 -- `check MATRIX MODES`; a word that names a file is not empty
 abbrev pub check_request : List ℕ → List ℕ → Request
@@ -73,6 +78,46 @@ trans_request transponders matrix = part_request (transponders_of transponders) 
 abbrev pub capacity_request : List ℕ → List ℕ → Request
 capacity_request net traffic = if nat_lt 0 (length net) && nat_lt 0 (length traffic) then TellCapacity net traffic else Faulty
 
+-- `state NET JOURNAL`
+abbrev pub state_request : List ℕ → List ℕ → Request
+state_request net journal = if nat_lt 0 (length net) && nat_lt 0 (length journal) then TellState net journal else Faulty
+
+-- `demand NET JOURNAL`, of that edition, of the last without one
+abbrev pub demand_request : List ℕ → List ℕ → Option EditionNo → Request
+demand_request net journal edition = if nat_lt 0 (length net) && nat_lt 0 (length journal) then TellDemand net journal edition else Faulty
+
+-- `demand NET JOURNAL EDITION`, where the last word is an edition
+abbrev pub demand_at_request : List ℕ → List ℕ → Option EditionNo → Request
+demand_at_request net journal (Some edition) = demand_request net journal (Some edition)
+demand_at_request net journal None = Faulty
+
+-- `installed NET JOURNAL`, of that edition, of the newest plan without one
+abbrev pub installed_request : List ℕ → List ℕ → Option EditionNo → Request
+installed_request net journal edition = if nat_lt 0 (length net) && nat_lt 0 (length journal) then TellInstalled net journal edition else Faulty
+
+-- `installed NET JOURNAL EDITION`, where the last word is an edition
+abbrev pub installed_at_request : List ℕ → List ℕ → Option EditionNo → Request
+installed_at_request net journal (Some edition) = installed_request net journal (Some edition)
+installed_at_request net journal None = Faulty
+
+-- `compact NET JOURNAL`
+abbrev pub compact_request : List ℕ → List ℕ → Request
+compact_request net journal = if nat_lt 0 (length net) && nat_lt 0 (length journal) then TellCompact net journal else Faulty
+
+-- what a look at a journal with two words asks for
+abbrev pub look_with_two : List ℕ → List ℕ → List ℕ → Request
+look_with_two command net journal =
+    if bytes_eq command (codes "state") then state_request net journal
+    else (if bytes_eq command (codes "demand") then demand_request net journal None
+    else (if bytes_eq command (codes "installed") then installed_request net journal None
+    else (if bytes_eq command (codes "compact") then compact_request net journal else Faulty)))
+
+-- and with three, of which the last is an edition
+abbrev pub look_with_three : List ℕ → List ℕ → List ℕ → List ℕ → Request
+look_with_three command net journal edition =
+    if bytes_eq command (codes "demand") then demand_at_request net journal (edition_of 0 edition)
+    else (if bytes_eq command (codes "installed") then installed_at_request net journal (edition_of 1 edition) else Faulty)
+
 -- what a command with one word asks for
 abbrev pub asked_with_one : List ℕ → List ℕ → Request
 asked_with_one command first = if bytes_eq command (codes "modes") then modes_request first else Faulty
@@ -85,13 +130,13 @@ asked_with_two command first second =
     else (if bytes_eq command (codes "replay") then replay_request first second
     else (if bytes_eq command (codes "make") then make_request first second
     else (if bytes_eq command (codes "trans") then trans_request first second
-    else (if bytes_eq command (codes "capacity") then capacity_request first second else Faulty)))))
+    else (if bytes_eq command (codes "capacity") then capacity_request first second else look_with_two command first second)))))
 
 -- what a command with three words asks for
 abbrev pub asked_with_three : List ℕ → List ℕ → List ℕ → List ℕ → Request
 asked_with_three command first second third =
     if bytes_eq command (codes "check") then check_plan_request first second third
-    else (if bytes_eq command (codes "run") then run_request first second third else Faulty)
+    else (if bytes_eq command (codes "run") then run_request first second third else look_with_three command first second third)
 
 -- what a command with four words asks for
 abbrev pub asked_with_four : List ℕ → List ℕ → List ℕ → List ℕ → List ℕ → Request
@@ -125,6 +170,10 @@ asked (command_line.PlanDrawn beams seed) = PlanDrawn beams.count seed
 asked (command_line.TimeSends net traffic plan delays) = TimeSends net.now traffic.now plan.now delays.now
 asked (command_line.PlanPart transponders matrix) = PlanPart transponders.count matrix.now
 asked (command_line.TellCapacity net traffic) = TellCapacity net.now traffic.now
+asked (command_line.TellState net journal) = TellState net.now journal.now
+asked (command_line.TellDemand net journal edition) = TellDemand net.now journal.now edition
+asked (command_line.TellInstalled net journal edition) = TellInstalled net.now journal.now edition
+asked (command_line.TellCompact net journal) = TellCompact net.now journal.now
 
 -- the name of its command
 abbrev pub name_of : CommandLine → Option (List ℕ)
@@ -139,6 +188,10 @@ name_of (command_line.PlanDrawn _ _) = Some (codes "make")
 name_of (command_line.TimeSends _ _ _ _) = Some (codes "timing")
 name_of (command_line.PlanPart _ _) = Some (codes "trans")
 name_of (command_line.TellCapacity _ _) = Some (codes "capacity")
+name_of (command_line.TellState _ _) = Some (codes "state")
+name_of (command_line.TellDemand _ _ _) = Some (codes "demand")
+name_of (command_line.TellInstalled _ _ _) = Some (codes "installed")
+name_of (command_line.TellCompact _ _) = Some (codes "compact")
 
 -- the journal that is asked for, where one is
 abbrev pub journal_of : Request → Option (List ℕ)

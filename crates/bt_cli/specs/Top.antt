@@ -13,11 +13,12 @@ use Rattle.bt_cli.specs.Check.{Judges, schedule_files}
 use Rattle.bt_cli.specs.CheckPlan.{JudgesPlan, plan_files}
 use Rattle.bt_cli.specs.Command.{Answer, AsksNone, Command, EndsAs, IsOneAs, NeedsAs, OneStoreAs, OverStore, ReportsAs, ServesAs, command, no_store}
 use Rattle.bt_cli.specs.Fitting.{asked_files}
+use Rattle.bt_cli.specs.Looks.{PrintsCompact, PrintsDemand, PrintsInstalled, PrintsJournalState, journal_files}
 use Rattle.bt_cli.specs.Make.{PrintsSummary}
 use Rattle.bt_cli.specs.Modes.{PrintsSchedule}
 use Rattle.bt_cli.specs.Plans.{PrintsPlan}
 use Rattle.bt_cli.specs.Replay.{HasReplayed, PrintsJournal}
-use Rattle.bt_cli.specs.Request.{Request, Faulty, CheckModes, CheckPlan, PlanModes, PlanDemand, RunScript, ReplayJournal, PlanDrawn, TimeSends, PlanPart, TellCapacity}
+use Rattle.bt_cli.specs.Request.{Request, Faulty, CheckModes, CheckPlan, PlanModes, PlanDemand, RunScript, ReplayJournal, PlanDrawn, TimeSends, PlanPart, TellCapacity, TellState, TellDemand, TellInstalled, TellCompact}
 use Rattle.bt_cli.specs.Run.{End, HasRun, PrintsRun, script_files}
 use Rattle.bt_cli.specs.Timing.{TellsTimes, delay_files}
 use Rattle.bt_cli.specs.Trans.{PrintsPart, suited_file}
@@ -34,6 +35,10 @@ command_of (TimeSends net traffic plan delays) = command (delay_files net traffi
 command_of (PlanDrawn beams seed) = command nothing (Answer (λ none. PrintsSummary beams seed)) AnyGood
 command_of (PlanPart transponders matrix) = command (suited_file transponders matrix) (Answer (PrintsPart transponders)) AnyGood
 command_of (TellCapacity net traffic) = command (asked_files net traffic) (Answer (λ asked. TellsCapacity asked.0 asked.1)) Exactly
+command_of (TellState net journal) = command (journal_files net journal) (Answer (λ both. PrintsJournalState both.0 both.1)) Exactly
+command_of (TellDemand net journal edition) = command (journal_files net journal) (Answer (λ both. PrintsDemand edition both.0 both.1)) Exactly
+command_of (TellInstalled net journal edition) = command (journal_files net journal) (Answer (λ both. PrintsInstalled edition both.0 both.1)) Exactly
+command_of (TellCompact net journal) = command (journal_files net journal) (Answer (λ both. PrintsCompact both.0 both.1)) Exactly
 command_of (RunScript net script _) = command (script_files net script) (OverStore (λ both. both.0) (λ both. HasRun both.0 both.1) (λ stored both. PrintsRun both.0 both.1 stored)) AnyGood
 command_of (ReplayJournal net _) = command (file network_file net) (OverStore (λ network. network) HasReplayed PrintsJournal) Exactly
 

@@ -1,9 +1,10 @@
 // What the words after the program's name ask for.
 ghost use Rattle.std.specs.Prelude.{◌≡◌, Some, map, codes, IfSome};
 ghost use Rattle.std.specs.String.{string_bytes};
-ghost use Rattle.bt_cli.specs.Request.{asked, asked_with_four, asked_with_one, asked_with_three, asked_with_two, capacity_request, check_plan_request, check_request, first_word, make_request, modes_request, name_of, part_request, plan_request, replay_request, request_of, run_request, timing_request, trans_request};
+ghost use Rattle.bt_cli.specs.Request.{asked, asked_with_four, asked_with_one, asked_with_three, asked_with_two, capacity_request, check_plan_request, check_request, compact_request, demand_at_request, demand_request, first_word, installed_at_request, installed_request, look_with_three, look_with_two, make_request, modes_request, name_of, part_request, plan_request, replay_request, request_of, run_request, state_request, timing_request, trans_request};
 
-use crate::number_word::{BeamCount, Transponders, seed_of};
+use crate::number_word::{BeamCount, Transponders, edition_of, seed_of};
+use bt_frame::EditionNo;
 
 /// A command line: a command with its words.
 #[derive(Clone, Copy)]
@@ -63,6 +64,28 @@ pub enum CommandLine<'a> {
         net: &'a str,
         traffic: &'a str,
     },
+    /// `state NET JOURNAL`.
+    TellState {
+        net: &'a str,
+        journal: &'a str,
+    },
+    /// `demand NET JOURNAL [EDITION]`.
+    TellDemand {
+        net: &'a str,
+        journal: &'a str,
+        edition: Option<EditionNo>,
+    },
+    /// `installed NET JOURNAL [EDITION]`.
+    TellInstalled {
+        net: &'a str,
+        journal: &'a str,
+        edition: Option<EditionNo>,
+    },
+    /// `compact NET JOURNAL`.
+    TellCompact {
+        net: &'a str,
+        journal: &'a str,
+    },
 }
 
 /// The command line that the words are.
@@ -111,6 +134,24 @@ fn with_two<'a>(command: &str, first: &'a str, second: &'a str) -> CommandLine<'
     } else if command == "capacity" {
         capacity_of(first, second)
     } else {
+        look_with_two(command, first, second)
+    }
+}
+
+/// The command line of that look at a journal with two words.
+fn look_with_two<'a>(command: &str, net: &'a str, journal: &'a str) -> CommandLine<'a>
+    ensures asked { asked result ≡ look_with_two command.now net.now journal.now }
+    ensures named { IfSome (name_of result) (λ name. command.now ≡ name) }
+{
+    if command == "state" {
+        state_of(net, journal)
+    } else if command == "demand" {
+        demand_of(net, journal, None)
+    } else if command == "installed" {
+        installed_of(net, journal, None)
+    } else if command == "compact" {
+        compact_of(net, journal)
+    } else {
         CommandLine::Faulty
     }
 }
@@ -124,6 +165,25 @@ fn with_three<'a>(command: &str, first: &'a str, second: &'a str, third: &'a str
         check_plan_of(first, second, third)
     } else if command == "run" {
         run_of(first, second, third)
+    } else {
+        look_with_three(command, first, second, third)
+    }
+}
+
+/// The command line of that look at a journal with three words, of which the last is an edition.
+fn look_with_three<'a>(
+    command: &str,
+    net: &'a str,
+    journal: &'a str,
+    edition: &str,
+) -> CommandLine<'a>
+    ensures asked { asked result ≡ look_with_three command.now net.now journal.now edition.now }
+    ensures named { IfSome (name_of result) (λ name. command.now ≡ name) }
+{
+    if command == "demand" {
+        demand_at(net, journal, edition_of(0, edition))
+    } else if command == "installed" {
+        installed_at(net, journal, edition_of(1, edition))
     } else {
         CommandLine::Faulty
     }
@@ -214,6 +274,80 @@ fn capacity_of<'a>(net: &'a str, traffic: &'a str) -> CommandLine<'a>
         CommandLine::Faulty
     } else {
         CommandLine::TellCapacity { net, traffic }
+    }
+}
+
+fn state_of<'a>(net: &'a str, journal: &'a str) -> CommandLine<'a>
+    ensures asked { asked result ≡ state_request net.now journal.now }
+    ensures named { IfSome (name_of result) (λ name. name ≡ codes "state") }
+{
+    if net.is_empty() || journal.is_empty() {
+        CommandLine::Faulty
+    } else {
+        CommandLine::TellState { net, journal }
+    }
+}
+
+fn demand_of<'a>(net: &'a str, journal: &'a str, edition: Option<EditionNo>) -> CommandLine<'a>
+    ensures asked { asked result ≡ demand_request net.now journal.now edition }
+    ensures named { IfSome (name_of result) (λ name. name ≡ codes "demand") }
+{
+    if net.is_empty() || journal.is_empty() {
+        CommandLine::Faulty
+    } else {
+        CommandLine::TellDemand {
+            net,
+            journal,
+            edition,
+        }
+    }
+}
+
+/// The demand of that edition, where its word is one.
+fn demand_at<'a>(net: &'a str, journal: &'a str, edition: Option<EditionNo>) -> CommandLine<'a>
+    ensures asked { asked result ≡ demand_at_request net.now journal.now edition }
+    ensures named { IfSome (name_of result) (λ name. name ≡ codes "demand") }
+{
+    match edition {
+        Some(edition) => demand_of(net, journal, Some(edition)),
+        None => CommandLine::Faulty,
+    }
+}
+
+fn installed_of<'a>(net: &'a str, journal: &'a str, edition: Option<EditionNo>) -> CommandLine<'a>
+    ensures asked { asked result ≡ installed_request net.now journal.now edition }
+    ensures named { IfSome (name_of result) (λ name. name ≡ codes "installed") }
+{
+    if net.is_empty() || journal.is_empty() {
+        CommandLine::Faulty
+    } else {
+        CommandLine::TellInstalled {
+            net,
+            journal,
+            edition,
+        }
+    }
+}
+
+/// The installed plan of that edition, where its word is one.
+fn installed_at<'a>(net: &'a str, journal: &'a str, edition: Option<EditionNo>) -> CommandLine<'a>
+    ensures asked { asked result ≡ installed_at_request net.now journal.now edition }
+    ensures named { IfSome (name_of result) (λ name. name ≡ codes "installed") }
+{
+    match edition {
+        Some(edition) => installed_of(net, journal, Some(edition)),
+        None => CommandLine::Faulty,
+    }
+}
+
+fn compact_of<'a>(net: &'a str, journal: &'a str) -> CommandLine<'a>
+    ensures asked { asked result ≡ compact_request net.now journal.now }
+    ensures named { IfSome (name_of result) (λ name. name ≡ codes "compact") }
+{
+    if net.is_empty() || journal.is_empty() {
+        CommandLine::Faulty
+    } else {
+        CommandLine::TellCompact { net, journal }
     }
 }
 

@@ -11,6 +11,7 @@ use crate::capacity::tell_capacity;
 use crate::check::check_files;
 use crate::check_plan::check_plan_files;
 use crate::command_line::{CommandLine, command_line_of};
+use crate::look::{tell_compact, tell_demand, tell_installed, tell_state};
 use crate::make::drawn_report;
 use crate::modes::plan_modes;
 use crate::plan::plan_files;
@@ -60,6 +61,18 @@ fn answer<F: Files>(alloc: Global, line: CommandLine<'_>, files: &mut F) -> Resu
             matrix,
         } => plan_part(alloc, files, transponders, matrix),
         CommandLine::TellCapacity { net, traffic } => tell_capacity(alloc, files, net, traffic),
+        CommandLine::TellState { net, journal } => tell_state(alloc, files, net, journal),
+        CommandLine::TellDemand {
+            net,
+            journal,
+            edition,
+        } => tell_demand(alloc, files, net, journal, edition),
+        CommandLine::TellInstalled {
+            net,
+            journal,
+            edition,
+        } => tell_installed(alloc, files, net, journal, edition),
+        CommandLine::TellCompact { net, journal } => tell_compact(alloc, files, net, journal),
         CommandLine::PlanDrawn { beams, seed } => drawn_report(alloc, beams, seed),
         CommandLine::RunScript { .. } | CommandLine::ReplayJournal { .. } => unreachable!(),
     }

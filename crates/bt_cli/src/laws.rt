@@ -56,7 +56,8 @@ pub fn ends_are_reports()
 
 /// Where the words are a command's, each file that is read is told, within its limit and of its grammar, the demand fits
 /// where that is asked, the store is told, within its limit, and tells changes where it is read, and nothing fails in the
-/// call, the work is done: the status is 0, for `check` and `timing` that of the verdict, or that of want of memory.
+/// call, the work is done: the status is 0, for `check` and `timing` that of the verdict, for a look at a journal also that of
+/// its first line at fault or of words that ask for what it does not have, or that of want of memory.
 pub fn sound_input_is_served()
     ensures served { (input : Input) (output : Output) (stored : Stored) (request : Request) (end : End)
         → NothingFails input output stored → Ends input output stored request end → Serves input.told stored request end.status }

@@ -18,6 +18,7 @@ mod commands;
 mod fit;
 mod laws;
 mod live;
+mod look;
 mod make;
 mod modes;
 mod number_word;

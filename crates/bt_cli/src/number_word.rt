@@ -3,9 +3,9 @@ ghost use Rattle.std.specs.Prelude.{◌≡◌, option_map};
 ghost use Rattle.bt_frame.specs.Range.{IsWithin};
 ghost use Rattle.bt_frame.specs.declared.limits.TheConstants.{MOST_NUMBERED_BEAMS};
 ghost use Rattle.bt_trans.specs.declared.part.TheConstants.{MOST_PART_BEAMS};
-ghost use Rattle.bt_cli.specs.NumberWords.{beam_count_of, seed_of, transponders_of};
+ghost use Rattle.bt_cli.specs.NumberWords.{beam_count_of, edition_of, seed_of, transponders_of};
 
-use bt_frame::MOST_NUMBERED_BEAMS;
+use bt_frame::{EditionNo, LAST_EDITION, MOST_NUMBERED_BEAMS};
 use bt_text::number;
 use bt_trans::MOST_PART_BEAMS;
 
@@ -62,6 +62,18 @@ pub fn seed_of(word: &str) -> Option<u64>
     // The last number stands for every larger one too.
     if seed < u64::MAX || word == LAST_SEED {
         Some(seed)
+    } else {
+        None
+    }
+}
+
+/// The edition that a word is, from this one to the last; None where it is another number, or no number.
+pub fn edition_of(least: u32, word: &str) -> Option<EditionNo>
+    ensures edition { result ≡ edition_of least word.now }
+{
+    let edition = number(word.as_bytes())?;
+    if u64::from(least) <= edition && edition <= u64::from(LAST_EDITION) {
+        Some(EditionNo(edition as u32))
     } else {
         None
     }

@@ -99,14 +99,31 @@ fn explain_too_long(done: &Done<'_>, page: &mut Page) -> bool {
     match file_of(done, b'J') {
         // a file of this name is read where another word names it
         Some(journal) if name == "store" => tell_too_long(done, journal, true, page),
+        Some(journal) if name == journal && !is_read_before(done, name) => {
+            tell_too_long(done, journal, true, page)
+        }
         _ => tell_too_long(done, name, false, page),
     }
 }
 
-/// Keeps the journal, where a line of it is at fault.
+/// Whether a file of this name is read in front of a journal.
+fn is_read_before(done: &Done<'_>, name: &str) -> bool {
+    is_named(done, b'N', name) || is_named(done, b'S', name)
+}
+
+/// Whether the file of a letter has this name.
+fn is_named(done: &Done<'_>, letter: u8, name: &str) -> bool {
+    match file_of(done, letter) {
+        Some(file) => file == name,
+        None => false,
+    }
+}
+
+/// Keeps the journal, where a line of it is at fault and it was not read as a file.
 fn keep_journal<F: Files>(alloc: Global, done: &Done<'_>, files: &mut KeptFiles<F>) {
     if done.status == FAULTY_JOURNAL
         && let Some(journal) = file_of(done, b'J')
+        && files.kept(journal).is_none()
     {
         let _read = files.read(alloc, journal, MOST_JOURNAL_BYTES);
     }

@@ -4,7 +4,7 @@ use crate::lines::Words;
 use crate::near::{Near, ask_terminal};
 use crate::page::Page;
 use crate::telling::{Done, add_program, name_of};
-use bt_frame::MOST_NUMBERED_BEAMS;
+use bt_frame::{LAST_EDITION, MOST_NUMBERED_BEAMS};
 use bt_net::Network;
 use bt_report::Program;
 use bt_text::{is_word, number};
@@ -69,6 +69,10 @@ fn say_behind(
         page.add("one of the words is empty");
     } else if done.program == Program::Chart {
         say_stranger(alloc, behind, net, page);
+    } else if command == "demand" {
+        say_edition(0, "edition", behind, page);
+    } else if command == "installed" {
+        say_edition(1, "plan of edition", behind, page);
     } else {
         say_numbers(behind, page);
     }
@@ -79,19 +83,23 @@ fn is_counted(forms: &[&str], command: &str, count: usize) -> bool {
     forms.iter().any(|usage| is_form_of(usage, command) && has_count(usage.as_bytes(), count))
 }
 
-/// Whether a form has so many words behind its command; from a `[` on they may be wanting.
+/// Whether a form has so many words behind its command; those that begin with a `[` may be wanting, and where `..` stands there
+/// may be any number of them.
 pub fn has_count(usage: &[u8], count: usize) -> bool {
     // the command itself is none of them
-    let mut wanted: usize = 0;
+    let (mut least, mut most): (usize, usize) = (0, 0);
     for (at, word) in Words::of(usage) {
-        if let [b'[', ..] = word {
-            return count >= wanted;
-        }
-        if at > 0 {
-            wanted = wanted.saturating_add(1);
+        match word {
+            _ if at == 0 => {}
+            [b'.', ..] => return count >= least,
+            [b'[', ..] => most = most.saturating_add(1),
+            _ => {
+                least = least.saturating_add(1);
+                most = most.saturating_add(1);
+            }
         }
     }
-    count == wanted
+    least <= count && count <= most
 }
 
 /// Says which NAME is that of no terminal.
@@ -127,6 +135,33 @@ fn say_numbers(behind: &[String], page: &mut Page) {
         }
         [_, ..] => page.add("the first word is to be a number, 1 to 16, without a 0 in front"),
         [] => {}
+    }
+}
+
+/// Says that EDITION is no number from `least` on, or that a journal has no such edition, or plan.
+fn say_edition(least: u64, what: &str, behind: &[String], page: &mut Page) {
+    match behind {
+        [_, _, edition] if is_edition(least, edition) => {
+            page.add("the journal has no ");
+            page.add(what);
+            page.add(" ");
+            page.add_name(edition);
+        }
+        [_, _, _] => {
+            page.add("EDITION is to be ");
+            page.add_number(least);
+            page.add(" to ");
+            page.add_number(u64::from(LAST_EDITION));
+            page.add(", in digits without a 0 in front");
+        }
+        _ => page.add("the journal has no plan"),
+    }
+}
+
+fn is_edition(least: u64, word: &str) -> bool {
+    match number(word.as_bytes()) {
+        Some(number) => least <= number && number <= u64::from(LAST_EDITION),
+        None => false,
     }
 }
 

@@ -17,16 +17,16 @@ Rose-sooner before between now sooner (inl rose) = inl (omega arith)
 Rose-sooner before between now sooner (inr last) = inr last
 
 -- the same outcomes where fewer failures count
-pub CannotRead-sooner : (told : List ℕ → Option (List ℕ)) (later sooner : Type 0) → (later → sooner) → (name : List ℕ) (outcome : Outcome) → CannotRead told later name outcome → CannotRead told sooner name outcome
-CannotRead-sooner told later sooner rise name outcome (inl fault) = inl (rise fault.0, fault.1)
-CannotRead-sooner told later sooner rise name outcome (inr long) = inr long
+pub CannotRead-sooner : (most : ℕ) (told : List ℕ → Option (List ℕ)) (later sooner : Type 0) → (later → sooner) → (name : List ℕ) (outcome : Outcome) → CannotRead most told later name outcome → CannotRead most told sooner name outcome
+CannotRead-sooner most told later sooner rise name outcome (inl fault) = inl (rise fault.0, fault.1)
+CannotRead-sooner most told later sooner rise name outcome (inr long) = inr long
 
 -- a load stops alike where fewer failures count
 abbrev pub StopsSooner : {Value : Type 0} → Loader Value → Type 1
 StopsSooner load = (told : List ℕ → Option (List ℕ)) (later sooner : Type 0) → (later → sooner) → (outcome : Outcome) → load.stops told later outcome → load.stops told sooner outcome
 
 pub file_sooner : {Value Fault : Type 0} (kind : Kind Value Fault) (name : List ℕ) → StopsSooner (file kind name)
-file_sooner kind name told later sooner rise outcome (inl unread) = inl (CannotRead-sooner told later sooner rise name outcome unread)
+file_sooner kind name told later sooner rise outcome (inl unread) = inl (CannotRead-sooner kind.most told later sooner rise name outcome unread)
 file_sooner kind name told later sooner rise outcome (inr misspelt) = inr misspelt
 
 pub then_sooner : {A B : Type 0} (first : Loader A) (next : A → Loader B) → StopsSooner first → ((value : A) → StopsSooner (next value)) → StopsSooner (and_then first next)

@@ -1,5 +1,6 @@
 -- A stop that names the first fault of a file's bytes is one that a load may make.
 use Rattle.std.proofs.Common.{◌≡◌, ℕ, List, Option, Ok, Err, inr, refl, ap}
+use Rattle.bt_frame.specs.declared.limits.TheConstants.{MOST_FILE_BYTES}
 use Rattle.bt_net.specs.Network.{Net}
 use Rattle.bt_net.specs.Walk.{Fails}
 use Rattle.bt_net.specs.Reading.{network_in}
@@ -31,33 +32,33 @@ use Rattle.bt_load.specs.Stops.{NamesLineFault, NamesNetworkFault}
 -- ---- texts
 
 text_misspelt : {Code Value : Type 0} (of : Code → List ℕ) (reading : List ℕ → LineReading Code Value) (told : List ℕ → Option (List ℕ)) (failed : Type 0) (name bytes : List ℕ) (fault : LineFault Code) (why : Stop)
-    → IsContent told name bytes → IsFaultOf (reading bytes) fault → StopIs (NamesLineFault of fault) why → StopIs (StopsAtLoad (text_file of reading) told failed name) why
+    → IsContent MOST_FILE_BYTES told name bytes → IsFaultOf (reading bytes) fault → StopIs (NamesLineFault of fault) why → StopIs (StopsAtLoad (text_file of reading) told failed name) why
 text_misspelt of reading told failed name bytes fault stop.OutOfMemory content is names = tt
 text_misspelt of reading told failed name bytes (line_fault.At code line) (stop.Early report) content is names = inr (bytes, (code, line), content, is, names)
 text_misspelt of reading told failed name bytes line_fault.OutOfMemory (stop.Early report) content is names = absurd names
 
 pub matrix_misspelt : (told : List ℕ → Option (List ℕ)) (failed : Type 0) (name bytes : List ℕ) (fault : LineFault TextCode) (why : Stop)
-    → IsContent told name bytes → IsFaultOf (matrix_reading bytes) fault → StopIs (NamesLineFault code_name fault) why → StopIs (StopsAtLoad matrix_file told failed name) why
+    → IsContent MOST_FILE_BYTES told name bytes → IsFaultOf (matrix_reading bytes) fault → StopIs (NamesLineFault code_name fault) why → StopIs (StopsAtLoad matrix_file told failed name) why
 matrix_misspelt = text_misspelt code_name matrix_reading
 
 pub schedule_misspelt : (size : ℕ) (told : List ℕ → Option (List ℕ)) (failed : Type 0) (name bytes : List ℕ) (fault : LineFault TextCode) (why : Stop)
-    → IsContent told name bytes → IsFaultOf (schedule_of size bytes) fault → StopIs (NamesLineFault code_name fault) why → StopIs (StopsAtLoad (schedule_file size) told failed name) why
+    → IsContent MOST_FILE_BYTES told name bytes → IsFaultOf (schedule_of size bytes) fault → StopIs (NamesLineFault code_name fault) why → StopIs (StopsAtLoad (schedule_file size) told failed name) why
 schedule_misspelt size = text_misspelt code_name (schedule_of size)
 
 pub demand_misspelt : (net : Net) (told : List ℕ → Option (List ℕ)) (failed : Type 0) (name bytes : List ℕ) (fault : LineFault TextCode) (why : Stop)
-    → IsContent told name bytes → IsFaultOf (demand_of net bytes) fault → StopIs (NamesLineFault code_name fault) why → StopIs (StopsAtLoad (demand_file net) told failed name) why
+    → IsContent MOST_FILE_BYTES told name bytes → IsFaultOf (demand_of net bytes) fault → StopIs (NamesLineFault code_name fault) why → StopIs (StopsAtLoad (demand_file net) told failed name) why
 demand_misspelt net = text_misspelt code_name (demand_of net)
 
 pub plan_misspelt : (net : Net) (told : List ℕ → Option (List ℕ)) (failed : Type 0) (name bytes : List ℕ) (fault : LineFault TextCode) (why : Stop)
-    → IsContent told name bytes → IsFaultOf (plan_reading net bytes) fault → StopIs (NamesLineFault code_name fault) why → StopIs (StopsAtLoad (plan_file net) told failed name) why
+    → IsContent MOST_FILE_BYTES told name bytes → IsFaultOf (plan_reading net bytes) fault → StopIs (NamesLineFault code_name fault) why → StopIs (StopsAtLoad (plan_file net) told failed name) why
 plan_misspelt net = text_misspelt code_name (plan_reading net)
 
 pub script_misspelt : (net : Net) (told : List ℕ → Option (List ℕ)) (failed : Type 0) (name bytes : List ℕ) (fault : LineFault ScriptCode) (why : Stop)
-    → IsContent told name bytes → IsFaultOf (script_of net bytes) fault → StopIs (NamesLineFault script_code.code_name fault) why → StopIs (StopsAtLoad (script_file net) told failed name) why
+    → IsContent MOST_FILE_BYTES told name bytes → IsFaultOf (script_of net bytes) fault → StopIs (NamesLineFault script_code.code_name fault) why → StopIs (StopsAtLoad (script_file net) told failed name) why
 script_misspelt net = text_misspelt script_code.code_name (script_of net)
 
 pub delays_misspelt : (net : Net) (told : List ℕ → Option (List ℕ)) (failed : Type 0) (name bytes : List ℕ) (fault : LineFault TimingCode) (why : Stop)
-    → IsContent told name bytes → IsFaultOf (times_of net bytes) fault → StopIs (NamesLineFault timing_code_name fault) why → StopIs (StopsAtLoad (delay_file net) told failed name) why
+    → IsContent MOST_FILE_BYTES told name bytes → IsFaultOf (times_of net bytes) fault → StopIs (NamesLineFault timing_code_name fault) why → StopIs (StopsAtLoad (delay_file net) told failed name) why
 delays_misspelt net = text_misspelt timing_code_name (times_of net)
 
 -- ---- the output of a run, which is gone over
@@ -75,19 +76,19 @@ value_there (Ok value) is = (value, refl)
 value_there (Err fault) is = cc
 
 -- an output that has no fault is one
-pub is_output : (net : Net) (told : List ℕ → Option (List ℕ)) (name bytes : List ℕ) → IsContent told name bytes → gone_over (output_of net bytes) ≡ Ok tt → IsOfItsKind (output_file net) told name
+pub is_output : (net : Net) (told : List ℕ → Option (List ℕ)) (name bytes : List ℕ) → IsContent MOST_FILE_BYTES told name bytes → gone_over (output_of net bytes) ≡ Ok tt → IsOfItsKind (output_file net) told name
 is_output net told name bytes content is =
     let there = value_there (output_of net bytes) is in
     (there.0, (bytes, content, there.1))
 
 pub output_misspelt : (net : Net) (told : List ℕ → Option (List ℕ)) (failed : Type 0) (name bytes : List ℕ) (fault : LineFault OutputCode) (why : Stop)
-    → IsContent told name bytes → IsFaultOf (gone_over (output_of net bytes)) fault → StopIs (NamesLineFault output_code_name fault) why → StopIs (StopsAtLoad (output_file net) told failed name) why
+    → IsContent MOST_FILE_BYTES told name bytes → IsFaultOf (gone_over (output_of net bytes)) fault → StopIs (NamesLineFault output_code_name fault) why → StopIs (StopsAtLoad (output_file net) told failed name) why
 output_misspelt net told failed name bytes fault why content is names =
     text_misspelt output_code_name (output_of net) told failed name bytes fault why content (fault_kept (output_of net bytes) fault is) names
 
 -- ---- networks
 
-pub network_misspelt : (told : List ℕ → Option (List ℕ)) (failed : Type 0) (name bytes : List ℕ) (fault : NetFault) (why : Stop) → IsContent told name bytes → Fails fault (network_in bytes) → StopIs (NamesNetworkFault fault) why → StopIs (StopsAtLoad network_file told failed name) why
+pub network_misspelt : (told : List ℕ → Option (List ℕ)) (failed : Type 0) (name bytes : List ℕ) (fault : NetFault) (why : Stop) → IsContent MOST_FILE_BYTES told name bytes → Fails fault (network_in bytes) → StopIs (NamesNetworkFault fault) why → StopIs (StopsAtLoad network_file told failed name) why
 network_misspelt told failed name bytes fault stop.OutOfMemory content is names = tt
 network_misspelt told failed name bytes OutOfMemory (stop.Early report) content is names = absurd names
 network_misspelt told failed name bytes N1 (stop.Early report) content is names = inr (bytes, N1, content, is, names)

@@ -10,20 +10,20 @@ use Rattle.bt_load.specs.Files.{IsContent, IsLoaded, IsSpelled, IsTold, Kind, Mi
 use Rattle.bt_load.specs.Loaders.{GivesWhere, Loader, Loads, and_then, file, nothing, only_where, tested}
 
 -- a told file has one content
-pub one_content : (told : List ℕ → Option (List ℕ)) (name held bytes : List ℕ) → told name ≡ Some held → IsContent told name bytes → bytes ≡ held
-one_content told name held bytes is content = let P : Option (List ℕ) → Type 0 = λ o. Gives o bytes in subst P is content.0
+pub one_content : (most : ℕ) (told : List ℕ → Option (List ℕ)) (name held bytes : List ℕ) → told name ≡ Some held → IsContent most told name bytes → bytes ≡ held
+one_content most told name held bytes is content = let P : Option (List ℕ) → Type 0 = λ o. Gives o bytes in subst P is content.0
 
 -- a told file is longer than the limit
-pub held_longer : (told : List ℕ → Option (List ℕ)) (name held : List ℕ) → told name ≡ Some held → IsLonger (told name) 4194304 → 4194304 < length held
-held_longer told name held is longer = let P : Option (List ℕ) → Type 0 = λ o. IsLonger o 4194304 in subst P is longer
+pub held_longer : (most : ℕ) (told : List ℕ → Option (List ℕ)) (name held : List ℕ) → told name ≡ Some held → IsLonger (told name) most → most < length held
+held_longer most told name held is longer = let P : Option (List ℕ) → Type 0 = λ o. IsLonger o most in subst P is longer
 
 -- or it is within the limit
-pub held_within : (told : List ℕ → Option (List ℕ)) (name held bytes : List ℕ) → told name ≡ Some held → IsContent told name bytes → length held ≤ 4194304
-held_within told name held bytes is content = let P : List ℕ → Type 0 = λ b. length b ≤ 4194304 in subst P (one_content told name held bytes is content) content.1
+pub held_within : (most : ℕ) (told : List ℕ → Option (List ℕ)) (name held bytes : List ℕ) → told name ≡ Some held → IsContent most told name bytes → length held ≤ most
+held_within most told name held bytes is content = let P : List ℕ → Type 0 = λ b. length b ≤ most in subst P (one_content most told name held bytes is content) content.1
 
 -- what a reading gives for two contents of one told file
-pub one_reading : {Value Fault : Type 0} (reading : List ℕ → Result Value Fault) (told : List ℕ → Option (List ℕ)) (name held a b : List ℕ) → told name ≡ Some held → IsContent told name a → IsContent told name b → reading a ≡ reading b
-one_reading reading told name held a b is first second = ap reading (one_content told name held a is first ∙ sym (one_content told name held b is second))
+pub one_reading : {Value Fault : Type 0} (reading : List ℕ → Result Value Fault) (most : ℕ) (told : List ℕ → Option (List ℕ)) (name held a b : List ℕ) → told name ≡ Some held → IsContent most told name a → IsContent most told name b → reading a ≡ reading b
+one_reading reading most told name held a b is first second = ap reading (one_content most told name held a is first ∙ sym (one_content most told name held b is second))
 
 -- equal readings have equal faults
 faults_same : {Value Fault : Type 0} (x y : Result Value Fault) (p q : Fault) → x ≡ Err p → y ≡ Err q → x ≡ y → p ≡ q
@@ -40,24 +40,24 @@ fault_no_value x y p v first second both = cc
 -- two first faults of one text are one
 pub Misspells-same : {Value Fault : Type 0} (kind : Kind Value Fault) (told : List ℕ → Option (List ℕ)) (name held : List ℕ) → told name ≡ Some held → (a b : Outcome) → Misspells kind told name a → Misspells kind told name b → a ≡ b
 Misspells-same {Value} {Fault} kind told name held is a b (bytes, fault, content, wrong, says) (others, fault', content', wrong', says') =
-    let same : fault ≡ fault' = faults_same (kind.reading bytes) (kind.reading others) fault fault' wrong wrong' (one_reading kind.reading told name held bytes others is content content') in
+    let same : fault ≡ fault' = faults_same (kind.reading bytes) (kind.reading others) fault fault' wrong wrong' (one_reading kind.reading kind.most told name held bytes others is content content') in
     says ∙ ap (λ (f : Fault). text_alone (line_of (kind.fault_words f)) kind.fault_status) same ∙ sym says'
 
 -- a file that spells a value has no first fault
 pub Misspells-not_loaded : {Value Fault : Type 0} (kind : Kind Value Fault) (told : List ℕ → Option (List ℕ)) (name held : List ℕ) → told name ≡ Some held → (a : Outcome) (value : Value) → Misspells kind told name a → IsLoaded kind told name value → ⊥
 Misspells-not_loaded kind told name held is a value (bytes, fault, content, wrong, says) (others, content', right) =
-    fault_no_value (kind.reading bytes) (kind.reading others) fault value wrong right (one_reading kind.reading told name held bytes others is content content')
+    fault_no_value (kind.reading bytes) (kind.reading others) fault value wrong right (one_reading kind.reading kind.most told name held bytes others is content content')
 
 -- two values that one file spells are one
 pub IsLoaded-same : {Value Fault : Type 0} (kind : Kind Value Fault) (told : List ℕ → Option (List ℕ)) (name held : List ℕ) → told name ≡ Some held → (v w : Value) → IsLoaded kind told name v → IsLoaded kind told name w → v ≡ w
 IsLoaded-same kind told name held is v w (bytes, content, right) (others, content', right') =
-    values_same (kind.reading bytes) (kind.reading others) v w right right' (one_reading kind.reading told name held bytes others is content content')
+    values_same (kind.reading bytes) (kind.reading others) v w right right' (one_reading kind.reading kind.most told name held bytes others is content content')
 
 -- a file that is too long has no content within the limit
-pub not_longer : (told : List ℕ → Option (List ℕ)) (name held bytes : List ℕ) → told name ≡ Some held → IsLonger (told name) 4194304 → IsContent told name bytes → ⊥
-not_longer told name held bytes is longer content =
-    let over = held_longer told name held is longer in
-    let within = held_within told name held bytes is content in
+pub not_longer : (most : ℕ) (told : List ℕ → Option (List ℕ)) (name held bytes : List ℕ) → told name ≡ Some held → IsLonger (told name) most → IsContent most told name bytes → ⊥
+not_longer most told name held bytes is longer content =
+    let over = held_longer most told name held is longer in
+    let within = held_within most told name held bytes is content in
     absurd (omega (arith, over, within))
 
 -- the load of a told file is one where no read failed
@@ -66,15 +66,15 @@ stops_same : {Value Fault : Type 0} (kind : Kind Value Fault) (told : List ℕ �
 stops_same kind told failed name held steady is a b (inl (inl fault)) second = absurd (steady fault.0)
 stops_same kind told failed name held steady is a b (inl (inr long)) (inl (inl fault)) = absurd (steady fault.0)
 stops_same kind told failed name held steady is a b (inl (inr long)) (inl (inr long')) = long.1 ∙ sym long'.1
-stops_same kind told failed name held steady is a b (inl (inr long)) (inr wrong) = absurd (not_longer told name held wrong.0 is long.0 wrong.2)
+stops_same kind told failed name held steady is a b (inl (inr long)) (inr wrong) = absurd (not_longer kind.most told name held wrong.0 is long.0 wrong.2)
 stops_same kind told failed name held steady is a b (inr wrong) (inl (inl fault)) = absurd (steady fault.0)
-stops_same kind told failed name held steady is a b (inr wrong) (inl (inr long)) = absurd (not_longer told name held wrong.0 is long.0 wrong.2)
+stops_same kind told failed name held steady is a b (inr wrong) (inl (inr long)) = absurd (not_longer kind.most told name held wrong.0 is long.0 wrong.2)
 stops_same kind told failed name held steady is a b (inr wrong) (inr wrong') = Misspells-same kind told name held is a b wrong wrong'
 
 never_stops : {Value Fault : Type 0} (kind : Kind Value Fault) (told : List ℕ → Option (List ℕ)) (failed : Type 0) (name held : List ℕ) → ¬ failed → told name ≡ Some held → (a : Outcome) (value : Value)
     → StopsAtLoad kind told failed name a → IsLoaded kind told name value → ⊥
 never_stops kind told failed name held steady is a value (inl (inl fault)) loaded = steady fault.0
-never_stops kind told failed name held steady is a value (inl (inr long)) loaded = not_longer told name held loaded.0 is long.0 loaded.1
+never_stops kind told failed name held steady is a value (inl (inr long)) loaded = not_longer kind.most told name held loaded.0 is long.0 loaded.1
 never_stops kind told failed name held steady is a value (inr wrong) loaded = Misspells-not_loaded kind told name held is a value wrong loaded
 
 pub one_file : {Value Fault : Type 0} (kind : Kind Value Fault) (told : List ℕ → Option (List ℕ)) (failed : Type 0) (name : List ℕ) → ¬ failed → IsTold told name → IsOneLoad (StopsAtLoad kind told failed name) (IsLoaded kind told name)

@@ -13,7 +13,7 @@ mod stops;
 
 pub use codes::FaultCode;
 pub use load::{
-    load_delays, load_demand, load_matrix, load_network, load_output, load_plan, load_schedule,
-    load_script, read_file,
+    load_delays, load_demand, load_journal, load_matrix, load_network, load_output, load_plan,
+    load_schedule, load_script, read_file,
 };
 pub use stops::{line_stop, network_stop};

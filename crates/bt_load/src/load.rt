@@ -1,6 +1,6 @@
 // Files, read and tested one after the other.
 ghost use Rattle.std.specs.Prelude.{◌≡◌, ◌≤◌, All, IfErr, IfOk, OnOk, length};
-ghost use Rattle.bt_frame.specs.declared.limits.TheConstants.{MOST_BEAMS};
+ghost use Rattle.bt_frame.specs.declared.limits.TheConstants.{MOST_BEAMS, MOST_FILE_BYTES, MOST_JOURNAL_BYTES};
 ghost use Rattle.bt_outside.specs.Told.{Rose};
 ghost use Rattle.bt_frame.specs.Critical.{IsOfBeams};
 ghost use Rattle.bt_verdict.specs.PlanVerdict.{AreBetweenTerminals};
@@ -8,12 +8,12 @@ ghost use Rattle.bt_demand.specs.Traffic.{matrix_of, AreOfNetwork, HasSumsTo};
 ghost use Rattle.bt_script.specs.Named.{IsItemFor};
 ghost use Rattle.bt_timing.specs.Times.{AreTimes};
 ghost use Rattle.bt_load.specs.Files.{CannotRead, IsContent, IsLoaded, IsOfItsKind, StopsAtLoad};
-ghost use Rattle.bt_load.specs.Kinds.{delay_file, demand_file, matrix_file, network_file, output_file, plan_file, schedule_file, script_file};
+ghost use Rattle.bt_load.specs.Kinds.{delay_file, demand_file, journal_file, matrix_file, network_file, output_file, plan_file, schedule_file, script_file};
 ghost use Rattle.bt_report.specs.Report.{StopIs};
 
 use crate::stops::{line_stop, network_stop};
 use bt_demand::{Demand, Plan};
-use bt_frame::{MOST_FILE_BYTES, Schedule};
+use bt_frame::{MOST_FILE_BYTES, MOST_JOURNAL_BYTES, Schedule};
 use bt_matrix::{Dense, MOST_SUM};
 use bt_net::Network;
 use bt_outside::{FileFault, Files};
@@ -25,15 +25,20 @@ use bt_timing::Timing;
 use bt_words::Word;
 use std::alloc::Global;
 
-/// The file's bytes.
-pub fn read_file<F: Files>(alloc: Global, files: &mut F, name: &str) -> Result<Vec<u8>, Stop>
-    ensures content { IfOk result (λ bytes. IsContent (F.told files.old) name.now bytes.items) }
-    ensures stops { IfErr result (StopIs (CannotRead (F.told files.old)
+/// The file's bytes, at most so many.
+pub fn read_file<F: Files>(
+    alloc: Global,
+    files: &mut F,
+    name: &str,
+    most: u64,
+) -> Result<Vec<u8>, Stop>
+    ensures content { IfOk result (λ bytes. IsContent most (F.told files.old) name.now bytes.items) }
+    ensures stops { IfErr result (StopIs (CannotRead most (F.told files.old)
         (Rose (F.fault_count files.old) (F.fault_count files.new)) name.now)) }
     ensures later { F.fault_count files.old ≤ F.fault_count files.new }
     ensures same { F.told files.new ≡ F.told files.old }
 {
-    match files.read(alloc, name, MOST_FILE_BYTES) {
+    match files.read(alloc, name, most) {
         Ok(bytes) => Ok(bytes),
         Err(FileFault::Failed) => {
             let words = [Word::Text("fault"), Word::Text("read"), Word::Text(name)];
@@ -57,7 +62,7 @@ pub fn load_matrix<F: Files>(alloc: Global, files: &mut F, name: &str) -> Result
     ensures later { F.fault_count files.old ≤ F.fault_count files.new }
     ensures same { F.told files.new ≡ F.told files.old }
 {
-    let bytes = read_file(alloc, files, name)?;
+    let bytes = read_file(alloc, files, name, MOST_FILE_BYTES)?;
     match read_matrix(alloc, &bytes) {
         Ok(matrix) => Ok(matrix),
         Err(fault) => Err(line_stop(alloc, fault)),
@@ -80,7 +85,7 @@ pub fn load_schedule<F: Files>(
     ensures later { F.fault_count files.old ≤ F.fault_count files.new }
     ensures same { F.told files.new ≡ F.told files.old }
 {
-    let bytes = read_file(alloc, files, name)?;
+    let bytes = read_file(alloc, files, name, MOST_FILE_BYTES)?;
     match read_schedule(alloc, size, &bytes) {
         Ok(schedule) => Ok(schedule),
         Err(fault) => Err(line_stop(alloc, fault)),
@@ -103,7 +108,7 @@ pub fn load_demand<F: Files>(
     ensures later { F.fault_count files.old ≤ F.fault_count files.new }
     ensures same { F.told files.new ≡ F.told files.old }
 {
-    let bytes = read_file(alloc, files, name)?;
+    let bytes = read_file(alloc, files, name, MOST_FILE_BYTES)?;
     match read_demand(alloc, net, &bytes) {
         Ok(demand) => Ok(demand),
         Err(fault) => Err(line_stop(alloc, fault)),
@@ -126,7 +131,7 @@ pub fn load_plan<F: Files>(
     ensures later { F.fault_count files.old ≤ F.fault_count files.new }
     ensures same { F.told files.new ≡ F.told files.old }
 {
-    let bytes = read_file(alloc, files, name)?;
+    let bytes = read_file(alloc, files, name, MOST_FILE_BYTES)?;
     match read_plan(alloc, net, &bytes) {
         Ok(plan) => Ok(plan),
         Err(fault) => Err(line_stop(alloc, fault)),
@@ -142,7 +147,7 @@ pub fn load_network<F: Files>(alloc: Global, files: &mut F, name: &str) -> Resul
     ensures later { F.fault_count files.old ≤ F.fault_count files.new }
     ensures same { F.told files.new ≡ F.told files.old }
 {
-    let bytes = read_file(alloc, files, name)?;
+    let bytes = read_file(alloc, files, name, MOST_FILE_BYTES)?;
     match Network::read(alloc, &bytes) {
         Ok(net) => Ok(net),
         Err(fault) => Err(network_stop(alloc, fault)),
@@ -164,7 +169,7 @@ pub fn load_script<F: Files>(
     ensures later { F.fault_count files.old ≤ F.fault_count files.new }
     ensures same { F.told files.new ≡ F.told files.old }
 {
-    let bytes = read_file(alloc, files, name)?;
+    let bytes = read_file(alloc, files, name, MOST_FILE_BYTES)?;
     match Script::read(alloc, net, &bytes) {
         Ok(script) => Ok(script),
         Err(fault) => Err(line_stop(alloc, fault)),
@@ -187,7 +192,7 @@ pub fn load_delays<F: Files>(
     ensures later { F.fault_count files.old ≤ F.fault_count files.new }
     ensures same { F.told files.new ≡ F.told files.old }
 {
-    let bytes = read_file(alloc, files, name)?;
+    let bytes = read_file(alloc, files, name, MOST_FILE_BYTES)?;
     match Timing::read(alloc, net, &bytes) {
         Ok(times) => Ok(times),
         Err(fault) => Err(line_stop(alloc, fault)),
@@ -203,15 +208,28 @@ pub fn load_output<F: Files>(
     net: &Network,
 ) -> Result<Vec<u8>, Stop>
     ensures loaded { OnOk result (IsOfItsKind (output_file net.now) (F.told files.old) name.now) }
-    ensures content { IfOk result (λ bytes. IsContent (F.told files.old) name.now bytes.items) }
+    ensures content { IfOk result (λ bytes. IsContent MOST_FILE_BYTES (F.told files.old) name.now bytes.items) }
     ensures stops { IfErr result (StopIs (StopsAtLoad (output_file net.now) (F.told files.old)
         (Rose (F.fault_count files.old) (F.fault_count files.new)) name.now)) }
     ensures later { F.fault_count files.old ≤ F.fault_count files.new }
     ensures same { F.told files.new ≡ F.told files.old }
 {
-    let bytes = read_file(alloc, files, name)?;
+    let bytes = read_file(alloc, files, name, MOST_FILE_BYTES)?;
     match check_output(net, &bytes) {
         Ok(()) => Ok(bytes),
         Err(fault) => Err(line_stop(alloc, fault)),
     }
+}
+
+/// The bytes of a journal in a file, whatever its lines are.
+pub fn load_journal<F: Files>(alloc: Global, files: &mut F, name: &str) -> Result<Vec<u8>, Stop>
+    ensures loaded { IfOk result (λ bytes. IsLoaded journal_file (F.told files.old) name.now bytes.items) }
+    ensures short { IfOk result (λ bytes. length bytes.items ≤ MOST_JOURNAL_BYTES) }
+    ensures stops { IfErr result (StopIs (StopsAtLoad journal_file (F.told files.old)
+        (Rose (F.fault_count files.old) (F.fault_count files.new)) name.now)) }
+    ensures later { F.fault_count files.old ≤ F.fault_count files.new }
+    ensures same { F.told files.new ≡ F.told files.old }
+{
+    let bytes = read_file(alloc, files, name, MOST_JOURNAL_BYTES)?;
+    Ok(bytes)
 }

@@ -36,11 +36,12 @@ const CHART: Option<Program> = Some(Program::Chart);
 
 /// The table: a row for each status and each of its causes.
 #[rattlefmt::skip]
-const MEANINGS: [Meaning; 17] = [
+const MEANINGS: [Meaning; 18] = [
     Meaning { status: DONE,           of: NOZGURT, when: "done",                                 line: "" },
     Meaning { status: DONE,           of: CHART,   when: "the picture was drawn",                line: "" },
     Meaning { status: OUT_OF_MEMORY,  of: BOTH,    when: "memory ran out",                       line: "" },
     Meaning { status: FAULTY_WORDS,   of: BOTH,    when: "the words are none of a command",      line: "fault words" },
+    Meaning { status: FAULTY_WORDS,   of: NOZGURT, when: "a journal has no such edition",        line: "fault words" },
     Meaning { status: FAULTY_WORDS,   of: CHART,   when: "a NAME is that of no terminal",        line: "fault words" },
     Meaning { status: NO_NETWORK,     of: NOZGURT, when: "a network file is no network",         line: "fault CODE PLACE" },
     Meaning { status: NO_NETWORK,     of: CHART,   when: "the network file is no network",       line: "fault CODE PLACE" },
@@ -53,7 +54,7 @@ const MEANINGS: [Meaning; 17] = [
     Meaning { status: FAULTY_JOURNAL, of: NOZGURT, when: "a line of the journal is wrong",       line: "fault CODE LINE" },
     Meaning { status: NOT_GOOD,       of: NOZGURT, when: "check, timing: it is not good",        line: "the verdict's line" },
     Meaning { status: TOO_LONG,       of: BOTH,    when: "a file is over 4,194,304 bytes long",  line: "fault too long NAME" },
-    Meaning { status: TOO_LONG,       of: NOZGURT, when: "the journal is over 67,108,864",       line: "fault too long store" },
+    Meaning { status: TOO_LONG,       of: NOZGURT, when: "the journal is over 67,108,864",       line: "fault too long store, or NAME" },
 ];
 
 /// Where to look, by the status; nothing where the work was done, or the verdict says all.

@@ -26,3 +26,19 @@ returns-in-PlanPart g c =
 pub returns-in-TellCapacity : goal.returns-in-TellCapacity
 returns-in-TellCapacity g c =
     came_at (g.F.Files.told c.args.files.now) (Rose (g.F.Files.fault_count c.args.files.now) (g.F.Files.fault_count c.tell_capacity.new.files)) c.args.line _ c.in-TellCapacity.is c.tell_capacity.result c.tell_capacity.ensures
+
+pub returns-in-TellDemand : goal.returns-in-TellDemand
+returns-in-TellDemand g c =
+    came_at (g.F.Files.told c.args.files.now) (Rose (g.F.Files.fault_count c.args.files.now) (g.F.Files.fault_count c.tell_demand.new.files)) c.args.line _ c.in-TellDemand.is c.tell_demand.result c.tell_demand.ensures
+
+pub returns-in-TellCompact : goal.returns-in-TellCompact
+returns-in-TellCompact g c =
+    came_at (g.F.Files.told c.args.files.now) (Rose (g.F.Files.fault_count c.args.files.now) (g.F.Files.fault_count c.tell_compact.new.files)) c.args.line _ c.in-TellCompact.is c.tell_compact.result c.tell_compact.ensures
+
+pub returns-in-TellState : goal.returns-in-TellState
+returns-in-TellState g c =
+    came_at (g.F.Files.told c.args.files.now) (Rose (g.F.Files.fault_count c.args.files.now) (g.F.Files.fault_count c.tell_state.new.files)) c.args.line _ c.in-TellState.is c.tell_state.result c.tell_state.ensures
+
+pub returns-in-TellInstalled : goal.returns-in-TellInstalled
+returns-in-TellInstalled g c =
+    came_at (g.F.Files.told c.args.files.now) (Rose (g.F.Files.fault_count c.args.files.now) (g.F.Files.fault_count c.tell_installed.new.files)) c.args.line _ c.in-TellInstalled.is c.tell_installed.result c.tell_installed.ensures

@@ -1,5 +1,5 @@
 -- the network is loaded, and there is a session on it; or why it could not be is said
-use Rattle.std.proofs.Common.{ℕ, inl, inr, sym, ap, subst}
+use Rattle.std.proofs.Common.{ℕ, inl, sym, ap, subst}
 use Rattle.bt_outside.specs.Told.{Rose}
 use Rattle.bt_centre.specs.Talked.{Talked}
 use Rattle.bt_load.specs.Files.{StopsAtLoad}

@@ -1,0 +1,139 @@
+-- A look at one journal has one outcome.
+use Rattle.std.proofs.Common.{◌≡◌, ◌⊎◌, ℕ, ◌≤◌, inl, inr, List, length, Option, Some, None, option_map, sym, ap, ◌∙◌, arith}
+use Rattle.std.proofs.lemmas.Option.{same_Some}
+use Rattle.bt_frame.specs.declared.limits.TheConstants.{MOST_JOURNAL_BYTES}
+use Rattle.bt_frame.specs.declared.numbers.EditionNo.{EditionNo}
+use Rattle.bt_net.specs.Network.{Net}
+use Rattle.bt_demand.specs.declared.demand.Link.{Link}
+use Rattle.bt_journal.specs.declared.call.Change.{Change}
+use Rattle.bt_history.specs.declared.fault.RecoverFault.{RecoverFault}
+use Rattle.bt_history.specs.declared.fault.RecoverFault.TheVariants.{J1, J2, StoreFault, TooLong, OutOfMemory}
+use Rattle.bt_history.specs.Changes.{IsDemandAfter}
+use Rattle.bt_plan.specs.PlanSpelling.{plan_spelling}
+use Rattle.bt_timeline.specs.Replayed.{link_lines}
+use Rattle.bt_look.specs.Compact.{compact_lines}
+use Rattle.bt_look.specs.Installed.{TellsInstalled, plan_asked}
+use Rattle.bt_look.specs.State.{TellsState, state_lines}
+use Rattle.bt_look.specs.Look.{IsDemandText, IsLookFault, TellsCompact, TellsDemand}
+use Rattle.bt_report.specs.declared.status.TheConstants.{DONE}
+use Rattle.bt_report.specs.Outcome.{Outcome, text_alone}
+use Rattle.bt_load.specs.Kinds.{journal_file, network_file}
+use Rattle.bt_load.specs.Loaders.{file}
+use Rattle.bt_load.proofs.OneLoad.{IsLawful, file_lawful, then_lawful}
+use Rattle.bt_cli.specs.Looks.{NamesLine, PrintsCompact, PrintsDemand, PrintsInstalled, PrintsJournalState, PrintsOrNone, PrintsText, journal_files}
+use Rattle.bt_cli.specs.Replay.{NamesRecoverFault}
+use Rattle.bt_cli.proofs.OneDemand.{none_behind, one_demand}
+use Rattle.bt_cli.proofs.OneJournal.{Comes, HasChanges, Laws, one_coming}
+
+pub journal_lawful : (net journal : List ℕ) → IsLawful (journal_files net journal)
+journal_lawful net journal = then_lawful (file network_file net) (λ network. file journal_file journal) (file_lawful network_file net) (λ network. file_lawful journal_file journal)
+
+-- a line at fault is one of the things that bytes come to
+line_comes : (Done : List Change → Outcome → Type 0) (net : Net) (bytes : List ℕ) (fault : RecoverFault) (outcome : Outcome) → length bytes ≤ MOST_JOURNAL_BYTES → IsLookFault net bytes fault → NamesRecoverFault fault outcome
+    → Comes Done net bytes outcome
+line_comes Done net bytes (J1 number) outcome short is names = inr (inl (record { number = number; first = is; short = short; says = names }))
+line_comes Done net bytes (J2 number) outcome short is names = inr (inr (inl (record { number = number; first = is; short = short; says = names })))
+line_comes Done net bytes StoreFault outcome short is names = absurd is
+line_comes Done net bytes TooLong outcome short is names = absurd (omega (arith, is, short))
+line_comes Done net bytes OutOfMemory outcome short is names = absurd names
+
+-- and so is what is printed of their changes
+look_comes : (Done : List Change → Outcome → Type 0) (Prints : Outcome → Type 0) (net : Net) (bytes : List ℕ) (outcome : Outcome) → length bytes ≤ MOST_JOURNAL_BYTES
+    → (Prints outcome → HasChanges Done net bytes outcome) → Prints outcome ⊎ NamesLine net bytes outcome → Comes Done net bytes outcome
+look_comes Done Prints net bytes outcome short changes (inl printed) = inl (changes printed)
+look_comes Done Prints net bytes outcome short changes (inr (fault, is, names)) = line_comes Done net bytes fault outcome short is names
+
+-- ---- `state`
+
+abbrev StateOf : Net → List ℕ → List Change → Outcome → Type 0
+StateOf net bytes changes outcome = outcome ≡ text_alone (state_lines net bytes changes) DONE
+
+state_changes : (net : Net) (bytes : List ℕ) (outcome : Outcome) → length bytes ≤ MOST_JOURNAL_BYTES → PrintsText (TellsState net bytes) outcome → HasChanges (StateOf net bytes) net bytes outcome
+state_changes net bytes outcome short (text, tells, is) = record { changes = tells.changes; told = tells.told; short = short; done = is ∙ ap (λ (t : List ℕ). text_alone t DONE) tells.spelled }
+
+pub state_same : Laws → (net : Net) (bytes : List ℕ) (a b : Outcome) → PrintsJournalState net bytes a → PrintsJournalState net bytes b → a ≡ b
+state_same laws net bytes a b first second =
+    let Prints : Outcome → Type 0 = PrintsText (TellsState net bytes) in
+    one_coming laws (λ x y. x ≡ y) (λ x y same. same) (StateOf net bytes) (λ changes x y one other. one ∙ sym other) net first.sound bytes a b
+    (look_comes (StateOf net bytes) Prints net bytes a first.short (state_changes net bytes a first.short) first.comes)
+    (look_comes (StateOf net bytes) Prints net bytes b second.short (state_changes net bytes b second.short) second.comes)
+
+-- ---- `demand`
+
+abbrev DemandOf : Net → Option EditionNo → List Change → Outcome → Type 0
+DemandOf net asked changes outcome = PrintsOrNone (IsDemandText net changes asked) outcome
+
+demand_changes : (net : Net) (bytes : List ℕ) (asked : Option EditionNo) (outcome : Outcome) → length bytes ≤ MOST_JOURNAL_BYTES → PrintsOrNone (TellsDemand net bytes asked) outcome → HasChanges (DemandOf net asked) net bytes outcome
+demand_changes net bytes asked outcome short (inl (text, tells, is)) = record { changes = tells.changes; told = tells.told; short = short; done = inl (text, tells.tells, is) }
+demand_changes net bytes asked outcome short (inr (tells, says)) = record { changes = tells.changes; told = tells.told; short = short; done = inr (tells.tells, says) }
+
+demand_printed : (net : Net) (asked : Option EditionNo) (changes : List Change) (a b : Outcome) → DemandOf net asked changes a → DemandOf net asked changes b → a ≡ b
+demand_printed net asked changes a b (inl (text, one, is)) (inl (text', other, is')) =
+    let links : one.links ≡ other.links = one_demand changes asked one.links other.links one.demand other.demand in
+    let same : text ≡ text' = one.spelled ∙ (ap (link_lines net) links ∙ sym other.spelled) in
+    is ∙ (ap (λ (t : List ℕ). text_alone t DONE) same ∙ sym is')
+demand_printed net asked changes a b (inl (text, one, is)) (inr (none, says)) = absurd (none_behind changes asked one.links one.demand none)
+demand_printed net asked changes a b (inr (none, says)) (inl (text, other, is)) = absurd (none_behind changes asked other.links other.demand none)
+demand_printed net asked changes a b (inr (none, says)) (inr (none', says')) = says ∙ sym says'
+
+pub demand_same : Laws → (asked : Option EditionNo) (net : Net) (bytes : List ℕ) (a b : Outcome) → PrintsDemand asked net bytes a → PrintsDemand asked net bytes b → a ≡ b
+demand_same laws asked net bytes a b first second =
+    let Prints : Outcome → Type 0 = PrintsOrNone (TellsDemand net bytes asked) in
+    one_coming laws (λ x y. x ≡ y) (λ x y same. same) (DemandOf net asked) (demand_printed net asked) net first.sound bytes a b
+    (look_comes (DemandOf net asked) Prints net bytes a first.short (demand_changes net bytes asked a first.short) first.comes)
+    (look_comes (DemandOf net asked) Prints net bytes b second.short (demand_changes net bytes asked b second.short) second.comes)
+
+-- ---- `installed`
+
+abbrev InstalledText : Net → Option EditionNo → List Change → Option (List ℕ) → Type 0
+InstalledText net asked changes text = text ≡ option_map (plan_spelling net) (plan_asked changes asked)
+
+abbrev InstalledOf : Net → Option EditionNo → List Change → Outcome → Type 0
+InstalledOf net asked changes outcome = PrintsOrNone (InstalledText net asked changes) outcome
+
+installed_changes : (net : Net) (bytes : List ℕ) (asked : Option EditionNo) (outcome : Outcome) → length bytes ≤ MOST_JOURNAL_BYTES → PrintsOrNone (TellsInstalled net bytes asked) outcome
+    → HasChanges (InstalledOf net asked) net bytes outcome
+installed_changes net bytes asked outcome short (inl (text, tells, is)) = record { changes = tells.changes; told = tells.told; short = short; done = inl (text, tells.spelled, is) }
+installed_changes net bytes asked outcome short (inr (tells, says)) = record { changes = tells.changes; told = tells.told; short = short; done = inr (tells.spelled, says) }
+
+-- a text is none that is not there
+never_none : (text : List ℕ) (found : Option (List ℕ)) → Some text ≡ found → None ≡ found → ⊥
+never_none text found is none = cc
+
+installed_printed : (net : Net) (asked : Option EditionNo) (changes : List Change) (a b : Outcome) → InstalledOf net asked changes a → InstalledOf net asked changes b → a ≡ b
+installed_printed net asked changes a b (inl (text, one, is)) (inl (text', other, is')) =
+    is ∙ (ap (λ (t : List ℕ). text_alone t DONE) (same_Some text text' (one ∙ sym other)) ∙ sym is')
+installed_printed net asked changes a b (inl (text, one, is)) (inr (none, says)) = absurd (never_none text _ one none)
+installed_printed net asked changes a b (inr (none, says)) (inl (text, other, is)) = absurd (never_none text _ other none)
+installed_printed net asked changes a b (inr (none, says)) (inr (none', says')) = says ∙ sym says'
+
+pub installed_same : Laws → (asked : Option EditionNo) (net : Net) (bytes : List ℕ) (a b : Outcome) → PrintsInstalled asked net bytes a → PrintsInstalled asked net bytes b → a ≡ b
+installed_same laws asked net bytes a b first second =
+    let Prints : Outcome → Type 0 = PrintsOrNone (TellsInstalled net bytes asked) in
+    one_coming laws (λ x y. x ≡ y) (λ x y same. same) (InstalledOf net asked) (installed_printed net asked) net first.sound bytes a b
+    (look_comes (InstalledOf net asked) Prints net bytes a first.short (installed_changes net bytes asked a first.short) first.comes)
+    (look_comes (InstalledOf net asked) Prints net bytes b second.short (installed_changes net bytes asked b second.short) second.comes)
+
+-- ---- `compact`
+
+abbrev CompactOf : Net → List Change → Outcome → Type 0
+CompactOf net changes outcome = (links : List Link) × IsDemandAfter changes links × (outcome ≡ text_alone (compact_lines net links) DONE)
+
+compact_changes : (net : Net) (bytes : List ℕ) (outcome : Outcome) → length bytes ≤ MOST_JOURNAL_BYTES → PrintsText (TellsCompact net bytes) outcome → HasChanges (CompactOf net) net bytes outcome
+compact_changes net bytes outcome short (text, tells, is) = record {
+  changes = tells.changes;
+  told = tells.told;
+  short = short;
+  done = (tells.links, tells.demand, is ∙ ap (λ (t : List ℕ). text_alone t DONE) tells.spelled);
+}
+
+compact_printed : (net : Net) (changes : List Change) (a b : Outcome) → CompactOf net changes a → CompactOf net changes b → a ≡ b
+compact_printed net changes a b (links, one, is) (links', other, is') =
+    is ∙ (ap (λ (l : List Link). text_alone (compact_lines net l) DONE) (one_demand changes None links links' one other) ∙ sym is')
+
+pub compact_same : Laws → (net : Net) (bytes : List ℕ) (a b : Outcome) → PrintsCompact net bytes a → PrintsCompact net bytes b → a ≡ b
+compact_same laws net bytes a b first second =
+    let Prints : Outcome → Type 0 = PrintsText (TellsCompact net bytes) in
+    one_coming laws (λ x y. x ≡ y) (λ x y same. same) (CompactOf net) (compact_printed net) net first.sound bytes a b
+    (look_comes (CompactOf net) Prints net bytes a first.short (compact_changes net bytes a first.short) first.comes)
+    (look_comes (CompactOf net) Prints net bytes b second.short (compact_changes net bytes b second.short) second.comes)
