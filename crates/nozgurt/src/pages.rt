@@ -84,6 +84,10 @@ commands
       `standby hears K` it hears message K, a status of the satellite. By
       `standby burst` it names the edition in front by the last one that it heard
       in the present superframe, or none.
+      A change for whose line the journal has no room is not made, and answered
+      `refused E5 BYTES`: its changes have so many bytes already. `state` shows
+      that coming. `compact` writes a shorter journal into a new file, and a run
+      over that goes on.
       example: nozgurt run examples/two-beams.net
                examples/calm-change.script calm.journal
 
@@ -115,6 +119,45 @@ commands
       example: nozgurt replay examples/two-beams.net
                examples/calm-change.journal
 
+  state NET JOURNAL
+      Prints what the journal in the file JOURNAL has come to on the network in
+      the file NET: the last edition, the newest plan with its length, modes and
+      bursts, and how many orders were placed; `journal BYTES of LIMIT`, the
+      bytes of its changes and how many the network allows; `torn BYTES`, where
+      so many stand behind its last newline; and what is asked of each beam and
+      free there, as `capacity` does. Where a line is wrong, the first such line
+      is named, as by `replay`. The file stays as it is.
+      example: nozgurt state examples/two-beams.net
+               examples/calm-change.journal
+
+  demand NET JOURNAL [EDITION]
+      Prints the demand that the journal in the file JOURNAL tells of an
+      edition, on the network in the file NET: a line `link FROM TO UNITS` for
+      each link, as `plan` and `capacity` read them. EDITION is 0 to 4294967295;
+      without it the demand is that of the last edition. The file stays as it
+      is. A plan for it: `nozgurt demand NET JOURNAL | nozgurt plan NET -`.
+      example: nozgurt demand examples/two-beams.net
+               examples/calm-change.journal 1
+
+  installed NET JOURNAL [EDITION]
+      Prints the burst time plan that is installed of an edition, by the journal
+      in the file JOURNAL on the network in the file NET, as `check`, `timing`
+      and `chart plan` read it. EDITION is 1 to 4294967295; without it the plan
+      is the newest. The file stays as it is.
+      example: nozgurt installed examples/two-beams.net
+               examples/calm-change.journal
+
+  compact NET JOURNAL
+      Prints the shortest journal that comes to the same demand as that in the
+      file JOURNAL, on the network in the file NET: its mark, and an edit for
+      each link. Given up are the earlier editions, the plans, the orders and
+      the numbers: the last edition is then the number of links, the next plan
+      has to be made anew, and commands begin with 1. The file stays as it is.
+      So a run goes on whose journal is full (`refused E5`): write the shorter
+      one into a new file, and run over that.
+      example: nozgurt compact examples/two-beams.net
+               examples/calm-change.journal
+
   make N NUMBER
       Draws a demand on a network of N beams, 1 to 16, from the number NUMBER
       on, 0 to 18446744073709551615, and plans it: for trials of any size.
@@ -140,7 +183,7 @@ const LETTERS: &str = "  The letter of a CODE names the file that is at fault: N
 ";
 
 /// The forms of the commands: of each its word, and the names of the words behind it.
-pub const FORMS: [&str; 11] = [
+pub const FORMS: [&str; 15] = [
     "check MATRIX MODES",
     "modes MATRIX",
     "trans K MATRIX",
@@ -151,6 +194,10 @@ pub const FORMS: [&str; 11] = [
     "run NET SCRIPT JOURNAL",
     "live NET JOURNAL",
     "replay NET JOURNAL",
+    "state NET JOURNAL",
+    "demand NET JOURNAL [EDITION]",
+    "installed NET JOURNAL [EDITION]",
+    "compact NET JOURNAL",
     "make N NUMBER",
 ];
 
