@@ -44,7 +44,7 @@ const LETTERS: &str = "  The letter of a CODE names the file that is at fault: N
 pub const FORMS: [&str; 2] = ["plan NET PLAN", "run NET OUTPUT [NAME ..]"];
 
 /// What `--version` prints.
-const VERSION: &str = "chart 0.2.0\n";
+const VERSION: &str = "chart 0.3.0\n";
 
 /// The page that the words ask for; None where they ask for none.
 pub fn page_of(alloc: Global, words: &[String]) -> Result<Option<Vec<u8>>, OutOfMemory> {

@@ -122,10 +122,53 @@ commands of the centre
       `standby hears K` it hears message K, a status of the satellite. By
       `standby burst` it names the edition in front by the last one that it heard
       in the present superframe, or none.
+      A change for whose line the journal has no room is not made, and answered
+      `refused E5 BYTES`: its changes have so many bytes already. `state` shows
+      that coming. `compact` writes a shorter journal into a new file, and a run
+      over that goes on.
       example: nozgurt run examples/two-beams.net
                examples/calm-change.script calm.journal
 
 commands that look at a journal
+  compact NET JOURNAL
+      Prints the shortest journal that comes to the same demand as that in the
+      file JOURNAL, on the network in the file NET: its mark, and an edit for
+      each link. Given up are the earlier editions, the plans, the orders and
+      the numbers: the last edition is then the number of links, the next plan
+      has to be made anew, and commands begin with 1. The file stays as it is.
+      So a run goes on whose journal is full (`refused E5`): write the shorter
+      one into a new file, and run over that.
+      example: nozgurt compact examples/two-beams.net
+               examples/calm-change.journal
+
+  demand NET JOURNAL [EDITION]
+      Prints the demand that the journal in the file JOURNAL tells of an
+      edition, on the network in the file NET: a line `link FROM TO UNITS` for
+      each link, as `plan` and `capacity` read them. EDITION is 0 to 4294967295;
+      without it the demand is that of the last edition. The file stays as it
+      is. A plan for it: `nozgurt demand NET JOURNAL | nozgurt plan NET -`.
+      example: nozgurt demand examples/two-beams.net
+               examples/calm-change.journal 1
+
+  installed NET JOURNAL [EDITION]
+      Prints the burst time plan that is installed of an edition, by the journal
+      in the file JOURNAL on the network in the file NET, as `check`, `timing`
+      and `chart plan` read it. EDITION is 1 to 4294967295; without it the plan
+      is the newest. The file stays as it is.
+      example: nozgurt installed examples/two-beams.net
+               examples/calm-change.journal
+
+  state NET JOURNAL
+      Prints what the journal in the file JOURNAL has come to on the network in
+      the file NET: the last edition, the newest plan with its length, modes and
+      bursts, and how many orders were placed; `journal BYTES of LIMIT`, the
+      bytes of its changes and how many the network allows; `torn BYTES`, where
+      so many stand behind its last newline; and what is asked of each beam and
+      free there, as `capacity` does. Where a line is wrong, the first such line
+      is named, as by `replay`. The file stays as it is.
+      example: nozgurt state examples/two-beams.net
+               examples/calm-change.journal
+
 other words
   --help      prints this page
   --version   prints the version
@@ -137,7 +180,8 @@ exit status
 ";
 
 /// What it prints behind them.
-const LETTERS: &str = "  125 the program was not started: it is not built, or another has the journal
+const LETTERS: &str =
+    "  125 the program was not started: it is not built, or another has the journal
   The letter of a CODE names the file that is at fault: N the network, X the
   matrix, M the modes, T the traffic, P the plan, G the delays, S the script, J
   the journal.
@@ -146,7 +190,7 @@ const LETTERS: &str = "  125 the program was not started: it is not built, or an
 ";
 
 /// The forms of the commands: of each its word, and the names of the words behind it.
-pub const FORMS: [&str; 11] = [
+pub const FORMS: [&str; 15] = [
     "capacity NET TRAFFIC",
     "check MATRIX MODES",
     "check NET TRAFFIC PLAN",
@@ -158,10 +202,14 @@ pub const FORMS: [&str; 11] = [
     "live NET JOURNAL",
     "replay NET JOURNAL",
     "run NET SCRIPT JOURNAL",
+    "compact NET JOURNAL",
+    "demand NET JOURNAL [EDITION]",
+    "installed NET JOURNAL [EDITION]",
+    "state NET JOURNAL",
 ];
 
 /// What `--version` prints.
-const VERSION: &str = "nozgurt 0.2.0\n";
+const VERSION: &str = "nozgurt 0.3.0\n";
 
 /// The page that the words ask for; None where they ask for none.
 pub fn page_of(alloc: Global, words: &[String]) -> Result<Option<Vec<u8>>, OutOfMemory> {
