@@ -1,8 +1,12 @@
 // The lines of a text, and what may be wrong with the bytes of any line.
 use crate::cause::Cause;
+use crate::fault::Fault;
 use crate::lines::{Lines, Words};
 use crate::page::is_printed;
 use bt_text::number;
+
+/// What is said of a remark where none may stand.
+const NO_REMARKS: &str = "a remark may not stand in this file: scripts alone have remarks";
 
 /// A line of a text, its newline left out.
 #[derive(Clone, Copy)]
@@ -74,7 +78,7 @@ pub fn place_of(line: &[u8], index: usize) -> (usize, usize) {
 }
 
 /// Looks for what no line of any text may have.
-pub fn find_bytes(line: Line<'_>, cause: &mut Cause) {
+pub fn find_bytes(fault: &Fault<'_>, line: Line<'_>, cause: &mut Cause) {
     if !line.is_ended {
         cause.say_at(
             line.bytes.len(),
@@ -83,30 +87,27 @@ pub fn find_bytes(line: Line<'_>, cause: &mut Cause) {
         );
         cause.hint.add("the file may be cut off");
     } else {
-        find_in_line(line.bytes, cause);
+        find_in_line(fault, cause);
     }
 }
 
-fn find_in_line(line: &[u8], cause: &mut Cause) {
+fn find_in_line(fault: &Fault<'_>, cause: &mut Cause) {
+    let line = fault.line;
     match line {
         [] => cause.say("a line without words may not stand here"),
-        [b'\r'] => say_return(0, cause),
+        [b'\r'] => say_return(0, fault.file, cause),
         [0xEF, 0xBB, 0xBF, ..] => cause.say_at(
             0,
             3,
             "a byte order mark stands in front of the text, which is ASCII",
         ),
-        [.., b'\r'] => say_return(line.len() - 1, cause),
-        [b'#', ..] => cause.say_at(
-            0,
-            1,
-            "a remark may not stand in this file: scripts alone have remarks",
-        ),
-        _ => find_byte(line, cause),
+        [.., b'\r'] => say_return(line.len() - 1, fault.file, cause),
+        [b'#', ..] => cause.say_at(0, 1, NO_REMARKS),
+        _ => find_byte(fault, cause),
     }
 }
 
-fn say_return(at: usize, cause: &mut Cause) {
+fn say_return(at: usize, file: &str, cause: &mut Cause) {
     cause.say_at(
         at,
         1,
@@ -114,14 +115,22 @@ fn say_return(at: usize, cause: &mut Cause) {
     );
     cause
         .hint
-        .add("take the carriage returns out of the file: tr -d '\\r'");
+        .add("take the carriage returns out of the file: tr -d '\\r' <");
+    cause.hint.add(if is_plain(file) { file } else { "FILE" });
+    cause.hint.add(" >NEW");
+}
+
+/// Whether a shell takes a name of a file as it stands.
+fn is_plain(file: &str) -> bool {
+    file.as_bytes().iter().all(|byte| byte.is_ascii_alphanumeric()
+        || matches!(*byte, b'.' | b'/' | b'_' | b'-'))
 }
 
 /// Looks for the first byte that stands wrong, wherever it is.
-fn find_byte(line: &[u8], cause: &mut Cause) {
+fn find_byte(fault: &Fault<'_>, cause: &mut Cause) {
     let mut before = b' ';
     let mut at: usize = 0;
-    for byte in line {
+    for byte in fault.line {
         if !is_printed(*byte) {
             return say_byte(at, *byte, cause);
         }
@@ -129,7 +138,15 @@ fn find_byte(line: &[u8], cause: &mut Cause) {
             return say_space(at, cause);
         }
         if *byte == b'#' && before == b' ' {
-            return cause.say_at(at, 1, "a remark may not stand behind the words of a line");
+            return cause.say_at(
+                at,
+                1,
+                if fault.letter == b'S' {
+                    "a remark may not stand behind the words of a line"
+                } else {
+                    NO_REMARKS
+                },
+            );
         }
         before = *byte;
         at = at.saturating_add(1);

@@ -29,6 +29,8 @@ pub struct Named<'a> {
 /// A fault of a line of a text; it has no bytes where the text ends before it.
 #[derive(Clone, Copy)]
 pub struct Fault<'a> {
+    /// The name of its file.
+    pub file: &'a str,
     /// The letter of its code, which is that of its file.
     pub letter: u8,
     /// The digit of its code.
@@ -58,6 +60,7 @@ pub fn tell_line(
     let mut cause = Cause::new(alloc);
     let found = line_at(named.text, at);
     let fault = Fault {
+        file: named.file,
         letter,
         digit,
         text: named.text,
@@ -106,7 +109,7 @@ fn find_in_line(alloc: Global, fault: &Fault<'_>, line: Line<'_>, cause: &mut Ca
     if fault.digit == b'1' {
         find_behind_end(fault, cause);
         if !cause.is_found() {
-            find_bytes(line, cause);
+            find_bytes(fault, line, cause);
         }
         if !cause.is_found() {
             find_misfit(

@@ -16,8 +16,14 @@ pub fn find_journal(alloc: Global, fault: &Fault<'_>, cause: &mut Cause) {
         find_mark(fault, cause);
     } else if is_word(word_of(fault.line, 0), b"edit") {
         find_edit(fault, cause);
+    } else if is_word(word_of(fault.line, 0), b"plan") {
+        cause.say(
+            "the book would refuse this plan here: it is no newer than the last one, its edition is not made yet, or it is not good for the demand of that edition",
+        );
     } else {
-        cause.say("the book would refuse this change where it stands");
+        cause.say(
+            "the book would refuse this order here: its command is not the one behind the last, or its edition has no plan",
+        );
     }
 }
 
@@ -71,13 +77,30 @@ fn find_mark(fault: &Fault<'_>, cause: &mut Cause) {
 fn find_edit(fault: &Fault<'_>, cause: &mut Cause) {
     let next = edits_above(fault).saturating_add(1);
     if number_at(fault.line, 1) == Some(next) {
-        cause.say(
-            "the book would refuse this edit where it stands: its ends are one terminal, it takes more than there is, or a beam would have more slots than a frame",
-        );
+        say_refused(fault.line, cause);
     } else {
         let (at, bytes) = place_of(fault.line, 1);
         cause.say_at(at, bytes, "the edit that follows here makes edition ");
         cause.why.add_number(u64::from(next));
+    }
+}
+
+/// Says why the book would refuse an edit.
+fn say_refused(line: &[u8], cause: &mut Cause) {
+    let kind = word_of(line, 2);
+    if word_of(line, 3) == word_of(line, 4) {
+        let (at, bytes) = place_of(line, 4);
+        cause.say_at(at, bytes, "both ends of this link are one terminal");
+    } else if is_word(kind, b"add") {
+        cause.say(
+            "the book would refuse this edit here: a beam would be asked for more slots than a frame has",
+        );
+    } else if is_word(kind, b"drop") {
+        cause.say("the book would refuse this edit here: it takes more slots than the link has");
+    } else {
+        cause.say(
+            "the book would refuse this edit here: the ends of a link are one terminal, it takes more slots than the link has, or a beam would be asked for more than a frame has",
+        );
     }
 }
 

@@ -1,6 +1,8 @@
 // Where a value stands in a text of JSON: it is looked for by its place, such as `terminals[3].name`.
+use crate::near::Near;
 use bt_text::{is_word, number};
 use memchr::memchr;
+use std::alloc::Global;
 
 /// Where a value stands.
 #[derive(Clone, Copy)]
@@ -76,6 +78,50 @@ pub fn find_spot<'a>(text: &'a [u8], place: &[u8]) -> Option<Spot<'a>> {
     found
 }
 
+/// Where the last name of a field, or of a member of the same entry, stands that is near to that of a place; None where there is
+/// none. The bytes of the spot are the name in its quotes.
+pub fn find_near_name<'a>(alloc: Global, text: &'a [u8], place: &[u8]) -> Option<Spot<'a>> {
+    let sought = sought_in(place);
+    let mut reading = Reading::new(text);
+    let mut found = None;
+    for _ in 0..text.len() {
+        if reading.is_at_name(&sought) {
+            let spot = reading.spot();
+            if is_near(alloc, inside(spot.value), name_in(place)) {
+                found = Some(spot);
+            }
+        }
+        reading.pass();
+    }
+    found
+}
+
+fn is_near<'a>(alloc: Global, name: &'a [u8], wanted: &'a [u8]) -> bool {
+    let mut near = Near::to(name);
+    if let Ok(wanted) = str::from_utf8(wanted) {
+        near.look(alloc, wanted);
+    }
+    near.is_found()
+}
+
+/// The text between its quotes.
+pub fn inside(value: &[u8]) -> &[u8] {
+    match value {
+        [b'"', inside @ .., b'"'] => inside,
+        _ => value,
+    }
+}
+
+/// The name that stands in front of the value of a place.
+pub fn name_in(place: &[u8]) -> &[u8] {
+    let sought = sought_in(place);
+    if sought.member.is_empty() {
+        sought.field
+    } else {
+        sought.member
+    }
+}
+
 impl<'a> Reading<'a> {
     fn new(text: &'a [u8]) -> Reading<'a> {
         Reading {
@@ -101,6 +147,18 @@ impl<'a> Reading<'a> {
         let begins = self.is_value
             && !matches!(self.byte(), b' ' | b'\n' | b'\r' | b'\t' | b',' | b':');
         begins && is_word(self.field, sought.field) && self.is_at_depth(sought)
+    }
+
+    /// Whether the name of a field begins here, or of a member of the entry of this place.
+    fn is_at_name(&self, sought: &Sought<'_>) -> bool {
+        let begins = !self.is_value && self.byte() == b'"';
+        begins
+            && match sought.entry {
+                None => self.depth == 1,
+                Some(entry) => {
+                    self.depth == 3 && self.entry == entry && is_word(self.field, sought.field)
+                }
+            }
     }
 
     fn is_at_depth(&self, sought: &Sought<'_>) -> bool {

@@ -45,6 +45,13 @@ impl<'a> Near<'a> {
         }
     }
 
+    /// Looks at the names of a network's terminals.
+    pub fn look_at_terminals(&mut self, alloc: Global, net: &'a Network) {
+        for number in 0..net.terminal_count() {
+            self.look(alloc, net.name_of(TermNo(number as u8)));
+        }
+    }
+
     /// Whether one is near.
     pub fn is_found(&self) -> bool {
         self.nearest.is_some()
@@ -63,19 +70,20 @@ impl<'a> Near<'a> {
 /// Asks for the terminal whose name is near to a word, or names them all where they are few.
 pub fn ask_terminal(alloc: Global, net: &Network, word: &[u8], page: &mut Page) {
     let mut near = Near::to(word);
-    for number in 0..net.terminal_count() {
-        near.look(alloc, net.name_of(TermNo(number as u8)));
-    }
+    near.look_at_terminals(alloc, net);
     near.ask(page);
-    if page.is_empty() && net.terminal_count() <= MOST_NAMED {
-        add_terminals(net, page);
+    if !near.is_found() {
+        name_terminals(net, page);
     }
 }
 
-fn add_terminals(net: &Network, page: &mut Page) {
-    page.add("the terminals of the network are");
-    for number in 0..net.terminal_count() {
-        page.add(" ");
-        page.add(net.name_of(TermNo(number as u8)));
+/// Names the terminals of a network, where they are few.
+pub fn name_terminals(net: &Network, page: &mut Page) {
+    if net.terminal_count() <= MOST_NAMED {
+        page.add("the terminals of the network are");
+        for number in 0..net.terminal_count() {
+            page.add(" ");
+            page.add(net.name_of(TermNo(number as u8)));
+        }
     }
 }

@@ -1,7 +1,7 @@
 // What is wrong with a network's file.
 use crate::cause::Cause;
 use crate::fault::{Named, add_heading};
-use crate::json::{Spot, find_spot};
+use crate::json::{Spot, find_near_name, find_spot, inside, name_in};
 use crate::near::Near;
 use crate::page::Page;
 use crate::telling::Done;
@@ -40,16 +40,94 @@ fn tell_json(
     cause: &mut Cause,
     page: &mut Page,
 ) {
-    cause.say("this is no JSON");
-    let mut at = None;
-    if let Err(error) = Value::from_slice(alloc, named.text) {
-        at = u32::try_from(error.line()).ok();
-        cause.mark(error.column().saturating_sub(1), 1);
-    }
+    let at = find_no_json(alloc, named.text, cause);
     add_heading(done, named.file, at, code, page);
     cause.add_why(page);
     if let Some(at) = at {
         add_line_of(named.text, at, cause, page);
+    }
+}
+
+/// Finds out why a text is no JSON, and in which line.
+fn find_no_json(alloc: Global, text: &[u8], cause: &mut Cause) -> Option<u32> {
+    if text.starts_with(&[0xEF, 0xBB, 0xBF]) {
+        cause.say_at(0, 3, "a byte order mark stands in front of the text");
+        return Some(1);
+    }
+    match Value::from_slice(alloc, text) {
+        Err(error) if error.is_eof() => find_end(text, cause),
+        Err(error) => {
+            let (line, column) = (
+                u32::try_from(error.line()).ok(),
+                error.column().saturating_sub(1),
+            );
+            cause.say_at(column, 1, "this is no JSON: ");
+            let (before, byte) = bytes_about(text, line.unwrap_or(0), column);
+            cause.say(why_no_json(before, byte));
+            line
+        }
+        Ok(_) => {
+            cause.say("this is no JSON");
+            None
+        }
+    }
+}
+
+/// Says that a text ends too early, and in which line, the last that is not blank.
+fn find_end(text: &[u8], cause: &mut Cause) -> Option<u32> {
+    let (mut lines, mut at, mut end, mut last): (u32, usize, usize, Option<u32>) = (1, 0, 0, None);
+    for byte in text {
+        at = at.saturating_add(1);
+        if *byte == b'\n' {
+            lines = lines.saturating_add(1);
+            at = 0;
+        } else if !byte.is_ascii_whitespace() {
+            end = at;
+            last = Some(lines);
+        }
+    }
+    if last.is_some() {
+        cause.say_at(end, 1, "the text ends here, before the value is whole");
+    } else {
+        cause.say("the file is empty");
+    }
+    last
+}
+
+/// The byte at a place of a text, behind the last one before it that is no space; spaces where there is none.
+fn bytes_about(text: &[u8], line: u32, column: usize) -> (u8, u8) {
+    let (mut at_line, mut at_column, mut before): (u32, usize, u8) = (1, 0, b' ');
+    for byte in text {
+        if at_line == line && at_column == column {
+            return (before, *byte);
+        }
+        at_column = at_column.saturating_add(1);
+        if *byte == b'\n' {
+            at_line = at_line.saturating_add(1);
+            at_column = 0;
+        }
+        if !byte.is_ascii_whitespace() {
+            before = *byte;
+        }
+    }
+    (before, b' ')
+}
+
+/// Why a byte may not stand behind another one.
+#[rattlefmt::skip]
+fn why_no_json(before: u8, byte: u8) -> &'static str {
+    match (before, byte) {
+        (_, b'\'')                         => "a text stands in double quotes",
+        (_, b'/' | b'#')                   => "a remark may not stand in this file",
+        (_, 128..)                         => "this byte is of no text in UTF-8",
+        (_, 0..=31)                        => "a text ends in the line in which it begins, and has no tab",
+        (b',', b'}' | b']' | b',')         => "a value is wanting behind the comma before this",
+        (b'}' | b']', b'}' | b']')         => "nothing is open that this could close",
+        (b'"', b'[' | b'{' | b'0'..=b'9')  => "a colon or a comma is wanting before this",
+        (b'"' | b'}' | b']' | b'0'..=b'9', b'"' | b'[' | b'{') => "a comma is wanting before this",
+        (_, b'0')                          => "a number does not begin with 0, unless that is all of it",
+        (_, b'A'..=b'Z' | b'a'..=b'z')     => "a text stands in double quotes",
+        _                                  => "this may not stand here",
     }
 }
 
@@ -66,6 +144,10 @@ fn tell_place(
     let spot = find_spot(named.text, place);
     let value = spot.map_or(b"".as_slice(), |spot| spot.value);
     say_fault(alloc, named.text, code, place, value, cause);
+    let spot = match spot {
+        None => ask_near_name(alloc, named.text, place, cause),
+        found => found,
+    };
     add_heading(done, named.file, spot.map(|spot| spot.line), code, page);
     page.add_bytes(place);
     page.add(": ");
@@ -76,6 +158,22 @@ fn tell_place(
     if let Some(spot) = spot {
         add_line_of(named.text, spot.line, cause, page);
     }
+}
+
+/// Asks whether a name that is near to one that is wanting was meant for it, and says where it stands.
+fn ask_near_name<'a>(
+    alloc: Global,
+    text: &'a [u8],
+    place: &[u8],
+    cause: &mut Cause,
+) -> Option<Spot<'a>> {
+    let found = find_near_name(alloc, text, place);
+    if found.is_some() {
+        cause.hint.add("did you mean '");
+        cause.hint.add_bytes(name_in(place));
+        cause.hint.add("'?");
+    }
+    found
 }
 
 fn add_line_of(text: &[u8], at: u32, cause: &Cause, page: &mut Page) {
@@ -156,14 +254,6 @@ fn say_no_name(name: &[u8], cause: &mut Cause) {
         cause.say("no terminal is called 'all', 'sat' or 'centre', which are words of scripts");
     } else {
         say_bad_name(name, cause);
-    }
-}
-
-/// The text between its quotes.
-fn inside(value: &[u8]) -> &[u8] {
-    match value {
-        [b'"', inside @ .., b'"'] => inside,
-        _ => value,
     }
 }
 

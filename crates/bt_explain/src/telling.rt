@@ -112,7 +112,7 @@ fn is_read_before(done: &Done<'_>, name: &str) -> bool {
 }
 
 /// Whether the file of a letter has this name.
-fn is_named(done: &Done<'_>, letter: u8, name: &str) -> bool {
+pub fn is_named(done: &Done<'_>, letter: u8, name: &str) -> bool {
     match file_of(done, letter) {
         Some(file) => file == name,
         None => false,

@@ -1,9 +1,9 @@
 // Files that could not be read, or are too long, and a journal that failed.
 use crate::page::Page;
-use crate::telling::{Done, add_program};
+use crate::telling::{Done, add_program, is_named};
 use bt_frame::{MOST_FILE_BYTES, MOST_JOURNAL_BYTES};
 use std::alloc::Global;
-use std::fs::File;
+use std::fs::OpenOptions;
 use std::rt::Files;
 use std::{fs, io};
 
@@ -17,8 +17,18 @@ pub fn tell_unread<R: Files>(
 ) -> bool {
     add_program(done, page);
     page.add_name(name);
-    page.add(": the file could not be read");
-    add_reason(rt, alloc, name, page);
+    if name != "-" {
+        page.add(": the file could not be read");
+        add_reason(
+            alloc,
+            state_of(rt, name, OpenOptions::new().read(true)),
+            page,
+        );
+    } else if is_named(done, b'N', name) {
+        page.add(": the network cannot be standard input");
+    } else {
+        page.add(": standard input may stand once among the words");
+    }
     page.add("\n");
     true
 }
@@ -45,8 +55,15 @@ pub fn tell_journal<R: Files>(
     } else {
         page.add(": the journal failed over the line of a change, and no later change was taken");
     }
-    add_reason(rt, alloc, name, page);
+    // as the store opens it
+    let mut how = OpenOptions::new();
+    let state = state_of(rt, name, how.read(true).append(true).create(true));
+    let is_refused = matches!(&state, Err(error) if error.kind() != io::ErrorKind::NotFound);
+    add_reason(alloc, state, page);
     page.add("\n");
+    if is_refused && matches!(done.words.first(), Some(command) if command.as_str() == "replay") {
+        page.add("    hint: a replay too is to write its journal\n");
+    }
     true
 }
 
@@ -69,8 +86,8 @@ pub fn tell_too_long(done: &Done<'_>, name: &str, is_journal: bool, page: &mut P
 }
 
 /// Appends what the system says of a file, where it says that something is wrong.
-fn add_reason<R: Files>(rt: &R, alloc: Global, name: &str, page: &mut Page) {
-    match state_of(rt, name) {
+fn add_reason(alloc: Global, state: io::Result<bool>, page: &mut Page) {
+    match state {
         Ok(true) => page.add(": it is a folder"),
         Ok(false) => {}
         Err(error) => {
@@ -90,11 +107,13 @@ fn without_number(reason: &str) -> &str {
     }
 }
 
-/// Whether a folder stands there. A file that is none, as a pipe, is not opened again.
-fn state_of<R: Files>(rt: &R, name: &str) -> io::Result<bool> {
-    let metadata = fs::metadata(rt, name)?;
-    if metadata.is_file() {
-        let _file = File::open(rt, name)?;
+/// Whether a folder stands there, where a file of that name can be opened so. A file that is none, as a pipe, is not opened again.
+fn state_of<R: Files>(rt: &R, name: &str, how: &OpenOptions) -> io::Result<bool> {
+    if let Ok(metadata) = fs::metadata(rt, name)
+        && !metadata.is_file()
+    {
+        return Ok(metadata.is_dir());
     }
-    Ok(metadata.is_dir())
+    let _file = how.open(rt, name)?;
+    Ok(false)
 }

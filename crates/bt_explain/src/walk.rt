@@ -1,13 +1,18 @@
 // A line beside the forms that it may have: how far it goes along them, and what does not fit.
+use crate::bytes::word_of;
 use crate::cause::Cause;
 use crate::form::{Place, form_of};
-use crate::near::{Near, ask_terminal};
+use crate::near::{Near, name_terminals};
+use crate::page::Page;
 use bt_net::{Network, is_name};
 use bt_text::{WordReader, is_word, number};
 use std::alloc::Global;
 
 /// The most forms of a line.
 const MOST_FORMS: usize = 40;
+
+/// The most words of a place that are said one by one.
+const MOST_SAID: usize = 5;
 
 /// What is looked at beside the shape of a line.
 #[derive(Clone, Copy)]
@@ -81,8 +86,7 @@ impl<'a> Walk<'a> {
     /// Passes what stands at a place, where all fitted so far.
     fn pass(&mut self, place: Place, look: &Look<'_>) {
         match place {
-            Place::EachNumber(least, most) => self.pass_each(Place::Number(least, most), look),
-            Place::EachWithin(least, most) => self.pass_each(Place::Within(least, most), look),
+            Place::EachNumber(..) | Place::EachWithin(..) => self.pass_each(place, look),
             _ => self.pass_word(place, look),
         }
     }
@@ -198,20 +202,17 @@ pub fn find_misfit(
     look: &Look<'_>,
     cause: &mut Cause,
 ) {
-    let Some(walk) = best_walk(letter, at, line, look) else {
-        return;
-    };
-    match walk.misfit {
-        Misfit::Wrong(Place::Word(word)) if walk.fit == 0 && form_of(letter, at, 1).is_none() => {
-            cause.say_at(0, walk.word.len(), "this line is to begin with '");
-            cause.say(word);
-            cause.say("'");
+    if let Some(walk) = best_walk(letter, at, line, look) {
+        let choices = choices_of(alloc, letter, at, line, walk.fit);
+        say_misfit(alloc, &walk, choices.as_slice(), look, cause);
+        match walk.misfit {
+            Misfit::Wrong(_) if letter == b'S' && walk.fit == 0 => ask_slip(walk.word, cause),
+            Misfit::Behind if is_word(word_of(line, 0), b"mode") => {
+                cause.hint.add("a mode has ");
+                add_place(Place::EachWithin(0, 0), look.beams, &mut cause.hint);
+            }
+            _ => {}
         }
-        Misfit::Wrong(Place::Word(_)) => {
-            say_misfit(alloc, &walk, look, cause);
-            ask_word(alloc, letter, at, line, &walk, cause);
-        }
-        _ => say_misfit(alloc, &walk, look, cause),
     }
 }
 
@@ -225,74 +226,194 @@ pub fn find_in_form(
     cause: &mut Cause,
 ) {
     if let Some(form) = form_in(letter, at, line, look.beams) {
-        say_misfit(alloc, &Walk::along(line, form, look), look, cause);
+        let walk = Walk::along(line, form, look);
+        let choices = choices_of(alloc, letter, at, line, walk.fit);
+        say_misfit(alloc, &walk, choices.as_slice(), look, cause);
     }
 }
 
-/// Says what does not fit.
-fn say_misfit(alloc: Global, walk: &Walk<'_>, look: &Look<'_>, cause: &mut Cause) {
+/// What may stand behind so many words of a line, each once.
+fn choices_of(alloc: Global, letter: u8, at: u32, line: &[u8], fit: usize) -> Vec<Place> {
+    let mut choices: Vec<Place> = Vec::new(alloc);
+    for index in 0..MOST_FORMS {
+        let Some(form) = form_of(letter, at, index) else {
+            return choices;
+        };
+        if let Some(place) = form.get(fit)
+            && Walk::along(line, form, &Look::shape(0)).fit >= fit
+            && !is_last(*place, choices.as_slice())
+        {
+            // where memory is wanting, less is told
+            let _kept = choices.push(*place);
+        }
+    }
+    choices
+}
+
+/// Whether a place stands last among others. Of numbers there is one at a place at most.
+fn is_last(place: Place, others: &[Place]) -> bool {
+    match (others.last(), place) {
+        (Some(Place::Word(other)), Place::Word(word)) => {
+            is_word(word.as_bytes(), other.as_bytes())
+        }
+        (Some(Place::Word(_)) | None, _) | (_, Place::Word(_)) => false,
+        _ => true,
+    }
+}
+
+/// Says what does not fit, where these may stand.
+fn say_misfit(
+    alloc: Global,
+    walk: &Walk<'_>,
+    choices: &[Place],
+    look: &Look<'_>,
+    cause: &mut Cause,
+) {
     match walk.misfit {
         Misfit::Nothing => {}
         Misfit::Missing(place) => {
             cause.say_at(walk.at, 1, "the line ends here, and ");
-            say_place(place, cause);
+            if choices.is_empty() {
+                add_place(place, look.beams, &mut cause.why);
+            } else {
+                add_choices(choices, look.beams, &mut cause.why);
+            }
             cause.say(" is wanting");
         }
         Misfit::Behind => cause.say_at(walk.at, walk.word.len(), "this word is one too many"),
         Misfit::Wrong(place) => {
             cause.mark(walk.at, walk.word.len());
-            say_wrong(alloc, place, walk, look, cause);
+            say_wrong(place, walk.word, choices, look, cause);
+            if matches!(place, Place::Word(_) | Place::Name) && cause.hint.is_empty() {
+                ask_choice(alloc, walk.word, choices, look.net, &mut cause.hint);
+            }
         }
     }
 }
 
-/// What is to stand at a place.
-fn say_place(place: Place, cause: &mut Cause) {
+/// Appends what may stand at a place.
+fn add_choices(choices: &[Place], beams: u32, page: &mut Page) {
+    let mut left = choices.len();
+    for place in choices {
+        add_place(*place, beams, page);
+        left = left.saturating_sub(1);
+        match left {
+            0 => {}
+            1 => page.add(" or "),
+            _ => page.add(", "),
+        }
+    }
+}
+
+/// Appends what is to stand at a place.
+fn add_place(place: Place, beams: u32, page: &mut Page) {
     match place {
         Place::Word(word) => {
-            cause.say("the word '");
-            cause.say(word);
-            cause.say("'");
+            page.add("'");
+            page.add(word);
+            page.add("'");
         }
-        Place::Name => cause.say("the name of a terminal"),
-        Place::Number(least, most)
-        | Place::Within(least, most)
-        | Place::EachNumber(least, most)
-        | Place::EachWithin(least, most) => {
-            cause.say("a number, ");
-            say_range(least, most, cause);
-            cause.say(",");
+        Place::Name => page.add("the name of a terminal"),
+        Place::Number(least, most) | Place::Within(least, most) | Place::EachNumber(least, most) =>
+            {
+                page.add("a number, ");
+                add_range(least, most, page);
+                page.add(",");
+            }
+        Place::EachWithin(..) => {
+            page.add("one downlink beam, ");
+            add_range(0, beams.saturating_sub(1), page);
+            page.add(", for each of the ");
+            page.add_number(u64::from(beams));
+            page.add(" beams");
         }
     }
 }
 
-fn say_range(least: u32, most: u32, cause: &mut Cause) {
-    cause.why.add_number(u64::from(least));
-    cause.say(" to ");
-    cause.why.add_number(u64::from(most));
+fn add_range(least: u32, most: u32, page: &mut Page) {
+    page.add_number(u64::from(least));
+    page.add(" to ");
+    page.add_number(u64::from(most));
 }
 
-/// Says why a word may not stand at a place.
-fn say_wrong(alloc: Global, place: Place, walk: &Walk<'_>, look: &Look<'_>, cause: &mut Cause) {
+/// Says why a word may not stand at a place, where these may.
+fn say_wrong(place: Place, word: &[u8], choices: &[Place], look: &Look<'_>, cause: &mut Cause) {
     match place {
-        Place::Word(_) if walk.fit == 0 => cause.say("no line here begins with this word"),
-        Place::Word(_) => cause.say("this word may not stand here"),
-        Place::Name => say_name(alloc, walk.word, look.net, cause),
+        Place::Word(_) if choices.len() > MOST_SAID => {
+            cause.say("no line here begins with this word")
+        }
+        Place::Word(_) => {
+            add_choices(choices, look.beams, &mut cause.why);
+            cause.say(" is to stand here");
+        }
+        Place::Name if look.net.is_some() && is_name(word) => {
+            cause.say("no terminal has this name")
+        }
+        Place::Name => say_bad_name(word, cause),
         Place::Number(least, most)
         | Place::Within(least, most)
         | Place::EachNumber(least, most)
-        | Place::EachWithin(least, most) => say_number(walk.word, least, most, cause),
+        | Place::EachWithin(least, most) => say_number(word, least, most, cause),
     }
 }
 
-/// Says why a word names no terminal.
-fn say_name(alloc: Global, word: &[u8], net: Option<&Network>, cause: &mut Cause) {
-    match net {
-        Some(net) if is_name(word) => {
-            cause.say("no terminal has this name");
-            ask_terminal(alloc, net, word, &mut cause.hint);
+/// Asks for what may have been meant by a word, of the words and the names that may stand in its place.
+fn ask_choice(
+    alloc: Global,
+    word: &[u8],
+    choices: &[Place],
+    net: Option<&Network>,
+    hint: &mut Page,
+) {
+    let mut near = Near::to(word);
+    for place in choices {
+        match (place, net) {
+            (Place::Word(other), _) => near.look(alloc, other),
+            (Place::Name, Some(net)) => near.look_at_terminals(alloc, net),
+            _ => {}
         }
-        _ => say_bad_name(word, cause),
+    }
+    near.ask(hint);
+    if !near.is_found()
+        && let Some(net) = net
+        && is_name(word)
+    {
+        name_terminals(net, hint);
+        add_others(choices, hint);
+    }
+}
+
+/// Appends what may stand in the place of a name, where that is more than the name.
+fn add_others(choices: &[Place], hint: &mut Page) {
+    if choices.len() > 1 {
+        if !hint.is_empty() {
+            hint.add("; ");
+        }
+        add_choices(choices, 0, hint);
+        hint.add(" may stand here");
+    }
+}
+
+/// Helps where a line of a script begins with a word of another place.
+fn ask_slip(word: &[u8], cause: &mut Cause) {
+    let slip = slip_of(word);
+    if !slip.is_empty() {
+        cause.hint.clear();
+        cause.hint.add(slip);
+    }
+}
+
+fn slip_of(word: &[u8]) -> &'static str {
+    if is_word(word, b"go") || is_word(word, b"forget") {
+        "only a session has this line"
+    } else if is_word(word, b"add")
+        || is_word(word, b"drop")
+        || is_word(word, b"move")
+        || is_word(word, b"show")
+    {
+        "put 'desk D' in front"
+    } else {
+        ""
     }
 }
 
@@ -319,30 +440,7 @@ pub fn say_number(word: &[u8], least: u32, most: u32, cause: &mut Cause) {
         }
         _ => {
             cause.say("this number is to be ");
-            say_range(least, most, cause);
+            add_range(least, most, &mut cause.why);
         }
     }
-}
-
-/// Asks for the word that may have been meant, of those that may stand there.
-fn ask_word<'a>(
-    alloc: Global,
-    letter: u8,
-    at: u32,
-    line: &'a [u8],
-    best: &Walk<'a>,
-    cause: &mut Cause,
-) {
-    let mut near = Near::to(best.word);
-    for index in 0..MOST_FORMS {
-        let Some(form) = form_of(letter, at, index) else {
-            return near.ask(&mut cause.hint);
-        };
-        if let Some(Place::Word(word)) = form.get(best.fit)
-            && Walk::along(line, form, &Look::shape(0)).fit == best.fit
-        {
-            near.look(alloc, *word);
-        }
-    }
-    near.ask(&mut cause.hint);
 }

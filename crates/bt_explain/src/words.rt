@@ -62,9 +62,7 @@ fn say_behind(
 ) {
     let has_empty = behind.iter().any(|word| word.as_str().is_empty());
     if !is_counted(done.forms, command, behind.len()) {
-        page.add(command);
-        page.add(" does not take so many words: ");
-        page.add_number(behind.len() as u64);
+        say_counts(done.forms, command, behind.len(), page);
     } else if has_empty {
         page.add("one of the words is empty");
     } else if done.program == Program::Chart {
@@ -83,15 +81,21 @@ fn is_counted(forms: &[&str], command: &str, count: usize) -> bool {
     forms.iter().any(|usage| is_form_of(usage, command) && has_count(usage.as_bytes(), count))
 }
 
-/// Whether a form has so many words behind its command; those that begin with a `[` may be wanting, and where `..` stands there
-/// may be any number of them.
+/// Whether a form has so many words behind its command.
 pub fn has_count(usage: &[u8], count: usize) -> bool {
+    let (least, most) = counts_of(usage);
+    least <= count && count <= most
+}
+
+/// The fewest and the most words of a form behind its command; those that begin with a `[` may be wanting, and where `..` stands
+/// there may be any number of them.
+fn counts_of(usage: &[u8]) -> (usize, usize) {
     // the command itself is none of them
     let (mut least, mut most): (usize, usize) = (0, 0);
     for (at, word) in Words::of(usage) {
         match word {
             _ if at == 0 => {}
-            [b'.', ..] => return count >= least,
+            [b'.', ..] => return (least, usize::MAX),
             [b'[', ..] => most = most.saturating_add(1),
             _ => {
                 least = least.saturating_add(1);
@@ -99,7 +103,48 @@ pub fn has_count(usage: &[u8], count: usize) -> bool {
             }
         }
     }
-    least <= count && count <= most
+    (least, most)
+}
+
+/// Says how many words a command takes, and that there are others.
+fn say_counts(forms: &[&str], command: &str, count: usize, page: &mut Page) {
+    page.add(command);
+    let mut is_first = true;
+    for usage in forms {
+        if is_form_of(usage, command) {
+            page.add(if is_first { " takes " } else { ", or " });
+            add_counts(usage, page);
+            is_first = false;
+        }
+    }
+    page.add("; ");
+    if count == 0 {
+        page.add("none");
+    } else {
+        page.add_number(count as u64);
+    }
+    page.add(if count > 1 {
+        " were given"
+    } else {
+        " was given"
+    });
+}
+
+/// Appends how many words a form has, and their names.
+fn add_counts(usage: &str, page: &mut Page) {
+    let (least, most) = counts_of(usage.as_bytes());
+    page.add_number(least as u64);
+    if most == usize::MAX {
+        page.add(" or more");
+    } else if most > least {
+        page.add(" or ");
+        page.add_number(most as u64);
+    }
+    page.add(if most == 1 { " word" } else { " words" });
+    if let Some((_, names)) = usage.split_once(' ') {
+        page.add(", ");
+        page.add(names);
+    }
 }
 
 /// Says which NAME is that of no terminal.
