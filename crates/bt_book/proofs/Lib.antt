@@ -1,2 +1,4 @@
 pub mod Causes
 mod Opening
+mod Past
+mod Stretches

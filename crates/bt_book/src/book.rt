@@ -1,5 +1,5 @@
 // The book of changes, with the store that keeps their lines.
-ghost use Rattle.std.specs.Prelude.{◌≡◌, ◌<◌, ◌≤◌, ◌++◌, ◌∷◌, [], length, slice_index_or, option_map, IfOk, IfErr, IfSome, IsErrAnd, MatchResult, OnErr, List, ℕ, ◌⊎◌};
+ghost use Rattle.std.specs.Prelude.{◌≡◌, ◌<◌, ◌≤◌, ◌++◌, ◌∷◌, [], false, true, length, slice_index_or, option_map, IfOk, IfErr, IfSome, IsErrAnd, MatchResult, OnErr, List, ℕ, ◌⊎◌};
 ghost use Rattle.std.specs.List.{HoldsAt};
 ghost use Rattle.bt_frame.specs.declared.limits.TheConstants.{MOST_JOURNAL_BYTES};
 ghost use Rattle.bt_outside.specs.Crash.{LeavesOnly, LeavesSince};
@@ -264,7 +264,24 @@ impl<K: Keeper> Book<K> {
         self.machine.order(place)
     }
 
-    /// The store, and the entries of all calls in order. The next opening of the store has the book's changes, or these and
+    /// Hands the entries of the calls so far over, in order: the book is then as if it had been opened with all its changes, and
+    /// keeps no bytes of them but 12 for each edit, beside its plans and orders. A book that a fault of its store has stopped
+    /// keeps its entries, since what it lost is said of them, and gives none.
+    pub fn take_entries(&mut self, alloc: Global) -> Vec<Entry>
+        ensures taken { self.old.state.stopped ≡ false → result.items ≡ self.old.history }
+        ensures none { self.old.state.stopped ≡ false → self.new.history ≡ [] }
+        ensures kept { self.old.state.stopped ≡ true → result.items ≡ [] }
+        ensures history { self.old.state.stopped ≡ true → self.new.history ≡ self.old.history }
+        ensures net { self.new.net ≡ self.old.net }
+        ensures state { self.new.state ≡ self.old.state }
+        ensures told { self.new.told ≡ self.old.told }
+        ensures faults { self.new.faults ≡ self.old.faults }
+        ensures crashes { self.new.crashes ≡ self.old.crashes }
+    {
+        self.machine.take_entries(alloc)
+    }
+
+    /// The store, and the entries of all calls in order, but for those that were handed over. The next opening of the store has the book's changes, or these and
     /// the one that it lost, also where a crash comes before it.
     pub fn into_parts(self) -> (K, Vec<Entry>)
         ensures told { K.told result.0 ≡ self.told }

@@ -1,18 +1,21 @@
 //! The book of changes: the desk machine that makes edits of the demand, installs plans and places orders, or refuses
 //! each for its first cause.
 //!
-//! It stands on the network, the demand and the occupancy of the frame, the checker of plans and the journal's calls,
-//! replies and lines, and is handed a store, in which it keeps the line of each change before it answers. What a list of
-//! changes made, why a change is refused, the desk machine as a relation, what a journal and a store tell, and what holds
+//! It stands on traces, the network, the demand and the occupancy of the frame, the checker of plans and the journal's
+//! calls, replies and lines, and is handed a store, in which it keeps the line of each change before it answers. What a list
+//! of changes made, why a change is refused, the desk machine as a relation, what a journal and a store tell, and what holds
 //! of all of them, `bt_history` says, whose laws are given out here too. `book.rt` has the book and its calls, `change.rt`
 //! the way of a change, `cause.rt` and `install.rt` the first cause of a refusal, `make.rt` the change that is made,
-//! `recover.rt` and `replay.rt` the changes of a journal made again. `specs/Lines.antt` is for bodies alone.
+//! `recover.rt` and `replay.rt` the changes of a journal made again, `first_changes.rt` those that a book began with, as
+//! clauses see them, and `earlier.rt` the demand of an earlier edition. `specs/Lines.antt`, `specs/Opened.antt` and
+//! `specs/Past.antt` are for bodies alone.
 #![tactic(auto)]
 
 mod book;
 mod cause;
 mod change;
 mod earlier;
+mod first_changes;
 mod install;
 mod lines;
 mod machine;

@@ -1,5 +1,6 @@
-// The machine: the changes made so far, and what is kept beside them so that an edit looks at no earlier one.
-ghost use Rattle.std.specs.Prelude.{◌≡◌, ◌<◌, ◌≤◌, [], length, IfOk, slice_index_or};
+// The machine: the changes made so far, and what is kept beside them so that an edit looks at no earlier one. Of the changes
+// that it began with only the edits are kept, for the demand of an earlier edition.
+ghost use Rattle.std.specs.Prelude.{◌≡◌, ◌<◌, ◌≤◌, [], false, true, length, IfOk, slice_index_or};
 ghost use Rattle.std.specs.List.{HoldsAt};
 ghost use Rattle.bt_frame.specs.declared.limits.TheConstants.{MOST_JOURNAL_BYTES};
 ghost use Rattle.bt_frame.specs.declared.limits.TheConstants.{MOST_SUM};
@@ -9,23 +10,27 @@ ghost use Rattle.bt_demand.specs.Plan.{empty_plan};
 ghost use Rattle.bt_history.specs.Changes.{edition, newest, orders, plans, IsDemandAfter};
 ghost use Rattle.bt_history.specs.Machine.{running};
 
+use crate::first_changes::Opening;
 use bt_air::Order;
 use bt_demand::{Demand, Plan, empty_plan};
 use bt_frame::{EditionNo, OutOfMemory};
-use bt_journal::{Change, Entry};
+use bt_journal::{Edit, Entry};
 use bt_net::Network;
 use bt_occupancy::Occupancy;
 use std::alloc::Global;
 use std::marker::Model;
+use std::mem;
 
 /// The network, the changes that the machine began with, the history of the calls, and what is kept beside these: the
-/// demand after them with its traffic, the plans that are installed, the orders that are placed, how many changes and how
-/// many edits there are, how many bytes their lines have, and whether a fault of the store has stopped the machine.
+/// demand after them with its traffic, the edits, of 12 bytes each, the plans that are installed, the orders that are placed,
+/// how many changes and how many edits there are, how many bytes their lines have, and whether a fault of the store has
+/// stopped the machine.
 #[derive(Drop)]
 pub(crate) struct Machine {
     pub(crate) occupancy: Occupancy,
-    pub(crate) opening: Vec<Change>,
+    pub(crate) opening: Opening,
     pub(crate) history: Vec<Entry>,
+    pub(crate) past: Vec<Edit>,
     pub(crate) plans: Vec<Plan>,
     pub(crate) orders: Vec<Order>,
     pub(crate) count: u32,
@@ -39,19 +44,21 @@ impl Model for Machine {
     ghost use Rattle.bt_journal.specs.Journal.{changes_of};
     ghost use Rattle.bt_history.specs.Machine.{state_after};
     ghost use Rattle.bt_history.specs.Records.{Records, KeepsUp, Counts, Lists, has_fault};
+    ghost use Rattle.bt_book.specs.Past.{edits_among};
 
     ghost Value = { Records };
 
     ghost view = { λ a. record {
       net = a.occupancy.net;
-      state = state_after a.opening.items a.history.items;
+      state = state_after a.opening a.history.items;
       history = a.history.items;
     } };
 
-    ghost invariant = { λ a. KeepsUp a.occupancy.net (a.opening.items ++ changes_of a.history.items) a.occupancy.links
-        × Counts a.occupancy.net (a.opening.items ++ changes_of a.history.items) a.count a.edits a.bytes
-        × Lists (a.opening.items ++ changes_of a.history.items) a.plans.items a.orders.items
-        × (a.stopped ≡ has_fault a.history.items) };
+    ghost invariant = { λ a. KeepsUp a.occupancy.net (a.opening ++ changes_of a.history.items) a.occupancy.links
+        × Counts a.occupancy.net (a.opening ++ changes_of a.history.items) a.count a.edits a.bytes
+        × Lists (a.opening ++ changes_of a.history.items) a.plans.items a.orders.items
+        × (a.stopped ≡ has_fault a.history.items)
+        × (a.past.items ≡ edits_among (a.opening ++ changes_of a.history.items)) };
 }
 
 impl Machine {
@@ -65,8 +72,9 @@ impl Machine {
         plans.push(empty_plan(alloc))?;
         Ok(Machine {
             occupancy: Occupancy::new(alloc, net)?,
-            opening: Vec::new(alloc),
+            opening: Opening::new(),
             history: Vec::new(alloc),
+            past: Vec::new(alloc),
             plans,
             orders: Vec::new(alloc),
             count: 0,
@@ -148,7 +156,24 @@ impl Machine {
         self.orders[place as usize]
     }
 
-    /// The entries of all calls, in order.
+    /// Hands the entries of the calls so far over, in order: the machine is then one that began with all its changes. One that
+    /// a fault of the store has stopped keeps its entries, and gives none.
+    pub(crate) fn take_entries(&mut self, alloc: Global) -> Vec<Entry>
+        ensures taken { self.old.state.stopped ≡ false → result.items ≡ self.old.history }
+        ensures none { self.old.state.stopped ≡ false → self.new.history ≡ [] }
+        ensures kept { self.old.state.stopped ≡ true → result.items ≡ [] }
+        ensures history { self.old.state.stopped ≡ true → self.new.history ≡ self.old.history }
+        ensures net { self.new.net ≡ self.old.net }
+        ensures state { self.new.state ≡ self.old.state }
+    {
+        if self.stopped {
+            return Vec::new(alloc);
+        }
+        self.opening.push_calls(&self.history);
+        mem::replace(&mut self.history, Vec::new(alloc))
+    }
+
+    /// The entries of the calls, in order, but for those that were handed over.
     pub(crate) fn into_history(self) -> Vec<Entry>
         ensures { result.items ≡ self.history }
     {

@@ -87,6 +87,7 @@ impl Machine {
         if keep_edit(
             alloc,
             &mut self.occupancy,
+            &mut self.past,
             &mut self.history,
             &edit,
             line,
@@ -223,11 +224,12 @@ impl Machine {
     }
 }
 
-/// Makes an edit in two halves, and keeps its line between them. The answer says whether the line is kept; where it is not,
-/// the first half is taken back.
+/// Makes an edit in two halves, and keeps its line between them; then the edit stands behind those before it. The answer says
+/// whether the line is kept; where it is not, the first half is taken back.
 fn keep_edit<K: Keeper>(
     alloc: Global,
     occupancy: &mut Occupancy,
+    past: &mut Vec<Edit>,
     history: &mut Vec<Entry>,
     edit: &Edit,
     line: &[u8],
@@ -245,6 +247,9 @@ fn keep_edit<K: Keeper>(
     ensures prefix { IfOk result (λ kept. kept ≡ false → GainsPrefix (K.told store.old) line.now (K.told store.new)) }
     ensures rose { IfOk result (λ kept. kept ≡ false → Rose (K.fault_count store.old) (K.fault_count store.new)) }
     ensures net { occupancy.new.net ≡ occupancy.old.net }
+    ensures past { IfOk result (λ kept. kept ≡ true → past.new.items ≡ past.old.items ++ edit.now ∷ []) }
+    ensures same_past { IfOk result (λ kept. kept ≡ false → past.new.items ≡ past.old.items) }
+    ensures err_past { OnErr result (past.new.items ≡ past.old.items) }
     ensures history { history.new.items ≡ history.old.items }
     ensures room { OnOk result (vec_len history.new < vec_capacity history.new) }
     ensures err_units { OnErr result (SameUnits occupancy.old.links occupancy.new.links) }
@@ -253,10 +258,12 @@ fn keep_edit<K: Keeper>(
     ensures endures { IfOk result (λ kept. Endures line.now (not kept) (K.told store.old) (K.told store.new) (K.crashes store.old) (K.crashes store.new)) }
     ensures err_crashes { OnErr result (K.crashes store.new ≡ K.crashes store.old) }
 {
+    past.reserve(1)?;
     occupancy.gain_first(alloc, edit)?;
     match keep_line(alloc, history, line, store) {
         Ok(true) => {
             occupancy.lose_then(edit);
+            past.push_reserved(*edit);
             Ok(true)
         }
         Ok(false) => {

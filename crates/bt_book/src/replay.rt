@@ -160,12 +160,13 @@ impl Machine {
     {
         // This is there for what holds of each network: its terminals have beams, and its frame at most `MOST_SLOTS` slots.
         let _slots = self.occupancy.slots();
-        self.opening.reserve(1)?;
+        self.past.reserve(1)?;
         self.occupancy.edit(alloc, &edit)?;
+        self.past.push_reserved(edit);
         self.count += 1;
         self.bytes += line;
         self.edits += 1;
-        self.opening.push_reserved(Change::Edit(edit));
+        self.opening.push(alloc, Change::Edit(edit));
         Ok(())
     }
 
@@ -179,16 +180,16 @@ impl Machine {
         ensures history { self.new.history ≡ [] }
         ensures err { OnErr result (self.new ≡ self.old) }
     {
-        reserve_both(&mut self.opening, &mut self.plans)?;
+        self.plans.reserve(1)?;
         let copy = plan.copy(alloc)?;
         self.plans.push_reserved(copy);
         self.count += 1;
         self.bytes += line;
-        self.opening.push_reserved(Change::Install(plan));
+        self.opening.push(alloc, Change::Install(plan));
         Ok(())
     }
 
-    fn place_again(&mut self, _: Global, order: Order, line: u32) -> Result<(), OutOfMemory>
+    fn place_again(&mut self, alloc: Global, order: Order, line: u32) -> Result<(), OutOfMemory>
         requires history { self.old.history ≡ [] }
         requires on { IsChangeOn self.old.net (Change.Order order) }
         requires can { CanJoin self.old.net self.old.state (Change.Order order) }
@@ -198,23 +199,11 @@ impl Machine {
         ensures history { self.new.history ≡ [] }
         ensures err { OnErr result (self.new ≡ self.old) }
     {
-        reserve_both(&mut self.opening, &mut self.orders)?;
+        self.orders.reserve(1)?;
         self.orders.push_reserved(order);
         self.count += 1;
         self.bytes += line;
-        self.opening.push_reserved(Change::Order(order));
+        self.opening.push(alloc, Change::Order(order));
         Ok(())
     }
-}
-
-/// Takes room for one change more at the opening, and one item more of a list.
-fn reserve_both<T: Drop>(opening: &mut Vec<Change>, list: &mut Vec<T>) -> Result<(), OutOfMemory>
-    ensures opening { opening.new.items ≡ opening.old.items }
-    ensures list { list.new.items ≡ list.old.items }
-    ensures opening_room { OnOk result (vec_len opening.new < vec_capacity opening.new) }
-    ensures list_room { OnOk result (vec_len list.new < vec_capacity list.new) }
-{
-    opening.reserve(1)?;
-    list.reserve(1)?;
-    Ok(())
 }

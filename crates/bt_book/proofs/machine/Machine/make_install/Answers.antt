@@ -12,14 +12,17 @@ use Rattle.bt_history.specs.Records.{CrashStep, Endures, Records, Stores}
 use Rattle.bt_history.proofs.Entries.{kept_again, kept_lost, kept_other, lost_step, made_step}
 use Rattle.bt_history.proofs.Holding.{asked_step}
 use Rattle.bt_frame.proofs.Results.{if_not_ok, on_err}
+use Rattle.bt_book.proofs.Past.{past_again, past_lost, past_made}
 use Rattle.bt_book.proofs.machine.Machine.make_install.Goals as goal
 
 -- all is as before where memory ran out
 pub invariant_of-self : goal.invariant_of-self
 invariant_of-self g c =
     let a = c.self.inside in
-    kept_again a.occupancy.net a.opening.items a.history.items c.keep_item.new.history.items a.occupancy.links a.count a.edits a.bytes a.stopped
-    a.plans.items c.keep_item.new.list.items a.orders.items a.orders.items c.keep_item.ensures.history c.in_err-keep_item.ensures.err_list refl c.self.invariant
+    let i = c.self.invariant in
+    let kept = kept_again a.occupancy.net a.opening a.history.items c.keep_item.new.history.items a.occupancy.links a.count a.edits a.bytes a.stopped
+    a.plans.items c.keep_item.new.list.items a.orders.items a.orders.items c.keep_item.ensures.history c.in_err-keep_item.ensures.err_list refl (i.0, i.1, i.2, i.3) in
+    (kept.0, kept.1, kept.2, kept.3, past_again a.opening a.history.items c.keep_item.new.history.items a.past.items a.past.items i.4 c.keep_item.ensures.history refl)
 
 -- all is kept beside the changes
 pub invariant_of-self-then-branch : goal.invariant_of-self-then-branch
@@ -27,19 +30,35 @@ invariant_of-self-then-branch g c =
     let a = c.self.inside in
     let can = subst (λ (r : Records). CanMake r.net r.state (change.Install c.args.plan)) (sym c.self.view_is) c.requires.can in
     let line = subst (λ (r : Records). length c.args.line.now ≡ length (line_behind r.net r.state.changes (change.Install c.args.plan))) (sym c.self.view_is) (ap length c.requires.line) in
-    kept_other a.occupancy.net a.opening.items a.history.items c.keep_item.new.history.items c.keep_entry.new.history.items a.occupancy.links
+    let i = c.self.invariant in
+    let kept = kept_other a.occupancy.net a.opening a.history.items c.keep_item.new.history.items c.keep_entry.new.history.items a.occupancy.links
     a.count a.edits a.bytes (length c.args.line.now) a.stopped a.plans.items c.keep_item.new.list.items a.orders.items a.orders.items (change.Install c.args.plan) _ c.keep_item.ensures.history c.keep_entry.ensures refl refl refl
-    c.self.invariant c.slots-slots.ensures.sound (subst (λ (r : Records). IsPlanOn r.net c.args.plan) (sym c.self.view_is) c.requires.on) can line
+    (i.0, i.1, i.2, i.3) c.slots-slots.ensures.sound (subst (λ (r : Records). IsPlanOn r.net c.args.plan) (sym c.self.view_is) c.requires.on) can line
     (subst (λ (p : Plan). c.keep_item.new.list.items ≡ a.plans.items ++ p ∷ []) c.in_ok-copy.ensures.same (c.in_ok-keep_item.ensures.kept c.if-branch.true))
-    (sym (append-nil a.orders.items))
+    (sym (append-nil a.orders.items)) in (
+      kept.0,
+      kept.1,
+      kept.2,
+      kept.3,
+      past_made a.opening _ (change.Install c.args.plan) a.history.items c.keep_item.new.history.items c.keep_entry.new.history.items a.past.items a.past.items
+          i.4 c.keep_item.ensures.history c.keep_entry.ensures refl (sym (append-nil a.past.items)),
+    )
 
 -- and so it is where the store failed
 pub invariant_of-self-else-branch : goal.invariant_of-self-else-branch
 invariant_of-self-else-branch g c =
     let a = c.self.inside in
-    kept_lost a.occupancy.net a.occupancy.net a.opening.items a.history.items c.keep_item.new.history.items c.keep_entry-else-branch.new.history.items a.occupancy.links
+    let i = c.self.invariant in
+    let kept = kept_lost a.occupancy.net a.occupancy.net a.opening a.history.items c.keep_item.new.history.items c.keep_entry-else-branch.new.history.items a.occupancy.links
     a.occupancy.links a.count a.edits a.bytes a.stopped a.plans.items c.keep_item.new.list.items a.orders.items a.orders.items _ refl c.keep_item.ensures.history
-    c.keep_entry-else-branch.ensures refl (λ test. refl) (c.in_ok-keep_item.ensures.lost c.if-branch.false) refl c.self.invariant
+    c.keep_entry-else-branch.ensures refl (λ test. refl) (c.in_ok-keep_item.ensures.lost c.if-branch.false) refl (i.0, i.1, i.2, i.3) in (
+      kept.0,
+      kept.1,
+      kept.2,
+      kept.3,
+      past_lost a.opening _ a.history.items c.keep_item.new.history.items c.keep_entry-else-branch.new.history.items a.past.items a.past.items
+          i.4 c.keep_item.ensures.history c.keep_entry-else-branch.ensures refl refl,
+    )
 
 -- where memory runs out nothing changes
 pub returns-in_err-copy : goal.returns-in_err-copy
@@ -66,8 +85,8 @@ returns-in_err-keep_item g c =
     let now = c.args.self.now in
     let failed = c.from_residual-in_err-keep_item.ensures.0 in
     let result = c.from_residual-in_err-keep_item.result in
-    let same = ap (λ (h : List Entry). record { net = a.occupancy.net; state = state_after a.opening.items h; history = h }) c.keep_item.ensures.history ∙ c.self.view_is in record {
-      step = if_not_ok (λ reply. ChangeStep now.net now.state (change.Install c.args.plan) reply (state_after a.opening.items c.keep_item.new.history.items)) result failed;
+    let same = ap (λ (h : List Entry). record { net = a.occupancy.net; state = state_after a.opening h; history = h }) c.keep_item.ensures.history ∙ c.self.view_is in record {
+      step = if_not_ok (λ reply. ChangeStep now.net now.state (change.Install c.args.plan) reply (state_after a.opening c.keep_item.new.history.items)) result failed;
       entry = if_not_ok (λ reply. c.keep_item.new.history.items ≡ now.history ++ record { caller = c.args.caller; call = call.Install c.args.plan; reply = reply } ∷ []) result failed;
       store = if_not_ok (λ reply. Stores now.net now.state.changes (change.Install c.args.plan) reply (g.K.Keeper.told c.args.store.now) (g.K.Keeper.told c.keep_item.new.store)
           (g.K.Keeper.fault_count c.args.store.now) (g.K.Keeper.fault_count c.keep_item.new.store)) result failed;
@@ -86,8 +105,8 @@ returns-then-branch g c =
     let a = c.self.inside in
     let can = subst (λ (r : Records). CanMake r.net r.state (change.Install c.args.plan)) (sym c.self.view_is) c.requires.can in
     let before = c.keep_item.ensures.history ∙ ap (λ (r : Records). r.history) c.self.view_is in record {
-      step = subst (λ (r : Records). ChangeStep r.net r.state (change.Install c.args.plan) (Installed c.args.plan.edition) (state_after a.opening.items c.keep_entry.new.history.items)) c.self.view_is
-          (made_step a.occupancy.net a.opening.items a.history.items c.keep_item.new.history.items c.keep_entry.new.history.items (change.Install c.args.plan) _
+      step = subst (λ (r : Records). ChangeStep r.net r.state (change.Install c.args.plan) (Installed c.args.plan.edition) (state_after a.opening c.keep_entry.new.history.items)) c.self.view_is
+          (made_step a.occupancy.net a.opening a.history.items c.keep_item.new.history.items c.keep_entry.new.history.items (change.Install c.args.plan) _
           c.keep_item.ensures.history c.keep_entry.ensures refl refl refl can refl);
       entry = c.keep_entry.ensures ∙ ap (λ (h : List Entry). h ++ record { caller = c.args.caller; call = call.Install c.args.plan; reply = Installed c.args.plan.edition } ∷ []) before;
       store = record {
@@ -113,8 +132,8 @@ returns-else-branch g c =
     let a = c.self.inside in
     let can = subst (λ (r : Records). CanMake r.net r.state (change.Install c.args.plan)) (sym c.self.view_is) c.requires.can in
     let before = c.keep_item.ensures.history ∙ ap (λ (r : Records). r.history) c.self.view_is in record {
-      step = subst (λ (r : Records). ChangeStep r.net r.state (change.Install c.args.plan) StoreFault (state_after a.opening.items c.keep_entry-else-branch.new.history.items)) c.self.view_is
-          (lost_step a.occupancy.net a.opening.items a.history.items c.keep_item.new.history.items c.keep_entry-else-branch.new.history.items (change.Install c.args.plan) _
+      step = subst (λ (r : Records). ChangeStep r.net r.state (change.Install c.args.plan) StoreFault (state_after a.opening c.keep_entry-else-branch.new.history.items)) c.self.view_is
+          (lost_step a.occupancy.net a.opening a.history.items c.keep_item.new.history.items c.keep_entry-else-branch.new.history.items (change.Install c.args.plan) _
           c.keep_item.ensures.history c.keep_entry-else-branch.ensures refl can);
       entry = c.keep_entry-else-branch.ensures ∙ ap (λ (h : List Entry). h ++ record { caller = c.args.caller; call = call.Install c.args.plan; reply = StoreFault } ∷ []) before;
       store = record {
