@@ -60,17 +60,23 @@ def processor_seconds_of(words, journal=None):
     return best[1], best[0]
 
 
-def instructions_of(words, journal=None):
-    """The instructions of a run in millions, its start included, as valgrind counts them; a dash where it is not there."""
+def count_of(words, journal=None, lines=os.devnull):
+    """The instructions of a run, its start included, as valgrind counts them, with a file as its input; none without valgrind."""
     if shutil.which("valgrind") is None:
-        return "-"
+        return None
     drop(journal)
-    with tempfile.TemporaryDirectory() as folder:
+    with tempfile.TemporaryDirectory() as folder, open(lines) as given:
         counts = os.path.join(folder, "counts")
         counting = ["valgrind", "--tool=callgrind", f"--callgrind-out-file={counts}", *words]
-        done = subprocess.run(counting, capture_output=True, text=True)
+        done = subprocess.run(counting, stdin=given, capture_output=True, text=True)
     found = re.search(r"Collected : (\d+)", done.stderr)
-    return "-" if found is None else f"{int(found[1]) / 1e6:.1f}"
+    return None if found is None else int(found[1])
+
+
+def instructions_of(words, journal=None):
+    """The same in millions; a dash where it is not known."""
+    count = count_of(words, journal)
+    return "-" if count is None else f"{count / 1e6:.1f}"
 
 
 def growth_of(seconds, before):
