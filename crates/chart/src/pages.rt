@@ -20,7 +20,8 @@ commands
   run NET OUTPUT [NAME ..]
       Draws what `nozgurt run` or `nozgurt live` printed, which stands in the file
       OUTPUT, for the network in the file NET: who sent which message and who heard
-      it, the edition in front, and the bursts on the air. Each NAME is a terminal that has a lane;
+      it, the edition in front, and the bursts on the air.
+      Each NAME is a terminal that has a lane;
       with none, the first twelve that send or hear have some.
       example: nozgurt run examples/two-beams.net examples/calm-change.script
                calm.journal | chart run examples/two-beams.net -

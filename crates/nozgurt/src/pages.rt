@@ -124,20 +124,20 @@ commands of the centre
       in the present superframe, or none.
       A change for whose line the journal has no room is not made, and answered
       `refused E5 BYTES`: its changes have so many bytes already. `state` shows
-      that coming. `compact` writes a shorter journal into a new file, and a run
-      over that goes on.
+      that coming. `compact` prints a journal of the same demand with the fewest
+      edits: in a new file, it is what a run goes on over, where it has room.
       example: nozgurt run examples/two-beams.net
                examples/calm-change.script calm.journal
 
 commands that look at a journal
   compact NET JOURNAL
-      Prints the shortest journal that comes to the same demand as that in the
-      file JOURNAL, on the network in the file NET: its mark, and an edit for
-      each link. Given up are the earlier editions, the plans, the orders and
+      Prints a journal that comes to the same demand as that in the file JOURNAL,
+      on the network in the file NET, with the fewest edits: its mark, and an edit
+      for each link. Given up are the earlier editions, the plans, the orders and
       the numbers: the last edition is then the number of links, the next plan
       has to be made anew, and commands begin with 1. The file stays as it is.
-      So a run goes on whose journal is full (`refused E5`): write the shorter
-      one into a new file, and run over that.
+      So a run goes on whose journal is full (`refused E5`), where it has more
+      edits than links: write this one into a new file, and run over that.
       example: nozgurt compact examples/two-beams.net
                examples/calm-change.journal
 
