@@ -180,10 +180,10 @@ exit status
 ";
 
 /// What it prints behind them.
-const LETTERS: &str =
-    "  125 the program was not started: it is not built, or another has the journal
-  The letter of a CODE names the file that is at fault: N the network, X the
+const LETTERS: &str = "  The letter of a CODE names the file that is at fault: N the network, X the
   matrix, M the modes, T the traffic, P the plan, G the delays, S the script, J
+  the journal.
+  With status 125 the program was not started: it is not built, or another has
   the journal.
   docs/formats.md, the man page nozgurt-formats(5), has the texts of all files
   and explains each code.
