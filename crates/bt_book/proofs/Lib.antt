@@ -1,4 +1,4 @@
 pub mod Causes
+mod Keeping
 mod Opening
 mod Past
-mod Stretches

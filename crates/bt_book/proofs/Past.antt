@@ -1,5 +1,5 @@
 -- The edits that are kept of the changes, and how they are made again up to an earlier edition.
-use Rattle.std.proofs.Common.{◌≡◌, ℕ, ◌+◌, ◌-◌, ◌<◌, ◌≤◌, List, [], ◌∷◌, ◌++◌, length, drop, get_or, Some, false, refl, sym, ap, ◌∙◌, subst, arith}
+use Rattle.std.proofs.Common.{◌≡◌, ℕ, ◌+◌, ◌-◌, ◌<◌, ◌≤◌, List, [], ◌∷◌, ◌++◌, length, drop, get_or, refl, sym, ap, ◌∙◌, subst, arith}
 use Rattle.std.proofs.lemmas.List.{drop_more}
 use Rattle.std.proofs.lemmas.List.Elements.{filter_map-append}
 use Rattle.std.proofs.lemmas.List.Sums.{sum_by-cons}
@@ -9,63 +9,18 @@ use Rattle.bt_demand.specs.declared.demand.Link.{Link}
 use Rattle.bt_journal.specs.declared.call.Edit.{Edit}
 use Rattle.bt_journal.specs.declared.call.Change.{Change}
 use Rattle.bt_journal.specs.declared.call.Change.TheVariants as change
-use Rattle.bt_journal.specs.declared.entry.Entry.{Entry}
-use Rattle.bt_journal.specs.declared.reply.Reply.TheVariants.{StoreFault}
-use Rattle.bt_journal.specs.Journal.{changes_of, change_made, is_made}
 use Rattle.bt_occupancy.specs.Occupancy.{EditsLinks}
 use Rattle.bt_history.specs.Causes.{Follows}
 use Rattle.bt_history.specs.Changes.{edition, edits_in}
 use Rattle.bt_history.specs.Records.{CanRedo, IsRedone, Records, Redoes}
-use Rattle.bt_history.proofs.Entries.{lost_changes, made_changes, same_changes}
-use Rattle.bt_history.proofs.Opened.{opened}
 use Rattle.bt_history.proofs.Redone.{can_redo, Redoes-made, Redoes-start, opening_past}
 use Rattle.bt_book.specs.Past.{edit_in, edits_among}
 
 -- one change more has its edit behind those before it, if it is one
-more_edits : (changes after : List Change) (one : Change) (past more : List Edit) → past ≡ edits_among changes → after ≡ changes ++ one ∷ []
+pub more_edits : (changes after : List Change) (one : Change) (past more : List Edit) → past ≡ edits_among changes → after ≡ changes ++ one ∷ []
     → more ≡ past ++ edits_among (one ∷ []) → more ≡ edits_among after
 more_edits changes after one past more kept is added =
     added ∙ (ap (λ (edits : List Edit). edits ++ edits_among (one ∷ [])) kept ∙ sym (ap edits_among is ∙ filter_map-append edit_in changes (one ∷ [])))
-
--- behind a change that was made
-pub past_made : (opening : List Change) (entry : Entry) (one : Change) (history reserved after : List Entry) (past more : List Edit)
-    → past ≡ edits_among (opening ++ changes_of history) → reserved ≡ history → after ≡ reserved ++ entry ∷ [] → change_made entry.call entry.reply ≡ Some one
-    → more ≡ past ++ edits_among (one ∷ []) → more ≡ edits_among (opening ++ changes_of after)
-past_made opening entry one history reserved after past more kept same is made added =
-    more_edits (opening ++ changes_of history) (opening ++ changes_of after) one past more kept (made_changes opening entry one history reserved after same is made) added
-
--- behind one that was lost
-pub past_lost : (opening : List Change) (entry : Entry) (history reserved after : List Entry) (past now : List Edit)
-    → past ≡ edits_among (opening ++ changes_of history) → reserved ≡ history → after ≡ reserved ++ entry ∷ [] → entry.reply ≡ StoreFault → now ≡ past
-    → now ≡ edits_among (opening ++ changes_of after)
-past_lost opening entry history reserved after past now kept same is lost stays =
-    stays ∙ (kept ∙ ap edits_among (sym (lost_changes opening entry history reserved after same is lost)))
-
--- behind a call that made none
-pub past_answered : (opening : List Change) (entry : Entry) (history reserved after : List Entry) (past : List Edit)
-    → past ≡ edits_among (opening ++ changes_of history) → reserved ≡ history → after ≡ reserved ++ entry ∷ [] → is_made entry.reply ≡ false
-    → past ≡ edits_among (opening ++ changes_of after)
-past_answered opening entry history reserved after past kept same is none =
-    let changes = same_changes opening entry history after (is ∙ ap (λ (entries : List Entry). entries ++ entry ∷ []) same) none in
-    kept ∙ ap edits_among (sym changes)
-
--- where memory ran out
-pub past_again : (opening : List Change) (history reserved : List Entry) (past now : List Edit) → past ≡ edits_among (opening ++ changes_of history) → reserved ≡ history → now ≡ past
-    → now ≡ edits_among (opening ++ changes_of reserved)
-past_again opening history reserved past now kept same stays =
-    stays ∙ (kept ∙ ap (λ (entries : List Entry). edits_among (opening ++ changes_of entries)) (sym same))
-
--- behind a change that joined those at the opening
-pub past_opened : (opening reserved after : List Change) (history : List Entry) (one : Change) (past more : List Edit)
-    → past ≡ edits_among (opening ++ changes_of history) → history ≡ [] → reserved ≡ opening → after ≡ reserved ++ one ∷ [] → more ≡ past ++ edits_among (one ∷ [])
-    → more ≡ edits_among (after ++ changes_of history)
-past_opened opening reserved after history one past more kept none same is added =
-    more_edits (opening ++ changes_of history) (after ++ changes_of history) one past more kept (opened opening reserved after history one none same is) added
-
--- and before the first change
-pub past_open : (opening : List Change) (history : List Entry) (past : List Edit) → opening ≡ [] → history ≡ [] → past ≡ []
-    → past ≡ edits_among (opening ++ changes_of history)
-past_open opening history past no_change no_entry no_edit = rw (no_change, no_entry, no_edit) refl
 
 -- there are as many edits as the edition says
 pub edits_edition : (changes : List Change) → length (edits_among changes) ≡ edition changes

@@ -6,7 +6,7 @@ ghost use Rattle.bt_outside.specs.Crash.{LeavesOnly, LeavesSince};
 ghost use Rattle.bt_demand.specs.Plan.{empty_plan};
 ghost use Rattle.bt_history.specs.Changes.{edition, newest, orders, plans, IsDemandAfter, IsDemandAt};
 ghost use Rattle.bt_history.specs.Causes.{Follows, IsChangeOn};
-ghost use Rattle.bt_history.specs.Machine.{line_behind, running, ChangeStep, IsOfNetwork, Step};
+ghost use Rattle.bt_history.specs.Machine.{bytes_of, line_behind, running, ChangeStep, IsOfNetwork, Step};
 ghost use Rattle.bt_history.specs.Records.{call_of};
 ghost use Rattle.bt_history.specs.Book.{Survives};
 ghost use Rattle.bt_history.specs.Crash.{IsLeftByRecovery, TellsNext};
@@ -209,6 +209,13 @@ impl<K: Keeper> Book<K> {
         ensures count { result ≡ length self.now.state.changes }
     {
         self.machine.change_count()
+    }
+
+    /// How many bytes the lines of the changes have, the mark left out.
+    pub fn line_bytes(&self) -> u32
+        ensures bytes { result ≡ bytes_of self.now.net self.now.state.changes }
+    {
+        self.machine.line_bytes()
     }
 
     /// The demand after the changes.

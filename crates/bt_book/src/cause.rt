@@ -56,7 +56,7 @@ impl Machine {
         } else {
             full_line(
                 self.lines_after_add(from, to, units),
-                self.occupancy.slots(),
+                self.kept.occupancy.slots(),
             )
         }
     }
@@ -90,7 +90,7 @@ impl Machine {
             Some(refusal) => Some(refusal),
             None => full_line(
                 self.lines_after_move(from, to, new_from, new_to, units),
-                self.occupancy.slots(),
+                self.kept.occupancy.slots(),
             ),
         }
     }
@@ -99,7 +99,7 @@ impl Machine {
     fn not_there(&self, from: TermNo, to: TermNo, units: Units) -> Option<Reply>
         ensures { IsShortOf self.now.state.changes from to units result }
     {
-        let held = self.occupancy.units(from, to);
+        let held = self.kept.occupancy.units(from, to);
         if held < units.get() {
             Some(Reply::NotThere { held })
         } else {
@@ -112,8 +112,8 @@ impl Machine {
         requires { NamesTerminals self.now.net (Edit.Add from to units) }
         ensures { AreLinesAfter self.now.net self.now.state.changes (Edit.Add from to units) result }
     {
-        let (row, row_slots) = self.occupancy.row_of(from);
-        let (column, column_slots) = self.occupancy.column_of(to);
+        let (row, row_slots) = self.kept.occupancy.row_of(from);
+        let (column, column_slots) = self.kept.occupancy.column_of(to);
         let slots = units.get();
         Lines {
             row,
@@ -136,10 +136,10 @@ impl Machine {
         requires held { units ≤ held_after self.now.state.changes from to }
         ensures { AreLinesAfter self.now.net self.now.state.changes (Edit.Move from to new_from new_to units) result }
     {
-        let (old_row, _) = self.occupancy.row_of(from);
-        let (old_column, _) = self.occupancy.column_of(to);
-        let (row, row_slots) = self.occupancy.row_of(new_from);
-        let (column, column_slots) = self.occupancy.column_of(new_to);
+        let (old_row, _) = self.kept.occupancy.row_of(from);
+        let (old_column, _) = self.kept.occupancy.column_of(to);
+        let (row, row_slots) = self.kept.occupancy.row_of(new_from);
+        let (column, column_slots) = self.kept.occupancy.column_of(new_to);
         let slots = units.get();
         Lines {
             row,

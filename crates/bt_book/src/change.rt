@@ -90,22 +90,22 @@ impl Machine {
         ensures range { IsChangeInRange self.now.net result.0 asked.now }
     {
         // This is there for what holds of each network: it is sound.
-        let _slots = self.occupancy.slots();
+        let _slots = self.kept.occupancy.slots();
         match asked {
             Change::Edit(edit) => {
                 // This is there for the range of its units.
                 let _units = units_in(edit);
-                EditionNo(self.edits + 1)
+                EditionNo(self.kept.edits + 1)
             }
             Change::Install(plan) => {
                 // This is there for what holds of the bursts of each plan: they are in order.
                 let _bursts = plan.bursts.as_slice();
-                EditionNo(self.edits)
+                EditionNo(self.kept.edits)
             }
             Change::Order(order) => {
                 // This is there for the range of its numbers.
                 let _parts = parts_of(order);
-                EditionNo(self.edits)
+                EditionNo(self.kept.edits)
             }
         }
     }
@@ -115,10 +115,12 @@ impl Machine {
         ensures { IsBookFull self.now.net self.now.state.changes line result }
     {
         let room = self.network().journal();
-        if self.bytes <= room && line <= (room - self.bytes) as usize {
+        if self.kept.bytes <= room && line <= (room - self.kept.bytes) as usize {
             None
         } else {
-            Some(Reply::BookFull { length: self.bytes })
+            Some(Reply::BookFull {
+                length: self.kept.bytes,
+            })
         }
     }
 
@@ -150,7 +152,7 @@ impl Machine {
 }
 
 /// The call that asks for a change.
-fn call_of(asked: Change) -> Call
+pub(crate) fn call_of(asked: Change) -> Call
     ensures { result ≡ call_of asked }
 {
     match asked {

@@ -37,9 +37,10 @@ impl Machine {
         ensures { OnOk result (IsRedone self.now.net self.now.state.changes number occupancy.new.links) }
     {
         // This is there for what holds of each network: its frame has at most `MOST_SLOTS` slots.
-        let _slots = self.occupancy.slots();
+        let _slots = self.kept.occupancy.slots();
         for place in 0..number {
-            occupancy.edit(alloc, &self.past[place as usize])?;
+            occupancy.reserve(alloc)?;
+            occupancy.edit(&self.kept.past[place as usize]);
         }
         Ok(())
     }

@@ -6,17 +6,18 @@
 //! of changes made, why a change is refused, the desk machine as a relation, what a journal and a store tell, and what holds
 //! of all of them, `bt_history` says, whose laws are given out here too. `book.rt` has the book and its calls, `change.rt`
 //! the way of a change, `cause.rt` and `install.rt` the first cause of a refusal, `make.rt` the change that is made,
-//! `recover.rt` and `replay.rt` the changes of a journal made again, `first_changes.rt` those that a book began with, as
-//! clauses see them, and `earlier.rt` the demand of an earlier edition. `specs/Lines.antt`, `specs/Opened.antt` and
-//! `specs/Past.antt` are for bodies alone.
+//! `kept.rt` what it leaves, in room that was taken before, `recover.rt` and `replay.rt` the changes of a journal made again,
+//! `changes.rt` all that were made, as clauses see them, and `earlier.rt` the demand of an earlier edition.
+//! `specs/Kept.antt`, `specs/Lines.antt` and `specs/Past.antt` are for bodies alone.
 #![tactic(auto)]
 
 mod book;
 mod cause;
 mod change;
+mod changes;
 mod earlier;
-mod first_changes;
 mod install;
+mod kept;
 mod lines;
 mod machine;
 mod make;

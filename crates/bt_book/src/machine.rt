@@ -1,5 +1,4 @@
-// The machine: the changes made so far, and what is kept beside them so that an edit looks at no earlier one. Of the changes
-// that it began with only the edits are kept, for the demand of an earlier edition.
+// The machine: the changes made so far with what is kept beside them, and the history of the calls.
 ghost use Rattle.std.specs.Prelude.{◌≡◌, ◌<◌, ◌≤◌, [], false, true, length, IfOk, slice_index_or};
 ghost use Rattle.std.specs.List.{HoldsAt};
 ghost use Rattle.bt_frame.specs.declared.limits.TheConstants.{MOST_JOURNAL_BYTES};
@@ -8,57 +7,42 @@ ghost use Rattle.bt_net.specs.Network.{IsSound};
 ghost use Rattle.bt_demand.specs.Traffic.{matrix_of, AreOfNetwork, HasSumsTo};
 ghost use Rattle.bt_demand.specs.Plan.{empty_plan};
 ghost use Rattle.bt_history.specs.Changes.{edition, newest, orders, plans, IsDemandAfter};
-ghost use Rattle.bt_history.specs.Machine.{running};
+ghost use Rattle.bt_history.specs.Machine.{bytes_of, running};
 
-use crate::first_changes::Opening;
+use crate::changes::Changes;
+use crate::kept::Kept;
 use bt_air::Order;
 use bt_demand::{Demand, Plan, empty_plan};
 use bt_frame::{EditionNo, OutOfMemory};
-use bt_journal::{Edit, Entry};
+use bt_journal::Entry;
 use bt_net::Network;
 use bt_occupancy::Occupancy;
 use std::alloc::Global;
 use std::marker::Model;
 use std::mem;
 
-/// The network, the changes that the machine began with, the history of the calls, and what is kept beside these: the
-/// demand after them with its traffic, the edits, of 12 bytes each, the plans that are installed, the orders that are placed,
-/// how many changes and how many edits there are, how many bytes their lines have, and whether a fault of the store has
-/// stopped the machine.
+/// What is kept of the changes and beside them, the history of the calls, and whether a fault of the store has stopped the
+/// machine.
 #[derive(Drop)]
 pub(crate) struct Machine {
-    pub(crate) occupancy: Occupancy,
-    pub(crate) opening: Opening,
+    pub(crate) kept: Kept,
     pub(crate) history: Vec<Entry>,
-    pub(crate) past: Vec<Edit>,
-    pub(crate) plans: Vec<Plan>,
-    pub(crate) orders: Vec<Order>,
-    pub(crate) count: u32,
-    pub(crate) edits: u32,
-    pub(crate) bytes: u32,
     pub(crate) stopped: bool,
 }
 
 impl Model for Machine {
-    ghost use Rattle.std.specs.Prelude.{◌≡◌, ◌++◌};
-    ghost use Rattle.bt_journal.specs.Journal.{changes_of};
-    ghost use Rattle.bt_history.specs.Machine.{state_after};
-    ghost use Rattle.bt_history.specs.Records.{Records, KeepsUp, Counts, Lists, has_fault};
-    ghost use Rattle.bt_book.specs.Past.{edits_among};
+    ghost use Rattle.bt_history.specs.Records.{Records};
+    ghost use Rattle.bt_book.specs.Kept.{KeepsAll};
 
     ghost Value = { Records };
 
     ghost view = { λ a. record {
-      net = a.occupancy.net;
-      state = state_after a.opening a.history.items;
+      net = a.kept.occupancy.net;
+      state = record { changes = a.kept.changes; stopped = a.stopped };
       history = a.history.items;
     } };
 
-    ghost invariant = { λ a. KeepsUp a.occupancy.net (a.opening ++ changes_of a.history.items) a.occupancy.links
-        × Counts a.occupancy.net (a.opening ++ changes_of a.history.items) a.count a.edits a.bytes
-        × Lists (a.opening ++ changes_of a.history.items) a.plans.items a.orders.items
-        × (a.stopped ≡ has_fault a.history.items)
-        × (a.past.items ≡ edits_among (a.opening ++ changes_of a.history.items)) };
+    ghost invariant = { λ a. KeepsAll a.kept };
 }
 
 impl Machine {
@@ -70,16 +54,19 @@ impl Machine {
     {
         let mut plans = Vec::new(alloc);
         plans.push(empty_plan(alloc))?;
-        Ok(Machine {
+        let kept = Kept {
+            changes: Changes::none(),
             occupancy: Occupancy::new(alloc, net)?,
-            opening: Opening::new(),
-            history: Vec::new(alloc),
             past: Vec::new(alloc),
             plans,
             orders: Vec::new(alloc),
             count: 0,
             edits: 0,
             bytes: 0,
+        };
+        Ok(Machine {
+            kept,
+            history: Vec::new(alloc),
             stopped: false,
         })
     }
@@ -88,14 +75,21 @@ impl Machine {
     pub(crate) fn edition(&self) -> EditionNo
         ensures { result.0 ≡ edition self.now.state.changes }
     {
-        EditionNo(self.edits)
+        EditionNo(self.kept.edits)
     }
 
     /// How many changes were made.
     pub(crate) fn change_count(&self) -> u32
         ensures { result ≡ length self.now.state.changes }
     {
-        self.count
+        self.kept.count
+    }
+
+    /// How many bytes the lines of the changes have.
+    pub(crate) fn line_bytes(&self) -> u32
+        ensures { result ≡ bytes_of self.now.net self.now.state.changes }
+    {
+        self.kept.bytes
     }
 
     /// The network.
@@ -103,7 +97,7 @@ impl Machine {
         ensures same { result.now ≡ self.now.net }
         ensures sound { IsSound self.now.net }
     {
-        self.occupancy.network()
+        self.kept.occupancy.network()
     }
 
     /// The demand after the changes.
@@ -113,23 +107,23 @@ impl Machine {
         ensures sums { HasSumsTo MOST_SUM (matrix_of self.now.net result.now) }
     {
         // This is there for what holds of each network: its frame has at most `MOST_SLOTS` slots.
-        let _slots = self.occupancy.slots();
-        self.occupancy.demand()
+        let _slots = self.kept.occupancy.slots();
+        self.kept.occupancy.demand()
     }
 
     /// The newest plan.
     pub(crate) fn newest(&self) -> &Plan
         ensures { result.now ≡ newest self.now.state.changes }
     {
-        let last = self.plans.len() - 1;
-        &self.plans[last]
+        let last = self.kept.plans.len() - 1;
+        &self.kept.plans[last]
     }
 
     /// How many plans are installed, the empty one among them.
     pub(crate) fn plan_count(&self) -> u32
         ensures { result ≡ length (plans self.now.state.changes) }
     {
-        self.plans.as_slice().len() as u32
+        self.kept.plans.as_slice().len() as u32
     }
 
     /// The plan at that place.
@@ -137,7 +131,7 @@ impl Machine {
         requires { place < length (plans self.now.state.changes) }
         ensures { result.now ≡ slice_index_or (plans self.now.state.changes) place empty_plan }
     {
-        &self.plans[place as usize]
+        &self.kept.plans[place as usize]
     }
 
     /// How many orders were placed.
@@ -145,7 +139,7 @@ impl Machine {
         ensures count { result ≡ length (orders self.now.state.changes) }
         ensures few { result ≤ MOST_JOURNAL_BYTES }
     {
-        self.orders.as_slice().len() as u32
+        self.kept.orders.as_slice().len() as u32
     }
 
     /// The order at that place.
@@ -153,7 +147,7 @@ impl Machine {
         requires { place < length (orders self.now.state.changes) }
         ensures { HoldsAt (λ order. result ≡ order) (orders self.now.state.changes) place }
     {
-        self.orders[place as usize]
+        self.kept.orders[place as usize]
     }
 
     /// Hands the entries of the calls so far over, in order: the machine is then one that began with all its changes. One that
@@ -169,7 +163,6 @@ impl Machine {
         if self.stopped {
             return Vec::new(alloc);
         }
-        self.opening.push_calls(&self.history);
         mem::replace(&mut self.history, Vec::new(alloc))
     }
 
@@ -177,8 +170,9 @@ impl Machine {
     pub(crate) fn into_history(self) -> Vec<Entry>
         ensures { result.items ≡ self.history }
     {
+        let kept = self.kept;
         // The network and the traffic matrix go with the demand.
-        self.occupancy.into_demand();
+        kept.occupancy.into_demand();
         self.history
     }
 }

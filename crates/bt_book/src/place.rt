@@ -33,7 +33,7 @@ impl Machine {
     fn last_command(&self) -> Command
         ensures { result ≡ last_command self.now.state.changes }
     {
-        match self.orders.last() {
+        match self.kept.orders.last() {
             Some(order) => parts_of(order).0,
             None => Command(0),
         }
@@ -43,7 +43,10 @@ impl Machine {
     fn is_installed(&self, edition: EditionNo) -> bool
         ensures { result ≡ is_installed self.now.state.changes edition }
     {
-        self.plans.iter().any(|plan| plan.edition.0 == edition.0)
+        self.kept
+            .plans
+            .iter()
+            .any(|plan| plan.edition.0 == edition.0)
     }
 }
 

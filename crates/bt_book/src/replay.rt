@@ -1,5 +1,5 @@
 // The lines of a journal, whose changes are made again one after the other.
-ghost use Rattle.std.specs.Prelude.{◌≡◌, ◌↔◌, ◌+◌, ◌<◌, ◌≤◌, ◌++◌, ◌∷◌, [], false, length, IfOk, IfErr, IsTrue, OnOk, OnErr, vec_capacity, vec_len};
+ghost use Rattle.std.specs.Prelude.{◌≡◌, ◌↔◌, ◌+◌, ◌<◌, ◌≤◌, ◌++◌, ◌∷◌, [], false, length, IfOk, IfErr, IsTrue, OnOk, OnErr};
 ghost use Rattle.bt_frame.specs.declared.limits.TheConstants.{MOST_JOURNAL_BYTES};
 ghost use Rattle.bt_history.specs.Causes.{IsChangeOn};
 ghost use Rattle.bt_history.specs.Machine.{bytes_of, line_behind, running};
@@ -9,10 +9,8 @@ ghost use Rattle.bt_journal.specs.Mark.{mark_of};
 
 use crate::RecoverFault;
 use crate::machine::Machine;
-use bt_air::Order;
-use bt_demand::Plan;
 use bt_frame::{EditionNo, OutOfMemory};
-use bt_journal::{Change, Edit, JournalLineFault, read_change, read_mark};
+use bt_journal::{Change, JournalLineFault, read_change, read_mark};
 use bt_text::first_line;
 use std::alloc::Global;
 
@@ -125,85 +123,23 @@ impl Machine {
         ensures { IsTrue result ↔ IsNumbered self.now.state.changes edition.0 change.now }
     {
         match change {
-            Change::Edit(_) => edition.0 == self.edits + 1,
+            Change::Edit(_) => edition.0 == self.kept.edits + 1,
             _ => true,
         }
     }
 
-    /// Makes a change again, before any call: it joins those at the opening. Its line has so many bytes.
+    /// Makes a change again, before any call. Its line has so many bytes.
     fn make_again(&mut self, alloc: Global, change: Change, line: u32) -> Result<(), OutOfMemory>
-        requires history { self.old.history ≡ [] }
         requires on { IsChangeOn self.old.net change }
         requires can { CanJoin self.old.net self.old.state change }
         requires line { line ≡ length (line_behind self.old.net self.old.state.changes change) }
         ensures state { OnOk result (self.new.state ≡ running (self.old.state.changes ++ change ∷ [])) }
         ensures net { self.new.net ≡ self.old.net }
-        ensures history { self.new.history ≡ [] }
+        ensures history { self.new.history ≡ self.old.history }
         ensures err { OnErr result (self.new ≡ self.old) }
     {
-        match change {
-            Change::Edit(edit) => self.edit_again(alloc, edit, line),
-            Change::Install(plan) => self.install_again(alloc, plan, line),
-            Change::Order(order) => self.place_again(alloc, order, line),
-        }
-    }
-
-    fn edit_again(&mut self, alloc: Global, edit: Edit, line: u32) -> Result<(), OutOfMemory>
-        requires history { self.old.history ≡ [] }
-        requires on { IsChangeOn self.old.net (Change.Edit edit) }
-        requires can { CanJoin self.old.net self.old.state (Change.Edit edit) }
-        requires line { line ≡ length (line_behind self.old.net self.old.state.changes (Change.Edit edit)) }
-        ensures state { OnOk result (self.new.state ≡ running (self.old.state.changes ++ Change.Edit edit ∷ [])) }
-        ensures net { self.new.net ≡ self.old.net }
-        ensures history { self.new.history ≡ [] }
-        ensures err { OnErr result (self.new ≡ self.old) }
-    {
-        // This is there for what holds of each network: its terminals have beams, and its frame at most `MOST_SLOTS` slots.
-        let _slots = self.occupancy.slots();
-        self.past.reserve(1)?;
-        self.occupancy.edit(alloc, &edit)?;
-        self.past.push_reserved(edit);
-        self.count += 1;
-        self.bytes += line;
-        self.edits += 1;
-        self.opening.push(alloc, Change::Edit(edit));
-        Ok(())
-    }
-
-    fn install_again(&mut self, alloc: Global, plan: Plan, line: u32) -> Result<(), OutOfMemory>
-        requires history { self.old.history ≡ [] }
-        requires on { IsChangeOn self.old.net (Change.Install plan) }
-        requires can { CanJoin self.old.net self.old.state (Change.Install plan) }
-        requires line { line ≡ length (line_behind self.old.net self.old.state.changes (Change.Install plan)) }
-        ensures state { OnOk result (self.new.state ≡ running (self.old.state.changes ++ Change.Install plan ∷ [])) }
-        ensures net { self.new.net ≡ self.old.net }
-        ensures history { self.new.history ≡ [] }
-        ensures err { OnErr result (self.new ≡ self.old) }
-    {
-        self.plans.reserve(1)?;
-        let copy = plan.copy(alloc)?;
-        self.plans.push_reserved(copy);
-        self.count += 1;
-        self.bytes += line;
-        self.opening.push(alloc, Change::Install(plan));
-        Ok(())
-    }
-
-    fn place_again(&mut self, alloc: Global, order: Order, line: u32) -> Result<(), OutOfMemory>
-        requires history { self.old.history ≡ [] }
-        requires on { IsChangeOn self.old.net (Change.Order order) }
-        requires can { CanJoin self.old.net self.old.state (Change.Order order) }
-        requires line { line ≡ length (line_behind self.old.net self.old.state.changes (Change.Order order)) }
-        ensures state { OnOk result (self.new.state ≡ running (self.old.state.changes ++ Change.Order order ∷ [])) }
-        ensures net { self.new.net ≡ self.old.net }
-        ensures history { self.new.history ≡ [] }
-        ensures err { OnErr result (self.new ≡ self.old) }
-    {
-        self.orders.reserve(1)?;
-        self.orders.push_reserved(order);
-        self.count += 1;
-        self.bytes += line;
-        self.opening.push(alloc, Change::Order(order));
+        self.kept.reserve(alloc, &change)?;
+        self.kept.apply(change, line);
         Ok(())
     }
 }

@@ -142,7 +142,7 @@ fn set_to(alloc: Global, set: &mut Option<String>, name: &str) -> Result<bool> {
 pub struct Outside {
     pub next: Meeting,
     pub store: Vec<u8>,
-    /// Of each history how many changes stood before it, and how many entries it has.
+    /// Of each history of a run how many changes stood before it, and how many entries it has.
     histories: Vec<(u32, usize)>,
 }
 
@@ -359,8 +359,9 @@ impl Outside {
         let owned = owned_words(alloc, words)?;
         let store = self.met_store()?;
         let ended = live_main(rt, alloc, &owned, &mut files, &mut talk, store);
-        let histories = ended.histories.as_slice();
-        let status = self.keep_left(alloc, ended.store.kept(), histories, ended.status);
+        // those of a session have no bytes
+        self.histories.clear();
+        let status = self.keep_store(alloc, ended.store.kept(), ended.status);
         let (_, sink) = talk.into_parts();
         Ending::of(alloc, sink.written(), status)
     }

@@ -14,3 +14,5 @@ pub mod TurnsPlayed
 pub mod TurnsKnow
 pub mod Sessions
 pub mod SessionEnds
+pub mod Handed
+pub mod Whole

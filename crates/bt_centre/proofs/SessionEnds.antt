@@ -430,3 +430,18 @@ session_nothing_run net talk stored fault status histories events failed later n
   none = record { none = none; quiet = quiet; later = later };
   said = told;
 }))
+
+-- the same of what is in hand under another name
+pub session_ended_of : (net : Net) (talk : Talked) (hand other : Hand) (left : Left) (status : ℕ) → hand ≡ other → SessionEnded net talk hand.book left status → SessionEnded net talk other.book left status
+session_ended_of net talk hand other left status same ended = subst (λ (h : Hand). SessionEnded net talk h.book left status) same ended
+
+-- the same of what is given back
+pub session_nothing_left : (net : Net) (talk : Talked) (stored : Stored) (told : Option (List ℕ)) (faults : ℕ) (fault : RecoverFault) (status s : ℕ) (histories : List History) (events : List Event)
+    → stored.after ≡ told → stored.faults_after ≡ faults → status ≡ s → IsOpenFault net stored.before told stored.faults_before faults fault → stored.faults_before ≤ faults
+    → histories ≡ [] → events ≡ [] → SaysNamed talk [] fault s → SessionTo net talk stored status histories events
+session_nothing_left net talk stored told faults fault status s histories events told_is faults_are status_is failed later none quiet said =
+    session_nothing_run net talk stored fault status histories events
+    (subst (λ (t : Option (List ℕ)). IsOpenFault net stored.before t stored.faults_before stored.faults_after fault) (sym told_is)
+    (subst (λ (f : ℕ). IsOpenFault net stored.before told stored.faults_before f fault) (sym faults_are) failed))
+    (subst (λ (f : ℕ). stored.faults_before ≤ f) (sym faults_are) later) none quiet
+    (subst (λ (n : ℕ). SaysNamed talk [] fault n) (sym status_is) said)

@@ -1,4 +1,5 @@
 pub mod Answering
+pub mod Handed
 pub mod Joining
 pub mod Lines
 pub mod Parts
@@ -8,3 +9,4 @@ pub mod Run
 pub mod Session
 pub mod Talked
 pub mod Turns
+pub mod Whole

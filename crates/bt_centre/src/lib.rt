@@ -5,7 +5,7 @@
 //! (`bt_round`), and for sessions on a talk (`bt_input`) and on what a line comes to (`bt_talk`). A run begins with the changes
 //! that its store tells, and reads them again at each restart of the centre. `specs/Run.antt`, `specs/Lines.antt` and
 //! `specs/RecoverFaults.antt` are promises: what a run is, and how it ends; so are `specs/Talked.antt` and `specs/Session.antt`:
-//! what is said, and what a session is. `Progress` and `Answering` are for bodies alone. `specs/Joining.antt` and
+//! what is said, and what a session is. `Progress`, `Answering`, `Handed` and `Whole` are for bodies alone. `specs/Joining.antt` and
 //! `specs/Turns.antt` are promises too: which order joins the world at a restart, and what a turn knows of the plans that
 //! are installed; `joining_laws.rt` and `turn_laws.rt` have what holds of that in all runs, each of their parts by
 //! `specs/Parts.antt`.
@@ -14,6 +14,8 @@
 mod fault;
 mod history;
 mod joining_laws;
+mod live;
+mod log;
 mod open;
 mod play;
 mod playing;
@@ -23,14 +25,15 @@ mod say;
 mod script;
 mod session;
 mod station;
+mod tally;
 mod total;
 mod turn_laws;
 
 pub use bt_workers::{Gate, NoGate};
 pub use fault::print_fault;
-pub use history::{Histories, History};
+pub use history::{Histories, History, SessionHistories};
 pub use joining_laws::orders_join_as_told;
 pub use say::say_text;
 pub use script::{RunEnd, run_script};
-pub use session::{InputEnd, MOST_ANSWERS, MOST_LINE_BYTES, run_session};
+pub use session::{InputEnd, MOST_ANSWERS, MOST_LINE_BYTES, SessionEnd, run_session};
 pub use turn_laws::turns_know_the_newest_install;

@@ -45,7 +45,7 @@ pub(crate) fn play_item<R: Threads + Wait + Sync, G: Gate + Sync, K: Keeper + Se
 }
 
 /// Plays a round, and gives its text; or what is left of the run, where memory runs out.
-fn play_round<R: Threads + Wait + Sync, G: Gate + Sync, K: Keeper + Send>(
+pub(crate) fn play_round<R: Threads + Wait + Sync, G: Gate + Sync, K: Keeper + Send>(
     rt: &R,
     alloc: Global,
     net: &Network,

@@ -1,11 +1,12 @@
 // What a run has in hand, and what is left of it.
-ghost use Rattle.std.specs.Prelude.{◌≡◌, ◌<◌, ℕ, length, vec_capacity};
+ghost use Rattle.std.specs.Prelude.{◌≡◌, ◌<◌, ◌∷◌, [], false, true, ℕ, length, vec_capacity};
 ghost use Rattle.bt_centre.specs.Progress.{Hand, IsLeftOf, Left};
+ghost use Rattle.bt_centre.specs.Whole.{whole};
 
 use crate::station::book_and_centre;
 use crate::{Histories, History, RunEnd};
 use bt_air::Event;
-use bt_journal::Entries;
+use bt_journal::{Entries, Entry};
 use bt_outside::Keeper;
 use bt_round::Station;
 use std::alloc::Global;
@@ -76,6 +77,37 @@ impl<K: Keeper> Playing<K> {
             rounds: _,
         } = self;
         leave(rt, station, before, over)
+    }
+
+    /// The book hands its entries over, where its store has not failed.
+    pub(crate) fn take_entries(&mut self, alloc: Global) -> Vec<Entry>
+        ensures handed { whole self.new.over result.items self.new ≡ self.old }
+        ensures none { self.old.book.state.stopped ≡ false → self.new.book.history ≡ [] }
+        ensures kept { self.old.book.state.stopped ≡ true → result.items ≡ [] }
+    {
+        self.station.book.take_entries(alloc)
+    }
+
+    /// Takes the history of the one time that is over.
+    pub(crate) fn take_time(&mut self) -> History
+        requires one { length self.old.over ≡ 1 }
+        ensures taken { self.old ≡ record self.new { over = result ∷ [] } }
+        ensures none { self.new.over ≡ [] }
+    {
+        take_only(&mut self.over)
+    }
+}
+
+/// Takes the only history out.
+pub(crate) fn take_only(histories: &mut Vec<History>) -> History
+    requires one { length histories.old.items ≡ 1 }
+    ensures taken { histories.old.items ≡ result ∷ [] }
+    ensures none { histories.new.items ≡ [] }
+    ensures room { vec_capacity histories.new ≡ vec_capacity histories.old }
+{
+    match histories.pop() {
+        Some(history) => history,
+        None => unreachable!(),
     }
 }
 

@@ -1,23 +1,22 @@
 // A session: lines come one by one, and each is played and answered before the next is heard.
-ghost use Rattle.std.specs.Prelude.{◌≡◌, ◌≤◌, ◌<◌, ◌++◌, IfErr, IfOk, IsErrOf, OnErr, OnOk};
+ghost use Rattle.std.specs.Prelude.{◌≡◌, ◌≤◌, ◌<◌, ◌++◌, [], IfErr, IfOk, IsErrOf, OnErr, OnOk};
 ghost use Rattle.bt_outside.specs.Told.{GainsPrefix, Rose, gained};
 ghost use Rattle.bt_input.specs.Input.{said_by};
 ghost use Rattle.bt_input.specs.Talk.{said, took};
-ghost use Rattle.bt_history.specs.Causes.{Follows};
 ghost use Rattle.bt_talk.specs.Answers.{answer_of, ready_line};
 ghost use Rattle.bt_talk.specs.Block.{IsOpenFor, IsStepFor, row_of};
-ghost use Rattle.bt_centre.specs.Answering.{SessionEnded, SessionHeard, StepFailed, StepPlayed};
+ghost use Rattle.bt_centre.specs.Answering.{SessionEnded, SessionHeard};
 ghost use Rattle.bt_centre.specs.Progress.{IsBegun, start_of};
 ghost use Rattle.bt_centre.specs.Session.{SessionTo, closing_text, input_status, input_text, status_behind};
 ghost use Rattle.bt_centre.specs.Talked.{SaysOrNot};
 
+use crate::SessionHistories;
+use crate::live::{Live, LiveRemains, play_step};
 use crate::open::open;
-use crate::play::play_item;
-use crate::playing::{Playing, Remains};
+use crate::playing::Playing;
 use crate::say::{say_fault, say_restart_fault, say_text};
-use crate::total::{add_total, has_lost};
-use crate::{Histories, History, RunEnd};
-use bt_book::{RecoverFault, installed_plans_are_good};
+use bt_air::Event;
+use bt_book::installed_plans_are_good;
 use bt_frame::OutOfMemory;
 use bt_input::{Incoming, SourceFault, Talk};
 use bt_net::Network;
@@ -37,6 +36,36 @@ pub const MOST_LINE_BYTES: usize = 4_096;
 /// A session has fewer lines: 2 ^ 63, so that its rounds can be counted.
 pub const MOST_ANSWERS: u64 = 9_223_372_036_854_775_808;
 
+/// What a session gives back.
+#[derive(Drop)]
+pub struct SessionEnd<K> {
+    /// That of a run; 5 where the input failed and the store lost nothing.
+    pub status: u8,
+    /// The store, as the session left it.
+    pub store: K,
+    /// What was asked and answered, for each start of the centre.
+    pub histories: SessionHistories,
+    /// What happened on the air, from the first on.
+    pub events: Vec<Event>,
+}
+
+impl<K> SessionEnd<K> {
+    /// The end where nothing was played.
+    pub fn unbegun(alloc: Global, status: u8, store: K) -> SessionEnd<K>
+        ensures status { result.status ≡ status }
+        ensures store { result.store ≡ store }
+        ensures histories { result.histories ≡ [] }
+        ensures events { result.events.items ≡ [] }
+    {
+        SessionEnd {
+            status,
+            store,
+            histories: SessionHistories::none(),
+            events: Vec::new(alloc),
+        }
+    }
+}
+
 /// Why no more lines are heard.
 #[derive(Clone, Copy)]
 pub enum InputEnd {
@@ -47,7 +76,9 @@ pub enum InputEnd {
 }
 
 /// Plays what the lines of a talk ask, on a network, from the changes that the store tells, and answers each line before
-/// the next is heard. The store keeps each change that is made.
+/// the next is heard. The store keeps each change that is made. Of what was asked and answered no bytes are kept once it is
+/// played, but how many edits there were and how they were answered; of a book that a fault of its store has stopped they are
+/// kept until the centre restarts.
 ///
 /// The status is that of a run; it is 5 where the input failed and the store lost nothing.
 pub fn run_session<R: Threads + Wait + Sync, G: Gate + Sync, T: Talk, K: Keeper + Send>(
@@ -57,7 +88,7 @@ pub fn run_session<R: Threads + Wait + Sync, G: Gate + Sync, T: Talk, K: Keeper 
     gate: &G,
     talk: &mut T,
     store: K,
-) -> RunEnd<K>
+) -> SessionEnd<K>
     ensures ends { SessionTo net.now
         (record {
           coming = T.coming talk.old;
@@ -72,13 +103,11 @@ pub fn run_session<R: Threads + Wait + Sync, G: Gate + Sync, T: Talk, K: Keeper 
 {
     frames_are_safe();
     match open(rt, alloc, net, store) {
-        Ok(playing) => session_from(rt, alloc, net, gate, playing, talk),
-        Err((store, fault)) => RunEnd {
-            status: say_fault(alloc, fault, talk),
-            store,
-            histories: Histories::none(alloc),
-            events: Vec::new(alloc),
-        },
+        Ok(playing) => session_from(rt, alloc, net, gate, Live::new(playing), talk),
+        Err((store, fault)) => {
+            let status = say_fault(alloc, fault, talk);
+            SessionEnd::unbegun(alloc, status, store)
+        }
     }
 }
 
@@ -88,9 +117,9 @@ fn session_from<R: Threads + Wait + Sync, G: Gate + Sync, T: Talk, K: Keeper + S
     alloc: Global,
     net: &Network,
     gate: &G,
-    playing: Playing<K>,
+    playing: Live<K>,
     talk: &mut T,
-) -> RunEnd<K>
+) -> SessionEnd<K>
     requires begun { IsBegun net.now playing }
     ensures ended { SessionEnded net.now
         (record {
@@ -107,7 +136,7 @@ fn session_from<R: Threads + Wait + Sync, G: Gate + Sync, T: Talk, K: Keeper + S
     match play_lines(rt, alloc, net, gate, playing, talk) {
         Ok((playing, end)) => {
             let remains = playing.stop(rt);
-            let status = say_closing(alloc, end, remains.histories.as_slice(), talk);
+            let status = say_closing(alloc, end, &remains, talk);
             remains.end(status)
         }
         Err(end) => end,
@@ -121,9 +150,9 @@ fn play_lines<R: Threads + Wait + Sync, G: Gate + Sync, T: Talk, K: Keeper + Sen
     alloc: Global,
     net: &Network,
     gate: &G,
-    mut playing: Playing<K>,
+    mut playing: Live<K>,
     talk: &mut T,
-) -> Result<(Playing<K>, InputEnd), RunEnd<K>>
+) -> Result<(Live<K>, InputEnd), SessionEnd<K>>
     requires begun { IsBegun net.now playing }
     ensures heard { IfOk result (λ on. SessionHeard net.now playing.book
         (record {
@@ -201,34 +230,10 @@ fn take(
     Ok((behind, step, answer))
 }
 
-/// Plays what a line comes to, and gives its text; or what is left of the run, where memory runs out or the recovery at a
-/// restart fails.
-fn play_step<R: Threads + Wait + Sync, G: Gate + Sync, K: Keeper + Send>(
-    rt: &R,
-    alloc: Global,
-    net: &Network,
-    gate: &G,
-    step: &Step,
-    playing: Playing<K>,
-) -> Result<(Playing<K>, Vec<u8>), (Remains<K>, RecoverFault)>
-    requires few { playing.rounds < 9223372036854775808 }
-    requires network { playing.book.net ≡ net.now }
-    requires air_network { playing.air.life.opening.net ≡ net.now }
-    requires terminals { IsStepFor net.now step.now }
-    requires follow { Follows net.now playing.book.state.changes }
-    ensures played { IfOk result (λ on. StepPlayed net.now step.now playing on.0 on.1.items) }
-    ensures failed { IfErr result (λ end. StepFailed net.now step.now playing end.0 end.1) }
-{
-    match step {
-        Step::Plays(item) => play_item(rt, alloc, net, gate, item, playing),
-        Step::Nothing | Step::Fault(_) => Ok((playing, Vec::new(alloc))),
-    }
-}
-
 /// Says the first line of a session, and that the first line may come.
 fn say_opening<T: Talk, K: Keeper>(
     alloc: Global,
-    playing: &Playing<K>,
+    playing: &Live<K>,
     talk: &mut T,
 ) -> Result<(), SinkFault>
     ensures ok { OnOk result (T.told talk.new ≡ gained (T.told talk.old) (start_of playing.now ++ ready_line 0)) }
@@ -247,12 +252,18 @@ fn say_opening<T: Talk, K: Keeper>(
 }
 
 /// The first line of a session, and that the first line may come.
-fn opening_text<K: Keeper>(alloc: Global, playing: &Playing<K>) -> Result<Vec<u8>, OutOfMemory>
+fn opening_text<K: Keeper>(alloc: Global, playing: &Live<K>) -> Result<Vec<u8>, OutOfMemory>
     ensures { IfOk result (λ text. text.items ≡ start_of playing.now ++ ready_line 0) }
 {
-    let book = &playing.station.book;
+    begin_text(alloc, &playing.run)
+}
+
+fn begin_text<K: Keeper>(alloc: Global, run: &Playing<K>) -> Result<Vec<u8>, OutOfMemory>
+    ensures { IfOk result (λ text. text.items ≡ start_of run.now ++ ready_line 0) }
+{
+    let book = &run.station.book;
     let mut text = Vec::new(alloc);
-    let mark = playing.station.centre.mark();
+    let mark = run.station.centre.mark();
     start_text(
         alloc,
         book.edition().0,
@@ -287,7 +298,12 @@ fn say_both<T: Talk>(
 }
 
 /// Says the last piece of a session whose input ended so, and gives the status to end with.
-fn say_closing<T: Talk>(alloc: Global, end: InputEnd, histories: &[History], talk: &mut T) -> u8
+fn say_closing<T: Talk, K: Keeper>(
+    alloc: Global,
+    end: InputEnd,
+    remains: &LiveRemains<K>,
+    talk: &mut T,
+) -> u8
     ensures said { SaysOrNot
         (record {
           coming = T.coming talk.old;
@@ -297,21 +313,25 @@ fn say_closing<T: Talk>(alloc: Global, end: InputEnd, histories: &[History], tal
           turns_before = T.turns talk.old;
           turns_after = T.turns talk.new;
         })
-        (closing_text end histories.now) (status_behind end histories.now) result }
+        (closing_text end remains.now.histories) (status_behind end remains.now.histories) result }
     ensures input_faults { T.unheard talk.new ≡ T.unheard talk.old }
 {
-    match closing_text(alloc, end, histories) {
-        Ok(text) => say_text(alloc, text.as_slice(), status_behind(end, histories), talk),
+    match closing_text(alloc, end, remains) {
+        Ok(text) => say_text(alloc, text.as_slice(), status_behind(end, remains), talk),
         Err(_) => OUT_OF_MEMORY,
     }
 }
 
 /// The last piece of a session whose input ended so.
-fn closing_text(alloc: Global, end: InputEnd, histories: &[History]) -> Result<Vec<u8>, OutOfMemory>
-    ensures { IfOk result (λ text. text.items ≡ closing_text end histories.now) }
+fn closing_text<K: Keeper>(
+    alloc: Global,
+    end: InputEnd,
+    remains: &LiveRemains<K>,
+) -> Result<Vec<u8>, OutOfMemory>
+    ensures { IfOk result (λ text. text.items ≡ closing_text end remains.now.histories) }
 {
     let mut text = input_text(alloc, end)?;
-    add_total(alloc, histories, &mut text)?;
+    remains.add_total(alloc, &mut text)?;
     Ok(text)
 }
 
@@ -329,11 +349,11 @@ fn input_text(alloc: Global, end: InputEnd) -> Result<Vec<u8>, OutOfMemory>
     }
 }
 
-/// The status of a session with these histories whose input ended so.
-fn status_behind(end: InputEnd, histories: &[History]) -> u8
-    ensures { result ≡ status_behind end histories.now }
+/// The status of a session of which this is left, whose input ended so.
+fn status_behind<K: Keeper>(end: InputEnd, remains: &LiveRemains<K>) -> u8
+    ensures { result ≡ status_behind end remains.now.histories }
 {
-    if has_lost(histories) {
+    if remains.has_lost() {
         STORE_FAILED
     } else {
         input_status(end)

@@ -33,7 +33,7 @@ pub(crate) fn add_total(
 
 /// The sum of two totals. So many entries as would pass its type would not fit in memory, so that they are answered as
 /// want of it.
-fn sum(one: Totals, other: Totals) -> Result<Totals, OutOfMemory>
+pub(crate) fn sum(one: Totals, other: Totals) -> Result<Totals, OutOfMemory>
     ensures done { IfOk result (λ both. both.done ≡ one.done + other.done) }
     ensures refused { IfOk result (λ both. both.refused ≡ one.refused + other.refused) }
     ensures failed { IfOk result (λ both. both.failed ≡ one.failed + other.failed) }
@@ -61,7 +61,7 @@ pub(crate) fn has_lost(histories: &[History]) -> bool
 }
 
 /// The store failed over a change in one of these entries.
-fn has_lost_entry(entries: &[Entry]) -> bool
+pub(crate) fn has_lost_entry(entries: &[Entry]) -> bool
     ensures { result ≡ list_any (λ entry. is_lost entry.reply) entries.now }
 {
     entries.iter().any(|entry| is_lost(&entry.reply))
@@ -74,7 +74,7 @@ fn is_lost(reply: &Reply) -> bool
 }
 
 /// How many edits were done, how many were refused, and how many the store failed.
-fn totals_of(entries: &[Entry]) -> Totals
+pub(crate) fn totals_of(entries: &[Entry]) -> Totals
     ensures done { result.done ≡ length (done_of entries.now) }
     ensures refused { result.refused ≡ length (refused_of entries.now) }
     ensures failed { result.failed ≡ length (failed_of entries.now) }

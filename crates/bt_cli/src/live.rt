@@ -13,9 +13,8 @@ ghost use Rattle.bt_cli.specs.Complete.{IsDone, NothingFails, TellsChanges};
 ghost use Rattle.bt_cli.specs.Live.{EndsLive, EndsOn, SaysOneOf, SaysStop, live_request, live_words};
 ghost use Rattle.bt_cli.specs.Run.{End};
 
-use crate::Ended;
 use bt_book::journals_tell_one_thing;
-use bt_centre::{NoGate, run_session, say_text};
+use bt_centre::{NoGate, SessionEnd, run_session, say_text};
 use bt_demand::links_tell_demands;
 use bt_input::Talk;
 use bt_load::load_network;
@@ -57,7 +56,7 @@ pub fn live_main<R: Threads + Wait + Sync, F: Files, T: Talk, K: Keeper + Send>(
     files: &mut F,
     talk: &mut T,
     store: K,
-) -> Ended<K>
+) -> SessionEnd<K>
     ensures ends { EndsLive (record { told = F.told files.old; faults_before = F.fault_count files.old; faults_after = F.fault_count files.new })
         (record {
           coming = T.coming talk.old;
@@ -73,7 +72,7 @@ pub fn live_main<R: Threads + Wait + Sync, F: Files, T: Talk, K: Keeper + Send>(
 {
     match live_words(words) {
         Some((net, _)) => live_on(rt, alloc, net, files, talk, store),
-        None => Ended::without_run(alloc, say_faulty_words(alloc, talk), store),
+        None => SessionEnd::unbegun(alloc, say_faulty_words(alloc, talk), store),
     }
 }
 
@@ -85,7 +84,7 @@ fn live_on<R: Threads + Wait + Sync, F: Files, T: Talk, K: Keeper + Send>(
     files: &mut F,
     talk: &mut T,
     store: K,
-) -> Ended<K>
+) -> SessionEnd<K>
     ensures ends { EndsOn (record { told = F.told files.old; faults_before = F.fault_count files.old; faults_after = F.fault_count files.new })
         (record {
           coming = T.coming talk.old;
@@ -102,9 +101,9 @@ fn live_on<R: Threads + Wait + Sync, F: Files, T: Talk, K: Keeper + Send>(
         Ok(network) => {
             // This is there for what holds of each network: it is sound.
             let _beams = network.beam_count();
-            Ended::of_run(run_session(rt, alloc, &network, &NoGate, talk, store))
+            run_session(rt, alloc, &network, &NoGate, talk, store)
         }
-        Err(stop) => Ended::without_run(alloc, say_stop(alloc, stop, talk), store),
+        Err(stop) => SessionEnd::unbegun(alloc, say_stop(alloc, stop, talk), store),
     }
 }
 

@@ -1,10 +1,12 @@
 // The demand: how many slots per frame each link between two terminals asks for.
-ghost use Rattle.std.specs.Prelude.{◌≡◌, ◌≢◌, ◌+◌, ◌<◌, ◌≤◌, [], IfOk, IfErr, OnOk, OnErr};
+ghost use Rattle.std.specs.Prelude.{◌≡◌, ◌≢◌, ◌+◌, ◌<◌, ◌≤◌, [], length, IfOk, IfErr, OnOk, OnErr, vec_capacity};
+ghost use Rattle.std.specs.List.{insert};
 ghost use Rattle.bt_demand.specs.Demand.{units_of, Gains, IsAt, IsDemand, IsGapFor};
 
 use bt_frame::{MOST_SUM, OutOfMemory, TermNo};
 use std::alloc::Global;
 use std::marker::Model;
+use std::mem;
 
 /// A link of the demand: so many slots per frame from one terminal to another.
 #[derive(Clone, Copy)]
@@ -107,6 +109,33 @@ impl Demand {
         }
     }
 
+    /// Takes room for the links and one more, in a list that has none, so that `add_reserved` takes no memory.
+    pub fn reserve(&self, room: &mut Vec<Link>) -> Result<(), OutOfMemory>
+        requires none { room.old.items ≡ [] }
+        ensures room { OnOk result (length self.now < vec_capacity room.new) }
+        ensures none { room.new.items ≡ [] }
+    {
+        Ok(room.reserve(self.links.len() + 1)?)
+    }
+
+    /// The link asks for so many slots more. Where the links fill their own memory they move into the room, and leave theirs
+    /// as room.
+    pub fn add_reserved(&mut self, room: &mut Vec<Link>, from: TermNo, to: TermNo, units: u32)
+        requires none { room.old.items ≡ [] }
+        requires room { length self.old < vec_capacity room.old }
+        requires differ { from.0 ≢ to.0 }
+        requires positive { 0 < units }
+        requires fits { units_of self.old from to + units ≤ MOST_SUM }
+        ensures gains { Gains self.old self.new from to units }
+        ensures demand { IsDemand self.new }
+        ensures left { room.new.items ≡ [] }
+    {
+        match self.find(from, to) {
+            Ok(place) => self.links[place].units += units,
+            Err(place) => insert_within(&mut self.links, room, place, Link { from, to, units }),
+        }
+    }
+
     /// The link asks for so many slots less. It leaves the demand where none are left.
     pub fn take(&mut self, from: TermNo, to: TermNo, units: u32)
         requires positive { 0 < units }
@@ -133,4 +162,23 @@ impl Demand {
         self.links
             .binary_search_by_key(&(from, to), |link| (link.from, link.to))
     }
+}
+
+/// Puts a link at a place, in the memory of the links or, where they fill it, in the room.
+fn insert_within(links: &mut Vec<Link>, room: &mut Vec<Link>, place: usize, link: Link)
+    requires place { place ≤ length links.old.items }
+    requires none { room.old.items ≡ [] }
+    requires room { length links.old.items < vec_capacity room.old }
+    ensures items { links.new.items ≡ insert links.old.items place link }
+    ensures none { room.new.items ≡ [] }
+{
+    if links.len() == links.capacity() {
+        let Ok(()) = room.append(links) else {
+            unreachable!();
+        };
+        mem::swap(links, room);
+    }
+    let Ok(()) = links.insert(place, link) else {
+        unreachable!();
+    };
 }

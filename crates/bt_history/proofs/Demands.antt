@@ -15,11 +15,12 @@ use Rattle.bt_journal.specs.declared.call.Edit.TheVariants.{Add, Drop, Move}
 use Rattle.bt_journal.specs.declared.call.Change.{Change}
 use Rattle.bt_journal.specs.declared.call.Change.TheVariants as change
 use Rattle.bt_occupancy.specs.Occupancy.{EditsLinks, HoldsTaken}
+use Rattle.bt_occupancy.proofs.Shares.{still_held}
 use Rattle.bt_history.specs.Causes.{Follows, FollowFrom, IsChangeOn, IsGood}
 use Rattle.bt_history.specs.Changes.{edits_in, IsDemandAfter}
 use Rattle.bt_history.specs.Records.{KeepsUp}
 use Rattle.bt_history.proofs.After.{AddsUp-other, slots_after-AddsUp}
-use Rattle.bt_history.proofs.Done.{AddsUp-edit, fits_after, holds_after_half, holds_taken}
+use Rattle.bt_history.proofs.Done.{AddsUp-edit, fits_after, holds_taken}
 use Rattle.bt_history.proofs.Histories.{FollowFrom-grows}
 use Rattle.bt_history.proofs.OfNetwork.{are_of_network, is_link}
 use Rattle.bt_history.proofs.Start.{KeepsUp-start}
@@ -104,17 +105,13 @@ loses_one links from to units some test =
 -- there are links after an edit
 edited : (links : List Link) (edit : Edit) → HoldsTaken links edit → (new : List Link) × EditsLinks links edit new
 edited links (Add from to units) held =
-    (links ++ link_of from to units ∷ [], record { half = links ++ link_of from to units ∷ []; gains = gains_one links from to units; loses = refl })
-edited links (Drop from to units) held = (losing links from to units, record { half = links; gains = refl; loses = loses_one links from to units held })
+    (links ++ link_of from to units ∷ [], gains_one links from to units)
+edited links (Drop from to units) held = (losing links from to units, loses_one links from to units held)
 edited links (Move from to new_from new_to units) held =
     let half = links ++ link_of new_from new_to units ∷ [] in
     let gains = gains_one links new_from new_to units in (
       losing half from to units,
-      record {
-        half = half;
-        gains = gains;
-        loses = loses_one half from to units (holds_after_half links half (Move from to new_from new_to units) held gains);
-      },
+      (half, gains, loses_one half from to units (still_held links half from to new_from new_to units units held gains)),
     )
 
 -- there are links of which all holds that is kept beside the changes

@@ -1,5 +1,5 @@
 -- What an edit that was done leaves.
-use Rattle.std.proofs.Common.{◌≡◌, ◌≢◌, ℕ, ◌<◌, ◌≤◌, ◌==◌, ◌&&◌, List, [], length, get_or, option_map, sym, ap, subst, arith, ⊎_elim}
+use Rattle.std.proofs.Common.{◌≡◌, ◌≢◌, ℕ, ◌<◌, ◌≤◌, ◌&&◌, List, [], length, get_or, option_map, sym, ap, subst, arith, ⊎_elim}
 use Rattle.std.proofs.lemmas.Bool.{cases_eq}
 use Rattle.std.proofs.lemmas.Option.{slice_get-get_or}
 use Rattle.bt_frame.specs.declared.numbers.BeamNo.{BeamNo}
@@ -8,7 +8,7 @@ use Rattle.bt_frame.specs.declared.schedule.Critical.TheVariants.{Row, Column}
 use Rattle.bt_net.specs.Network.{Net, IsSound}
 use Rattle.bt_matrix.specs.Traffic.{row_sum, column_sum}
 use Rattle.bt_demand.specs.declared.demand.Link.{Link}
-use Rattle.bt_demand.specs.Demand.{units_of, Gains}
+use Rattle.bt_demand.specs.Demand.{Gains}
 use Rattle.bt_demand.specs.Traffic.{units_between, matrix_of, HasSumsTo}
 use Rattle.bt_net.specs.Terminals.{is_in_beam, IsInBeam}
 use Rattle.bt_demand.proofs.Matrices.{length-matrix_of}
@@ -16,48 +16,24 @@ use Rattle.bt_journal.specs.declared.call.Edit.{Edit}
 use Rattle.bt_journal.specs.declared.call.Edit.TheVariants.{Add, Drop, Move}
 use Rattle.bt_journal.specs.declared.call.Change.{Change}
 use Rattle.bt_journal.specs.Journal.{NamesTerminals}
-use Rattle.bt_occupancy.specs.Occupancy.{GainsFirst, EditsLinks, HoldsTaken}
+use Rattle.bt_occupancy.specs.Occupancy.{EditsLinks, HoldsTaken}
 use Rattle.bt_history.specs.EditCauses.{with_edit, IsThere, IsGoodEdit}
-use Rattle.bt_history.specs.Records.{AddsUp, KeepsUp, SameUnits}
-use Rattle.bt_demand.proofs.Tables.{LinesExceed, table-LinesExceed, same_tables}
+use Rattle.bt_history.specs.Records.{AddsUp}
+use Rattle.bt_demand.proofs.Tables.{LinesExceed, table-LinesExceed}
 use Rattle.bt_history.proofs.After.{AddsUp-Add, AddsUp-Drop, AddsUp-Move, matrix_after-AddsUp, held_after-units_of}
-
--- the two halves of an edit of one link are one
-gains_of_add : (old new : List Link) (from to : TermNo) (units : ℕ) → EditsLinks old (Add from to units) new → Gains old new from to units
-gains_of_add old new from to units edits = subst (λ (links : List Link). Gains old links from to units) (sym edits.loses) edits.gains
-
-loses_of_drop : (old new : List Link) (from to : TermNo) (units : ℕ) → EditsLinks old (Drop from to units) new → Gains new old from to units
-loses_of_drop old new from to units edits = subst (λ (links : List Link). Gains new links from to units) edits.gains edits.loses
 
 -- the links add up with the edit
 pub AddsUp-edit : (changes : List Change) (old new : List Link) (edit : Edit) → AddsUp changes old → EditsLinks old edit new → AddsUp (with_edit changes edit) new
-AddsUp-edit changes old new (Add from to units) adds edits = AddsUp-Add changes old new from to units adds (gains_of_add old new from to units edits)
-AddsUp-edit changes old new (Drop from to units) adds edits = AddsUp-Drop changes old new from to units adds (loses_of_drop old new from to units edits)
+AddsUp-edit changes old new (Add from to units) adds edits = AddsUp-Add changes old new from to units adds edits
+AddsUp-edit changes old new (Drop from to units) adds edits = AddsUp-Drop changes old new from to units adds edits
 AddsUp-edit changes old new (Move from to new_from new_to units) adds edits =
-    AddsUp-Move changes old edits.half new from to new_from new_to units adds edits.gains edits.loses
+    AddsUp-Move changes old edits.0 new from to new_from new_to units adds edits.1 edits.2
 
 -- the link that loses has what is taken
 pub holds_taken : (changes : List Change) (links : List Link) (edit : Edit) → AddsUp changes links → IsThere changes edit → HoldsTaken links edit
 holds_taken changes links (Add from to units) adds there = tt
 holds_taken changes links (Drop from to units) adds there = omega (arith, there, held_after-units_of changes links from to adds)
 holds_taken changes links (Move from to new_from new_to units) adds there = omega (arith, there, held_after-units_of changes links from to adds)
-
--- and still has it after the first half
-pub holds_after_half : (old half : List Link) (edit : Edit) → HoldsTaken old edit → GainsFirst old edit half → HoldsTaken half edit
-holds_after_half old half (Add from to units) held gains = tt
-holds_after_half old half (Drop from to units) held gains = subst (λ (links : List Link). units ≤ units_of links from to) (sym gains) held
-holds_after_half old half (Move from to new_from new_to units) held gains = omega (arith, held, gains (λ a b. a.0 == from.0 && b.0 == to.0))
-
--- and all that is kept beside the changes stands
-pub keeps_same : (net : Net) (changes : List Change) (old new : List Link) → SameUnits old new → KeepsUp net changes old → KeepsUp net changes new
-keeps_same net changes old new same keeps =
-    let rows : matrix_of net new ≡ matrix_of net old = same_tables (length net.beams) (units_between net old) (units_between net new)
-    (λ i j. same (λ from to. is_in_beam net i from && is_in_beam net j to)) in
-    record {
-      adds_up = λ test. omega (arith, same test, keeps.adds_up test);
-      fits = subst (HasSumsTo net.slots) (sym rows) keeps.fits;
-      follows = keeps.follows;
-    }
 
 -- a terminal of the network has a beam
 beam_of_terminal : (net : Net) (t : TermNo) → IsSound net → t.0 < length net.terminals → (b : BeamNo) × IsInBeam net t b × (b.0 < length net.beams)
@@ -119,7 +95,7 @@ fits_after net changes old new (Add from to units) sound names adds fits good ed
     let e = Add from to units in
     let up = beam_of_terminal net from sound names.0 in
     let down = beam_of_terminal net to sound names.1 in
-    let more = gained_lines net old new from to units up.0 down.0 (gains_of_add old new from to units edits) (up.1, up.2) (down.1, down.2) in
+    let more = gained_lines net old new from to units up.0 down.0 edits (up.1, up.2) (down.1, down.2) in
     let is = matrix_after-AddsUp net (with_edit changes e) new (AddsUp-edit changes old new e adds edits) in
     let row = ap (λ (m : List (List ℕ)). row_sum m up.0.0) is in
     let column = ap (λ (m : List (List ℕ)). column_sum m down.0.0) is in
@@ -128,15 +104,15 @@ fits_after net changes old new (Add from to units) sound names adds fits good ed
     (λ k within other. omega (arith, more.other_rows k other, fits (Row (record { 0 = k })) (same_length net old new k within)))
     (λ k within other. omega (arith, more.other_columns k other, fits (Column (record { 0 = k })) (same_length net old new k within)))
 fits_after net changes old new (Drop from to units) sound names adds fits good edits = fits_less net old new from to units
-    (beam_of_terminal net from sound names.0) (beam_of_terminal net to sound names.1) (loses_of_drop old new from to units edits) fits
+    (beam_of_terminal net from sound names.0) (beam_of_terminal net to sound names.1) edits fits
 fits_after net changes old new (Move from to new_from new_to units) sound names adds fits good edits =
     let e = Move from to new_from new_to units in
     let up = beam_of_terminal net from sound names.0.0 in
     let down = beam_of_terminal net to sound names.0.1 in
     let new_up = beam_of_terminal net new_from sound names.1.0 in
     let new_down = beam_of_terminal net new_to sound names.1.1 in
-    let more = gained_lines net old edits.half new_from new_to units new_up.0 new_down.0 edits.gains (new_up.1, new_up.2) (new_down.1, new_down.2) in
-    let less = gained_lines net new edits.half from to units up.0 down.0 edits.loses (up.1, up.2) (down.1, down.2) in
+    let more = gained_lines net old edits.0 new_from new_to units new_up.0 new_down.0 edits.1 (new_up.1, new_up.2) (new_down.1, new_down.2) in
+    let less = gained_lines net new edits.0 from to units up.0 down.0 edits.2 (up.1, up.2) (down.1, down.2) in
     let is = matrix_after-AddsUp net (with_edit changes e) new (AddsUp-edit changes old new e adds edits) in
     let row = ap (λ (m : List (List ℕ)). row_sum m new_up.0.0) is in
     let column = ap (λ (m : List (List ℕ)). column_sum m new_down.0.0) is in

@@ -1,6 +1,6 @@
 -- What holds of the store of a book, and what a crash leaves of it, from call to call.
-use Rattle.std.proofs.Common.{◌≡◌, ◌⊎◌, ⊎_elim, ℕ, ◌-◌, ◌^◌, ◌<◌, ◌≤◌, arith, Bool, true, false, List, [], ◌∷◌, ◌++◌, take, Option, Some, None, Result, Ok, Err, refl, sym, ap, ◌∙◌, subst, inl, inr}
-use Rattle.std.specs.Prelude.{IfOk, IfSome, IsErrOf, IsSomeAnd, option_map}
+use Rattle.std.proofs.Common.{◌≡◌, ◌⊎◌, ⊎_elim, ℕ, ◌-◌, ◌^◌, ◌<◌, ◌≤◌, arith, Bool, true, false, List, [], ◌∷◌, ◌++◌, take, Option, Some, None, Err, refl, sym, ap, ◌∙◌, subst, inl, inr}
+use Rattle.std.specs.Prelude.{IfSome, IsErrOf, IsSomeAnd, option_map}
 use Rattle.std.proofs.lemmas.List.{append-nil}
 use Rattle.bt_outside.specs.Told.{gained, GainsPrefix, Gives, HasCause, Rose, shortened}
 use Rattle.bt_outside.specs.Crash.{CouldBeLeft, Crashes, Elapses, IsSettled, LeavesOnly, LeavesSince}
@@ -11,7 +11,7 @@ use Rattle.bt_journal.specs.declared.call.Change.{Change}
 use Rattle.bt_journal.specs.declared.call.Change.TheVariants as change
 use Rattle.bt_journal.specs.declared.reply.Reply.{Reply}
 use Rattle.bt_journal.specs.declared.reply.Reply.TheVariants.{StoreFault}
-use Rattle.bt_journal.specs.Journal.{is_made, is_refusal}
+use Rattle.bt_journal.specs.Journal.{is_made}
 use Rattle.bt_history.specs.Causes.{Follows, IsChangeOn}
 use Rattle.bt_history.specs.Machine.{State, line_behind, running, CanMake, ChangeStep}
 use Rattle.bt_history.specs.Records.{CrashStep, Endures, Holds, IsAppendFault, IsLeftOrCut, IsPartMarked, IsSpelled, Records, Stores, call_of}
@@ -81,17 +81,6 @@ quiet line reply told now crashes none kept = record {
   asked = λ either. absurd (neither (is_made reply) (is_lost reply) either none kept);
   not_asked = λ _ _. refl;
 }
-
--- an answer that is neither made nor lost does not ask it
-pub quiet_ok : {E : Type 0} (result : Result Reply E) (reply : Reply) (line : List ℕ) (told now : Option (List ℕ)) (crashes : Option Crashes) → is_made reply ≡ false → is_lost reply ≡ false
-    → IfOk result (λ answer. answer ≡ reply) → IfOk result (λ answer. CrashStep line answer told now crashes crashes)
-quiet_ok (Ok answer) reply line told now crashes none kept is = subst (λ (r : Reply). CrashStep line r told now crashes crashes) (sym is) (quiet line reply told now crashes none kept)
-quiet_ok (Err e) reply line told now crashes none kept is = tt
-
--- a refusal does not ask it
-pub quiet_refusal : (line : List ℕ) (reply : Reply) (told now : Option (List ℕ)) (crashes : Option Crashes) → is_refusal reply ≡ true → CrashStep line reply told now crashes crashes
-quiet_refusal line reply told now crashes refuses =
-    quiet line reply told now crashes (refusal_not_made reply refuses) (no_fault_not_lost reply (refusal_no_fault reply refuses))
 
 -- where a step changed neither
 pub holds_same : (old new : Records) (told now : Option (List ℕ)) (was will : Option Crashes) → new.net ≡ old.net → new.state ≡ old.state → lost_of new.history ≡ lost_of old.history

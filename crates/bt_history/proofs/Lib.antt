@@ -13,7 +13,6 @@ pub mod Flying
 pub mod TurnLock
 pub mod Demands
 pub mod Strays
-pub mod Opened
 pub mod Replayed
 pub mod OneJournal
 pub mod Spelled

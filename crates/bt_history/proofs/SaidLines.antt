@@ -13,13 +13,11 @@ use Rattle.bt_history.specs.Changes.{edition}
 use Rattle.bt_history.specs.Machine.{bytes_of, line_behind}
 use Rattle.bt_history.proofs.OneMore.{ended_length}
 
--- a line of the mark counts, a line of a change does not
-marked_line : Option Change → ℕ
-marked_line line = cond (is_none line) 1 0
-
+-- a line of the mark counts
 pub marks_in-mark : (said : List (Option Change)) → marks_in (None ∷ said) ≡ marks_in said + 1
 marks_in-mark said = omega (arith, sum_by-cons (λ (line : Option Change). cond (is_none line) 1 0) None said)
 
+-- a line of a change does not
 pub marks_in-change : (one : Change) (said : List (Option Change)) → marks_in (Some one ∷ said) ≡ marks_in said
 marks_in-change one said = omega (arith, sum_by-cons (λ (line : Option Change). cond (is_none line) 1 0) (Some one) said)
 

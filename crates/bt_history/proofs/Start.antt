@@ -1,19 +1,12 @@
 -- What is kept before the first call.
-use Rattle.std.proofs.Common.{◌≡◌, ℕ, false, ◌<◌, List, [], ◌++◌, length, replicate, slice_index, refl, sym, ap, ◌∷◌, ◌∙◌, subst, arith}
+use Rattle.std.proofs.Common.{◌≡◌, ℕ, ◌<◌, List, [], length, replicate, slice_index, refl, sym, subst, arith}
 use Rattle.std.proofs.lemmas.List.{get_or-replicate, length-replicate}
 use Rattle.std.proofs.lemmas.List.Folds.{sum_by-replicate}
 use Rattle.bt_frame.specs.declared.schedule.Critical.TheVariants.{Row, Column}
 use Rattle.bt_net.specs.Network.{Net}
 use Rattle.bt_demand.specs.Traffic.{HasSumsTo}
 use Rattle.bt_demand.proofs.Matrices.{matrix_of-none}
-use Rattle.bt_journal.specs.declared.call.Change.{Change}
-use Rattle.bt_journal.specs.declared.entry.Entry.{Entry}
-use Rattle.bt_demand.specs.declared.demand.Link.{Link}
-use Rattle.bt_demand.specs.declared.plan.Plan.{Plan}
-use Rattle.bt_air.specs.declared.order.Order.{Order}
-use Rattle.bt_demand.specs.Plan.{empty_plan}
-use Rattle.bt_history.specs.Records.{KeepsUp, Counts, Lists}
-use Rattle.bt_history.proofs.Entries.{IsKept}
+use Rattle.bt_history.specs.Records.{KeepsUp, Counts}
 
 -- the lines of a matrix of zeros ask for nothing
 HasSumsTo-zeros : (size most : ℕ) → HasSumsTo most (replicate size (replicate size 0))
@@ -35,7 +28,7 @@ KeepsUp-start net = record {
   follows = tt;
 }
 
-Counts-start : (net : Net) → Counts net [] 0 0 0
+pub Counts-start : (net : Net) → Counts net [] 0 0 0
 Counts-start net = record {
   counted = refl;
   edited = refl;
@@ -44,14 +37,3 @@ Counts-start net = record {
   covered = omega arith;
   readable = omega arith;
 }
-
--- the same, as empty collections have it
-pub IsKept-open : (net : Net) (opening : List Change) (history : List Entry) (links : List Link) (installed none : List Plan) (placed : List Order) (one : Plan) → opening ≡ []
-    → history ≡ [] → links ≡ [] → none ≡ [] → installed ≡ none ++ one ∷ [] → one ≡ empty_plan → placed ≡ []
-    → IsKept net opening history links 0 0 0 false installed placed
-IsKept-open net opening history links installed none placed one no_change no_entry no_link no_plan installs one_is no_order =
-    let lists : Lists [] installed placed = record {
-      installs = installs ∙ (ap (λ (all : List Plan). all ++ one ∷ []) no_plan ∙ ap (λ (p : Plan). p ∷ []) one_is);
-      places = no_order;
-    } in
-    rw (no_change, no_entry, no_link) (KeepsUp-start net, Counts-start net, lists, refl)

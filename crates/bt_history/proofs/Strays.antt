@@ -45,7 +45,7 @@ same_sum f (one ∷ a) (other ∷ b) x y none is count =
     omega (arith, more, ap f first, sum_by-cons f one a, sum_by-cons f other b)
 
 -- so the demand of an edition is one
-same_links : (changes : List Change) (number : ℕ) (a b : List Link) → IsDemandAt changes number a → IsDemandAt changes number b → a ≡ b
+pub same_links : (changes : List Change) (number : ℕ) (a b : List Link) → IsDemandAt changes number a → IsDemandAt changes number b → a ≡ b
 same_links changes number a b is also =
     let parts : is.before ++ is.after ≡ also.before ++ also.after = sym is.parts ∙ also.parts in
     let count : edition is.before ≡ edition also.before = is.counted ∙ sym also.counted in

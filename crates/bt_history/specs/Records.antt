@@ -1,6 +1,5 @@
 -- For bodies alone: what contracts see of the machine, and what is kept beside the changes.
-use Rattle.std.specs.Prelude.{◌≡◌, ◌≢◌, ◌⊎◌, ℕ, ◌+◌, ◌≤◌, ◌<◌, if◌then◌else◌, Bool, true, false, List, [], ◌∷◌, ◌++◌, length, sum_by, take, Option, Some, None, IsSomeAnd}
-use Rattle.std.specs.List.{list_any}
+use Rattle.std.specs.Prelude.{◌≡◌, ◌⊎◌, ℕ, ◌+◌, ◌≤◌, ◌<◌, if◌then◌else◌, Bool, true, false, List, [], ◌∷◌, ◌++◌, length, sum_by, take, Option, Some, None, IsSomeAnd}
 use Rattle.bt_frame.specs.declared.limits.TheConstants.{MOST_JOURNAL_BYTES}
 use Rattle.bt_outside.specs.Told.{GainsPrefix, Rose}
 use Rattle.bt_outside.specs.Crash.{CouldBeLeft, Crashes, Elapses, IsSettled, LeavesOnly, LeavesSince}
@@ -18,7 +17,7 @@ use Rattle.bt_journal.specs.declared.call.Change.{Change}
 use Rattle.bt_journal.specs.declared.call.Change.TheVariants as change
 use Rattle.bt_journal.specs.declared.entry.Entry.{Entry}
 use Rattle.bt_journal.specs.declared.call.Edit.{Edit}
-use Rattle.bt_journal.specs.Journal.{NamesTerminals, is_refusal, is_fault, is_made, change_made}
+use Rattle.bt_journal.specs.Journal.{NamesTerminals, is_refusal, is_made}
 use Rattle.bt_journal.specs.JournalLines.{IsChangeInRange, edits_in}
 use Rattle.bt_journal.specs.Kept.{marks_in}
 use Rattle.bt_journal.specs.Mark.{mark_of}
@@ -28,7 +27,7 @@ use Rattle.bt_journal.specs.declared.reply.Reply.TheVariants.{StoreFault as stor
 use Rattle.bt_history.specs.declared.fault.RecoverFault.{RecoverFault}
 use Rattle.bt_history.specs.declared.fault.RecoverFault.TheVariants.{J1, J2, StoreFault, TooLong, OutOfMemory}
 use Rattle.bt_history.specs.Changes.{given, taken_from, edition, held_after, plans, orders}
-use Rattle.bt_occupancy.specs.Occupancy.{HasEnds, HoldsTaken, EditsLinks}
+use Rattle.bt_occupancy.specs.Occupancy.{HasEnds, HoldsTaken}
 use Rattle.bt_history.specs.EditCauses.{IsGoodEdit}
 use Rattle.bt_history.specs.Causes.{Follows, IsChangeOn, IsGood, IsCause}
 use Rattle.bt_history.specs.Machine.{State, bytes_of, bytes_with, line_behind, running}
@@ -65,10 +64,6 @@ pub record Counts (net : Net) (changes : List Change) (count edits bytes : ℕ) 
 pub record Lists (changes : List Change) (installed : List Plan) (placed : List Order) : Type 0 where
   pub installs : installed ≡ plans changes
   pub places : placed ≡ orders changes
-
--- whether an entry of the history tells of a fault of the store
-abbrev pub has_fault : List Entry → Bool
-has_fault history = list_any (λ entry. is_fault entry.reply) history
 
 -- the answer where a link holds fewer slots than are taken from it
 abbrev pub IsShortOf : List Change → TermNo → TermNo → ℕ → Option Reply → Type 0
@@ -151,20 +146,6 @@ pub record Holds (machine : Records) (told : Option (List ℕ)) (crashes : Optio
   pub settled : machine.state.stopped ≡ false → IsSettled told crashes
   pub leaves : LeavesOnly crashes (TellsNext machine.net machine.state.changes (lost_of machine.history))
 
--- each link has as many slots as before
-abbrev pub SameUnits : List Link → List Link → Type 0
-SameUnits old new = (test : TermNo → TermNo → Bool) → units_where test new ≡ units_where test old
-
--- the edit that a change is, if it is one
-abbrev pub IsEditOf : Change → Option Edit → Type 0
-IsEditOf one None = (edit : Edit) → one ≢ change.Edit edit
-IsEditOf one (Some edit) = one ≡ change.Edit edit
-
--- the edit that a call made, if any
-abbrev pub IsEditMade : Entry → Option Edit → Type 0
-IsEditMade entry None = (edit : Edit) → change_made entry.call entry.reply ≢ Some (change.Edit edit)
-IsEditMade entry (Some edit) = change_made entry.call entry.reply ≡ Some (change.Edit edit)
-
 -- the links are kept beside first changes that have so many edits among them
 pub record IsRedone (net : Net) (changes : List Change) (number : ℕ) (links : List Link) : Type 0 where
   pub before : List Change
@@ -189,11 +170,6 @@ pub record CanRedo (net : Net) (links : List Link) (edit : Edit) : Type 0 where
   pub ends : HasEnds edit
   pub held : HoldsTaken links edit
   pub small : HasSumsTo MOST_SLOTS (matrix_of net links)
-
--- an edit was made again and one fewer is left, or none was left and nothing changed
-pub record RedoesOne (old : List Link) (edit : Edit) (left : ℕ) (new : List Link) (after : ℕ) : Type 0 where
-  pub made : 0 < left → EditsLinks old edit new × (after + 1 ≡ left)
-  pub past : left ≡ 0 → (new ≡ old) × (after ≡ 0)
 
 -- the line, its newline included, is of a change that follows these, and the machine has made it too
 pub record TakesChange (net : Net) (before : List Change) (line : List ℕ) (new : State) : Type 0 where

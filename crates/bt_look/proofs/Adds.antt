@@ -1,5 +1,5 @@
 -- A journal of one add for each link: what its changes come to, and that they can be made one after the other.
-use Rattle.std.proofs.Common.{◌≡◌, ℕ, suc, ◌+◌, ◌<◌, ◌≤◌, ◌&&◌, if◌then◌else◌, Bool, List, [], ◌∷◌, ◌++◌, Option, Some, None, length, map, take, get_or, slice_get, option_map, sum_by, All, refl, sym, ap, ◌∙◌, subst, append_assoc, length-append, arith}
+use Rattle.std.proofs.Common.{◌≡◌, ℕ, suc, ◌+◌, ◌<◌, ◌≤◌, ◌&&◌, if◌then◌else◌, Bool, List, [], ◌∷◌, ◌++◌, Some, None, length, map, take, get_or, slice_get, option_map, sum_by, All, refl, sym, ap, ◌∙◌, subst, append_assoc, length-append, arith}
 use Rattle.std.proofs.lemmas.List.{append-nil, length-take-le, map-append, take_more}
 use Rattle.std.proofs.lemmas.List.Sums.{sum_by-append, sum_by-cons, get_or-le-sum_by}
 use Rattle.std.proofs.lemmas.Option.{slice_get-get_or}
@@ -24,7 +24,7 @@ use Rattle.bt_journal.specs.declared.call.Change.{Change}
 use Rattle.bt_journal.specs.JournalLines.{change_line, edits_in, journal_lines, lines_from}
 use Rattle.bt_journal.specs.Kept.{Keeps, changes_in, lines_said, marks_in}
 use Rattle.bt_journal.specs.Mark.{mark_of}
-use Rattle.bt_history.specs.Causes.{Follows, FollowFrom}
+use Rattle.bt_history.specs.Causes.{FollowFrom}
 use Rattle.bt_history.specs.Changes.{given, taken_from, edition, matrix_after, IsDemandAfter}
 use Rattle.bt_history.specs.EditCauses.{IsGoodEdit, with_edit}
 use Rattle.bt_history.specs.Records.{AddsUp}
@@ -67,7 +67,7 @@ adds_more : (links : List Link) (link : Link) → adds_of (links ++ link ∷ [])
 adds_more links link = map-append add_of links (link ∷ [])
 
 -- a terminal of a network has a beam
-beam_of_terminal : (net : Net) (t : TermNo) → t.0 < length net.terminals → (b : BeamNo) × IsInBeam net t b
+pub beam_of_terminal : (net : Net) (t : TermNo) → t.0 < length net.terminals → (b : BeamNo) × IsInBeam net t b
 beam_of_terminal net t within =
     let d : List ℕ × BeamNo = ([], record { 0 = 0 }) in
     ((get_or net.terminals t.0 d).1, ap (option_map (λ (u : List ℕ × BeamNo). u.1)) (slice_get-get_or net.terminals t.0 d within))

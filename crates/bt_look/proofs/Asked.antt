@@ -1,5 +1,5 @@
 -- The demand of an edition is one on the network.
-use Rattle.std.proofs.Common.{◌≡◌, ℕ, List, [], ◌∷◌, ◌++◌, subst}
+use Rattle.std.proofs.Common.{ℕ, List, [], ◌∷◌, ◌++◌, subst}
 use Rattle.bt_net.specs.Network.{Net, IsSound}
 use Rattle.bt_demand.specs.declared.demand.Link.{Link}
 use Rattle.bt_demand.specs.Traffic.{AreOfNetwork}

@@ -1,17 +1,17 @@
 -- Changes that come to a demand have an edit for each of its links: each gives to one link at most.
-use Rattle.std.proofs.Common.{◌≡◌, ◌⊎◌, ℕ, ◌+◌, ◌-◌, ◌<◌, ◌≤◌, ◌==◌, ◌&&◌, if◌then◌else◌, nat_lt, Bool, true, false, List, [], ◌∷◌, length, get_or, sum_by, All, AllPairs, refl, sym, ap, ◌∙◌, arith, ⊎_elim}
+use Rattle.std.proofs.Common.{◌≡◌, ℕ, ◌<◌, ◌≤◌, ◌==◌, ◌&&◌, if◌then◌else◌, nat_lt, Bool, true, false, List, [], ◌∷◌, length, get_or, sum_by, All, AllPairs, refl, sym, ap, ◌∙◌, arith, ⊎_elim}
 use Rattle.std.proofs.lemmas.Bool.{cases_Bool}
 use Rattle.std.proofs.lemmas.Bool.Decides.{nat_tests}
 use Rattle.std.proofs.lemmas.List.Sums.{sum_by-cons, get_or-le-sum_by}
 use Rattle.bt_frame.specs.declared.numbers.TermNo.{TermNo}
 use Rattle.bt_frame.proofs.Counts.{sum_by-exchange, sum_by-le-within, sum_by-none_passes, sum_by-one_passes}
 use Rattle.bt_demand.specs.declared.demand.Link.{Link}
-use Rattle.bt_demand.specs.Demand.{ends_of, units_where, IsBefore, IsDemand}
+use Rattle.bt_demand.specs.Demand.{IsDemand}
 use Rattle.bt_journal.specs.declared.call.Edit.TheVariants.{Add, Drop, Move}
 use Rattle.bt_journal.specs.declared.call.Change.{Change}
 use Rattle.bt_journal.specs.declared.call.Change.TheVariants as change
 use Rattle.bt_journal.specs.JournalLines.{edits_in}
-use Rattle.bt_history.specs.Changes.{given, taken_from, edition, IsDemandAfter}
+use Rattle.bt_history.specs.Changes.{given, edition, IsDemandAfter}
 
 -- whether ends are those of a link
 abbrev is_its : Link → TermNo → TermNo → Bool

@@ -9,3 +9,4 @@ pub mod Asked
 pub mod Places
 pub mod PlansAsked
 pub mod OneEdition
+pub mod RoomOfLink

@@ -1,5 +1,5 @@
 -- An add between two terminals, by the room of their beams.
-use Rattle.std.proofs.Common.{◌≡◌, ◌≢◌, ◌↔◌, ◌⊎◌, ℕ, ◌+◌, ◌-◌, ◌<◌, ◌≤◌, if◌then◌else◌, min, Bool, true, false, List, length, sym, ap, ◌∙◌, subst, arith, ⊎_elim, true≢false}
+use Rattle.std.proofs.Common.{◌≡◌, ◌≢◌, ◌↔◌, ℕ, ◌<◌, ◌≤◌, if◌then◌else◌, min, Bool, true, false, List, sym, ap, subst, arith, ⊎_elim}
 use Rattle.std.proofs.Math.Nat.{min-le_left, min-le_right, le-min}
 use Rattle.std.proofs.lemmas.Bool.{cases_Bool}
 use Rattle.bt_frame.specs.declared.numbers.BeamNo.{BeamNo}
@@ -11,7 +11,6 @@ use Rattle.bt_matrix.specs.Traffic.{row_sum, column_sum}
 use Rattle.bt_demand.specs.declared.demand.Link.{Link}
 use Rattle.bt_demand.specs.Traffic.{matrix_of}
 use Rattle.bt_demand.proofs.Matrices.{length-matrix_of}
-use Rattle.bt_demand.proofs.Tables.{LinesExceed}
 use Rattle.bt_journal.specs.declared.call.Edit.TheVariants.{Add}
 use Rattle.bt_journal.specs.declared.call.Change.{Change}
 use Rattle.bt_history.specs.Causes.{Follows}
@@ -23,7 +22,7 @@ use Rattle.bt_look.specs.Room.{can_link, free_down, free_up, room}
 use Rattle.bt_look.proofs.Ends.{Ends, beam_inside, can_be_linked, ends_of_link, one_beam}
 
 -- the room of beams that can have a link
-room_linked : (net : Net) (rows : List (List ℕ)) (up down : ℕ) → can_link net up down ≡ true → room net rows up down ≡ min (free_up net rows up) (free_down net rows down)
+pub room_linked : (net : Net) (rows : List (List ℕ)) (up down : ℕ) → can_link net up down ≡ true → room net rows up down ≡ min (free_up net rows up) (free_down net rows down)
 room_linked net rows up down can = ap (λ (b : Bool). if b then min (free_up net rows up) (free_down net rows down) else 0) can
 
 -- An add between two terminals is good where it fits both lines.

@@ -1,4 +1,4 @@
--- A demand as links, and as the shortest journal that comes to it.
+-- A demand as links, and as the journal with the fewest edits that comes to it.
 use Rattle.std.specs.Prelude.{ℕ, ◌++◌, List, map}
 use Rattle.bt_net.specs.Network.{Net}
 use Rattle.bt_demand.specs.declared.demand.Link.{Link}

@@ -1,4 +1,5 @@
--- What is told of a journal's bytes: the demand of an edition, or the shortest journal of the last; or why they tell no changes.
+-- What is told of a journal's bytes: the demand of an edition, or the journal with the fewest edits that comes to the last; or why
+-- they tell no changes.
 use Rattle.std.specs.Prelude.{◌≡◌, ◌<◌, ℕ, List, length, Option, Some, None, IsSomeAnd}
 use Rattle.bt_frame.specs.declared.limits.TheConstants.{MOST_JOURNAL_BYTES}
 use Rattle.bt_frame.specs.declared.numbers.EditionNo.{EditionNo}
@@ -42,7 +43,7 @@ pub record TellsDemand (net : Net) (bytes : List ℕ) (asked : Option EditionNo)
   pub told : Recovered net bytes changes
   pub tells : IsDemandText net changes asked text
 
--- the shortest journal of the demand that the bytes tell
+-- the journal with the fewest edits of the demand that the bytes tell
 pub record TellsCompact (net : Net) (bytes text : List ℕ) : Type 0 where
   pub changes : List Change
   pub told : Recovered net bytes changes

@@ -1,7 +1,10 @@
--- How many slots of the frame a traffic matrix asks of each beam, how many are free there, and how many one add may have.
-use Rattle.std.specs.Prelude.{ℕ, ◌-◌, ◌==◌, ◌&&◌, if◌then◌else◌, nat_lt, nat_le, min, Bool, List, [], ◌∷◌, ◌++◌, codes, decimal, flat_map, length, count_by, slice_index_or}
+-- How many slots of the frame a traffic matrix asks of each beam, how many are free there, and how many units one add may have.
+use Rattle.std.specs.Prelude.{ℕ, ◌-◌, ◌==◌, ◌&&◌, if◌then◌else◌, nat_lt, nat_le, min, Bool, List, [], ◌∷◌, ◌++◌, codes, decimal, flat_map, length, count_by, slice_index_or, Option, Some}
 use Rattle.std.specs.List.{range_with_len}
+use Rattle.bt_frame.specs.declared.numbers.BeamNo.{BeamNo}
+use Rattle.bt_frame.specs.declared.numbers.TermNo.{TermNo}
 use Rattle.bt_net.specs.Network.{Net}
+use Rattle.bt_net.specs.Terminals.{beam_at, name_at}
 use Rattle.bt_matrix.specs.Traffic.{row_sum, column_sum}
 use Rattle.bt_words.specs.Lines.{line_of}
 
@@ -68,3 +71,16 @@ room_lines net rows = flat_map (rooms_from net rows) (beams_of net)
 -- what is asked of each beam and what is free there, and then the room between each two
 abbrev pub capacity_lines : Net → List (List ℕ) → List ℕ
 capacity_lines net rows = load_lines net rows ++ room_lines net rows
+
+-- what is free for a link from the one beam to the other, where both are there
+abbrev pub free_for : Net → List (List ℕ) → Option BeamNo → Option BeamNo → ℕ
+free_for net rows (Some up) (Some down) = min (free_up net rows up.0) (free_down net rows down.0)
+free_for net rows _ _ = 0
+
+-- the most units that one add from the one terminal to the other may have: none where they are one
+abbrev pub room_of_link : Net → List (List ℕ) → TermNo → TermNo → ℕ
+room_of_link net rows from to = if from.0 == to.0 then 0 else free_for net rows (beam_at net from) (beam_at net to)
+
+-- `room FROM TO K`, for two terminals
+abbrev pub link_room_line : Net → List (List ℕ) → TermNo → TermNo → List ℕ
+link_room_line net rows from to = line_of (codes "room" ∷ name_at net from ∷ name_at net to ∷ decimal (room_of_link net rows from to) ∷ [])

@@ -1,11 +1,17 @@
 // What is asked of each beam, what is free there, and the room between each two.
 ghost use Rattle.std.specs.Prelude.{◌≡◌, ◌++◌, ◌<◌, ℕ, IfOk, OnOk, length, min, slice_index};
 ghost use Rattle.bt_net.specs.Network.{Net};
-ghost use Rattle.bt_look.specs.Room.{beam_lines, can_link, capacity_lines, free_down, free_up, load_lines, room, room_line, room_lines, rooms_from, side_line, terminals_in};
+ghost use Rattle.bt_net.specs.Terminals.{IsBetweenTerminals};
+ghost use Rattle.bt_history.specs.Causes.{Follows};
+ghost use Rattle.bt_history.specs.Changes.{matrix_after};
+ghost use Rattle.bt_look.specs.Room.{beam_lines, can_link, capacity_lines, free_down, free_up, link_room_line, load_lines, room, room_line, room_of_link, room_lines, rooms_from, side_line, terminals_in};
 
+use crate::state::matrix_in;
+use bt_book::Book;
 use bt_frame::{BeamNo, OutOfMemory, TermNo};
 use bt_matrix::{Dense, Traffic};
 use bt_net::Network;
+use bt_outside::Keeper;
 use bt_words::{Word, add_line};
 use std::alloc::Global;
 
@@ -20,6 +26,58 @@ pub fn capacity_text(alloc: Global, net: &Network, matrix: &Dense) -> Result<Vec
     let terminals = count_terminals(alloc, net)?;
     add_rooms(alloc, net, matrix, terminals.as_slice(), &mut text)?;
     Ok(text)
+}
+
+/// The same of the demand of a book.
+pub fn capacity_of_book<K: Keeper>(
+    alloc: Global,
+    net: &Network,
+    book: &Book<K>,
+) -> Result<Vec<u8>, OutOfMemory>
+    requires follows { Follows net.now book.now.state.changes }
+    ensures text { IfOk result (λ text. text.items ≡ capacity_lines net.now (matrix_after net.now book.now.state.changes)) }
+{
+    let matrix = matrix_in(alloc, net, book)?;
+    capacity_text(alloc, net, &matrix)
+}
+
+/// The line of the most units that one add from the one terminal to the other could have beside the demand of a book, 0 where
+/// the two are one.
+pub fn room_of_book<K: Keeper>(
+    alloc: Global,
+    net: &Network,
+    book: &Book<K>,
+    from: TermNo,
+    to: TermNo,
+) -> Result<Vec<u8>, OutOfMemory>
+    requires follows { Follows net.now book.now.state.changes }
+    requires terminals { IsBetweenTerminals net.now from to }
+    ensures text { IfOk result (λ text. text.items ≡ link_room_line net.now (matrix_after net.now book.now.state.changes) from to) }
+{
+    let matrix = matrix_in(alloc, net, book)?;
+    let units = room_of_link(net, &matrix, from, to);
+    let words = [
+        Word::Text("room"),
+        Word::Text(net.name_of(from)),
+        Word::Text(net.name_of(to)),
+        Word::number(units),
+    ];
+    let mut text = Vec::new(alloc);
+    add_line(alloc, &words, &mut text)?;
+    Ok(text)
+}
+
+/// The most units that one add from the one terminal to the other may have.
+fn room_of_link(net: &Network, matrix: &Dense, from: TermNo, to: TermNo) -> u32
+    requires size { length matrix.now ≡ length net.now.beams }
+    requires terminals { IsBetweenTerminals net.now from to }
+    ensures { result ≡ room_of_link net.now matrix.now from to }
+{
+    if from.0 == to.0 {
+        0
+    } else {
+        free_between(net, matrix, net.beam_of(from), net.beam_of(to))
+    }
 }
 
 /// Appends the lines of all beams: what is asked of them, and what is free there.

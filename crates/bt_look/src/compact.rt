@@ -1,4 +1,4 @@
-// The shortest journal of a demand.
+// The journal with the fewest edits that comes to a demand.
 ghost use Rattle.std.specs.Prelude.{◌≡◌, ◌≤◌, ◌++◌, All, IfErr, IfOk, OnOk, length};
 ghost use Rattle.bt_frame.specs.declared.limits.TheConstants.{LAST_EDITION};
 ghost use Rattle.bt_frame.specs.Range.{IsWithin};
@@ -16,8 +16,8 @@ use bt_journal::{Change, Edit, change_text, mark_text};
 use bt_net::Network;
 use std::alloc::Global;
 
-/// The shortest journal that comes to the demand that a journal's bytes tell: the mark of the network, and an add for each link
-/// in order. Its editions are numbered anew, and it has no plan and no order.
+/// The journal with the fewest edits that comes to the demand that a journal's bytes tell: the mark of the network, and an add
+/// for each link in order. Its editions are numbered anew, and it has no plan and no order.
 pub fn compact_journal(
     alloc: Global,
     net: &Network,
@@ -33,7 +33,7 @@ pub fn compact_journal(
     Ok(compact_text(alloc, net, book.demand())?)
 }
 
-/// The shortest journal of a demand that fits the frame.
+/// The journal with the fewest edits that comes to a demand, which fits the frame.
 pub fn compact_text(alloc: Global, net: &Network, demand: &Demand) -> Result<Vec<u8>, OutOfMemory>
     requires terminals { AreOfNetwork net.now demand.now }
     requires fits { HasSumsTo net.now.slots (matrix_of net.now demand.now) }

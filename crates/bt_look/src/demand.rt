@@ -1,18 +1,18 @@
 // The demand of an edition, as the text of its links.
-ghost use Rattle.std.specs.Prelude.{◌≡◌, ◌++◌, ◌<◌, IfErr, IfNone, IfOk, IfSome, IsSomeAnd, OnOk, option_map};
+ghost use Rattle.std.specs.Prelude.{◌≡◌, ◌++◌, ◌<◌, IfErr, IfNone, IfOk, IfSome, IsSomeAnd, None, OnOk, option_map};
 ghost use Rattle.bt_demand.specs.Traffic.{AreOfNetwork};
 ghost use Rattle.bt_net.specs.Terminals.{IsTerminal};
 ghost use Rattle.bt_history.specs.Causes.{Follows};
 ghost use Rattle.bt_history.specs.Changes.{edition};
 ghost use Rattle.bt_timeline.specs.Replayed.{link_line, link_lines};
-ghost use Rattle.bt_look.specs.Look.{IsDemandOf, IsDemandText, IsLookFault, TellsDemand};
+ghost use Rattle.bt_look.specs.Look.{IsDemandOf, IsDemandText, IsLinksText, IsLookFault, TellsDemand};
 
 use crate::look::look;
-use bt_base::SureKeeper;
 use bt_book::{Book, RecoverFault};
 use bt_demand::{Demand, Link};
 use bt_frame::{EditionNo, OutOfMemory};
 use bt_net::Network;
+use bt_outside::Keeper;
 use bt_words::{Word, add_line};
 use std::alloc::Global;
 
@@ -31,11 +31,25 @@ pub fn demand_of_journal(
     Ok(text_in(alloc, net, &book, asked)?)
 }
 
-/// The same of a book that a journal's bytes came to.
-fn text_in(
+/// The links of the demand of a book, a line each.
+pub fn demand_of_book<K: Keeper>(
     alloc: Global,
     net: &Network,
-    book: &Book<SureKeeper>,
+    book: &Book<K>,
+) -> Result<Vec<u8>, OutOfMemory>
+    requires follows { Follows net.now book.now.state.changes }
+    ensures text { IfOk result (λ text. IsLinksText net.now book.now.state.changes None text.items) }
+{
+    // This is there for what holds of each network: it is sound.
+    let _beams = net.beam_count();
+    demand_text(alloc, net, book.demand())
+}
+
+/// The same of a book that a journal's bytes came to.
+fn text_in<K: Keeper>(
+    alloc: Global,
+    net: &Network,
+    book: &Book<K>,
     asked: Option<EditionNo>,
 ) -> Result<Option<Vec<u8>>, OutOfMemory>
     requires follows { Follows net.now book.now.state.changes }
@@ -48,10 +62,10 @@ fn text_in(
 }
 
 /// The demand of an edition of a book, of the last without a number.
-fn demand_in(
+fn demand_in<K: Keeper>(
     alloc: Global,
     net: &Network,
-    book: &Book<SureKeeper>,
+    book: &Book<K>,
     asked: Option<EditionNo>,
 ) -> Result<Option<Demand>, OutOfMemory>
     requires follows { Follows net.now book.now.state.changes }

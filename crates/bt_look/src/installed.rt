@@ -2,15 +2,15 @@
 ghost use Rattle.std.specs.Prelude.{◌≡◌, ◌<◌, IfErr, IfOk, IfSome, None, Some, length, option_map};
 ghost use Rattle.bt_plan.specs.PlanSpelling.{plan_spelling};
 ghost use Rattle.bt_history.specs.Causes.{Follows};
-ghost use Rattle.bt_history.specs.Changes.{plans};
+ghost use Rattle.bt_history.specs.Changes.{newest, plans};
 ghost use Rattle.bt_look.specs.Installed.{TellsInstalled, plan_asked, plan_at};
 ghost use Rattle.bt_look.specs.Look.{IsLookFault};
 
 use crate::look::look;
-use bt_base::SureKeeper;
 use bt_book::{Book, RecoverFault, installed_plans_can_be_flown};
 use bt_frame::{EditionNo, OutOfMemory};
 use bt_net::Network;
+use bt_outside::Keeper;
 use bt_plan::plan_text;
 use std::alloc::Global;
 
@@ -29,11 +29,24 @@ pub fn installed_of_journal(
     Ok(text_in(alloc, net, &book, asked)?)
 }
 
-/// The same of a book that a journal's bytes came to.
-fn text_in(
+/// The newest plan of a book, the empty one of edition 0 where none is installed: the text of the plan, as `read_plan` reads it.
+pub fn newest_of_book<K: Keeper>(
     alloc: Global,
     net: &Network,
-    book: &Book<SureKeeper>,
+    book: &Book<K>,
+) -> Result<Vec<u8>, OutOfMemory>
+    requires follows { Follows net.now book.now.state.changes }
+    ensures text { IfOk result (λ text. text.items ≡ plan_spelling net.now (newest book.now.state.changes)) }
+{
+    let last = book.plan_count() - 1;
+    text_at(alloc, net, book, last)
+}
+
+/// The same of a book that a journal's bytes came to.
+fn text_in<K: Keeper>(
+    alloc: Global,
+    net: &Network,
+    book: &Book<K>,
     asked: Option<EditionNo>,
 ) -> Result<Option<Vec<u8>>, OutOfMemory>
     requires follows { Follows net.now book.now.state.changes }
@@ -46,10 +59,10 @@ fn text_in(
 }
 
 /// The text of the plan at a place of a book.
-fn text_at(
+fn text_at<K: Keeper>(
     alloc: Global,
     net: &Network,
-    book: &Book<SureKeeper>,
+    book: &Book<K>,
     place: u32,
 ) -> Result<Vec<u8>, OutOfMemory>
     requires follows { Follows net.now book.now.state.changes }
@@ -63,7 +76,7 @@ fn text_at(
 }
 
 /// The place of the plan that is asked for among those of a book, the empty one of which is at 0.
-fn place_in(book: &Book<SureKeeper>, asked: Option<EditionNo>) -> Option<u32>
+fn place_in<K: Keeper>(book: &Book<K>, asked: Option<EditionNo>) -> Option<u32>
     ensures within { IfSome result (λ place. place < length (plans book.now.state.changes)) }
     ensures plan { option_map (plan_at book.now.state.changes) result ≡ plan_asked book.now.state.changes asked }
 {
@@ -74,7 +87,7 @@ fn place_in(book: &Book<SureKeeper>, asked: Option<EditionNo>) -> Option<u32>
 }
 
 /// The place of the plan of that edition.
-fn place_of(book: &Book<SureKeeper>, number: EditionNo) -> Option<u32>
+fn place_of<K: Keeper>(book: &Book<K>, number: EditionNo) -> Option<u32>
     ensures within { IfSome result (λ place. place < length (plans book.now.state.changes)) }
     ensures plan { option_map (plan_at book.now.state.changes) result ≡ plan_asked book.now.state.changes (Some number) }
 {
@@ -87,7 +100,7 @@ fn place_of(book: &Book<SureKeeper>, number: EditionNo) -> Option<u32>
 }
 
 /// The place of the plan that was installed last.
-fn newest_place(book: &Book<SureKeeper>) -> Option<u32>
+fn newest_place<K: Keeper>(book: &Book<K>) -> Option<u32>
     ensures within { IfSome result (λ place. place < length (plans book.now.state.changes)) }
     ensures plan { option_map (plan_at book.now.state.changes) result ≡ plan_asked book.now.state.changes None }
 {

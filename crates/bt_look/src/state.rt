@@ -2,18 +2,19 @@
 ghost use Rattle.std.specs.Prelude.{◌≡◌, ◌++◌, IfErr, IfOk, OnOk, length};
 ghost use Rattle.bt_history.specs.Causes.{Follows};
 ghost use Rattle.bt_history.specs.Changes.{matrix_after};
+ghost use Rattle.bt_history.specs.Machine.{bytes_of};
 ghost use Rattle.bt_look.specs.Look.{IsLookFault};
 ghost use Rattle.bt_look.specs.State.{TellsState, lines_with, made_lines, plan_line, size_lines, torn_line};
 
 use crate::capacity::add_loads;
 use crate::look::look;
 use crate::measure::{JournalSize, size_of_journal};
-use bt_base::SureKeeper;
 use bt_book::{Book, RecoverFault, demands_fit_the_frame};
 use bt_demand::{Plan, traffic_of};
 use bt_frame::{MOST_JOURNAL_BYTES, OutOfMemory};
 use bt_matrix::Dense;
 use bt_net::Network;
+use bt_outside::Keeper;
 use bt_words::{Word, add_line};
 use std::alloc::Global;
 
@@ -32,11 +33,29 @@ pub fn state_text(alloc: Global, net: &Network, bytes: Vec<u8>) -> Result<Vec<u8
     Ok(text_of(alloc, net, &book, size)?)
 }
 
-/// The same of a book that a journal's bytes came to, and of the sizes that were measured.
-fn text_of(
+/// The state that a book tells, in the same lines: of its journal the bytes of the lines of its changes, and none that stand
+/// behind the last newline.
+pub fn state_of_book<K: Keeper>(
     alloc: Global,
     net: &Network,
-    book: &Book<SureKeeper>,
+    book: &Book<K>,
+) -> Result<Vec<u8>, OutOfMemory>
+    requires network { book.now.net ≡ net.now }
+    requires follows { Follows net.now book.now.state.changes }
+    ensures text { IfOk result (λ text. text.items ≡ lines_with net.now book.now.state.changes (bytes_of net.now book.now.state.changes) 0) }
+{
+    let size = JournalSize {
+        bytes: book.line_bytes(),
+        torn: 0,
+    };
+    text_of(alloc, net, book, size)
+}
+
+/// The state that a book tells, with a journal of these sizes.
+fn text_of<K: Keeper>(
+    alloc: Global,
+    net: &Network,
+    book: &Book<K>,
     size: JournalSize,
 ) -> Result<Vec<u8>, OutOfMemory>
     requires follows { Follows net.now book.now.state.changes }
@@ -52,7 +71,11 @@ fn text_of(
 }
 
 /// The traffic matrix of a book's demand.
-fn matrix_in(alloc: Global, net: &Network, book: &Book<SureKeeper>) -> Result<Dense, OutOfMemory>
+pub(crate) fn matrix_in<K: Keeper>(
+    alloc: Global,
+    net: &Network,
+    book: &Book<K>,
+) -> Result<Dense, OutOfMemory>
     requires follows { Follows net.now book.now.state.changes }
     ensures matrix { IfOk result (λ matrix. matrix ≡ matrix_after net.now book.now.state.changes) }
     ensures beams { IfOk result (λ matrix. length matrix ≡ length net.now.beams) }
@@ -64,7 +87,7 @@ fn matrix_in(alloc: Global, net: &Network, book: &Book<SureKeeper>) -> Result<De
 }
 
 /// Appends how far a book has come: its edition, its newest plan and how many orders it has.
-fn add_made(alloc: Global, book: &Book<SureKeeper>, out: &mut Vec<u8>) -> Result<(), OutOfMemory>
+fn add_made<K: Keeper>(alloc: Global, book: &Book<K>, out: &mut Vec<u8>) -> Result<(), OutOfMemory>
     ensures { OnOk result (out.new.items ≡ out.old.items ++ made_lines book.now.state.changes) }
 {
     let edition = book.edition().0;

@@ -1,15 +1,22 @@
--- What contracts see of an occupancy, what an edit asks of the links of its demand, and what its two halves make of them.
-use Rattle.std.specs.Prelude.{◌≡◌, ◌⊎◌, ◌≤◌, List}
+-- What contracts see of an occupancy, what an edit asks of the links of its demand, and what it makes of them.
+use Rattle.std.specs.Prelude.{◌≡◌, ◌⊎◌, ℕ, ◌<◌, ◌≤◌, List, length}
 use Rattle.bt_net.specs.Network.{Net}
 use Rattle.bt_demand.specs.declared.demand.Link.{Link}
 use Rattle.bt_demand.specs.Demand.{units_of, Gains}
 use Rattle.bt_journal.specs.declared.call.Edit.{Edit}
 use Rattle.bt_journal.specs.declared.call.Edit.TheVariants.{Add, Drop, Move}
 
--- a network, and the links of the demand on it
+-- a network, the links of the demand on it, for how many links there is room, and for how many more entries of the matrix
 pub record Occupied : Type 0 where
   pub net : Net
   pub links : List Link
+  pub link_room : ℕ
+  pub entry_room : ℕ
+
+-- there is room for one link more, and for its entry
+pub record HasRoom (occupied : Occupied) : Type 0 where
+  pub link : length occupied.links < occupied.link_room
+  pub entry : 0 < occupied.entry_room
 
 -- the edit names a link from a terminal to itself
 abbrev pub HasEqualEnds : Edit → Type 0
@@ -21,32 +28,15 @@ HasEqualEnds (Move from to new_from new_to _) = (from.0 ≡ to.0) ⊎ (new_from.
 abbrev pub HasEnds : Edit → Type 0
 HasEnds edit = ¬ (HasEqualEnds edit)
 
--- the first half of an edit: the link that gains has its slots, and the one that loses has them still
-abbrev pub GainsFirst : List Link → Edit → List Link → Type 0
-GainsFirst old (Add from to units) new = Gains old new from to units
-GainsFirst old (Drop _ _ _) new = new ≡ old
-GainsFirst old (Move _ _ new_from new_to units) new = Gains old new new_from new_to units
-
--- the second half of an edit: the link that loses has lost its slots
-abbrev pub LosesThen : List Link → Edit → List Link → Type 0
-LosesThen old (Add _ _ _) new = new ≡ old
-LosesThen old (Drop from to units) new = Gains new old from to units
-LosesThen old (Move from to _ _ units) new = Gains new old from to units
-
--- the links before and after an edit: by its two halves
-pub record EditsLinks (old : List Link) (edit : Edit) (new : List Link) : Type 0 where
-  pub half : List Link
-  pub gains : GainsFirst old edit half
-  pub loses : LosesThen half edit new
+-- the links before and after an edit; between the two halves of a Move the link that gains has its slots, and the one that loses
+-- has them still
+abbrev pub EditsLinks : List Link → Edit → List Link → Type 0
+EditsLinks old (Add from to units) new = Gains old new from to units
+EditsLinks old (Drop from to units) new = Gains new old from to units
+EditsLinks old (Move from to new_from new_to units) new = (half : List Link) × Gains old half new_from new_to units × Gains new half from to units
 
 -- the link that loses has what the edit takes from it
 abbrev pub HoldsTaken : List Link → Edit → Type 0
 HoldsTaken links (Add _ _ _) = Unit {0}
 HoldsTaken links (Drop from to units) = units ≤ units_of links from to
 HoldsTaken links (Move from to _ _ units) = units ≤ units_of links from to
-
--- the link that gained has what the edit gave it
-abbrev pub HoldsGiven : List Link → Edit → Type 0
-HoldsGiven links (Add from to units) = units ≤ units_of links from to
-HoldsGiven links (Drop _ _ _) = Unit {0}
-HoldsGiven links (Move _ _ new_from new_to units) = units ≤ units_of links new_from new_to

@@ -1,5 +1,5 @@
 // How the frame is occupied: the demand on a network, with its traffic matrix beside it.
-ghost use Rattle.std.specs.Prelude.{◌≡◌, ◌≢◌, ◌<◌, ◌≤◌, [], length, IfOk, OnOk, OnErr};
+ghost use Rattle.std.specs.Prelude.{◌≡◌, ◌≢◌, ◌<◌, ◌≤◌, [], length, IfOk, OnOk};
 ghost use Rattle.bt_frame.specs.declared.schedule.Critical.{Critical};
 ghost use Rattle.bt_matrix.specs.Traffic.{row_sum, column_sum, IsHeaviest};
 ghost use Rattle.bt_demand.specs.Demand.{units_of, Gains, IsDemand};
@@ -7,9 +7,9 @@ ghost use Rattle.bt_demand.specs.Traffic.{matrix_of, HasSumsTo};
 ghost use Rattle.bt_net.specs.Terminals.{IsInBeam, IsTerminal};
 ghost use Rattle.bt_net.specs.Network.{IsSound};
 ghost use Rattle.bt_journal.specs.Journal.{NamesTerminals};
-ghost use Rattle.bt_occupancy.specs.Occupancy.{HasEnds, EditsLinks, GainsFirst, LosesThen, HoldsTaken, HoldsGiven};
+ghost use Rattle.bt_occupancy.specs.Occupancy.{HasEnds, EditsLinks, HasRoom, HoldsTaken};
 
-use bt_demand::Demand;
+use bt_demand::{Demand, Link};
 use bt_frame::{BeamNo, MOST_SLOTS, OutOfMemory, TermNo, Units};
 use bt_journal::Edit;
 use bt_links::Crosslinked;
@@ -18,11 +18,13 @@ use bt_net::Network;
 use std::alloc::Global;
 use std::marker::Model;
 
-/// The demand on a network, and its traffic matrix, which follows each change.
+/// The demand on a network, room for more of its links, and its traffic matrix, which follows each change.
 #[derive(Drop)]
 pub struct Occupancy {
     net: Network,
     demand: Demand,
+    // a list without links, into which those of the demand move where they fill their own memory
+    room: Vec<Link>,
     matrix: Crosslinked,
 }
 
@@ -31,12 +33,17 @@ impl Model for Occupancy {
 
     ghost Value = { Occupied };
 
-    ghost use Rattle.std.specs.Prelude.{◌≡◌};
+    ghost use Rattle.std.specs.Prelude.{◌≡◌, [], vec_capacity};
     ghost use Rattle.bt_demand.specs.Traffic.{matrix_of};
 
-    ghost view = { λ a. record { net = a.net; links = a.demand } };
+    ghost view = { λ a. record {
+      net = a.net;
+      links = a.demand;
+      link_room = vec_capacity a.room;
+      entry_room = a.matrix.room;
+    } };
 
-    ghost invariant = { λ a. a.matrix.rows ≡ matrix_of a.net a.demand };
+    ghost invariant = { λ a. (a.matrix.rows ≡ matrix_of a.net a.demand) × (a.room.items ≡ []) };
 }
 
 impl Occupancy {
@@ -48,6 +55,7 @@ impl Occupancy {
         Ok(Occupancy {
             net: net.copy(alloc)?,
             demand: Demand::empty(alloc),
+            room: Vec::new(alloc),
             matrix: Crosslinked::new(alloc, net.beam_count())?,
         })
     }
@@ -135,103 +143,56 @@ impl Occupancy {
         self.matrix.heaviest().1
     }
 
-    /// Makes an edit. Where memory runs out all is as it was.
-    pub fn edit(&mut self, alloc: Global, edit: &Edit) -> Result<(), OutOfMemory>
+    /// Takes room for an edit, so that it takes no memory.
+    pub fn reserve(&mut self, alloc: Global) -> Result<(), OutOfMemory>
+        ensures room { OnOk result (HasRoom self.new) }
+        ensures net { self.new.net ≡ self.old.net }
+        ensures links { self.new.links ≡ self.old.links }
+    {
+        self.demand.reserve(&mut self.room)?;
+        self.matrix.reserve(alloc, 1)
+    }
+
+    /// Makes an edit, for which there is room.
+    pub fn edit(&mut self, edit: &Edit)
+        requires room { HasRoom self.old }
         requires terminals { NamesTerminals self.old.net edit.now }
         requires ends { HasEnds edit.now }
         requires held { HoldsTaken self.old.links edit.now }
         requires small { HasSumsTo MOST_SLOTS (matrix_of self.old.net self.old.links) }
-        ensures ok { OnOk result (EditsLinks self.old.links edit.now self.new.links) }
-        ensures net { self.new.net ≡ self.old.net }
-        ensures err { OnErr result (self.new.links ≡ self.old.links) }
-    {
-        self.gain_first(alloc, edit)?;
-        self.lose_then(edit);
-        Ok(())
-    }
-
-    /// The first half of an edit: what it gives. Where memory runs out all is as it was.
-    pub fn gain_first(&mut self, alloc: Global, edit: &Edit) -> Result<(), OutOfMemory>
-        requires terminals { NamesTerminals self.old.net edit.now }
-        requires ends { HasEnds edit.now }
-        requires small { HasSumsTo MOST_SLOTS (matrix_of self.old.net self.old.links) }
-        ensures ok { OnOk result (GainsFirst self.old.links edit.now self.new.links) }
-        ensures net { self.new.net ≡ self.old.net }
-        ensures err { OnErr result (self.new.links ≡ self.old.links) }
-    {
-        match *edit {
-            Edit::Add { from, to, units } => self.gain(alloc, from, to, units),
-            Edit::Drop { .. } => Ok(()),
-            Edit::Move {
-                new_from,
-                new_to,
-                units,
-                ..
-            } => self.gain(alloc, new_from, new_to, units),
-        }
-    }
-
-    /// The second half of an edit: what it takes.
-    pub fn lose_then(&mut self, edit: &Edit)
-        requires terminals { NamesTerminals self.old.net edit.now }
-        requires held { HoldsTaken self.old.links edit.now }
-        ensures loses { LosesThen self.old.links edit.now self.new.links }
+        ensures edited { EditsLinks self.old.links edit.now self.new.links }
         ensures net { self.new.net ≡ self.old.net }
     {
         match *edit {
-            Edit::Add { .. } => {}
+            Edit::Add { from, to, units } => self.gain(from, to, units),
             Edit::Drop { from, to, units } => self.lose(from, to, units),
             Edit::Move {
                 from,
                 to,
-                units,
-                ..
-            } => self.lose(from, to, units),
-        }
-    }
-
-    /// Takes back the first half of an edit.
-    pub fn take_back(&mut self, edit: &Edit)
-        requires terminals { NamesTerminals self.old.net edit.now }
-        requires held { HoldsGiven self.old.links edit.now }
-        ensures back { GainsFirst self.new.links edit.now self.old.links }
-        ensures net { self.new.net ≡ self.old.net }
-    {
-        match *edit {
-            Edit::Add { from, to, units } => self.lose(from, to, units),
-            Edit::Drop { .. } => {}
-            Edit::Move {
                 new_from,
                 new_to,
                 units,
-                ..
-            } => self.lose(new_from, new_to, units),
+            } => {
+                self.gain(new_from, new_to, units);
+                self.lose(from, to, units);
+            }
         }
     }
 
-    /// A link asks for so many slots more.
-    fn gain(
-        &mut self,
-        alloc: Global,
-        from: TermNo,
-        to: TermNo,
-        units: Units,
-    ) -> Result<(), OutOfMemory>
+    /// A link asks for so many slots more, for which there is room.
+    fn gain(&mut self, from: TermNo, to: TermNo, units: Units)
+        requires room { HasRoom self.old }
         requires sends { IsTerminal self.old.net from }
         requires receives { IsTerminal self.old.net to }
         requires differ { from.0 ≢ to.0 }
         requires small { HasSumsTo MOST_SLOTS (matrix_of self.old.net self.old.links) }
-        ensures gains { OnOk result (Gains self.old.links self.new.links from to units) }
+        ensures gains { Gains self.old.links self.new.links from to units }
         ensures net { self.new.net ≡ self.old.net }
-        ensures err { OnErr result (self.new.links ≡ self.old.links) }
     {
         let (up, down) = (self.net.beam_of(from), self.net.beam_of(to));
         let slots = units.get();
-        // What may want memory comes first: behind it nothing fails, so that all stays as it was or all changes.
-        self.matrix.reserve(alloc, 1)?;
-        self.demand.add(alloc, from, to, slots)?;
+        self.demand.add_reserved(&mut self.room, from, to, slots);
         self.matrix.add(up, down, slots);
-        Ok(())
     }
 
     /// A link asks for so many slots less.

@@ -1,6 +1,6 @@
 // The lines of deliveries.
 ghost use Rattle.std.specs.Prelude.{◌≡◌, ◌++◌, OnOk, OnErr};
-ghost use Rattle.bt_timeline.specs.Air.{IsPlaceOf, answer_name, got_line, heard_name, not_sent_line, place_name, taken_name};
+ghost use Rattle.bt_timeline.specs.Air.{IsPlaceOf, answer_name, got_line, heard_name, not_sent_line, place_name, taken_name, waiting_line};
 ghost use Rattle.bt_words.specs.Lines.{word_bytes};
 
 use bt_air::{Answer, Heard, Place, Taken};
@@ -41,6 +41,26 @@ pub fn not_sent_text(alloc: Global, number: u32, out: &mut Vec<u8>) -> Result<()
         Word::number(number),
         Word::Text("not"),
         Word::Text("sent"),
+    ];
+    add_line(alloc, &words, out)
+}
+
+/// Appends the line of a delivery that is to come: of the message of that number, at a place.
+pub fn waiting_text(
+    alloc: Global,
+    net: &Network,
+    number: u32,
+    place: Place,
+    out: &mut Vec<u8>,
+) -> Result<(), OutOfMemory>
+    requires place { IsPlaceOf net.now place }
+    ensures added { OnOk result (out.new.items ≡ out.old.items ++ waiting_line net.now (number, place)) }
+    ensures unchanged { OnErr result (out.new.items ≡ out.old.items) }
+{
+    let words = [
+        Word::Text("waiting"),
+        Word::number(number),
+        place_word(net, place),
     ];
     add_line(alloc, &words, out)
 }

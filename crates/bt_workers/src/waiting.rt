@@ -1,15 +1,19 @@
 // The messages on their way.
-ghost use Rattle.std.specs.Prelude.{◌≡◌, ◌≤◌, ◌++◌, ◌∷◌, [], drop, length, map, slice_get, take, OnErr, OnOk};
+ghost use Rattle.std.specs.Prelude.{◌≡◌, ◌≤◌, ◌++◌, ◌∷◌, [], ℕ, drop, length, map, slice_get, take, All, OnErr, OnOk};
 ghost use Rattle.bt_frame.specs.declared.numbers.TermNo.{TermNo};
+ghost use Rattle.bt_air.specs.declared.sent.Place.{Place};
 ghost use Rattle.bt_air.specs.declared.sent.Place.TheVariants.{Terminal};
 ghost use Rattle.bt_world.specs.Life.{past_of};
 ghost use Rattle.bt_events.specs.World.{sent};
+ghost use Rattle.bt_timeline.specs.Air.{IsPlaceOf, waiting_lines};
 ghost use Rattle.bt_workers.specs.Waiting.{deliveries, deliveries_of, is_same_place, left_of, loses, lost_of, receivers};
 ghost use Rattle.bt_workers.specs.Worker.{Begins, numbered};
 
 use bt_air::{Place, Sent};
 use bt_frame::{OutOfMemory, TermNo};
+use bt_net::Network;
 use bt_script::Losing;
+use bt_timeline::waiting_text;
 use bt_world::World;
 use std::alloc::Global;
 use std::collections::VecDeque;
@@ -123,6 +127,23 @@ impl Waiting {
         ensures { self.new ≡ take count self.old }
     {
         self.deliveries.truncate(count);
+    }
+
+    /// Appends the line of each delivery that is to come, in order.
+    pub(crate) fn tell(
+        &self,
+        alloc: Global,
+        net: &Network,
+        text: &mut Vec<u8>,
+    ) -> Result<(), OutOfMemory>
+        requires places { All (λ (delivery : ℕ × Place). IsPlaceOf net.now delivery.1) self.now }
+        ensures { OnOk result (text.new.items ≡ text.old.items ++ waiting_lines net.now self.now) }
+    {
+        for at in 0..self.deliveries.len() {
+            let (number, place) = self.deliveries[at];
+            waiting_text(alloc, net, number, place, text)?;
+        }
+        Ok(())
     }
 
     /// A message is to be heard at a place.

@@ -5,6 +5,7 @@ ghost use Rattle.bt_events.specs.Fits.{IsWorld, Meets};
 ghost use Rattle.bt_world.specs.Life.{past_of};
 ghost use Rattle.bt_world.specs.Shown.{IsShown};
 ghost use Rattle.bt_events.specs.World.{sent, wanted};
+ghost use Rattle.bt_timeline.specs.Air.{waiting_lines};
 ghost use Rattle.bt_workers.specs.AirLines.{AirState, happened, having, mark_of, newest_in, orders_in, restarting, sent_count, sent_in, sent_lines, target_of};
 ghost use Rattle.bt_workers.specs.Worker.{IsPlanned, IsRunning, NamesOwn};
 
@@ -93,6 +94,16 @@ impl CentreWorker {
         ensures { result ≡ length self.now.waiting }
     {
         self.waiting.len()
+    }
+
+    /// The lines of the deliveries that are still to come, in order.
+    pub fn waiting_text(&self, alloc: Global, net: &Network) -> Result<Vec<u8>, OutOfMemory>
+        requires network { self.now.life.opening.net ≡ net.now }
+        ensures text { IfOk result (λ text. text.items ≡ waiting_lines net.now self.now.waiting) }
+    {
+        let mut text = Vec::new(alloc);
+        self.waiting.tell(alloc, net, &mut text)?;
+        Ok(text)
     }
 
     /// The events, the first first.

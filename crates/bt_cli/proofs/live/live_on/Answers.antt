@@ -23,10 +23,10 @@ returns-in-Err g c =
     record {
       ends = inl (
         record {
-          histories = c.without_run.ensures.histories;
-          events = c.without_run.ensures.events;
-          store = record { bytes = ap g.K.Keeper.told c.without_run.ensures.store; faults = ap g.K.Keeper.fault_count c.without_run.ensures.store };
+          histories = c.unbegun.ensures.histories;
+          events = c.unbegun.ensures.events;
+          store = record { bytes = ap g.K.Keeper.told c.unbegun.ensures.store; faults = ap g.K.Keeper.fault_count c.unbegun.ensures.store };
         },
-        subst P (sym c.without_run.ensures.status) (said_stop talk (StopsAtLoad network_file (g.F.Files.told c.args.files.now) failed c.args.net.now) c.in-Err.stop _ c.in-Err.ensures.stops c.say_stop.ensures.said),
+        subst P (sym c.unbegun.ensures.status) (said_stop talk (StopsAtLoad network_file (g.F.Files.told c.args.files.now) failed c.args.net.now) c.in-Err.stop _ c.in-Err.ensures.stops c.say_stop.ensures.said),
       );
     }

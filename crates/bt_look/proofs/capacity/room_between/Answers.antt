@@ -1,4 +1,4 @@
-use Rattle.std.proofs.Common.{◌<◌, min, if◌then◌else◌, Bool, length, ap, ◌∙◌, arith}
+use Rattle.std.proofs.Common.{min, if◌then◌else◌, Bool, ap, ◌∙◌}
 use Rattle.bt_look.specs.Room.{free_down, free_up}
 use Rattle.bt_look.proofs.capacity.room_between.Goals as goal
 

@@ -1,4 +1,4 @@
-use Rattle.std.proofs.Common.{◌≡◌, ◌<◌, length, sym, ◌∙◌, arith}
+use Rattle.std.proofs.Common.{◌<◌, length, sym, ◌∙◌, arith}
 use Rattle.bt_look.proofs.Ends.{counted_no, counted_yes}
 use Rattle.bt_look.proofs.capacity.terminals_in.Goals as goal
 use Rattle.bt_look.proofs.capacity.terminals_in.Goals.{then-eq, else-eq}

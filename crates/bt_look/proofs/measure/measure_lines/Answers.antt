@@ -1,4 +1,4 @@
-use Rattle.std.proofs.Common.{◌≡◌, ◌+◌, length, arith}
+use Rattle.std.proofs.Common.{arith}
 use Rattle.bt_text.specs.Text.{is_word}
 use Rattle.bt_look.proofs.Told.{line_at_most, line_fits, rest_at_start, rest_next, unmarked-next}
 use Rattle.bt_look.proofs.measure.measure_lines.Goals as goal

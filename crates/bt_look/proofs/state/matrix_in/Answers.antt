@@ -10,7 +10,7 @@ use Rattle.bt_look.proofs.state.matrix_in.Goals as goal
 
 -- the demand fits the frame
 pub traffic_of-requires-clause-sums : goal.traffic_of-requires-clause-sums
-traffic_of-requires-clause-sums c =
+traffic_of-requires-clause-sums g c =
     let net = c.args.net.now in
     let changes = c.args.book.now.state.changes in
     let links = c.demand.result.now in
@@ -19,7 +19,7 @@ traffic_of-requires-clause-sums c =
 
 -- and its matrix is that after the changes
 pub returns-clause-matrix : goal.returns-clause-matrix
-returns-clause-matrix c =
+returns-clause-matrix g c =
     let net = c.args.net.now in
     let changes = c.args.book.now.state.changes in
     let links = c.demand.result.now in
@@ -29,7 +29,7 @@ returns-clause-matrix c =
 
 -- a row for each beam
 pub returns-clause-beams : goal.returns-clause-beams
-returns-clause-beams c =
+returns-clause-beams g c =
     let net = c.args.net.now in
     let links = c.demand.result.now in
     IfOk-weaker c.traffic_of.result (λ m. m ≡ matrix_of net links) (λ m. length m ≡ length net.beams)

@@ -5,13 +5,13 @@ use Rattle.bt_book.proofs.machine.Machine.order_count.Goals as goal
 -- there are no more than changes
 pub overflow_cast-result : goal.overflow_cast-result
 overflow_cast-result c =
-    let few = few_orders _ _ c.self.inside.count c.self.inside.edits c.self.inside.bytes (length c.as_slice.result.now) c.self.inside.plans.items c.self.inside.orders.items
-    (ap length c.as_slice.ensures.value) c.self.invariant.1 c.self.invariant.2 in
+    let few = few_orders _ _ c.self.inside.kept.count c.self.inside.kept.edits c.self.inside.kept.bytes (length c.as_slice.result.now) c.self.inside.kept.plans.items c.self.inside.kept.orders.items
+    (ap length c.as_slice.ensures.value) c.self.invariant.counts c.self.invariant.lists in
     omega (arith, few)
 
 -- each of which has a byte at least
 pub returns-clause-few : goal.returns-clause-few
 returns-clause-few c =
-    let few = few_orders _ _ c.self.inside.count c.self.inside.edits c.self.inside.bytes (length c.as_slice.result.now) c.self.inside.plans.items c.self.inside.orders.items
-    (ap length c.as_slice.ensures.value) c.self.invariant.1 c.self.invariant.2 in
+    let few = few_orders _ _ c.self.inside.kept.count c.self.inside.kept.edits c.self.inside.kept.bytes (length c.as_slice.result.now) c.self.inside.kept.plans.items c.self.inside.kept.orders.items
+    (ap length c.as_slice.ensures.value) c.self.invariant.counts c.self.invariant.lists in
     omega (arith, few)

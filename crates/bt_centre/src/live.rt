@@ -1,0 +1,272 @@
+// The run of a session: between its lines the book hands its entries over, so that no bytes of them are kept.
+ghost use Rattle.std.specs.Prelude.{◌≡◌, ◌<◌, ◌++◌, ◌∷◌, [], length, IfErr, IfOk, OnOk};
+ghost use Rattle.bt_history.specs.Causes.{Follows};
+ghost use Rattle.bt_script.specs.Named.{IsItemFor, IsRoundFor};
+ghost use Rattle.bt_script.specs.declared.script.Item.TheVariants as item;
+ghost use Rattle.bt_talk.specs.Block.{IsStepFor};
+ghost use Rattle.bt_centre.specs.Answering.{StepFailed, StepPlayed};
+ghost use Rattle.bt_centre.specs.Handed.{with_front};
+ghost use Rattle.bt_centre.specs.Lines.{total_of};
+ghost use Rattle.bt_centre.specs.Progress.{IsLeftEarly, IsLeftOf, ItemFailed, ItemPlayed, RestartPlayed, RoundPlayed};
+ghost use Rattle.bt_centre.specs.Run.{entries_of, has_lost};
+ghost use Rattle.bt_centre.specs.Whole.{whole, whole_left};
+ghost use Rattle.bt_centre.specs.declared.history.History.{History};
+
+use crate::log::Log;
+use crate::play::play_round;
+use crate::playing::{Playing, Remains, take_only};
+use crate::restart::play_restart;
+use crate::tally::Tally;
+use crate::{SessionEnd, SessionHistories};
+use bt_air::Event;
+use bt_book::RecoverFault;
+use bt_frame::OutOfMemory;
+use bt_journal::Entries;
+use bt_net::Network;
+use bt_outside::Keeper;
+use bt_script::{Item, Round};
+use bt_talk::Step;
+use bt_workers::Gate;
+use std::alloc::Global;
+use std::marker::Model;
+use std::sync::Wait;
+use std::thread::Threads;
+
+/// A run whose entries are handed over between its lines. What it has in hand is that of a run which keeps all of them.
+pub(crate) struct Live<K: Keeper> {
+    pub(crate) run: Playing<K>,
+    log: Log,
+}
+
+impl<K: Keeper> Model for Live<K> {
+    ghost use Rattle.bt_centre.specs.Progress.{Hand};
+    ghost use Rattle.bt_centre.specs.Whole.{IsLive, whole};
+
+    ghost Value = { Hand };
+
+    ghost view = { λ a. whole a.log.times a.log.front a.run };
+
+    ghost invariant = { λ a. IsLive a.log.front a.run };
+}
+
+/// What is left of it: the store, the histories of all times with their tally, and the events.
+#[derive(Drop)]
+pub(crate) struct LiveRemains<K: Keeper> {
+    store: K,
+    histories: SessionHistories,
+    tally: Tally,
+    events: Vec<Event>,
+}
+
+impl<K: Keeper> Model for LiveRemains<K> {
+    ghost use Rattle.bt_centre.specs.Handed.{IsTally};
+    ghost use Rattle.bt_centre.specs.Progress.{Left};
+    ghost use Rattle.bt_centre.specs.Run.{entries_of};
+
+    ghost Value = { Left };
+
+    ghost view = { λ a. record {
+      told = K.told a.store;
+      faults = K.fault_count a.store;
+      histories = a.histories;
+      events = a.events.items;
+    } };
+
+    ghost invariant = { λ a. IsTally (entries_of a.histories) a.tally };
+}
+
+impl<K: Keeper> Live<K> {
+    /// A run in its first time, before the first entry.
+    pub(crate) fn new(run: Playing<K>) -> Live<K>
+        requires over { run.over ≡ [] }
+        requires none { run.book.history ≡ [] }
+        ensures same { result ≡ run }
+    {
+        Live {
+            run,
+            log: Log::new(),
+        }
+    }
+
+    /// The run stops here.
+    pub(crate) fn stop<R: Threads + Wait + Sync>(self, rt: &R) -> LiveRemains<K>
+        ensures { IsLeftOf self result }
+    {
+        let Live { run, log } = self;
+        left_behind(run.stop(rt), log)
+    }
+
+    /// The book hands its entries over, where its store has not failed.
+    fn hand_over(&mut self, alloc: Global)
+        ensures same { self.new ≡ self.old }
+    {
+        let entries = Entries::of(self.run.take_entries(alloc));
+        self.log.add(&entries);
+    }
+}
+
+/// What is left behind what was handed over.
+fn left_behind<K: Keeper>(remains: Remains<K>, log: Log) -> LiveRemains<K>
+    requires one { length remains.histories ≡ 1 }
+    ensures { result ≡ whole_left log.times log.front remains }
+{
+    let Remains {
+        store,
+        mut histories,
+        events,
+    } = remains;
+    let (histories, tally) = log.stop(&take_only(&mut histories));
+    LiveRemains {
+        store,
+        histories,
+        tally,
+        events,
+    }
+}
+
+impl<K: Keeper> LiveRemains<K> {
+    /// The end of a session, with its status.
+    pub(crate) fn end(self, status: u8) -> SessionEnd<K>
+        ensures status { result.status ≡ status }
+        ensures told { K.told result.store ≡ self.told }
+        ensures faults { K.fault_count result.store ≡ self.faults }
+        ensures histories { result.histories ≡ self.histories }
+        ensures events { result.events.items ≡ self.events }
+    {
+        let LiveRemains {
+            store,
+            histories,
+            tally: _,
+            events,
+        } = self;
+        SessionEnd {
+            status,
+            store,
+            histories,
+            events,
+        }
+    }
+
+    /// Appends the last line of a session.
+    pub(crate) fn add_total(&self, alloc: Global, text: &mut Vec<u8>) -> Result<(), OutOfMemory>
+        ensures total { OnOk result (text.new.items ≡ text.old.items ++ total_of (entries_of self.now.histories)) }
+    {
+        self.tally.add_total(alloc, text)
+    }
+
+    /// The store failed over a change.
+    pub(crate) fn has_lost(&self) -> bool
+        ensures lost { result ≡ has_lost self.now.histories }
+    {
+        self.tally.lost
+    }
+}
+
+/// Plays what a line comes to, and gives its text; or what is left of the run, where memory runs out or the recovery at a
+/// restart fails.
+pub(crate) fn play_step<R: Threads + Wait + Sync, G: Gate + Sync, K: Keeper + Send>(
+    rt: &R,
+    alloc: Global,
+    net: &Network,
+    gate: &G,
+    step: &Step,
+    live: Live<K>,
+) -> Result<(Live<K>, Vec<u8>), (LiveRemains<K>, RecoverFault)>
+    requires few { live.rounds < 9223372036854775808 }
+    requires network { live.book.net ≡ net.now }
+    requires air_network { live.air.life.opening.net ≡ net.now }
+    requires terminals { IsStepFor net.now step.now }
+    requires follow { Follows net.now live.book.state.changes }
+    ensures played { IfOk result (λ on. StepPlayed net.now step.now live on.0 on.1.items) }
+    ensures failed { IfErr result (λ end. StepFailed net.now step.now live end.0 end.1) }
+{
+    match step {
+        Step::Plays(item) => live_item(rt, alloc, net, gate, item, live),
+        Step::Nothing | Step::Fault(_) => Ok((live, Vec::new(alloc))),
+    }
+}
+
+/// Plays a round or a restart, and gives its text; or what is left of the run.
+fn live_item<R: Threads + Wait + Sync, G: Gate + Sync, K: Keeper + Send>(
+    rt: &R,
+    alloc: Global,
+    net: &Network,
+    gate: &G,
+    item: &Item,
+    live: Live<K>,
+) -> Result<(Live<K>, Vec<u8>), (LiveRemains<K>, RecoverFault)>
+    requires few { live.rounds < 9223372036854775808 }
+    requires network { live.book.net ≡ net.now }
+    requires air_network { live.air.life.opening.net ≡ net.now }
+    requires terminals { IsItemFor net.now item.now }
+    requires follow { Follows net.now live.book.state.changes }
+    ensures played { IfOk result (λ on. ItemPlayed net.now item.now live on.0 on.1.items) }
+    ensures failed { IfErr result (λ end. ItemFailed net.now item.now live end.0 end.1) }
+{
+    match item {
+        Item::Round(round) => match live_round(rt, alloc, net, gate, round, live) {
+            Ok(on) => Ok(on),
+            Err(remains) => Err((remains, RecoverFault::OutOfMemory)),
+        },
+        Item::Restart => live_restart(rt, alloc, net, live),
+    }
+}
+
+/// Plays a round, and gives its text; or what is left of the run, where memory runs out.
+fn live_round<R: Threads + Wait + Sync, G: Gate + Sync, K: Keeper + Send>(
+    rt: &R,
+    alloc: Global,
+    net: &Network,
+    gate: &G,
+    round: &Round,
+    live: Live<K>,
+) -> Result<(Live<K>, Vec<u8>), LiveRemains<K>>
+    requires few { live.rounds < 9223372036854775808 }
+    requires network { live.book.net ≡ net.now }
+    requires air_network { live.air.life.opening.net ≡ net.now }
+    requires terminals { IsRoundFor net.now round.now }
+    requires follow { Follows net.now live.book.state.changes }
+    ensures played { IfOk result (λ on. RoundPlayed net.now round.now live on.0 on.1.items) }
+    ensures failed { IfErr result (λ remains. IsLeftEarly live remains) }
+{
+    let Live { run, log } = live;
+    match play_round(rt, alloc, net, gate, round, run) {
+        Ok((next, text)) => {
+            let mut on = Live { run: next, log };
+            on.hand_over(alloc);
+            Ok((on, text))
+        }
+        Err(remains) => Err(left_behind(remains, log)),
+    }
+}
+
+/// The time is over, and the centre restarts. Gives the text of it; or what is left of the run, where memory runs out or the
+/// recovery fails.
+fn live_restart<R: Threads + Wait + Sync, K: Keeper>(
+    rt: &R,
+    alloc: Global,
+    net: &Network,
+    live: Live<K>,
+) -> Result<(Live<K>, Vec<u8>), (LiveRemains<K>, RecoverFault)>
+    requires network { live.book.net ≡ net.now }
+    requires air_network { live.air.life.opening.net ≡ net.now }
+    requires follow { Follows net.now live.book.state.changes }
+    ensures played { IfOk result (λ on. RestartPlayed net.now live on.0 on.1.items) }
+    ensures failed { IfErr result (λ end. ItemFailed net.now item.Restart live end.0 end.1) }
+{
+    let Live { run, log } = live;
+    match play_restart(rt, alloc, net, run) {
+        Ok((next, text)) => Ok((begun_again(next, log), text)),
+        Err((remains, fault)) => Err((left_behind(remains, log), fault)),
+    }
+}
+
+/// The run behind a restart: the time that is over goes into the log.
+fn begun_again<K: Keeper>(mut run: Playing<K>, mut log: Log) -> Live<K>
+    requires one { length run.over ≡ 1 }
+    requires none { run.book.history ≡ [] }
+    ensures { (past : History) → run.over ≡ past ∷ [] → result ≡ whole (log.times ++ with_front log.front past ∷ []) [] run }
+{
+    log.end_time(&run.take_time());
+    Live { run, log }
+}
