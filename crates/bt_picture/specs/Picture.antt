@@ -2,7 +2,7 @@
 use Rattle.std.specs.Prelude.{ℕ, ◌%◌, ◌/◌, ◌++◌, List, [], ◌∷◌, codes, decimal, flat_map}
 use Rattle.bt_words.specs.declared.line.Word.{Word}
 use Rattle.bt_words.specs.Lines.{word_bytes}
-use Rattle.bt_picture.specs.declared.style.TheConstants.{FILLS}
+use Rattle.bt_picture.specs.declared.style.TheConstants.{FILLS, TINTS}
 use Rattle.bt_picture.specs.declared.shape.TheConstants.{TWIPS}
 use Rattle.bt_picture.specs.declared.style.Style.{Style}
 use Rattle.bt_picture.specs.declared.style.Style.TheVariants as style
@@ -45,13 +45,17 @@ drawn (code_shape.Label at held look words) = Label at held look (words_text wor
 drawn (code_shape.Cross at size look) = Cross at size look
 drawn (code_shape.Dot at radius look) = Dot at radius look
 
--- the class of a style, without the number of a fill
+-- the class of a style, without the number of a fill or a tint
 abbrev pub class_name : Style → List ℕ
 class_name (style.Fill number) = codes "f"
+class_name (style.Tint number) = codes "t"
 class_name style.Lane = codes "lane"
 class_name style.Heavy = codes "heavy"
+class_name style.Free = codes "free"
 class_name style.Band = codes "band"
 class_name style.Shade = codes "shade"
+class_name style.Plate = codes "plate"
+class_name style.Mark = codes "mark"
 class_name style.Edge = codes "edge"
 class_name style.Fault = codes "fault"
 class_name style.Thin = codes "thin"
@@ -61,11 +65,11 @@ class_name style.Title = codes "title"
 class_name style.Head = codes "head"
 class_name style.Text = codes "text"
 class_name style.Small = codes "small"
-class_name style.Light = codes "light"
 
--- the number behind it: that of a fill, and else nothing
+-- the number behind it: that of a fill or a tint, and else nothing
 abbrev pub class_number : Style → List ℕ
 class_number (style.Fill number) = decimal (number % FILLS)
+class_number (style.Tint number) = decimal (number % TINTS)
 class_number _ = []
 
 -- the class of a style

@@ -21,5 +21,5 @@ pub use drawing::{Drawing, Drawn, Label, Pen, place, rectangle};
 pub use pen_writer::write_picture;
 pub use shape::{Anchor, Point, Rect, Shape, TWIPS};
 pub use sheet::SHEET;
-pub use style::{FILLS, Style};
+pub use style::{FILLS, Style, TINTS};
 pub use writer::{write_alone, write_foot, write_head, write_titled};

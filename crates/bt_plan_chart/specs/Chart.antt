@@ -89,13 +89,17 @@ abbrev pub tick_part : ℕ → ℕ → Part
 tick_part slot x = Titled (text_of (codes "slot " ∷ decimal slot ∷ []))
     (Line (at x 1400) (at x 1520) style.Line ∷ Label (at x 1340) Middle style.Text (text_of (decimal slot ∷ [])) ∷ [])
 
--- the tick there, unless it is past the slots that are shown
-abbrev pub tick_parts : Scale → ℕ → List Part
-tick_parts scale slot = if nat_le slot scale.span then tick_part slot (x_of scale slot) ∷ [] else []
+-- whether a slot has a tick: it is not past those that are shown, and more than half a step from the end of the frame
+abbrev pub has_tick : Scale → ℕ → ℕ → Bool
+has_tick scale step slot = nat_le slot scale.span && (nat_lt (slot + step / 2) scale.frame || nat_lt (scale.frame + step / 2) slot)
 
--- ticks with so many slots from one to the next, and those of a scale
+-- the tick there, where it has one
+abbrev pub tick_parts : Scale → ℕ → ℕ → List Part
+tick_parts scale step slot = if has_tick scale step slot then tick_part slot (x_of scale slot) ∷ [] else []
+
+-- ticks with so many slots from one to the next, and one at the end of the frame; those of a scale
 abbrev pub ticks_parts : Scale → ℕ → List Part
-ticks_parts scale step = flat_map (λ tick. tick_parts scale (tick * step)) (range_with_len 0 TICKS)
+ticks_parts scale step = flat_map (λ tick. tick_parts scale step (tick * step)) (range_with_len 0 TICKS) ++ tick_part scale.frame (x_of scale scale.frame) ∷ []
 
 abbrev pub ruler_parts : Scale → List Part
 ruler_parts scale = ticks_parts scale (step_of scale.span)
@@ -161,16 +165,16 @@ lane_letters false = style.Text
 abbrev pub name_letters : Bool → ℕ → Style
 name_letters heavy letters = if nat_lt 11 letters then style.Small else lane_letters heavy
 
--- a lane: its box, its name on the left, and how full it is on the right
-abbrev pub lane_part : Direction → List ℕ → ℕ → ℕ → Bool → Rect → ℕ → Part
-lane_part direction name slots whole heavy lane right = Titled (text_of (direction_name direction ∷ codes " " ∷ name ∷ codes ": " ∷ decimal slots ∷ codes " of " ∷ decimal whole ∷ counted whole (codes " slot") (codes " slots") ∷ []))
-    (Rectangle lane (lane_style heavy) ∷ Label (at 1560 (lane.y + 320)) End (name_letters heavy (length name)) (text_of (name ∷ []))
+-- a lane: the rest of the frame, its box, its name on the left, and how full it is on the right
+abbrev pub lane_part : Direction → List ℕ → ℕ → ℕ → Bool → Rect → Rect → ℕ → Part
+lane_part direction name slots whole heavy lane rest right = Titled (text_of (direction_name direction ∷ codes " " ∷ name ∷ codes ": " ∷ decimal slots ∷ codes " of " ∷ decimal whole ∷ counted whole (codes " slot") (codes " slots") ∷ []))
+    (Rectangle rest style.Free ∷ Rectangle lane (lane_style heavy) ∷ Label (at 1560 (lane.y + 320)) End (name_letters heavy (length name)) (text_of (name ∷ []))
     ∷ Label (at right (lane.y + 320)) Start (lane_letters heavy) (text_of (decimal slots ∷ codes "/" ∷ decimal whole ∷ [])) ∷ [])
 
 -- the lane of a beam
 abbrev pub lane_part_at : Net → Scale → Plan → Direction → ℕ → Part
 lane_part_at net scale plan direction beam = lane_part direction (name_of_beam net beam) (slots_in_lane net direction plan.bursts beam) scale.length
-    (is_critical plan.schedule.critical direction beam) (slots_box scale direction beam 0 scale.length) (x_of scale scale.span + 160)
+    (is_critical plan.schedule.critical direction beam) (slots_box scale direction beam 0 scale.length) (slots_box scale direction beam scale.length (scale.frame - scale.length)) (x_of scale scale.span + 160)
 
 -- what stands over the lanes of a direction, and the lanes
 abbrev pub lanes_head : Scale → Direction → Part
@@ -189,18 +193,14 @@ burst_title from to start slots = if slots == 1
 abbrev pub has_room : ℕ → List ℕ → List ℕ → Bool
 has_room width from to = nat_lt (length from) (width / 260) && nat_lt (length to) (width / 260)
 
--- letters on a fill: light ones where it is green, blue, vermilion or black
-abbrev pub letters_on : ℕ → Style
-letters_on fill = if (fill % 8 == 2 || fill % 8 == 4) || (fill % 8 == 5 || fill % 8 == 7) then style.Light else style.Text
-
 -- the names of a burst in one of its boxes
-abbrev pub names_in : Rect → ℕ → List ℕ → List ℕ → Shape
-names_in box fill from to = Label (at (box.x + box.width / 2) (box.y + 320)) Middle (letters_on fill) (text_of (from ∷ ARROW.now ∷ to ∷ []))
+abbrev pub names_in : Rect → List ℕ → List ℕ → Shape
+names_in box from to = Label (at (box.x + box.width / 2) (box.y + 320)) Middle style.Text (text_of (from ∷ ARROW.now ∷ to ∷ []))
 
 -- the two boxes of a burst, each with the fill of the beam at the other end, and the names where there is room
 abbrev pub burst_shapes : Rect → Rect → ℕ → ℕ → List ℕ → List ℕ → List Shape
 burst_shapes up down up_beam down_beam from to = Rectangle up (style.Fill down_beam) ∷ Rectangle down (style.Fill up_beam)
-    ∷ (if has_room up.width from to then names_in up down_beam from to ∷ names_in down up_beam from to ∷ [] else [])
+    ∷ (if has_room up.width from to then names_in up from to ∷ names_in down from to ∷ [] else [])
 
 -- a burst between two beams
 abbrev pub burst_part : Scale → Burst → ℕ → List ℕ → ℕ → List ℕ → Part
@@ -231,7 +231,7 @@ item_part top place look name = Titled (text_of (name ∷ []))
     (Rectangle (record { x = LEFT + place % 7 * 2400; y = top + place / 7 * 440; width = 280; height = 280 }) look
     ∷ Label (at (LEFT + place % 7 * 2400 + 380) (top + place / 7 * 440 + 230)) Start (item_letters (length name)) (text_of (name ∷ [])) ∷ [])
 
--- what stands beside the legend, the fill of a beam, and what a lane looks like where it is silent
+-- what stands beside the legend, the fill of a beam, and what a lane looks like where it is silent and behind the plan
 abbrev pub legend_head : Scale → Part
 legend_head scale = Alone (Label (at 1560 (legend_top scale + 230)) End style.Text (text_of (codes "other beam" ∷ [])))
 
@@ -241,8 +241,11 @@ fill_part_at net scale beam = item_part (legend_top scale) beam (style.Fill beam
 abbrev pub silent_part : Scale → Part
 silent_part scale = item_part (legend_top scale) scale.beams style.Lane (codes "silent")
 
+abbrev pub free_part : Scale → Part
+free_part scale = item_part (legend_top scale) (scale.beams + 1) style.Free (codes "free")
+
 abbrev pub legend_parts : Net → Scale → List Part
-legend_parts net scale = legend_head scale ∷ map (fill_part_at net scale) (range_with_len 0 scale.beams) ++ silent_part scale ∷ []
+legend_parts net scale = legend_head scale ∷ map (fill_part_at net scale) (range_with_len 0 scale.beams) ++ silent_part scale ∷ free_part scale ∷ []
 
 -- all parts, each of which lies over those before it
 abbrev pub chart_parts : Net → Scale → Plan → List Part

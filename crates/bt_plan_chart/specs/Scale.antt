@@ -28,7 +28,7 @@ beam_number net terminal = unwrap_or (option_map (λ (beam : BeamNo). beam.0) (b
 abbrev pub end_of : Burst → ℕ
 end_of burst = burst.start + burst.length
 
--- the slots that are shown: the greatest of the length, the ends of all bursts, and 1
+-- the greatest of so many slots, the ends of all bursts, and 1
 abbrev pub span_of : ℕ → List Burst → ℕ
 span_of slots bursts = fold (λ span burst. max span (end_of burst)) (max slots 1) bursts
 
@@ -36,14 +36,15 @@ span_of slots bursts = fold (λ span burst. max span (end_of burst)) (max slots 
 abbrev pub unit_of : ℕ → ℕ
 unit_of span = max 1 (ROOM / span)
 
--- what the places in the picture of a plan depend on
+-- what the places in the picture of a plan depend on: shown are the slots of a frame, of the plan, and of its bursts
 abbrev pub scale_of : Net → Plan → Scale
-scale_of net plan = let span = span_of plan.schedule.length plan.bursts in record { beams = length net.beams; length = plan.schedule.length; span = span; unit = unit_of span }
+scale_of net plan = let span = span_of (max net.slots plan.schedule.length) plan.bursts in record { beams = length net.beams; length = plan.schedule.length; frame = net.slots; span = span; unit = unit_of span }
 
 -- what holds of the scale of every plan
 pub record IsScale (scale : Scale) : Type 0 where
   pub beams : scale.beams ≤ MOST_BEAMS
   pub length : scale.length ≤ scale.span
+  pub frame : scale.frame ≤ scale.span
   pub span : scale.span ≤ 2 ^ 33
   pub unit : scale.unit ≤ ROOM
 
@@ -69,7 +70,7 @@ abbrev pub legend_top : Scale → ℕ
 legend_top scale = lane_top scale Down scale.beams + 260
 
 abbrev pub height_of : Scale → ℕ
-height_of scale = legend_top scale + (scale.beams / 7 + 1) * 440 + 160
+height_of scale = legend_top scale + ((scale.beams + 1) / 7 + 1) * 440 + 160
 
 -- how wide a picture is
 abbrev pub width_of : Scale → ℕ

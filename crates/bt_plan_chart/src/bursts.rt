@@ -4,7 +4,7 @@ ghost use Rattle.bt_frame.specs.declared.limits.TheConstants.{MOST_BEAMS};
 ghost use Rattle.bt_demand.specs.Apart.{AreBetweenTerminals};
 ghost use Rattle.bt_net.specs.Terminals.{name_at, IsTerminal};
 ghost use Rattle.bt_picture.specs.Picture.{words_text, Titled};
-ghost use Rattle.bt_plan_chart.specs.Chart.{burst_part, burst_part_of, burst_shapes, has_room, letters_on, overrun_part, overrun_parts};
+ghost use Rattle.bt_plan_chart.specs.Chart.{burst_part, burst_part_of, burst_shapes, has_room, overrun_part, overrun_parts};
 ghost use Rattle.bt_plan_chart.specs.Parts.{parts_text};
 ghost use Rattle.bt_plan_chart.specs.Scale.{beam_number, IsScale};
 
@@ -159,8 +159,8 @@ fn add_boxes<'a>(
             x: down.x + down.width / 2,
             y: down.y + 320,
         };
-        let up_names = Shape::Label(up_at, Anchor::Middle, letters_on(to.beam), &words);
-        let down_names = Shape::Label(down_at, Anchor::Middle, letters_on(from.beam), &words);
+        let up_names = Shape::Label(up_at, Anchor::Middle, Style::Text, &words);
+        let down_names = Shape::Label(down_at, Anchor::Middle, Style::Text, &words);
         add_titled(alloc, title, &[up_box, down_box, up_names, down_names], out)
     } else {
         add_titled(alloc, title, &[up_box, down_box], out)
@@ -172,18 +172,6 @@ fn has_room(width: u64, from: &str, to: &str) -> bool
     ensures { result ≡ has_room width from.now to.now }
 {
     (from.len() as u64) < width / 260 && (to.len() as u64) < width / 260
-}
-
-/// How letters look on a fill.
-fn letters_on(fill: u8) -> Style
-    ensures { result ≡ letters_on fill }
-{
-    let colour = fill % 8;
-    if colour == 2 || colour == 4 || (colour == 5 || colour == 7) {
-        Style::Light
-    } else {
-        Style::Text
-    }
 }
 
 /// Appends the marks of all bursts that run past the length.

@@ -1,9 +1,9 @@
 // What stands over the lanes: the heading and the ruler.
-ghost use Rattle.std.specs.Prelude.{◌≡◌, ◌++◌, ◌*◌, ◌≤◌, ◌<◌, ◌^◌, [], ◌∷◌, length, OnOk};
+ghost use Rattle.std.specs.Prelude.{◌≡◌, ◌++◌, ◌*◌, ◌≤◌, ◌<◌, ◌^◌, true, [], ◌∷◌, length, OnOk};
 ghost use Rattle.bt_frame.specs.Critical.{IsOfBeams};
-ghost use Rattle.bt_plan_chart.specs.Chart.{counted, counts_part, critical_beam, critical_direction, direction_name, heading_parts, name_of_beam, ruler_parts, step_among, step_of, tick_part, tick_parts, ticks_parts, title_part};
+ghost use Rattle.bt_plan_chart.specs.Chart.{counted, counts_part, critical_beam, critical_direction, direction_name, has_tick, heading_parts, name_of_beam, ruler_parts, step_among, step_of, tick_part, tick_parts, ticks_parts, title_part};
 ghost use Rattle.bt_plan_chart.specs.Parts.{parts_text};
-ghost use Rattle.bt_plan_chart.specs.Scale.{IsScale};
+ghost use Rattle.bt_plan_chart.specs.Scale.{IsScale, x_of};
 
 use crate::part::{add_alone, add_titled};
 use crate::scale::x_of;
@@ -191,33 +191,58 @@ pub(crate) fn add_ruler(alloc: Global, scale: Scale, out: &mut Vec<u8>) -> Resul
     add_ticks(alloc, scale, u64::from(step_of(scale.span)), out)
 }
 
-/// Appends the ticks of a ruler, with so many slots from one to the next.
+/// Appends the ticks of a ruler, with so many slots from one to the next, and that at the end of the frame.
 fn add_ticks(alloc: Global, scale: Scale, step: u64, out: &mut Vec<u8>) -> Result<(), OutOfMemory>
     requires scale { IsScale scale }
     requires small { step ≤ 2 ^ 32 }
     ensures { OnOk result (out.new.items ≡ out.old.items ++ parts_text (ticks_parts scale step)) }
 {
     for tick in 0..TICKS {
-        add_tick_within(alloc, scale, tick * step, out)?;
+        add_tick_within(alloc, scale, step, tick * step, out)?;
     }
-    Ok(())
+    add_tick_at(alloc, scale, scale.frame, out)
 }
 
-/// Appends a tick at a slot, unless it is past the slots that are shown.
+/// Appends a tick at a slot, where it has one.
 fn add_tick_within(
     alloc: Global,
     scale: Scale,
+    step: u64,
     slot: u64,
     out: &mut Vec<u8>,
 ) -> Result<(), OutOfMemory>
-    requires { IsScale scale }
-    ensures { OnOk result (out.new.items ≡ out.old.items ++ parts_text (tick_parts scale slot)) }
+    requires scale { IsScale scale }
+    requires step { step ≤ 2 ^ 32 }
+    requires slot { slot ≤ 2 ^ 36 }
+    ensures { OnOk result (out.new.items ≡ out.old.items ++ parts_text (tick_parts scale step slot)) }
 {
-    if slot <= scale.span {
-        add_tick(alloc, slot, x_of(scale, slot), out)
+    let marked = has_tick(scale, step, slot);
+    if marked {
+        add_tick_at(alloc, scale, slot, out)
     } else {
         Ok(())
     }
+}
+
+/// Whether a slot has a tick.
+fn has_tick(scale: Scale, step: u64, slot: u64) -> bool
+    requires scale { IsScale scale }
+    requires step { step ≤ 2 ^ 32 }
+    requires slot { slot ≤ 2 ^ 36 }
+    ensures same { result ≡ has_tick scale step slot }
+    ensures shown { result ≡ true → slot ≤ scale.span }
+{
+    let half = step / 2;
+    slot <= scale.span && (slot + half < scale.frame || scale.frame + half < slot)
+}
+
+/// Appends the tick at a slot.
+fn add_tick_at(alloc: Global, scale: Scale, slot: u64, out: &mut Vec<u8>) -> Result<(), OutOfMemory>
+    requires scale { IsScale scale }
+    requires slot { slot ≤ 2 ^ 33 }
+    ensures { OnOk result (out.new.items ≡ out.old.items ++ parts_text (tick_part slot (x_of scale slot) ∷ [])) }
+{
+    add_tick(alloc, slot, x_of(scale, slot), out)
 }
 
 /// Appends a tick.

@@ -100,6 +100,8 @@ fn add_lane_of(
     let name = name_of_beam(net, BeamNo(beam as u8));
     let heavy = is_critical(plan.schedule.critical, direction, beam);
     let lane = slots_box(scale, direction, beam, 0, scale.length);
+    let free = scale.frame.saturating_sub(scale.length);
+    let rest = slots_box(scale, direction, beam, scale.length, free);
     let right = x_of(scale, scale.span) + 160;
     add_lane(
         alloc,
@@ -109,12 +111,14 @@ fn add_lane_of(
         scale.length,
         heavy,
         lane,
+        rest,
         right,
         out,
     )
 }
 
-/// Appends a lane: its name, its slots of bursts and all its slots, its box, and where the numbers behind it begin.
+/// Appends a lane: its name, its slots of bursts and all its slots, its box, that of the rest of the frame, and where the
+/// numbers behind it begin.
 fn add_lane(
     alloc: Global,
     direction: Direction,
@@ -123,11 +127,12 @@ fn add_lane(
     whole: u64,
     heavy: bool,
     lane: Rect,
+    rest: Rect,
     right: u64,
     out: &mut Vec<u8>,
 ) -> Result<(), OutOfMemory>
     requires { lane.y ≤ 2 ^ 16 }
-    ensures { OnOk result (out.new.items ≡ out.old.items ++ parts_text (lane_part direction name.now slots whole heavy lane right ∷ [])) }
+    ensures { OnOk result (out.new.items ≡ out.old.items ++ parts_text (lane_part direction name.now slots whole heavy lane rest right ∷ [])) }
 {
     let name_words = [Word::Text(name)];
     let number_words = [
@@ -160,8 +165,9 @@ fn add_lane(
         Word::Number(whole),
         Word::Text(counted(whole, " slot", " slots")),
     ];
+    let free = Shape::Rectangle(rest, Style::Free);
     let look = Shape::Rectangle(lane, lane_style(heavy));
-    add_three(alloc, &title, look, name_label, numbers, out)
+    add_four(alloc, &title, free, look, name_label, numbers, out)
 }
 
 /// What stands between the numbers of a lane, for as long as its name.
@@ -171,19 +177,20 @@ fn stroke_beside<'x>(_name: &'x str) -> &'x str
     "/"
 }
 
-/// Appends a part of three shapes.
-fn add_three<'x>(
+/// Appends a part of four shapes.
+fn add_four<'x>(
     alloc: Global,
     title: &[Word<'_>],
     first: Shape<'x>,
     second: Shape<'x>,
     third: Shape<'x>,
+    fourth: Shape<'x>,
     out: &mut Vec<u8>,
 ) -> Result<(), OutOfMemory>
     ensures { OnOk result (out.new.items ≡ out.old.items
-        ++ parts_text (Titled (words_text title.now) (drawn first.entry ∷ drawn second.entry ∷ drawn third.entry ∷ []) ∷ [])) }
+        ++ parts_text (Titled (words_text title.now) (drawn first.entry ∷ drawn second.entry ∷ drawn third.entry ∷ drawn fourth.entry ∷ []) ∷ [])) }
 {
-    add_titled(alloc, title, &[first, second, third], out)
+    add_titled(alloc, title, &[first, second, third, fourth], out)
 }
 
 /// How the box of a lane looks.

@@ -1,7 +1,7 @@
 // What the fills mean.
 ghost use Rattle.std.specs.Prelude.{◌≡◌, ◌++◌, ◌<◌, ◌≤◌, ◌^◌, [], ◌∷◌, length, OnOk};
 ghost use Rattle.bt_frame.specs.declared.limits.TheConstants.{MOST_BEAMS};
-ghost use Rattle.bt_plan_chart.specs.Chart.{fill_part_at, item_letters, item_part, legend_parts, silent_part};
+ghost use Rattle.bt_plan_chart.specs.Chart.{fill_part_at, free_part, item_letters, item_part, legend_parts, silent_part};
 ghost use Rattle.bt_plan_chart.specs.Parts.{parts_text};
 ghost use Rattle.bt_plan_chart.specs.Scale.{IsScale};
 
@@ -39,7 +39,16 @@ pub(crate) fn add_legend(
     for beam in 0..scale.beams {
         add_fill(alloc, net, scale, beam, out)?;
     }
-    add_silent(alloc, scale, out)
+    add_unfilled(alloc, scale, out)
+}
+
+/// Appends what a lane looks like where it is silent, and behind the plan.
+fn add_unfilled(alloc: Global, scale: Scale, out: &mut Vec<u8>) -> Result<(), OutOfMemory>
+    requires { IsScale scale }
+    ensures { OnOk result (out.new.items ≡ out.old.items ++ parts_text (silent_part scale ∷ free_part scale ∷ [])) }
+{
+    add_silent(alloc, scale, out)?;
+    add_free(alloc, scale, out)
 }
 
 /// Appends what a lane looks like where it is silent.
@@ -49,6 +58,15 @@ fn add_silent(alloc: Global, scale: Scale, out: &mut Vec<u8>) -> Result<(), OutO
 {
     let top = legend_top(scale);
     add_item(alloc, top, scale.beams, Style::Lane, "silent", out)
+}
+
+/// Appends what a lane looks like behind the plan.
+fn add_free(alloc: Global, scale: Scale, out: &mut Vec<u8>) -> Result<(), OutOfMemory>
+    requires { IsScale scale }
+    ensures { OnOk result (out.new.items ≡ out.old.items ++ parts_text (free_part scale ∷ [])) }
+{
+    let top = legend_top(scale);
+    add_item(alloc, top, scale.beams + 1, Style::Free, "free", out)
 }
 
 /// Appends the fill of a beam.

@@ -47,7 +47,9 @@ pub struct Scale {
     pub beams: u64,
     /// The slots of the plan.
     pub length: u64,
-    /// The slots that are shown: those of the plan, and of the bursts that run past it.
+    /// The slots of a frame.
+    pub frame: u64,
+    /// The slots that are shown: those of a frame, of the plan, and of the bursts that run past both.
     pub span: u64,
     /// The width of a slot.
     pub unit: u64,
@@ -58,11 +60,14 @@ pub(crate) fn scale_of(net: &Network, plan: &Plan) -> Scale
     ensures same { result ≡ scale_of net.now plan.now }
     ensures scale { IsScale result }
 {
-    let length = u64::from(plan.schedule.length);
-    let span = span_of(plan.schedule.length, plan.bursts.as_slice());
+    let span = span_of(
+        net.slots().max(plan.schedule.length),
+        plan.bursts.as_slice(),
+    );
     Scale {
         beams: u64::from(net.beam_count()),
-        length,
+        length: u64::from(plan.schedule.length),
+        frame: u64::from(net.slots()),
         span,
         unit: unit_of(span),
     }
@@ -77,14 +82,14 @@ fn unit_of(span: u64) -> u64
     (ROOM / span).max(1)
 }
 
-/// The slots that are shown.
-fn span_of(length: u32, bursts: &[Burst]) -> u64
-    ensures same { result ≡ span_of length bursts.now }
+/// The slots that are shown: so many at least, and those of all bursts.
+fn span_of(slots: u32, bursts: &[Burst]) -> u64
+    ensures same { result ≡ span_of slots bursts.now }
     ensures some { 1 ≤ result }
-    ensures whole { length ≤ result }
+    ensures whole { slots ≤ result }
     ensures small { result ≤ 2 ^ 33 }
 {
-    let mut span = u64::from(length).max(1);
+    let mut span = u64::from(slots).max(1);
     for burst in bursts {
         span = span.max(u64::from(burst.start) + u64::from(burst.length));
     }
@@ -154,7 +159,7 @@ pub(crate) fn height_of(scale: Scale) -> u64
     requires { IsScale scale }
     ensures { result ≡ height_of scale }
 {
-    legend_top(scale) + (scale.beams / 7 + 1) * 440 + 160
+    legend_top(scale) + ((scale.beams + 1) / 7 + 1) * 440 + 160
 }
 
 /// How wide the picture is.

@@ -3,7 +3,7 @@ use crate::lanes::Lanes;
 use crate::step::{Delivery, SentMessage, Step};
 use bt_frame::OutOfMemory;
 use bt_net::Network;
-use bt_picture::Drawn;
+use bt_picture::{Drawn, Point, place};
 use std::alloc::Global;
 
 /// Twips from the left to the first column.
@@ -23,6 +23,9 @@ pub const RIGHT: u64 = LEFT + COLUMNS * COLUMN;
 
 /// Twips above the first stave.
 pub const TOP: u64 = 1500;
+
+// Twips from a lane to the next: two rows of labels below the one and two above the other stand there.
+const APART: u64 = 1000;
 
 // Twips from the top of a stave to its first lane: the superframes and two rows of labels stand there.
 const ABOVE_LANES: u64 = 920;
@@ -69,10 +72,9 @@ pub struct Heights {
 }
 
 impl Heights {
-    /// Where a lane of a stave runs: lanes lie closer where there are many.
+    /// Where a lane of a stave runs.
     pub fn lane_y(self, stave: &Stave, lane: usize) -> u64 {
-        let apart = if self.lanes <= 6 { 1060 } else { 800 };
-        let below = (lane as u64).saturating_mul(apart);
+        let below = (lane as u64).saturating_mul(APART);
         stave.top.saturating_add(ABOVE_LANES).saturating_add(below)
     }
 
@@ -276,6 +278,14 @@ impl<'a> Ladder<'a> {
     /// The stave of a step.
     pub fn stave(&self, number: usize) -> Option<Stave> {
         self.staves.get(number).copied()
+    }
+
+    /// The lane of the station that sends, hears or is struck, where it has one, and the place of the step on it.
+    pub fn lane_of(&self, placed: &Placed) -> Option<(usize, Point)> {
+        let stave = self.stave(placed.stave)?;
+        let lane = self.lanes.find(placed.step.station()?)?;
+        let y = self.heights.lane_y(&stave, lane);
+        Some((lane, place(placed.x, y)))
     }
 
     /// The message of that place among those of the text, where it was sent.

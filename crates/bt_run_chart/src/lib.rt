@@ -10,6 +10,7 @@
 mod air;
 mod editions;
 mod holdings;
+mod labels;
 mod ladder;
 mod lanes;
 mod messages;

@@ -1,5 +1,5 @@
 // What lasts over columns: superframes, and the edition in front.
-use crate::editions::{fill_of, letters_upon};
+use crate::editions::tint_of;
 use crate::ladder::{COLUMN, LEFT, Ladder, Placed, RIGHT, Stave};
 use crate::step::{Said, Step};
 use bt_frame::OutOfMemory;
@@ -69,13 +69,13 @@ pub fn draw_fronts<'a>(alloc: Global, ladder: &Ladder<'a>, pen: &mut Pen<'a>) ->
 }
 
 fn draw_front(y: u64, span: Span, pen: &mut Pen<'_>) -> Drawn {
-    let band = rectangle(place(span.from, y), span.width(), 280, fill_of(span.number));
+    let band = rectangle(place(span.from, y), span.width(), 280, tint_of(span.number));
     let is_wide = span.width() >= 3 * COLUMN;
     let text = if is_wide { "edition #" } else { "#" };
     let words = pen.phrase(text, &[Number(span.number)])?;
     let title = pen.phrase("edition # is in front on board", &[Number(span.number)])?;
     let at = place(span.middle(), y.saturating_add(215));
-    pen.marked(band, at, letters_upon(span.number), words, title)
+    pen.marked(band, at, Style::Text, words, title)
 }
 
 // What a step tells of what lasts.

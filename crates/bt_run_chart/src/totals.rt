@@ -1,5 +1,5 @@
 // A run of many messages, counted by superframes.
-use crate::editions::{fill_of, letters_upon};
+use crate::editions::tint_of;
 use crate::step::{Happening, Said, Step};
 use bt_frame::OutOfMemory;
 use bt_picture::{Anchor, Drawn, Pen, Point, Style, place, rectangle};
@@ -229,14 +229,14 @@ fn draw_total(total: &Total, at: Point, pen: &mut Pen<'_>) -> Drawn {
 
 // Draws the edition in front at the end of a superframe.
 fn draw_front(mark: u64, fore: u64, at: Point, pen: &mut Pen<'_>) -> Drawn {
-    let cell = rectangle(at, COLUMN, ROW, fill_of(fore));
+    let cell = rectangle(at, COLUMN, ROW, tint_of(fore));
     let inside = place(at.x.saturating_add(COLUMN / 2), at.y.saturating_add(225));
     let words = pen.phrase("#", &[Number(fore)])?;
     let title = pen.phrase(
         "edition # is in front at the end of superframe #",
         &[Number(fore), Number(mark)],
     )?;
-    pen.marked(cell, inside, letters_upon(fore), words, title)
+    pen.marked(cell, inside, Style::Text, words, title)
 }
 
 // Draws how often something was sent or happened.

@@ -4,6 +4,7 @@ ghost use Rattle.bt_net.specs.Terminals.{IsTerminal};
 ghost use Rattle.bt_picture.specs.Drawn.{IsPictureBehind};
 
 use crate::air::{draw_air, draw_silences};
+use crate::labels::write_labels;
 use crate::ladder::{Ladder, TOP};
 use crate::lanes::{Lanes, draw_lanes};
 use crate::messages::{draw_deliveries, draw_senders};
@@ -86,6 +87,9 @@ fn draw_run<'a>(
     let lanes = Lanes::of(alloc, steps, chosen)?;
     let ladder = Ladder::of(alloc, net, lanes, steps)?;
     draw_ladder(alloc, &ladder, pen)?;
+    if is_silent(steps) {
+        write_silence(&ladder, pen)?;
+    }
     Ok(match ladder.staves.last() {
         Some(stave) => ladder.heights.bottom(stave).saturating_add(300),
         None => TOP,
@@ -110,9 +114,30 @@ fn draw_ladder<'a>(alloc: Global, ladder: &Ladder<'a>, pen: &mut Pen<'a>) -> Dra
     draw_fronts(alloc, ladder, pen)?;
     draw_lanes(ladder, pen)?;
     draw_air(ladder, pen)?;
-    draw_deliveries(alloc, ladder, pen)?;
+    draw_deliveries(ladder, pen)?;
     draw_silences(alloc, ladder, pen)?;
-    draw_senders(alloc, ladder, pen)
+    draw_senders(ladder, pen)?;
+    write_labels(alloc, ladder, pen)
+}
+
+// Says in the midst of the lanes that nothing was on the air.
+fn write_silence(ladder: &Ladder<'_>, pen: &mut Pen<'_>) -> Drawn {
+    let Some(stave) = ladder.stave(0) else {
+        return Ok(());
+    };
+    let words = pen.phrase(
+        "Nothing was on the air: no message was sent, and no frame was shown.",
+        &[],
+    )?;
+    let y = ladder.heights.lane_y(&stave, 0).saturating_add(580);
+    pen.label(place(WIDTH / 2, y), Anchor::Middle, Style::Head, words)
+}
+
+// Whether no message was sent and no frame was shown.
+fn is_silent(steps: &[Step]) -> bool {
+    !steps
+        .iter()
+        .any(|step| matches!(step, Step::Sent(_) | Step::Shown(_)))
 }
 
 // Says how the picture is read.

@@ -1,17 +1,23 @@
-use Rattle.std.proofs.Common.{◌≡◌, ◌*◌, ◌++◌, flat_map, ap, ◌∙◌, arith}
+use Rattle.std.proofs.Common.{◌≡◌, ℕ, ◌*◌, ◌++◌, List, [], ◌∷◌, flat_map, ap, ◌∙◌, arith}
 use Rattle.std.specs.List.{range_with_len}
-use Rattle.bt_plan_chart.specs.Chart.{tick_parts}
+use Rattle.bt_picture.specs.Picture.{Part}
+use Rattle.bt_plan_chart.specs.Chart.{tick_part, tick_parts}
 use Rattle.bt_plan_chart.specs.Parts.{parts_text}
-use Rattle.bt_plan_chart.proofs.Adding.{next_parts, none_yet}
+use Rattle.bt_plan_chart.specs.Scale.{x_of}
+use Rattle.bt_plan_chart.proofs.Adding.{and_then, next_parts, none_yet}
 use Rattle.bt_plan_chart.proofs.heading.add_ticks.Goals as goal
 
 pub loop-tick-init : goal.loop-tick-init
 loop-tick-init c = none_yet c.args.out.now.items
 
 pub loop-tick-preserved : goal.loop-tick-preserved
-loop-tick-preserved c = next_parts (λ tick. tick_parts c.args.scale (tick * c.args.step)) c.loop-tick.tick _ _ _ c.loop-tick.invariant c.in_ok-add_tick_within.ensures
+loop-tick-preserved c = next_parts (λ tick. tick_parts c.args.scale c.args.step (tick * c.args.step)) c.loop-tick.tick _ _ _ c.loop-tick.invariant c.in_ok-add_tick_within.ensures
 
 pub returns : goal.returns
 returns c =
+    let scale = c.args.scale in
     let same : c.loop-tick.tick ≡ 12 = omega arith in
-    c.loop-tick.invariant ∙ ap (λ n. c.args.out.now.items ++ parts_text (flat_map (λ tick. tick_parts c.args.scale (tick * c.args.step)) (range_with_len 0 n))) same
+    let ticks : ℕ → List Part = λ n. flat_map (λ tick. tick_parts scale c.args.step (tick * c.args.step)) (range_with_len 0 n) in
+    and_then c.add_tick_at.result (ticks 12) (tick_part scale.frame (x_of scale scale.frame) ∷ []) c.args.out.now.items c.loop-tick.out.items c.add_tick_at.new.out.items
+    (c.loop-tick.invariant ∙ ap (λ n. c.args.out.now.items ++ parts_text (ticks n)) same)
+    c.add_tick_at.ensures
