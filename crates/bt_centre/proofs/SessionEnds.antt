@@ -212,6 +212,9 @@ session_not_played net talk begun exchanges one (step.Plays part) old left fault
     session_at_restart net talk begun exchanges one old left fault status good so (sym is ∙ ap step.Plays restart) given at told
 session_not_played net talk begun exchanges one step.Nothing old left fault status good so is given failed told = absurd failed
 session_not_played net talk begun exchanges one (step.Fault code) old left fault status good so is given failed told = absurd failed
+session_not_played net talk begun exchanges one (step.Tells asked) old left fault status good so is given (memory, is_left) (inl status_is) =
+    session_stopped net talk begun exchanges old left status so is_left status_is
+session_not_played net talk begun exchanges one (step.Tells asked) old left fault status good so is given (memory, is_left) (inr (named, told)) = absurd (named memory)
 
 -- the first piece was not said
 pub session_not_begun : (net : Net) (hand : Hand) (left : Left) (why : SinkFault) (coming : Option (List ℕ)) (u0 u2 : ℕ) (before after : Option (List ℕ)) (f0 f2 : ℕ) (t0 t2 : Option (List Turn)) (status : ℕ)

@@ -8,18 +8,24 @@ use Rattle.bt_input.specs.Input.{Comes, said_by}
 use Rattle.bt_input.specs.Talk.{Turn, Heard, Said, heard, said, took}
 use Rattle.bt_net.specs.Network.{Net}
 use Rattle.bt_history.specs.Book.{Books}
+use Rattle.bt_history.specs.Machine.{State}
 use Rattle.bt_journal.specs.declared.call.Change.{Change}
+use Rattle.bt_journal.specs.declared.entry.Entry.{Entry}
+use Rattle.bt_journal.specs.Journal.{changes_of}
 use Rattle.bt_script.specs.declared.script.Item.{Item}
+use Rattle.bt_talk.specs.declared.block.Query.{Query}
 use Rattle.bt_talk.specs.declared.block.Step.{Step}
 use Rattle.bt_talk.specs.declared.block.Step.TheVariants as step
 use Rattle.bt_talk.specs.Answers.{answer_of, ready_line}
 use Rattle.bt_talk.specs.Asked.{open_behind, part_in, parts_of}
 use Rattle.bt_talk.specs.Block.{Open, row_of}
 use Rattle.bt_centre.specs.Answering.{GaveSince, SessionDone, SessionGoing, SessionSaid, StepPlayed, Took}
-use Rattle.bt_centre.specs.Progress.{Hand, IsBegun, start_of}
-use Rattle.bt_centre.specs.Run.{Stand, at_start}
+use Rattle.bt_centre.specs.Progress.{Hand, IsBegun, ItemsDone, start_of}
+use Rattle.bt_centre.specs.Run.{Stand, at_start, changes_at}
 use Rattle.bt_centre.specs.Session.{Exchange, PlaysLines, PlaysStep, heard_in, opening_text, session_turns, turns_in}
 use Rattle.bt_centre.specs.Talked.{spoken}
+use Rattle.bt_centre.specs.Told.{IsTold}
+use Rattle.bt_workers.specs.AirLines.{AirState}
 use Rattle.bt_centre.proofs.Played.{gained-append, item_goes_further, items_begin, rounds_more, start_is}
 
 -- what came of an input
@@ -156,6 +162,15 @@ nothing_more net begun exchanges one stp hand own n so is number none played pie
   played = lines_more net (is_some begun.told) 1 None (at_start net begun.state.changes) so.done.end so.done.end exchanges one stp own n so.played is number played piece;
 }
 
+-- what was told of what a run has in hand was told of how far it has come
+told_at : (net : Net) (begun : Books) (parts : List Item) (hand : Hand) (lines : List ℕ) (asked : Query) (text : List ℕ) → (so : ItemsDone net begun parts hand lines)
+    → IsTold net hand.book.state.changes hand.air.waiting asked text → IsTold net (changes_at so.end) so.end.air.waiting asked text
+told_at net begun parts hand lines asked text so told =
+    let changes : hand.book.state.changes ≡ changes_at so.end =
+    ap (λ (s : State). s.changes) so.so_far.reached ∙ ap (λ (h : List Entry). so.end.opening ++ changes_of h) (sym so.history_is) in
+    subst (λ (c : List Change). IsTold net c so.end.air.waiting asked text) changes
+    (subst (λ (a : AirState). IsTold net hand.book.state.changes a.waiting asked text) (sym so.air_is) told)
+
 -- a line more
 pub session_goes_on : (net : Net) (begun : Books) (exchanges : List Exchange) (one : Exchange) (stp : Step) (old new : Hand) (own : List ℕ) (n : ℕ) → (so : SessionDone net begun exchanges old)
     → stp ≡ (row_of net (open_behind net None (heard_in exchanges)) one.line).1 → n ≡ 1 + length (heard_in exchanges) → StepPlayed net stp old new own → one.piece ≡ own ++ answer_of n stp
@@ -175,6 +190,9 @@ session_goes_on net begun exchanges one step.Nothing old new own n so is number 
 session_goes_on net begun exchanges one (step.Fault code) old new own n so is number (same, nothing) piece =
     subst (SessionDone net begun (exchanges ++ one ∷ [])) (sym same)
     (nothing_more net begun exchanges one (step.Fault code) old own n so is number refl (nothing, refl) piece)
+session_goes_on net begun exchanges one (step.Tells asked) old new own n so is number (same, told) piece =
+    subst (SessionDone net begun (exchanges ++ one ∷ [])) (sym same)
+    (nothing_more net begun exchanges one (step.Tells asked) old own n so is number refl (told_at net begun so.parts old so.lines asked own so.done told, refl) piece)
 
 -- the first piece is that of a session that begins so
 pub opening_is : (net : Net) (hand : Hand) → IsBegun net hand → start_of hand ++ ready_line 0 ≡ opening_text net hand.book.state.changes
@@ -208,6 +226,7 @@ pub rounds_behind : (net : Net) (stp : Step) (old new : Hand) (text : List ℕ) 
 rounds_behind net (step.Plays one) old new text k played few = omega (arith, rounds_more net one old new text (old.rounds) played (omega arith), few)
 rounds_behind net step.Nothing old new text k (same, nothing) few = omega (arith, ap (λ (h : Hand). h.rounds) same, few)
 rounds_behind net (step.Fault code) old new text k (same, nothing) few = omega (arith, ap (λ (h : Hand). h.rounds) same, few)
+rounds_behind net (step.Tells one) old new text k (same, told) few = omega (arith, ap (λ (h : Hand). h.rounds) same, few)
 
 -- an input gave one more
 pub gave_more : (coming now next : Option (List ℕ)) (lines : List Came) (came : Incoming) → GaveSince coming now lines → Comes 4096 now (Some came) next → GaveSince coming next (lines ++ said_by came ∷ [])

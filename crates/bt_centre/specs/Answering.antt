@@ -17,27 +17,30 @@ use Rattle.bt_talk.specs.Block.{Open}
 use Rattle.bt_report.specs.declared.status.TheConstants.{OUT_OF_MEMORY}
 use Rattle.bt_centre.specs.declared.session.InputEnd.{InputEnd}
 use Rattle.bt_centre.specs.declared.session.TheConstants.{MOST_LINE_BYTES}
-use Rattle.bt_centre.specs.Progress.{Hand, ItemFailed, ItemPlayed, ItemsDone, Left}
+use Rattle.bt_centre.specs.Progress.{Hand, IsLeftOf, ItemFailed, ItemPlayed, ItemsDone, Left}
 use Rattle.bt_centre.specs.RecoverFaults.{recover_line, recover_status}
 use Rattle.bt_centre.specs.Run.{at_start, opening_on}
 use Rattle.bt_centre.specs.Session.{Exchange, PlaysLines, SessionEndsFrom, StopsHearing, heard_in, session_turns}
 use Rattle.bt_centre.specs.Talked.{Says, Talked, spoken}
+use Rattle.bt_centre.specs.Told.{IsTold}
 
 -- memory ran out, or the line of a recovery's fault, which has one, was said behind this text
 abbrev pub SaysNamed : Talked → List ℕ → RecoverFault → ℕ → Type 0
 SaysNamed talk text fault status = (status ≡ OUT_OF_MEMORY) ⊎ ((fault ≢ OutOfMemory) × Says talk (text ++ recover_line fault) (recover_status fault) status)
 
--- what a line comes to was played
+-- what a line comes to was played, or told
 abbrev pub StepPlayed : Net → Step → Hand → Hand → List ℕ → Type 0
 StepPlayed net (step.Plays one) old new text = ItemPlayed net one old new text
 StepPlayed net step.Nothing old new text = (new ≡ old) × (text ≡ [])
 StepPlayed net (step.Fault code) old new text = (new ≡ old) × (text ≡ [])
+StepPlayed net (step.Tells one) old new text = (new ≡ old) × IsTold net old.book.state.changes old.air.waiting one text
 
 -- it could not be played
 abbrev pub StepFailed : Net → Step → Hand → Left → RecoverFault → Type 0
 StepFailed net (step.Plays one) old left fault = ItemFailed net one old left fault
 StepFailed net step.Nothing old left fault = ⊥
 StepFailed net (step.Fault code) old left fault = ⊥
+StepFailed net (step.Tells one) old left fault = (fault ≡ OutOfMemory) × IsLeftOf old left
 
 -- these turns were taken between two moments of a talk, of which this was told
 pub record Took (turns : List Turn) (before after : Option (List ℕ)) (turns_before turns_after : Option (List Turn)) : Type 0 where

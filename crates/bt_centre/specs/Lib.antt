@@ -8,5 +8,6 @@ pub mod RecoverFaults
 pub mod Run
 pub mod Session
 pub mod Talked
+pub mod Told
 pub mod Turns
 pub mod Whole

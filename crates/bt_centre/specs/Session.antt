@@ -27,8 +27,9 @@ use Rattle.bt_centre.specs.declared.session.InputEnd.TheVariants as ending
 use Rattle.bt_centre.specs.declared.session.TheConstants.{MOST_ANSWERS, MOST_LINE_BYTES}
 use Rattle.bt_centre.specs.Lines.{total_of}
 use Rattle.bt_centre.specs.RecoverFaults.{recover_line, recover_status}
-use Rattle.bt_centre.specs.Run.{BreaksEarly, BreaksOff, FramesAreSafe, IsOpening, IsRun, LeavesStore, PlaysItem, RunsNone, Stand, at_start, entries_of, first_line, has_lost, opening_on}
+use Rattle.bt_centre.specs.Run.{BreaksEarly, BreaksOff, FramesAreSafe, IsOpening, IsRun, LeavesStore, PlaysItem, RunsNone, Stand, at_start, changes_at, entries_of, first_line, has_lost, opening_on}
 use Rattle.bt_centre.specs.Talked.{Says, SaysPart, Talked, behind}
+use Rattle.bt_centre.specs.Told.{IsTold}
 
 -- a line that was heard, or None where what came is no line, and the piece that was said to it
 pub record Exchange : Type 0 where
@@ -44,11 +45,12 @@ abbrev pub turns_in : List Exchange → List Turn
 turns_in [] = []
 turns_in (first ∷ exchanges) = Heard first.line ∷ Said first.piece ∷ turns_in exchanges
 
--- what a line comes to is played: a part of a run, or nothing
+-- what a line comes to is played: a part of a run, or nothing; or it is told, of what is in hand before the line, and nothing changes
 abbrev pub PlaysStep : Net → (tells : Bool) → Stand → Step → List ℕ → Stand → Type 0
 PlaysStep net tells before (step.Plays one) text after = PlaysItem net tells before one text after
 PlaysStep net tells before step.Nothing text after = (text ≡ []) × (after ≡ before)
 PlaysStep net tells before (step.Fault code) text after = (text ≡ []) × (after ≡ before)
+PlaysStep net tells before (step.Tells one) text after = IsTold net (changes_at before) before.air.waiting one text × (after ≡ before)
 
 -- lines one after the other, the first of them line `at`: each is played, and the piece said to it is the text of that with its answer
 -- behind

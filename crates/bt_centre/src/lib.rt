@@ -26,6 +26,7 @@ mod script;
 mod session;
 mod station;
 mod tally;
+mod tell;
 mod total;
 mod turn_laws;
 

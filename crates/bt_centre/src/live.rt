@@ -3,12 +3,13 @@ ghost use Rattle.std.specs.Prelude.{◌≡◌, ◌<◌, ◌++◌, ◌∷◌, [],
 ghost use Rattle.bt_history.specs.Causes.{Follows};
 ghost use Rattle.bt_script.specs.Named.{IsItemFor, IsRoundFor};
 ghost use Rattle.bt_script.specs.declared.script.Item.TheVariants as item;
-ghost use Rattle.bt_talk.specs.Block.{IsStepFor};
+ghost use Rattle.bt_talk.specs.Block.{IsQueryFor, IsStepFor};
 ghost use Rattle.bt_centre.specs.Answering.{StepFailed, StepPlayed};
 ghost use Rattle.bt_centre.specs.Handed.{with_front};
 ghost use Rattle.bt_centre.specs.Lines.{total_of};
 ghost use Rattle.bt_centre.specs.Progress.{IsLeftEarly, IsLeftOf, ItemFailed, ItemPlayed, RestartPlayed, RoundPlayed};
 ghost use Rattle.bt_centre.specs.Run.{entries_of, has_lost};
+ghost use Rattle.bt_centre.specs.Told.{IsTold};
 ghost use Rattle.bt_centre.specs.Whole.{whole, whole_left};
 ghost use Rattle.bt_centre.specs.declared.history.History.{History};
 
@@ -17,6 +18,7 @@ use crate::play::play_round;
 use crate::playing::{Playing, Remains, take_only};
 use crate::restart::play_restart;
 use crate::tally::Tally;
+use crate::tell::tell;
 use crate::{SessionEnd, SessionHistories};
 use bt_air::Event;
 use bt_book::RecoverFault;
@@ -25,7 +27,7 @@ use bt_journal::Entries;
 use bt_net::Network;
 use bt_outside::Keeper;
 use bt_script::{Item, Round};
-use bt_talk::Step;
+use bt_talk::{Query, Step};
 use bt_workers::Gate;
 use std::alloc::Global;
 use std::marker::Model;
@@ -96,6 +98,18 @@ impl<K: Keeper> Live<K> {
         left_behind(run.stop(rt), log)
     }
 
+    /// What a line that asks is told, of what the run has in hand.
+    fn tell(&self, alloc: Global, net: &Network, query: Query) -> Result<Vec<u8>, OutOfMemory>
+        requires network { self.now.book.net ≡ net.now }
+        requires air_network { self.now.air.life.opening.net ≡ net.now }
+        requires terminals { IsQueryFor net.now query }
+        requires follow { Follows net.now self.now.book.state.changes }
+        ensures told { IfOk result (λ text. IsTold net.now self.now.book.state.changes self.now.air.waiting query text.items) }
+    {
+        let station = &self.run.station;
+        tell(alloc, net, &station.book, &station.centre, query)
+    }
+
     /// The book hands its entries over, where its store has not failed.
     fn hand_over(&mut self, alloc: Global)
         ensures same { self.new ≡ self.old }
@@ -162,8 +176,8 @@ impl<K: Keeper> LiveRemains<K> {
     }
 }
 
-/// Plays what a line comes to, and gives its text; or what is left of the run, where memory runs out or the recovery at a
-/// restart fails.
+/// Plays what a line comes to, or tells what it asks, and gives its text; or what is left of the run, where memory runs out or
+/// the recovery at a restart fails.
 pub(crate) fn play_step<R: Threads + Wait + Sync, G: Gate + Sync, K: Keeper + Send>(
     rt: &R,
     alloc: Global,
@@ -183,6 +197,10 @@ pub(crate) fn play_step<R: Threads + Wait + Sync, G: Gate + Sync, K: Keeper + Se
     match step {
         Step::Plays(item) => live_item(rt, alloc, net, gate, item, live),
         Step::Nothing | Step::Fault(_) => Ok((live, Vec::new(alloc))),
+        Step::Tells(query) => match live.tell(alloc, net, *query) {
+            Ok(text) => Ok((live, text)),
+            Err(OutOfMemory) => Err((live.stop(rt), RecoverFault::OutOfMemory)),
+        },
     }
 }
 

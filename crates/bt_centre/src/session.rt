@@ -76,9 +76,9 @@ pub enum InputEnd {
 }
 
 /// Plays what the lines of a talk ask, on a network, from the changes that the store tells, and answers each line before
-/// the next is heard. The store keeps each change that is made. Of what was asked and answered no bytes are kept once it is
-/// played, but how many edits there were and how they were answered; of a book that a fault of its store has stopped they are
-/// kept until the centre restarts.
+/// the next is heard. The store keeps each change that is made. A line that asks and changes nothing is told of what there is.
+/// Of what was asked and answered no bytes are kept once it is played, but how many edits there were and how they were
+/// answered; of a book that a fault of its store has stopped they are kept until the centre restarts.
 ///
 /// The status is that of a run; it is 5 where the input failed and the store lost nothing.
 pub fn run_session<R: Threads + Wait + Sync, G: Gate + Sync, T: Talk, K: Keeper + Send>(

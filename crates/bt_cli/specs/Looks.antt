@@ -51,7 +51,7 @@ PrintsDemand asked net bytes = Looks (PrintsOrNone (TellsDemand net bytes asked)
 abbrev pub PrintsInstalled : Option EditionNo → Net → List ℕ → Outcome → Type 0
 PrintsInstalled asked net bytes = Looks (PrintsOrNone (TellsInstalled net bytes asked)) net bytes
 
--- the shortest journal of the demand
+-- the journal with the fewest edits of the demand
 abbrev pub PrintsCompact : Net → List ℕ → Outcome → Type 0
 PrintsCompact net bytes = Looks (PrintsText (TellsCompact net bytes)) net bytes
 

@@ -63,7 +63,7 @@ pub fn tell_installed<F: Files>(
     installed_report(alloc, looked, edition)
 }
 
-/// The shortest journal of the demand that the journal in a file comes to on the network in another.
+/// The journal with the fewest edits of the demand that the journal in a file comes to on the network in another.
 pub fn tell_compact<F: Files>(
     alloc: Global,
     files: &mut F,
@@ -150,7 +150,7 @@ fn installed_report(
     }
 }
 
-/// The text of the shortest journal, where both are at hand.
+/// The text of the journal with the fewest edits, where both are at hand.
 fn compact_report(alloc: Global, looked: Looked) -> Result<Report, Stop>
     requires short { length looked.bytes.items ≤ MOST_JOURNAL_BYTES }
     ensures { CameTo (PrintsCompact looked.net looked.bytes.items) result }

@@ -10,8 +10,8 @@ use bt_text::{is_word, number};
 use memchr::memchr;
 use std::alloc::Global;
 
-/// The words of the lines that a run prints.
-const WORDS: [&str; 71] = [
+/// The words of the lines that a run and a session print.
+const WORDS: [&str; 79] = [
     "start",
     "edition",
     "plan",
@@ -83,6 +83,14 @@ const WORDS: [&str; 71] = [
     "E5",
     "E9",
     "E10",
+    "ready",
+    "lines",
+    "S1",
+    "S2",
+    "S3",
+    "S4",
+    "S5",
+    "input",
 ];
 
 /// Looks for the first word that no line of a run has.

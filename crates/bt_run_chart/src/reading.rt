@@ -6,14 +6,13 @@ use crate::step::{
 use bt_air::{Heard, Taken};
 use bt_frame::{OutOfMemory, TermNo};
 use bt_net::Network;
-use bt_picture::Drawn;
-use bt_run_lines::{Form, Printed, Value, read_line};
+use bt_run_lines::{Form, Printed, Value, read_line, told_behind};
 use bt_text::first_line;
 use bt_timeline::{heard_text, taken_text};
 use std::alloc::Global;
 
 /// The steps of a run, in order. Lines that no run prints, those of which nothing is drawn, and deliveries of messages that
-/// the text does not have are passed over.
+/// the text does not have are passed over; so are the lines that a line told of.
 pub fn read_steps(alloc: Global, net: &Network, text: &[u8]) -> Result<Vec<Step>, OutOfMemory> {
     let mut steps = Vec::new(alloc);
     let mut context = Context {
@@ -21,11 +20,12 @@ pub fn read_steps(alloc: Global, net: &Network, text: &[u8]) -> Result<Vec<Step>
         numbering: Numbering::none(),
     };
     let mut rest = text;
+    let mut told = 0;
     while let Some((line, behind)) = first_line(rest) {
-        context.read(net, line, &mut steps)?;
+        told = context.read(net, told, line, &mut steps)?;
         rest = behind;
     }
-    context.read(net, rest, &mut steps)?;
+    context.read(net, told, rest, &mut steps)?;
     Ok(steps)
 }
 
@@ -37,17 +37,26 @@ struct Context {
 }
 
 impl Context {
-    // Reads a line behind its fellows.
-    fn read(&mut self, net: &Network, line: &[u8], steps: &mut Vec<Step>) -> Drawn {
+    // Reads a line behind its fellows, where so many were told of that are to be passed over; gives how many are behind it.
+    fn read(
+        &mut self,
+        net: &Network,
+        told: u64,
+        line: &[u8],
+        steps: &mut Vec<Step>,
+    ) -> Result<u64, OutOfMemory> {
+        if told > 0 {
+            return Ok(told - 1);
+        }
         let Some(printed) = read_line(net, line) else {
             self.before = None;
-            return Ok(());
+            return Ok(0);
         };
         if let Some(step) = self.step_of(&printed) {
             steps.push(step)?;
         }
         self.before = Some(printed.form);
-        Ok(())
+        Ok(told_behind(line))
     }
 
     // The step that a line tells of.

@@ -37,7 +37,7 @@ use Rattle.bt_run_lines.proofs.First.{position-first}
 small_read : (n : ℕ) → n < 2 ^ 32 → small_number (decimal n) ≡ Some n
 small_read n small = number_to-decimal (2 ^ 32 - 1) n (omega arith) (omega arith)
 
-count_read : (n : ℕ) → n < 10 ^ 19 → number_of_digits 19 (decimal n) ≡ Some n
+pub count_read : (n : ℕ) → n < 10 ^ 19 → number_of_digits 19 (decimal n) ≡ Some n
 count_read n small =
     ap (λ b. cond b (number_of (decimal n)) None) (le-leb (length (decimal n)) 19 (length-decimal-le 19 n (omega arith) small (omega arith)))
     ∙ number_of-decimal n (omega arith)

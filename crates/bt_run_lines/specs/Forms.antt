@@ -104,6 +104,7 @@ parts_of form.StandbyNotSent = Text (codes "standby") ∷ Text (codes "hears") �
 parts_of form.StandbyBurst = Text (codes "standby") ∷ Text (codes "burst") ∷ []
 parts_of form.StoreFault = Text (codes "fault") ∷ Text (codes "store") ∷ []
 parts_of form.Ready = Text (codes "ready") ∷ Count ∷ []
+parts_of form.Lines = Text (codes "lines") ∷ Count ∷ []
 parts_of form.LineFaultS1 = Text (codes "fault") ∷ Text (codes "S1") ∷ Count ∷ []
 parts_of form.LineFaultS2 = Text (codes "fault") ∷ Text (codes "S2") ∷ Count ∷ []
 parts_of form.LineFaultS3 = Text (codes "fault") ∷ Text (codes "S3") ∷ Count ∷ []
@@ -137,4 +138,5 @@ forms_from head =
     if is_word (codes "standby") head then form.StandbyNoted ∷ form.StandbyWrongMark ∷ form.StandbyNotForMe ∷ form.StandbyNotSent ∷ form.StandbyBurst ∷ [] else
     if is_word (codes "fault") head then form.StoreFault ∷ form.LineFaultS1 ∷ form.LineFaultS2 ∷ form.LineFaultS3 ∷ form.LineFaultS4 ∷ form.LineFaultS5 ∷ form.InputFault ∷ [] else
     if is_word (codes "ready") head then form.Ready ∷ [] else
+    if is_word (codes "lines") head then form.Lines ∷ [] else
     []

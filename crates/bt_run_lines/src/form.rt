@@ -65,6 +65,7 @@ pub enum Form {
     StandbyBurst,
     StoreFault,
     Ready,
+    Lines,
     LineFaultS1,
     LineFaultS2,
     LineFaultS3,

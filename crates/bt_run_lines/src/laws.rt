@@ -1,8 +1,10 @@
 // Laws of the printed lines: each has one spelling and is read back from it, and what a run and a session print is such lines.
-ghost use Rattle.std.specs.Prelude.{◌≡◌, ℕ, List, [], ◌∷◌, length, codes, decimal, Option, Some, IfSome};
+ghost use Rattle.std.specs.Prelude.{◌≡◌, ◌<◌, ℕ, ◌+◌, ◌^◌, List, [], ◌∷◌, ◌++◌, length, codes, decimal, IsTrue, Option, Some, IfSome};
+ghost use Rattle.std.specs.List.{list_all};
 ghost use Rattle.bt_frame.specs.declared.numbers.EditionNo.{EditionNo};
 ghost use Rattle.bt_frame.specs.declared.numbers.Mark.{Mark};
 ghost use Rattle.bt_frame.specs.declared.numbers.TermNo.{TermNo};
+ghost use Rattle.bt_text.specs.Text.{ended, lacks, lines};
 ghost use Rattle.bt_net.specs.Network.{Net, IsSound};
 ghost use Rattle.bt_demand.specs.declared.burst.Burst.{Burst};
 ghost use Rattle.bt_demand.specs.declared.plan.Plan.{Plan};
@@ -21,7 +23,7 @@ ghost use Rattle.bt_timeline.specs.Timeline as timeline;
 ghost use Rattle.bt_run_lines.specs.declared.form.Form.TheVariants as form;
 ghost use Rattle.bt_run_lines.specs.declared.printed.Printed.{Printed};
 ghost use Rattle.bt_run_lines.specs.declared.printed.Value.TheVariants as value;
-ghost use Rattle.bt_run_lines.specs.Lines.{line_in};
+ghost use Rattle.bt_run_lines.specs.Lines.{line_in, lines_from, with_line};
 ghost use Rattle.bt_run_lines.specs.Spelled.{Suits, spelled};
 ghost use Rattle.bt_run_lines.specs.Printers.{printed_line, line, numbers, sent_printed, got_printed, burst_printed, order_printed, edit_printed, plan_printed, unplaced_printed, form_of_fault};
 
@@ -111,7 +113,17 @@ pub fn marks_are_printed_lines()
 /// What a session prints beside what its run does is printed lines.
 pub fn answers_are_printed_lines()
     ensures ready { (net : Net) → (at : ℕ) → talk.ready_line at ≡ printed_line net (line form.Ready (numbers (at ∷ []))) }
+    ensures lines { (net : Net) → (count : ℕ) → talk.lines_line count ≡ printed_line net (line form.Lines (numbers (count ∷ []))) }
     ensures fault { (net : Net) → (code : ScriptCode) → (at : ℕ)
         → talk.fault_line code at ≡ printed_line net (line (form_of_fault code) (numbers (at ∷ []))) }
     ensures input { (net : Net) → talk.input_fault_line ≡ printed_line net (line form.InputFault []) }
+{}
+
+/// What a session is told is passed over: in an output with such an answer in front the other lines are those behind it, with the
+/// line that tells how many lines the answer has in front of them.
+pub fn answers_are_passed_over()
+    ensures passed { (net : Net) → (at : ℕ) → (told : List (List ℕ)) → (more : List ℕ) → IsSound net
+        → IsTrue (list_all (lacks 10) told) → length told < 10 ^ 19
+        → lines_from net at 0 (lines (talk.counted (ended told) ++ more))
+        ≡ with_line (line form.Lines (numbers (length told ∷ []))) (lines_from net (at + 1 + length told) 0 (lines more)) }
 {}

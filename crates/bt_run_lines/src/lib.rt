@@ -18,9 +18,10 @@ mod word;
 
 pub use form::Form;
 pub use laws::{
-    events_are_printed_lines, marks_are_printed_lines, messages_are_printed_lines,
-    printed_lines_have_one_spelling, replies_are_printed_lines, spelled_lines_are_read,
+    answers_are_passed_over, answers_are_printed_lines, events_are_printed_lines,
+    marks_are_printed_lines, messages_are_printed_lines, printed_lines_have_one_spelling,
+    replies_are_printed_lines, spelled_lines_are_read,
 };
 pub use output::{OutputCode, check_output};
 pub use printed::{Printed, Value};
-pub use reader::read_line;
+pub use reader::{read_line, told_behind};

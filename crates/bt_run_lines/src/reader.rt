@@ -3,7 +3,7 @@ ghost use Rattle.std.specs.Prelude.{◌≡◌, ◌≤◌, All, IfSome, length, m
 ghost use Rattle.bt_text.specs.Text.{words};
 ghost use Rattle.bt_run_lines.specs.declared.printed.TheConstants.{MOST_VALUES};
 ghost use Rattle.bt_run_lines.specs.Forms.{part_of, open_places};
-ghost use Rattle.bt_run_lines.specs.Lines.{IsOf, first_of_forms, line_in, printed_as, values_in};
+ghost use Rattle.bt_run_lines.specs.Lines.{IsOf, first_of_forms, line_in, printed_as, told_behind, values_in};
 
 use crate::form::Form;
 use crate::printed::{Printed, Values};
@@ -20,7 +20,21 @@ pub fn read_line(net: &Network, line: &[u8]) -> Option<Printed>
     line_in(net, line)
 }
 
-// The same; `read_line` says too what follows for its values.
+/// How many lines behind a line are what it tells of, and are no printed lines.
+pub fn told_behind(line: &[u8]) -> u64
+    ensures count { result ≡ told_behind line.now }
+{
+    let mut words = WordReader::of(line);
+    if !words.next_is(b"lines") {
+        return 0;
+    }
+    match words.number_of_digits(19) {
+        Some(count) => count,
+        None => 0,
+    }
+}
+
+// A printed line; `read_line` says too what follows for its values.
 fn line_in(net: &Network, line: &[u8]) -> Option<Printed>
     ensures { result ≡ line_in net.now line.now }
 {

@@ -99,6 +99,7 @@ pub(crate) fn tokens_of(form: Form) -> &'static [Token]
         Form::StandbyBurst      => &[Text("standby"), Text("burst")],
         Form::StoreFault        => &[Text("fault"), Text("store")],
         Form::Ready             => &[Text("ready"), Count],
+        Form::Lines             => &[Text("lines"), Count],
         Form::LineFaultS1       => &[Text("fault"), Text("S1"), Count],
         Form::LineFaultS2       => &[Text("fault"), Text("S2"), Count],
         Form::LineFaultS3       => &[Text("fault"), Text("S3"), Count],
@@ -213,6 +214,8 @@ pub(crate) fn forms_from(head: &[u8]) -> &'static [Form]
         ]
     } else if is_word(head, b"ready") {
         &[Form::Ready]
+    } else if is_word(head, b"lines") {
+        &[Form::Lines]
     } else {
         &[]
     }

@@ -1,14 +1,17 @@
 -- The lines of a script, heard one by one.
-use Rattle.std.proofs.Common.{◌≡◌, ℕ, zero, suc, ◌+◌, ◌<◌, ◌≤◌, Bool, true, false, cond, List, [], ◌∷◌, ◌++◌, length, length-append, Option, Some, None, Ok, Err, refl, sym, ap, ◌∙◌, subst, append_assoc, arith}
+use Rattle.std.proofs.Common.{◌≡◌, ℕ, zero, suc, ◌+◌, ◌<◌, ◌≤◌, ◌&&◌, Bool, true, false, cond, List, [], ◌∷◌, ◌++◌, length, length-append, Option, Some, None, Ok, Err, refl, sym, ap, ◌∙◌, subst, append_assoc, arith}
 use Rattle.std.specs.Prelude.{codes, count_by, flat_map, map, nat_le}
 use Rattle.std.specs.List.{fold}
+use Rattle.std.proofs.lemmas.Bool.{and_parts}
 use Rattle.std.proofs.lemmas.Grind.{flat_map-append}
 use Rattle.std.proofs.lemmas.List.{append-nil}
 use Rattle.std.proofs.lemmas.Slice.Eq.{bytes_eq-Decides}
 use Rattle.bt_frame.specs.declared.limits.TheConstants.{MOST_LINES}
 use Rattle.bt_frame.specs.declared.numbers.TermNo.{TermNo}
-use Rattle.bt_text.specs.Text.{is_word, lines}
+use Rattle.bt_text.specs.Text.{is_word, lines, spaced, words}
 use Rattle.bt_text.specs.Reading.{◌>>=◌, or_fault}
+use Rattle.bt_text.proofs.TextLines.{spaced-words}
+use Rattle.bt_net.specs.Name.{are_names}
 use Rattle.bt_net.specs.Network.{Net}
 use Rattle.bt_script.specs.declared.fault.ScriptCode.TheVariants.{S1, S2, S3, S4, S5}
 use Rattle.bt_script.specs.declared.line.ScriptLine.{ScriptLine}
@@ -19,14 +22,16 @@ use Rattle.bt_script.specs.declared.script.Item.{Item}
 use Rattle.bt_script.specs.declared.script.Item.TheVariants as item
 use Rattle.bt_script.specs.declared.script.Round.{Round}
 use Rattle.bt_script.specs.declared.shape.LineShape.{LineShape}
-use Rattle.bt_script.specs.LineShape.{Shape, shape_of}
+use Rattle.bt_script.specs.LineShape.{Shape, shape_of, words_shape}
 use Rattle.bt_script.specs.Reading.{Reading}
 use Rattle.bt_script.specs.ScriptText.{air_lines, desks_of, ends_round, entry_of, is_open_behind, is_plan, items_of, limited_line, lines_in, own_lines, round_lines, round_of}
 use Rattle.bt_script.specs.Stages.{in_range, line_in, may_stand, with_terminals}
+use Rattle.bt_talk.specs.declared.block.Query.{Query}
+use Rattle.bt_talk.specs.declared.block.Query.TheVariants as query
 use Rattle.bt_talk.specs.declared.block.Step.{Step}
 use Rattle.bt_talk.specs.declared.block.Step.TheVariants as step
 use Rattle.bt_talk.specs.Asked.{part_in, parts_of}
-use Rattle.bt_talk.specs.Block.{Open, block_row, forget_row, go_row, joined, plays, read_row, row_of, said_row}
+use Rattle.bt_talk.specs.Block.{Open, asked_row, block_row, forget_row, go_row, joined, named_row, plays, read_row, room_names, row_of, said_row, word_asked}
 use Rattle.bt_talk.specs.Scripts.{AskItems, came, session_of}
 
 -- what was read in two steps
@@ -96,13 +101,71 @@ no_go = refl
 no_forget : shape_of (codes "forget") ≡ None
 no_forget = refl
 
+-- a line that asks is none
+no_room : (from to : List ℕ) → words_shape (codes "room" ∷ from ∷ to ∷ []) ≡ None
+no_room from to = refl
+
+-- a text of these words has no shape
+roomless : (text : List ℕ) (from to : List ℕ) → words text ≡ codes "room" ∷ from ∷ to ∷ [] → shape_of text ≡ None
+roomless text from to cut =
+    let parts : text ≡ spaced (codes "room" ∷ from ∷ to ∷ []) = sym (spaced-words text) ∙ ap spaced cut in
+    ap shape_of parts ∙ (ap words_shape (ap words (sym parts) ∙ cut) ∙ no_room from to)
+
+-- the first of its words is `room`
+passes : {A : Type 0} (test : Bool) (one found : A) → cond test (Some one) None ≡ Some found → test ≡ true
+passes true one found is = refl
+passes false one found is = absurd cc
+
+head_is : (head from to : List ℕ) (names : List ℕ × List ℕ) → room_names (head ∷ from ∷ to ∷ []) ≡ Some names → head ≡ codes "room"
+head_is head from to names is =
+    let both = passes (is_word (codes "room") head && are_names from to) (from, to) names is in
+    (bytes_eq-Decides head (codes "room")).0 (and_parts (is_word (codes "room") head) (are_names from to) both).0
+
+named_room : (ws : List (List ℕ)) (names : List ℕ × List ℕ) → room_names ws ≡ Some names → (from : List ℕ) × (to : List ℕ) × (ws ≡ codes "room" ∷ from ∷ to ∷ [])
+named_room [] names is = absurd cc
+named_room (head ∷ []) names is = absurd cc
+named_room (head ∷ from ∷ []) names is = absurd cc
+named_room (head ∷ from ∷ to ∷ []) names is = (from, to, ap (λ (w : List ℕ). w ∷ from ∷ to ∷ []) (head_is head from to names is))
+named_room (head ∷ from ∷ to ∷ more ∷ rest) names is = absurd cc
+
+no_names : (net : Net) (at : ℕ) (is_open : Bool) (text : List ℕ) (one : ScriptLine) (found : Option (List ℕ × List ℕ)) → line_in net at is_open text ≡ Ok one → room_names (words text) ≡ found → found ≡ None
+no_names net at is_open text one None is asked = refl
+no_names net at is_open text one (Some names) is asked =
+    let named = named_room (words text) names asked in
+    absurd (no_shape net at is_open (shape_of text) one (roomless text named.0 named.1 named.2) is)
+
+-- it is none of one word
+no_word : (net : Net) (at : ℕ) (is_open : Bool) (text : List ℕ) (one : ScriptLine) → line_in net at is_open text ≡ Ok one → word_asked text ≡ None
+no_word net at is_open text one is =
+    let none = λ (word : List ℕ) (no : shape_of word ≡ None). unlike net at is_open word text one (is_word word text) no is refl in
+    let last : Option Query = None in
+    let helps : Option Query = cond (is_word (codes "help") text) (Some query.Help) last in
+    let waits : Option Query = cond (is_word (codes "waiting") text) (Some query.Waiting) helps in
+    let plans : Option Query = cond (is_word (codes "installed") text) (Some query.Installed) waits in
+    let links : Option Query = cond (is_word (codes "demand") text) (Some query.Demand) plans in
+    let frees : Option Query = cond (is_word (codes "capacity") text) (Some query.Capacity) links in
+    ap (λ (b : Bool). cond b (Some query.State) frees) (none (codes "state") refl)
+    ∙ ap (λ (b : Bool). cond b (Some query.Capacity) links) (none (codes "capacity") refl)
+    ∙ ap (λ (b : Bool). cond b (Some query.Demand) plans) (none (codes "demand") refl)
+    ∙ ap (λ (b : Bool). cond b (Some query.Installed) waits) (none (codes "installed") refl)
+    ∙ ap (λ (b : Bool). cond b (Some query.Waiting) helps) (none (codes "waiting") refl)
+    ∙ ap (λ (b : Bool). cond b (Some query.Help) last) (none (codes "help") refl)
+
+-- so it asks nothing
+asks_nothing : (net : Net) (at : ℕ) (is_open : Bool) (block : Open) (text : List ℕ) (one : ScriptLine) → line_in net at is_open text ≡ Ok one
+    → asked_row net block text (word_asked text) ≡ read_row block (line_in net 1 true text)
+asks_nothing net at is_open block text one is =
+    ap (asked_row net block text) (no_word net at is_open text one is)
+    ∙ ap (named_row net block text) (no_names net at is_open text one (room_names (words text)) is refl)
+
 -- what a line of a script comes to
 says : (net : Net) (at : ℕ) (is_open : Bool) (block : Open) (text : List ℕ) (one : ScriptLine) → line_in net at is_open text ≡ Ok one → row_of net block (came text) ≡ said_row block one
 says net at is_open block text one is =
-    let rest : Open × Step = read_row block (line_in net 1 true text) in
+    let rest : Open × Step = asked_row net block text (word_asked text) in
     let forgets : Open × Step = cond (is_word (codes "forget") text) (forget_row block) rest in
     ap (λ (b : Bool). cond b (go_row block) forgets) (unlike net at is_open (codes "go") text one (is_word (codes "go") text) no_go is refl)
     ∙ ap (λ (b : Bool). cond b (forget_row block) rest) (unlike net at is_open (codes "forget") text one (is_word (codes "forget") text) no_forget is refl)
+    ∙ asks_nothing net at is_open block text one is
     ∙ ap (read_row block) (same_line net at is_open text one is)
 
 -- the parts that it and the lines behind it ask

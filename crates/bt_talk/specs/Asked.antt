@@ -11,6 +11,7 @@ abbrev pub part_in : Step → List Item
 part_in (step.Plays one) = one ∷ []
 part_in step.Nothing = []
 part_in (step.Fault code) = []
+part_in (step.Tells one) = []
 
 -- the parts that lines ask, from an open block on
 abbrev pub parts_of : Net → Open → List (Option (List ℕ)) → List Item

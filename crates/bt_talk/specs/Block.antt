@@ -1,9 +1,12 @@
 -- What a line of a session comes to: a table with a row for each kind of line, where no block is open and where one is.
-use Rattle.std.specs.Prelude.{ℕ, if◌then◌else◌, nat_lt, true, List, [], ◌∷◌, ◌++◌, length, codes, Option, Some, None, Ok, Err, All}
+use Rattle.std.specs.Prelude.{ℕ, ◌&&◌, if◌then◌else◌, nat_lt, true, List, [], ◌∷◌, ◌++◌, length, codes, Option, Some, None, Ok, Err, All}
 use Rattle.bt_frame.specs.declared.limits.TheConstants.{MOST_LINES}
-use Rattle.bt_text.specs.Text.{is_word}
+use Rattle.bt_frame.specs.declared.numbers.TermNo.{TermNo}
+use Rattle.bt_text.specs.Text.{is_word, words}
+use Rattle.bt_net.specs.Name.{are_names}
 use Rattle.bt_net.specs.Network.{Net}
-use Rattle.bt_script.specs.declared.fault.ScriptCode.TheVariants.{S1, S4, S5}
+use Rattle.bt_net.specs.Terminals.{IsBetweenTerminals, terminal_of}
+use Rattle.bt_script.specs.declared.fault.ScriptCode.TheVariants.{S1, S2, S4, S5}
 use Rattle.bt_script.specs.declared.line.ScriptLine.{ScriptLine}
 use Rattle.bt_script.specs.declared.line.ScriptLine.TheVariants as line
 use Rattle.bt_script.specs.declared.script.Item.TheVariants as item
@@ -12,6 +15,8 @@ use Rattle.bt_script.specs.Said.{IsSaidFor}
 use Rattle.bt_script.specs.Reading.{Reading}
 use Rattle.bt_script.specs.ScriptText.{round_lines, round_of}
 use Rattle.bt_script.specs.Stages.{line_in}
+use Rattle.bt_talk.specs.declared.block.Query.{Query}
+use Rattle.bt_talk.specs.declared.block.Query.TheVariants as query
 use Rattle.bt_talk.specs.declared.block.Step.{Step}
 use Rattle.bt_talk.specs.declared.block.Step.TheVariants as step
 
@@ -65,12 +70,48 @@ abbrev pub forget_row : Open → Open × Step
 forget_row None = (None, step.Fault S4)
 forget_row (Some said) = (None, step.Nothing)
 
--- a line: a word of sessions, or a line of a script
+-- a line that asks and changes nothing: it is told where no block is open
+abbrev pub tell_row : Open → Query → Open × Step
+tell_row None one = (None, step.Tells one)
+tell_row (Some said) one = (Some said, step.Fault S4)
+
+-- what a line of one word asks
+abbrev pub word_asked : List ℕ → Option Query
+word_asked text =
+    if is_word (codes "state") text then Some query.State
+    else (if is_word (codes "capacity") text then Some query.Capacity
+    else (if is_word (codes "demand") text then Some query.Demand
+    else (if is_word (codes "installed") text then Some query.Installed
+    else (if is_word (codes "waiting") text then Some query.Waiting
+    else (if is_word (codes "help") text then Some query.Help
+    else None)))))
+
+-- the names behind `room`
+abbrev pub room_names : List (List ℕ) → Option (List ℕ × List ℕ)
+room_names (head ∷ from ∷ to ∷ []) = if is_word (codes "room") head && are_names from to then Some (from, to) else None
+room_names _ = None
+
+-- `room`, with the terminals of its names
+abbrev pub room_row : Open → Option TermNo → Option TermNo → Open × Step
+room_row block (Some from) (Some to) = tell_row block (query.Room from to)
+room_row block _ _ = (block, step.Fault S2)
+
+-- a line that is none of one word of sessions: `room`, or a line of a script
+abbrev pub named_row : Net → Open → List ℕ → Option (List ℕ × List ℕ) → Open × Step
+named_row net block text (Some names) = room_row block (terminal_of net names.0) (terminal_of net names.1)
+named_row net block text None = read_row block (line_in net 1 true text)
+
+-- a line that plays or gives up no block: what is asked, or a line of a script
+abbrev pub asked_row : Net → Open → List ℕ → Option Query → Open × Step
+asked_row net block text (Some one) = tell_row block one
+asked_row net block text None = named_row net block text (room_names (words text))
+
+-- a line: a word of sessions, what is asked, or a line of a script
 abbrev pub line_row : Net → Open → List ℕ → Open × Step
 line_row net block text =
     if is_word (codes "go") text then go_row block
     else (if is_word (codes "forget") text then forget_row block
-    else read_row block (line_in net 1 true text))
+    else asked_row net block text (word_asked text))
 
 -- what came: a line, or what is none
 abbrev pub row_of : Net → Open → Option (List ℕ) → Open × Step
@@ -82,8 +123,14 @@ abbrev pub IsOpenFor : Net → Open → Type 0
 IsOpenFor net None = Unit {0}
 IsOpenFor net (Some said) = All (IsSaidFor net) said
 
--- so does the part that is played, where one is
+-- so does what is asked
+abbrev pub IsQueryFor : Net → Query → Type 0
+IsQueryFor net (query.Room from to) = IsBetweenTerminals net from to
+IsQueryFor net _ = Unit {0}
+
+-- so does the part that is played, or what is told, where there is one
 abbrev pub IsStepFor : Net → Step → Type 0
 IsStepFor net step.Nothing = Unit {0}
 IsStepFor net (step.Fault code) = Unit {0}
 IsStepFor net (step.Plays one) = IsItemFor net one
+IsStepFor net (step.Tells one) = IsQueryFor net one

@@ -2,3 +2,4 @@ pub mod Block
 pub mod Answers
 pub mod Asked
 pub mod Scripts
+pub mod Help

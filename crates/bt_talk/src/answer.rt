@@ -1,10 +1,12 @@
 // The lines of a session that no script has.
-ghost use Rattle.std.specs.Prelude.{◌≡◌, ◌++◌, OnOk, IfOk};
-ghost use Rattle.bt_talk.specs.Answers.{answer_of, fault_line, input_fault_line, ready_line};
+ghost use Rattle.std.specs.Prelude.{◌≡◌, ◌-◌, ◌++◌, OnOk, IfOk, length};
+ghost use Rattle.bt_text.specs.Text.{lines};
+ghost use Rattle.bt_talk.specs.Answers.{answer_of, counted, fault_line, input_fault_line, lines_line, ready_line};
 
 use crate::block::Step;
 use bt_frame::OutOfMemory;
 use bt_script::ScriptCode;
+use bt_text::first_line;
 use bt_words::{Word, add_line};
 use std::alloc::Global;
 
@@ -49,4 +51,34 @@ pub fn add_input_fault(alloc: Global, text: &mut Vec<u8>) -> Result<(), OutOfMem
     ensures line { OnOk result (text.new.items ≡ text.old.items ++ input_fault_line) }
 {
     add_line(alloc, &[Word::Text("fault"), Word::Text("input")], text)
+}
+
+/// What is told, with the number of its lines in front. It ends with a newline, or is empty.
+pub fn counted_text(alloc: Global, told: &[u8]) -> Result<Vec<u8>, OutOfMemory>
+    ensures text { IfOk result (λ text. text.items ≡ counted told.now) }
+{
+    let mut text = Vec::new(alloc);
+    add_lines(alloc, line_count(told), &mut text)?;
+    text.extend_from_slice(told)?;
+    Ok(text)
+}
+
+/// Appends that so many lines follow.
+fn add_lines(alloc: Global, count: u64, text: &mut Vec<u8>) -> Result<(), OutOfMemory>
+    ensures line { OnOk result (text.new.items ≡ text.old.items ++ lines_line count) }
+{
+    add_line(alloc, &[Word::Text("lines"), Word::Number(count)], text)
+}
+
+/// How many lines of a text end with a newline.
+fn line_count(text: &[u8]) -> u64
+    ensures { result ≡ length (lines text.now) - 1 }
+{
+    let mut rest = text;
+    let mut count = 0;
+    while let Some((_, after)) = first_line(rest) {
+        rest = after;
+        count += 1;
+    }
+    count
 }

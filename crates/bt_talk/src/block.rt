@@ -6,19 +6,42 @@
 //     `go`                  fault S4                    plays the block, and closes it
 //     `forget`              fault S4                    closes the block
 //     `restart`             the centre restarts         fault S4
+//     what asks             is told                     fault S4
 //     another of a script   a round by itself           joins the block; fault S5 where that is full
 //     at fault, or none     its fault                   its fault
-ghost use Rattle.std.specs.Prelude.{◌≡◌, ◌≤◌, ◌++◌, ◌∷◌, [], None, Some, IfOk, All, length, option_map};
+ghost use Rattle.std.specs.Prelude.{◌≡◌, ◌≤◌, ◌++◌, ◌∷◌, [], None, Some, IfOk, IfSome, All, length, option_map};
 ghost use Rattle.bt_frame.specs.declared.limits.TheConstants.{MOST_LINES};
+ghost use Rattle.bt_text.specs.Text.{words};
+ghost use Rattle.bt_net.specs.Network.{Net};
+ghost use Rattle.bt_net.specs.Terminals.{IsTerminal};
 ghost use Rattle.bt_script.specs.Said.{IsSaidFor};
-ghost use Rattle.bt_talk.specs.Block.{IsOpenFor, IsStepFor, block_row, forget_row, go_row, joined, line_row, lone_row, plays, row_of, said_row};
+ghost use Rattle.bt_talk.specs.Block.{IsOpenFor, IsQueryFor, IsStepFor, block_row, forget_row, go_row, joined, line_row, lone_row, named_row, plays, room_names, room_row, row_of, said_row, tell_row, word_asked};
 
-use bt_frame::{MOST_LINES, OutOfMemory};
-use bt_net::Network;
+use bt_frame::{MOST_LINES, OutOfMemory, TermNo};
+use bt_net::{Network, are_names};
 use bt_script::{Item, ScriptCode, ScriptFault, ScriptLine, read_line, round_in_front};
-use bt_text::is_word;
+use bt_text::{WordReader, is_word};
 use std::alloc::Global;
 use std::marker::Model;
+
+/// What a line asks that changes nothing.
+#[derive(Clone, Copy)]
+pub enum Query {
+    /// How far the book has come.
+    State,
+    /// What the demand leaves free.
+    Capacity,
+    /// The most units that one add from a terminal to another may have.
+    Room { from: TermNo, to: TermNo },
+    /// The links of the demand.
+    Demand,
+    /// The newest plan.
+    Installed,
+    /// The messages that are on their way.
+    Waiting,
+    /// The lines that a session has.
+    Help,
+}
 
 /// What a line of a session comes to.
 #[derive(Drop)]
@@ -29,6 +52,8 @@ pub enum Step {
     Fault(ScriptCode),
     /// This part is played.
     Plays(Item),
+    /// This is told, and nothing is played.
+    Tells(Query),
 }
 
 /// The block of a session: its lines where it is open.
@@ -88,10 +113,55 @@ impl Block {
         if is_word(text, b"forget") {
             return Ok(self.forget());
         }
+        match word_asked(text) {
+            Some(query) => Ok(self.tell(net, query)),
+            None => self.named(alloc, net, text),
+        }
+    }
+
+    /// What a line comes to that is none of one word of sessions.
+    fn named(self, alloc: Global, net: &Network, text: &[u8]) -> Result<(Block, Step), OutOfMemory>
+        requires terminals { IsOpenFor net.now self }
+        ensures row { IfOk result (λ on. (on.0, on.1) ≡ named_row net.now self text.now (room_names (words text.now))) }
+        ensures terminals { IfOk result (λ on. IsOpenFor net.now on.0) }
+        ensures part { IfOk result (λ on. IsStepFor net.now on.1) }
+    {
+        if let Some((from, to)) = room_names(text) {
+            return Ok(self.room(net, net.terminal_named(from), net.terminal_named(to)));
+        }
         match read_line(net, 1, true, text) {
             Ok(one) => self.says(alloc, net, one),
             Err(ScriptFault::At { code, .. }) => Ok((self, Step::Fault(code))),
             Err(ScriptFault::OutOfMemory) => Err(OutOfMemory),
+        }
+    }
+
+    /// `room`, with the terminals of its names.
+    fn room(self, net: &Network, from: Option<TermNo>, to: Option<TermNo>) -> (Block, Step)
+        requires terminals { IsOpenFor net.now self }
+        requires from { IfSome from (IsTerminal net.now) }
+        requires to { IfSome to (IsTerminal net.now) }
+        ensures row { (result.0, result.1) ≡ room_row self from to }
+        ensures terminals { IsOpenFor net.now result.0 }
+        ensures part { IsStepFor net.now result.1 }
+    {
+        match (from, to) {
+            (Some(from), Some(to)) => self.tell(net, Query::Room { from, to }),
+            _ => (self, Step::Fault(ScriptCode::S2)),
+        }
+    }
+
+    /// A line that asks.
+    fn tell(self, net: &Network, query: Query) -> (Block, Step)
+        requires terminals { IsOpenFor net.now self }
+        requires query { IsQueryFor net.now query }
+        ensures row { (result.0, result.1) ≡ tell_row self query }
+        ensures terminals { IsOpenFor net.now result.0 }
+        ensures part { IsStepFor net.now result.1 }
+    {
+        match self.said {
+            None => (Block::closed(), Step::Tells(query)),
+            Some(said) => (Block { said: Some(said) }, Step::Fault(ScriptCode::S4)),
         }
     }
 
@@ -136,6 +206,48 @@ impl Block {
             Some(said) => waits(net, said, &one),
         }
     }
+}
+
+/// What a line of one word asks.
+fn word_asked(text: &[u8]) -> Option<Query>
+    ensures query { result ≡ word_asked text.now }
+    ensures terminals { (net : Net) → IfSome result (IsQueryFor net) }
+{
+    if is_word(text, b"state") {
+        Some(Query::State)
+    } else if is_word(text, b"capacity") {
+        Some(Query::Capacity)
+    } else if is_word(text, b"demand") {
+        Some(Query::Demand)
+    } else if is_word(text, b"installed") {
+        Some(Query::Installed)
+    } else if is_word(text, b"waiting") {
+        Some(Query::Waiting)
+    } else if is_word(text, b"help") {
+        Some(Query::Help)
+    } else {
+        None
+    }
+}
+
+/// The names behind `room`, and no more words.
+fn room_names(text: &[u8]) -> Option<(&[u8], &[u8])>
+    ensures { option_map (λ names. (names.0.now, names.1.now)) result ≡ room_names (words text.now) }
+{
+    let mut words = WordReader::of(text);
+    let Some(head) = words.next() else {
+        return None;
+    };
+    let Some(from) = words.next() else {
+        return None;
+    };
+    let Some(to) = words.next() else {
+        return None;
+    };
+    if !words.is_done() || !is_word(head, b"room") || !are_names(from, to) {
+        return None;
+    }
+    Some((from, to))
 }
 
 /// A line of a script where no block is open.

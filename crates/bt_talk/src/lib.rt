@@ -1,15 +1,17 @@
 //! What a line of a session comes to, and its answer.
 //!
-//! It stands on the lines of a script (`bt_script`), of which a session has all and two more, `go` and `forget`, and on
-//! printed lines. All of `specs/` is promise: `Block.antt`, the table of a session's lines, in the order of `block.rt`;
-//! `Answers.antt`, what stands behind the text of what a line plays; `Asked.antt`, the parts that lines ask;
-//! `Scripts.antt`, the session that asks what a script asks.
+//! It stands on the lines of a script (`bt_script`), of which a session has all, and `go`, `forget` and lines that ask and change
+//! nothing, and on printed lines. All of `specs/` is promise: `Block.antt`, the table of a session's lines, in the order of
+//! `block.rt`; `Answers.antt`, what stands behind the text of what a line plays, and in front of what it is told; `Help.antt`, what
+//! is told of the lines; `Asked.antt`, the parts that lines ask; `Scripts.antt`, the session that asks what a script asks.
 #![tactic(auto)]
 
 mod answer;
 mod block;
+mod help;
 mod laws;
 
-pub use answer::{add_input_fault, add_ready, answer_text};
-pub use block::{Block, Step};
+pub use answer::{add_input_fault, add_ready, answer_text, counted_text};
+pub use block::{Block, Query, Step};
+pub use help::help_text;
 pub use laws::scripts_are_sessions;

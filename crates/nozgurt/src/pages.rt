@@ -84,11 +84,14 @@ commands of the centre
       Runs the centre of the network in the file NET by the lines that come on
       standard input: each is played and answered before the next is read. They
       are the lines of a script, of which each alone is a round by itself, and
-      two more. `round` opens a block, whose lines wait; `go` plays them as one
-      round; `forget` gives them up. Behind each answer stands `ready N`, which
-      says that line N was answered and the next may come. A line that is at
-      fault has no effect; `fault CODE N` names it, and the session goes on. The
-      end of the input plays no block that is open, and prints the total.
+      a few more. `round` opens a block, whose lines wait; `go` plays them as one
+      round; `forget` gives them up. `state`, `capacity`, `room FROM TO`,
+      `demand`, `installed` and `waiting` ask, and change nothing: `lines K`
+      stands in front of the K lines that are told. `help` tells all the lines
+      that there are. Behind each answer stands `ready N`, which says that line N
+      was answered and the next may come. A line that is at fault has no effect;
+      `fault CODE N` names it, and the session goes on. The end of the input
+      plays no block that is open, and prints the total.
       It begins with what the file JOURNAL comes to, and each change that is
       accepted is one line more of it before it is answered.
       example: nozgurt live examples/two-beams.net live.journal < examples/live.lines

@@ -6,7 +6,7 @@ use Rattle.bt_run_lines.proofs.output.check_output.Given as goal
 
 abbrev pub invariant-loop-line : goal.invariant-loop-line
 invariant-loop-line l = record {
-  so_far : gone_over (lines_from l.net l.at (lines l.rest)) ≡ gone_over (output_of l.net l.text);
+  so_far : gone_over (lines_from l.net l.at l.told (lines l.rest)) ≡ gone_over (output_of l.net l.text);
   few : l.at + length l.rest ≤ length l.text + 1;
 }
 
