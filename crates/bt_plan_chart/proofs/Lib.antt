@@ -1,3 +1,4 @@
 pub mod Adding
+pub mod Meetings
 pub mod Overlaps
 pub mod Permutations
