@@ -11,7 +11,7 @@
 //! boxes that overlap, and the slots in which they meet have a broken edge, as have what runs past the length and a mode that
 //! is no permutation.
 //! `specs/Scale.antt` and `specs/Chart.antt` are promise: where each slot and lane lies, and which parts the picture has.
-//! `laws.rt` says that boxes overlap exactly where bursts meet.
+//! `laws.rt` says that boxes overlap exactly where bursts meet, and which bursts have a mark.
 #![tactic(auto)]
 
 mod bursts;
@@ -27,5 +27,8 @@ mod part;
 mod scale;
 
 pub use chart::plan_picture;
-pub use laws::{good_plans_have_no_overlap, meeting_bursts_overlap, permutations_are_told};
+pub use laws::{
+    good_plans_have_no_overlap, meeting_bursts_are_marked, meeting_bursts_overlap,
+    permutations_are_told,
+};
 pub use scale::{Direction, Scale};

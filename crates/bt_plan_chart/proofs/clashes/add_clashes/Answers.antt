@@ -1,4 +1,4 @@
-use Rattle.std.proofs.Common.{◌≡◌, ℕ, ◌++◌, flat_map, get_or, length, ap, sym, ◌∙◌, refl, arith, rules}
+use Rattle.std.proofs.Common.{◌≡◌, ℕ, ◌++◌, flat_map, get_or, length, ap, ◌∙◌, refl, arith, rules}
 use Rattle.std.proofs.lemmas.List.{get_or-replicate}
 use Rattle.std.specs.List.{range_with_len}
 use Rattle.bt_demand.specs.declared.burst.Burst.{Burst}

@@ -1,4 +1,4 @@
-use Rattle.std.proofs.Common.{◌≡◌, ◌++◌, ◌<◌, ◌≤◌, ◌^◌, ℕ, flat_map, get_or, length, take}
+use Rattle.std.proofs.Common.{◌≡◌, ◌++◌, ◌<◌, ℕ, flat_map, get_or, length, take}
 use Rattle.std.specs.List.{range_with_len}
 use Rattle.bt_plan_chart.specs.Chart.{clash_parts_at, latest_end}
 use Rattle.bt_plan_chart.specs.Parts.{parts_text}
