@@ -79,16 +79,26 @@ next_number f head k before between after first second =
 pub all_numbers : (f : ℕ → Part) (head : List Part) (count k : ℕ) (before between : List ℕ) → k ≡ count → between ≡ before ++ parts_text (head ++ map f (range_with_len 0 k)) → between ≡ before ++ parts_text (head ++ map f (range_with_len 0 count))
 all_numbers f head count k before between same first = first ∙ ap (λ n. before ++ parts_text (head ++ map f (range_with_len 0 n))) same
 
+same_numbers : (xs : List ℕ) → map (λ (x : ℕ). x) xs ≡ xs
+same_numbers [] = refl
+same_numbers (x ∷ xs) = ap (λ l. x ∷ l) (same_numbers xs)
+
+range_more : (n : ℕ) → range_with_len 0 (n + 1) ≡ range_with_len 0 n ++ n ∷ []
+range_more n = sym (same_numbers (range_with_len 0 (n + 1))) ∙ map-range_with_len_more (λ (x : ℕ). x) 0 n n (omega arith) ∙ ap (λ l. l ++ n ∷ []) (same_numbers (range_with_len 0 n))
+
+-- four texts behind one
+pub four_behind : (before a b c d : List ℕ) → before ++ a ++ b ++ c ++ d ≡ before ++ (a ++ b ++ c ++ d)
+four_behind before a b c d = ap (λ t. t ++ d) (ap (λ t. t ++ c) (append_assoc before a b) ∙ append_assoc before (a ++ b) c) ∙ append_assoc before (a ++ b ++ c) d
+
+-- the texts of so many numbers, and that of one more
+pub next_text : (f : ℕ → List ℕ) (k : ℕ) (between after : List ℕ) → between ≡ flat_map f (range_with_len 0 k) → after ≡ between ++ f k → after ≡ flat_map f (range_with_len 0 (k + 1))
+next_text f k between after first second =
+    second ∙ ap (λ t. t ++ f k) first ∙ ap (λ t. flat_map f (range_with_len 0 k) ++ t) (sym (append-nil (f k)))
+    ∙ sym (flat_map-append f (range_with_len 0 k) (k ∷ [])) ∙ ap (flat_map f) (sym (range_more k))
+
 -- the parts of so many numbers, each of which may have any parts
 pub next_parts : (f : ℕ → List Part) (k : ℕ) (before between after : List ℕ) → between ≡ before ++ parts_text (flat_map f (range_with_len 0 k))
     → after ≡ between ++ parts_text (f k) → after ≡ before ++ parts_text (flat_map f (range_with_len 0 (k + 1)))
 next_parts f k before between after first second =
     and_more (flat_map f (range_with_len 0 k)) (f k) before between after first second
     ∙ ap (λ parts. before ++ parts_text parts) (ap (λ l. flat_map f (range_with_len 0 k) ++ l) (sym (append-nil (f k))) ∙ sym (flat_map-append f (range_with_len 0 k) (k ∷ [])) ∙ ap (flat_map f) (sym (range_more k)))
-  where
-    same : (xs : List ℕ) → map (λ (x : ℕ). x) xs ≡ xs
-    same [] = refl
-    same (x ∷ xs) = ap (λ l. x ∷ l) (same xs)
-
-    range_more : (n : ℕ) → range_with_len 0 (n + 1) ≡ range_with_len 0 n ++ n ∷ []
-    range_more n = sym (same (range_with_len 0 (n + 1))) ∙ map-range_with_len_more (λ (x : ℕ). x) 0 n n (omega arith) ∙ ap (λ l. l ++ n ∷ []) (same (range_with_len 0 n))

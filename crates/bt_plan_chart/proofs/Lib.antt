@@ -1,3 +1,5 @@
 pub mod Adding
+pub mod Marked
+pub mod Meetings
 pub mod Overlaps
 pub mod Permutations

@@ -75,16 +75,16 @@ beam_below net terminal sound is =
     omega (arith, number, below)
 
 -- terminals whose beams have one number are in one beam
-same_beam : (net : Net) (one other : TermNo) → IsTerminal net one → IsTerminal net other → beam_number net one ≡ beam_number net other → beam_at net one ≡ beam_at net other
+pub same_beam : (net : Net) (one other : TermNo) → IsTerminal net one → IsTerminal net other → beam_number net one ≡ beam_number net other → beam_at net one ≡ beam_at net other
 same_beam net one other is also same = beam_of net one is ∙ ap (λ (n : ℕ). Some (let beam : BeamNo = record { 0 = n } in beam)) same ∙ sym (beam_of net other also)
 
 -- the terminal of a burst in a direction is one of the network's
-of_net : (net : Net) (direction : Direction) (burst : Burst) → IsBetweenTerminals net burst.from burst.to → IsTerminal net (terminal_of direction burst)
+pub of_net : (net : Net) (direction : Direction) (burst : Burst) → IsBetweenTerminals net burst.from burst.to → IsTerminal net (terminal_of direction burst)
 of_net net Up burst between = between.0
 of_net net Down burst between = between.1
 
 -- the beam that two bursts share in a direction
-shared : (net : Net) (direction : Direction) (a b : Burst) → beam_at net (terminal_of direction a) ≡ beam_at net (terminal_of direction b) → ShareABeam net a.from a.to b.from b.to
+pub shared : (net : Net) (direction : Direction) (a b : Burst) → beam_at net (terminal_of direction a) ≡ beam_at net (terminal_of direction b) → ShareABeam net a.from a.to b.from b.to
 shared net Up a b same = inl same
 shared net Down a b same = inr same
 

@@ -1,6 +1,6 @@
 -- Which parts the picture of a plan has. All places and sizes are in twips, from the left and from the top.
-use Rattle.std.specs.Prelude.{ℕ, ◌+◌, ◌-◌, ◌*◌, ◌/◌, ◌%◌, ◌++◌, ◌==◌, ◌&&◌, ◌||◌, not, max, min, nat_lt, nat_le, Bool, true, false, if◌then◌else◌, List, [], ◌∷◌, length, map, flat_map, codes, decimal, sum_by, unwrap_or, slice_get}
-use Rattle.std.specs.List.{list_all, list_any, range_with_len, slice_index_or}
+use Rattle.std.specs.Prelude.{ℕ, ◌+◌, ◌-◌, ◌*◌, ◌/◌, ◌%◌, ◌++◌, ◌==◌, ◌&&◌, ◌||◌, not, max, min, nat_lt, nat_le, Bool, true, false, if◌then◌else◌, List, [], ◌∷◌, length, map, flat_map, codes, decimal, sum_by, take, unwrap_or, slice_get}
+use Rattle.std.specs.List.{list_all, fold, list_any, range_with_len, slice_index_or}
 use Rattle.bt_frame.specs.declared.mode.Mode.{Mode}
 use Rattle.bt_frame.specs.declared.schedule.Critical.{Critical}
 use Rattle.bt_frame.specs.declared.schedule.Critical.TheVariants.{Row, Column}
@@ -124,30 +124,48 @@ band_of scale begin end = record { x = x_of scale (min begin scale.span); y = 15
 -- how the title of a mode ends
 abbrev pub mode_ending : Bool → List ℕ
 mode_ending true = []
-mode_ending false = codes ": no permutation of the beams"
+mode_ending false = codes "; no permutation of the beams"
 
--- a mode in its band, with its duration where there is room, and a broken edge where it is no permutation
-abbrev pub mode_part : ℕ → ℕ → Bool → Rect → Part
-mode_part place duration good band = Titled (text_of (codes "mode " ∷ decimal place ∷ codes ", " ∷ decimal duration ∷ counted duration (codes " slot") (codes " slots") ∷ mode_ending good ∷ []))
-    (Rectangle band style.Band ∷ (if good then [] else Rectangle band style.Fault ∷ []) ++ (if nat_lt band.width 500 then [] else Label (at (band.x + band.width / 2) 1740) Middle style.Text (text_of (decimal duration ∷ [])) ∷ []))
+-- the connection of an uplink beam in a mode, and those of all
+abbrev pub connection_text : Net → List ℕ → ℕ → List ℕ
+connection_text net perm up = codes " " ++ name_of_beam net up ++ ARROW.now ++ name_of_beam net (slice_index_or perm up 0)
+
+unfoldable pub connections_text : Net → List ℕ → List ℕ
+connections_text net perm = flat_map (connection_text net perm) (range_with_len 0 (length perm))
+
+-- the label of a mode in its band: where there is room its duration, and where there is more its connections, in small letters
+abbrev pub mode_label : ℕ → List ℕ → Rect → List Shape
+mode_label duration connections band = if nat_lt band.width 500 then []
+    else (if nat_lt (length connections + 12) (band.width / 92)
+    then Label (at (band.x + band.width / 2) 1720) Middle style.Small (text_of (decimal duration ∷ codes ":" ∷ connections ∷ [])) ∷ []
+    else Label (at (band.x + band.width / 2) 1740) Middle style.Text (text_of (decimal duration ∷ [])) ∷ [])
+
+-- the band of a mode, with a broken edge where it is no permutation
+abbrev pub band_shapes : Bool → Rect → List Shape
+band_shapes good band = Rectangle band style.Band ∷ (if good then [] else Rectangle band style.Fault ∷ [])
+
+-- a mode in its band, with its connections
+abbrev pub mode_part : ℕ → ℕ → Bool → List ℕ → Rect → Part
+mode_part place duration good connections band = Titled (text_of (codes "mode " ∷ decimal place ∷ codes ", " ∷ decimal duration ∷ counted duration (codes " slot:") (codes " slots:") ∷ connections ∷ mode_ending good ∷ []))
+    (band_shapes good band ++ mode_label duration connections band)
 
 -- a mode of a list, which begins where those before it end
-abbrev pub mode_part_from : Scale → ℕ → ℕ → Mode → Part
-mode_part_from scale place begin mode = mode_part place mode.duration (is_permutation scale.beams mode.perm) (band_of scale begin (begin + mode.duration))
+abbrev pub mode_part_from : Net → Scale → ℕ → ℕ → Mode → Part
+mode_part_from net scale place begin mode = mode_part place mode.duration (is_permutation scale.beams mode.perm) (connections_text net mode.perm) (band_of scale begin (begin + mode.duration))
 
 -- what stands in no list
 abbrev pub no_mode : Mode
 no_mode = record { duration = 0; perm = [] }
 
-abbrev pub mode_part_at : Scale → List Mode → ℕ → Part
-mode_part_at scale modes place = mode_part_from scale place (begin_of modes place) (slice_index_or modes place no_mode)
+abbrev pub mode_part_at : Net → Scale → List Mode → ℕ → Part
+mode_part_at net scale modes place = mode_part_from net scale place (begin_of modes place) (slice_index_or modes place no_mode)
 
 -- what stands beside the bands, and the bands
 abbrev pub modes_head : Part
 modes_head = Alone (Label (at 1560 1740) End style.Text (text_of (codes "modes" ∷ [])))
 
-abbrev pub modes_parts : Scale → List Mode → List Part
-modes_parts scale modes = modes_head ∷ map (mode_part_at scale modes) (range_with_len 0 (length modes))
+abbrev pub modes_parts : Net → Scale → List Mode → List Part
+modes_parts net scale modes = modes_head ∷ map (mode_part_at net scale modes) (range_with_len 0 (length modes))
 
 -- the slots of the bursts in a lane
 abbrev pub slots_in_lane : Net → Direction → List Burst → ℕ → ℕ
@@ -197,10 +215,26 @@ has_room width from to = nat_lt (length from) (width / 260) && nat_lt (length to
 abbrev pub names_in : Rect → List ℕ → List ℕ → Shape
 names_in box from to = Label (at (box.x + box.width / 2) (box.y + 320)) Middle style.Text (text_of (from ∷ ARROW.now ∷ to ∷ []))
 
+-- each name has room in a line of its own, in small letters, the second behind an arrow
+abbrev pub have_lines : ℕ → List ℕ → List ℕ → Bool
+have_lines width from to = nat_le (length from) (width / 100) && nat_lt (length to) (width / 100)
+
+-- small letters in a box, so far below its upper edge
+abbrev pub line_in : Rect → ℕ → List ℕ → Shape
+line_in box below text = Label (at (box.x + box.width / 2) (box.y + below)) Middle style.Small text
+
+-- two boxes with their fills, and two lines of letters in each
+abbrev pub lined_shapes : Rect → Rect → ℕ → ℕ → List ℕ → List ℕ → List Shape
+lined_shapes up down up_fill down_fill first second = Rectangle up (style.Fill up_fill) ∷ Rectangle down (style.Fill down_fill)
+    ∷ line_in up 210 first ∷ line_in up 400 second ∷ line_in down 210 first ∷ line_in down 400 second ∷ []
+
 -- the two boxes of a burst, each with the fill of the beam at the other end, and the names where there is room
 abbrev pub burst_shapes : Rect → Rect → ℕ → ℕ → List ℕ → List ℕ → List Shape
-burst_shapes up down up_beam down_beam from to = Rectangle up (style.Fill down_beam) ∷ Rectangle down (style.Fill up_beam)
-    ∷ (if has_room up.width from to then names_in up from to ∷ names_in down from to ∷ [] else [])
+burst_shapes up down up_beam down_beam from to = if has_room up.width from to
+    then Rectangle up (style.Fill down_beam) ∷ Rectangle down (style.Fill up_beam) ∷ names_in up from to ∷ names_in down from to ∷ []
+    else (if have_lines up.width from to
+    then lined_shapes up down down_beam up_beam (text_of (from ∷ [])) (text_of (ARROW.now ∷ to ∷ []))
+    else Rectangle up (style.Fill down_beam) ∷ Rectangle down (style.Fill up_beam) ∷ [])
 
 -- a burst between two beams
 abbrev pub burst_part : Scale → Burst → ℕ → List ℕ → ℕ → List ℕ → Part
@@ -220,6 +254,38 @@ overrun_part scale up_beam down_beam start slots = Titled (text_of (codes "past 
 abbrev pub overrun_parts : Net → Scale → Burst → List Part
 overrun_parts net scale burst = if nat_lt scale.length (end_of burst)
     then overrun_part scale (beam_number net burst.from) (beam_number net burst.to) (max burst.start scale.length) (end_of burst - max burst.start scale.length) ∷ [] else []
+
+-- the latest end of the bursts in a lane, and 0 where there are none
+abbrev pub latest_end : Net → Direction → List Burst → ℕ → ℕ
+latest_end net direction bursts beam = fold (λ latest burst. if beam_number net (terminal_of direction burst) == beam then max latest (end_of burst) else latest) 0 bursts
+
+-- the mark of slots from one to another, in which bursts meet, in their box
+abbrev pub clash_mark : ℕ → ℕ → Rect → Part
+clash_mark first last box = Titled (text_of (codes "bursts meet from slot " ∷ decimal first ∷ codes " to slot " ∷ decimal last ∷ [])) (Rectangle box style.Fault ∷ [])
+
+-- the mark of so many slots of a lane
+abbrev pub clash_part : Scale → Direction → ℕ → ℕ → ℕ → Part
+clash_part scale direction beam start slots = clash_mark start (start + slots - 1) (slots_box scale direction beam start slots)
+
+-- the mark of a burst, where those before it in its lane end behind its start
+abbrev pub clash_parts : Scale → Direction → ℕ → Burst → ℕ → List Part
+clash_parts scale direction beam burst latest = if nat_lt burst.start (min (end_of burst) latest)
+    then clash_part scale direction beam burst.start (min (end_of burst) latest - burst.start) ∷ [] else []
+
+-- what stands in no list
+abbrev pub no_burst : Burst
+no_burst = record { from = record { 0 = 0 }; to = record { 0 = 0 }; start = 0; length = 0 }
+
+-- the mark of a burst of a list, whose bursts are in order of their start
+abbrev pub clash_parts_of : Net → Scale → Direction → List Burst → Burst → List Part
+clash_parts_of net scale direction before burst = clash_parts scale direction (beam_number net (terminal_of direction burst)) burst (latest_end net direction before (beam_number net (terminal_of direction burst)))
+
+abbrev pub clash_parts_at : Net → Scale → Direction → List Burst → ℕ → List Part
+clash_parts_at net scale direction bursts place = clash_parts_of net scale direction (take place bursts) (slice_index_or bursts place no_burst)
+
+-- the marks of all bursts in the lanes of a direction
+abbrev pub clashes_parts : Net → Scale → Direction → List Burst → List Part
+clashes_parts net scale direction bursts = flat_map (clash_parts_at net scale direction bursts) (range_with_len 0 (length bursts))
 
 -- how a name in the legend looks; long ones are small
 abbrev pub item_letters : ℕ → Style
@@ -249,9 +315,10 @@ legend_parts net scale = legend_head scale ∷ map (fill_part_at net scale) (ran
 
 -- all parts, each of which lies over those before it
 abbrev pub chart_parts : Net → Scale → Plan → List Part
-chart_parts net scale plan = heading_parts net plan ++ ruler_parts scale ++ modes_parts scale plan.schedule.modes
+chart_parts net scale plan = heading_parts net plan ++ ruler_parts scale ++ modes_parts net scale plan.schedule.modes
     ++ lanes_parts net scale plan Up ++ lanes_parts net scale plan Down
-    ++ map (burst_part_of net scale) plan.bursts ++ flat_map (overrun_parts net scale) plan.bursts ++ legend_parts net scale
+    ++ map (burst_part_of net scale) plan.bursts ++ flat_map (overrun_parts net scale) plan.bursts
+    ++ clashes_parts net scale Up plan.bursts ++ clashes_parts net scale Down plan.bursts ++ legend_parts net scale
 
 -- the picture of a plan
 abbrev pub plan_picture : Net → Plan → Picture

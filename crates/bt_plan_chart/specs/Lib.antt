@@ -2,3 +2,4 @@ pub mod Parts
 pub mod Scale
 pub mod Chart
 pub mod Overlap
+pub mod Marks

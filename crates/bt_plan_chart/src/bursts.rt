@@ -1,10 +1,10 @@
 // The bursts in the lanes.
-ghost use Rattle.std.specs.Prelude.{◌≡◌, ◌++◌, ◌<◌, ◌≤◌, ◌^◌, [], ◌∷◌, length, map, flat_map, OnOk};
+ghost use Rattle.std.specs.Prelude.{◌≡◌, ◌++◌, ◌+◌, ◌/◌, ◌<◌, ◌≤◌, ◌^◌, [], ◌∷◌, length, map, flat_map, OnOk};
 ghost use Rattle.bt_frame.specs.declared.limits.TheConstants.{MOST_BEAMS};
 ghost use Rattle.bt_demand.specs.Apart.{AreBetweenTerminals};
 ghost use Rattle.bt_net.specs.Terminals.{name_at, IsTerminal};
 ghost use Rattle.bt_picture.specs.Picture.{words_text, Titled};
-ghost use Rattle.bt_plan_chart.specs.Chart.{burst_part, burst_part_of, burst_shapes, has_room, overrun_part, overrun_parts};
+ghost use Rattle.bt_plan_chart.specs.Chart.{at, burst_part, burst_part_of, burst_shapes, has_room, have_lines, lined_shapes, overrun_part, overrun_parts};
 ghost use Rattle.bt_plan_chart.specs.Parts.{parts_text};
 ghost use Rattle.bt_plan_chart.specs.Scale.{beam_number, IsScale};
 
@@ -151,19 +151,63 @@ fn add_boxes<'a>(
             Word::Text(ARROW),
             Word::Text(to.name),
         ];
-        let up_at = Point {
-            x: up.x + up.width / 2,
-            y: up.y + 320,
-        };
-        let down_at = Point {
-            x: down.x + down.width / 2,
-            y: down.y + 320,
-        };
-        let up_names = Shape::Label(up_at, Anchor::Middle, Style::Text, &words);
-        let down_names = Shape::Label(down_at, Anchor::Middle, Style::Text, &words);
+        let up_names = Shape::Label(middle_of(up, 320), Anchor::Middle, Style::Text, &words);
+        let down_names = Shape::Label(middle_of(down, 320), Anchor::Middle, Style::Text, &words);
         add_titled(alloc, title, &[up_box, down_box, up_names, down_names], out)
+    } else if have_lines(up.width, from.name, to.name) {
+        let first = [Word::Text(from.name)];
+        let second = [Word::Text(ARROW), Word::Text(to.name)];
+        add_lines(
+            alloc, title, up, down, to.beam, from.beam, &first, &second, out,
+        )
     } else {
         add_titled(alloc, title, &[up_box, down_box], out)
+    }
+}
+
+/// Appends two boxes with their fills under a title, and two lines of letters in each.
+fn add_lines<'x>(
+    alloc: Global,
+    title: &[Word<'_>],
+    up: Rect,
+    down: Rect,
+    up_fill: u8,
+    down_fill: u8,
+    first: &'x [Word<'x>],
+    second: &'x [Word<'x>],
+    out: &mut Vec<u8>,
+) -> Result<(), OutOfMemory>
+    requires up_across { up.x ≤ 2 ^ 48 }
+    requires up_wide { up.width ≤ 2 ^ 48 }
+    requires up_down { up.y ≤ 2 ^ 16 }
+    requires down_across { down.x ≤ 2 ^ 48 }
+    requires down_wide { down.width ≤ 2 ^ 48 }
+    requires down_down { down.y ≤ 2 ^ 16 }
+    ensures { OnOk result (out.new.items ≡ out.old.items
+        ++ parts_text (Titled (words_text title.now) (lined_shapes up down up_fill down_fill (words_text first.now) (words_text second.now)) ∷ [])) }
+{
+    let shapes = [
+        Shape::Rectangle(up, Style::Fill(up_fill)),
+        Shape::Rectangle(down, Style::Fill(down_fill)),
+        Shape::Label(middle_of(up, 210), Anchor::Middle, Style::Small, first),
+        Shape::Label(middle_of(up, 400), Anchor::Middle, Style::Small, second),
+        Shape::Label(middle_of(down, 210), Anchor::Middle, Style::Small, first),
+        Shape::Label(middle_of(down, 400), Anchor::Middle, Style::Small, second),
+    ];
+    add_titled(alloc, title, &shapes, out)
+}
+
+/// The middle of a box, so far below its upper edge.
+fn middle_of(rect: Rect, below: u64) -> Point
+    requires across { rect.x ≤ 2 ^ 48 }
+    requires wide { rect.width ≤ 2 ^ 48 }
+    requires down { rect.y ≤ 2 ^ 16 }
+    requires below { below ≤ 2 ^ 16 }
+    ensures { result ≡ at (rect.x + rect.width / 2) (rect.y + below) }
+{
+    Point {
+        x: rect.x + rect.width / 2,
+        y: rect.y + below,
     }
 }
 
@@ -172,6 +216,13 @@ fn has_room(width: u64, from: &str, to: &str) -> bool
     ensures { result ≡ has_room width from.now to.now }
 {
     (from.len() as u64) < width / 260 && (to.len() as u64) < width / 260
+}
+
+/// Whether each name has room in a line of its own, in small letters, the second behind an arrow.
+fn have_lines(width: u64, from: &str, to: &str) -> bool
+    ensures { result ≡ have_lines width from.now to.now }
+{
+    (from.len() as u64) <= width / 100 && (to.len() as u64) < width / 100
 }
 
 /// Appends the marks of all bursts that run past the length.

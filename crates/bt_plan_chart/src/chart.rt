@@ -8,6 +8,7 @@ ghost use Rattle.bt_plan_chart.specs.Parts.{parts_text};
 ghost use Rattle.bt_plan_chart.specs.Scale.{IsScale};
 
 use crate::bursts::{add_bursts, add_overruns};
+use crate::clashes::add_clashes;
 use crate::heading::{add_heading, add_ruler};
 use crate::lanes::add_lanes;
 use crate::legend::add_legend;
@@ -54,10 +55,26 @@ fn add_chart(
 {
     add_heading(alloc, net, plan, out)?;
     add_ruler(alloc, scale, out)?;
-    add_modes(alloc, scale, plan.schedule.modes.as_slice(), out)?;
+    add_modes(alloc, net, scale, plan.schedule.modes.as_slice(), out)?;
     add_lanes(alloc, net, scale, plan, Direction::Up, out)?;
     add_lanes(alloc, net, scale, plan, Direction::Down, out)?;
     add_bursts(alloc, net, scale, plan.bursts.as_slice(), out)?;
     add_overruns(alloc, net, scale, plan.bursts.as_slice(), out)?;
+    add_clashes(
+        alloc,
+        net,
+        scale,
+        Direction::Up,
+        plan.bursts.as_slice(),
+        out,
+    )?;
+    add_clashes(
+        alloc,
+        net,
+        scale,
+        Direction::Down,
+        plan.bursts.as_slice(),
+        out,
+    )?;
     add_legend(alloc, net, scale, out)
 }

@@ -27,7 +27,7 @@ pub(crate) fn fullness(net: &Network, direction: Direction, bursts: &[Burst]) ->
 }
 
 /// The beam of a burst in a direction.
-fn beam_at(net: &Network, direction: Direction, burst: Burst) -> u8
+pub(crate) fn beam_at(net: &Network, direction: Direction, burst: Burst) -> u8
     requires from { IsTerminal net.now burst.from }
     requires to { IsTerminal net.now burst.to }
     ensures beam { result ≡ beam_number net.now (terminal_of direction burst) }

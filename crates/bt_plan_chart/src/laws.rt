@@ -1,14 +1,16 @@
-// What the boxes of bursts show: where two of them overlap, the bursts meet, and only there.
-ghost use Rattle.std.specs.Prelude.{◌≡◌, ◌↔◌, ◌⊎◌, ℕ, true, List};
+// What the boxes of bursts show: where two of them overlap, the bursts meet, and only there; and what marks show.
+ghost use Rattle.std.specs.Prelude.{◌≡◌, ◌↔◌, ◌⊎◌, ℕ, ◌<◌, true, List, length};
 ghost use Rattle.bt_net.specs.Network.{Net, IsSound};
 ghost use Rattle.bt_net.specs.Terminals.{IsBetweenTerminals};
 ghost use Rattle.bt_demand.specs.declared.burst.Burst.{Burst};
 ghost use Rattle.bt_demand.specs.declared.demand.Link.{Link};
 ghost use Rattle.bt_demand.specs.declared.plan.Plan.{Plan};
 ghost use Rattle.bt_demand.specs.Apart.{AreApart, AreBetweenTerminals, Collide};
+ghost use Rattle.bt_demand.specs.Burst.{AreBursts};
 ghost use Rattle.bt_demand.specs.Plan.{IsGoodPlan};
 ghost use Rattle.bt_matrix.specs.Good.{IsPermutation};
 ghost use Rattle.bt_plan_chart.specs.Chart.{is_permutation};
+ghost use Rattle.bt_plan_chart.specs.Marks.{IsMarked, MeetsOneBefore};
 ghost use Rattle.bt_plan_chart.specs.Overlap.{AreDrawnApart, OverlapIn};
 ghost use Rattle.bt_plan_chart.specs.Scale.{scale_of};
 ghost use Rattle.bt_plan_chart.specs.declared.scale.Direction.TheVariants.{Up, Down};
@@ -26,6 +28,12 @@ pub fn good_plans_have_no_overlap()
         → AreDrawnApart net (scale_of net plan) plan.bursts }
     ensures good { (net : Net) (links : List Link) (plan : Plan) → IsSound net → AreBetweenTerminals net plan.bursts → IsGoodPlan net links plan
         → AreDrawnApart net (scale_of net plan) plan.bursts }
+{}
+
+/// A burst of a plan has a mark exactly where it meets one before it in the list.
+pub fn meeting_bursts_are_marked()
+    ensures marked { (net : Net) (plan : Plan) (place : ℕ) → AreBetweenTerminals net plan.bursts → AreBursts plan.bursts → place < length plan.bursts
+        → IsMarked net (scale_of net plan) plan.bursts place ↔ MeetsOneBefore net plan.bursts place }
 {}
 
 /// A mode has no mark exactly where it is a permutation of the beams.

@@ -2,19 +2,21 @@
 //!
 //!     heading    edition; slots, modes, bursts, the critical line
 //!     ruler      slots from the start of the frame
-//!     modes      one band from left to right, the slots of each mode
+//!     modes      one band from left to right, the slots of each mode and its connections
 //!     Uplinks    a lane for each beam, and in it the bursts that go up in it, each with the fill of its downlink beam
 //!     Downlinks  a lane for each beam, and in it the bursts that come down in it, each with the fill of its uplink beam
 //!     legend     the fill of each beam
 //!
 //! It stands on pictures (`bt_picture`), on plans and the network, and shows every plan, good or not: bursts that meet are
-//! boxes that overlap, what runs past the length has a broken edge, and so has a mode that is no permutation.
+//! boxes that overlap, and the slots in which they meet have a broken edge, as have what runs past the length and a mode that
+//! is no permutation.
 //! `specs/Scale.antt` and `specs/Chart.antt` are promise: where each slot and lane lies, and which parts the picture has.
-//! `laws.rt` says that boxes overlap exactly where bursts meet.
+//! `laws.rt` says that boxes overlap exactly where bursts meet, and which bursts have a mark.
 #![tactic(auto)]
 
 mod bursts;
 mod chart;
+mod clashes;
 mod fullness;
 mod heading;
 mod lanes;
@@ -25,5 +27,8 @@ mod part;
 mod scale;
 
 pub use chart::plan_picture;
-pub use laws::{good_plans_have_no_overlap, meeting_bursts_overlap, permutations_are_told};
+pub use laws::{
+    good_plans_have_no_overlap, meeting_bursts_are_marked, meeting_bursts_overlap,
+    permutations_are_told,
+};
 pub use scale::{Direction, Scale};

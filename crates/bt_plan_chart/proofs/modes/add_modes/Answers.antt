@@ -22,10 +22,10 @@ loop-place-preserved c =
     let begun = c.loop-place.invariant.begins in
     record {
       few = c.requires.few;
-      added = next_number (mode_part_at c.args.scale modes) (modes_head ∷ []) place c.args.out.now.items c.loop-place.out.items c.add_mode.new.out.items c.loop-place.invariant.added
+      added = next_number (mode_part_at c.args.net.now c.args.scale modes) (modes_head ∷ []) place c.args.out.now.items c.loop-place.out.items c.add_mode.new.out.items c.loop-place.invariant.added
           (c.in_ok-add_mode.ensures
-          ∙ ap (λ (begin : ℕ). c.loop-place.out.items ++ parts_text (mode_part_from c.args.scale place begin mode ∷ [])) begun
-          ∙ ap (λ (m : Mode). c.loop-place.out.items ++ parts_text (mode_part_from c.args.scale place (begin_of modes place) m ∷ [])) (sym same));
+          ∙ ap (λ (begin : ℕ). c.loop-place.out.items ++ parts_text (mode_part_from c.args.net.now c.args.scale place begin mode ∷ [])) begun
+          ∙ ap (λ (m : Mode). c.loop-place.out.items ++ parts_text (mode_part_from c.args.net.now c.args.scale place (begin_of modes place) m ∷ [])) (sym same));
       begins = omega (arith, more, long, begun, c.from-begin.ensures);
       small = search rules;
     }
@@ -33,4 +33,4 @@ loop-place-preserved c =
 pub returns : goal.returns
 returns c =
     let same : c.loop-place.place ≡ length c.args.modes.now = omega arith in
-    all_numbers (mode_part_at c.args.scale c.args.modes.now) (modes_head ∷ []) (length c.args.modes.now) c.loop-place.place c.args.out.now.items c.loop-place.out.items same c.loop-place.invariant.added
+    all_numbers (mode_part_at c.args.net.now c.args.scale c.args.modes.now) (modes_head ∷ []) (length c.args.modes.now) c.loop-place.place c.args.out.now.items c.loop-place.out.items same c.loop-place.invariant.added
