@@ -14,6 +14,19 @@ const MOST_FORMS: usize = 40;
 /// The most words of a place that are said one by one.
 const MOST_SAID: usize = 5;
 
+/// The words with which the lines begin that only a session has.
+const SESSION_WORDS: [&str; 9] = [
+    "go",
+    "forget",
+    "state",
+    "capacity",
+    "room",
+    "demand",
+    "installed",
+    "waiting",
+    "help",
+];
+
 /// What is looked at beside the shape of a line.
 #[derive(Clone, Copy)]
 pub struct Look<'a> {
@@ -404,7 +417,7 @@ fn ask_slip(word: &[u8], cause: &mut Cause) {
 }
 
 fn slip_of(word: &[u8]) -> &'static str {
-    if is_word(word, b"go") || is_word(word, b"forget") {
+    if begins_session_line(word) {
         "only a session has this line"
     } else if is_word(word, b"add")
         || is_word(word, b"drop")
@@ -415,6 +428,13 @@ fn slip_of(word: &[u8]) -> &'static str {
     } else {
         ""
     }
+}
+
+/// Whether a line that only a session has begins with this word.
+fn begins_session_line(word: &[u8]) -> bool {
+    SESSION_WORDS
+        .iter()
+        .any(|first| is_word(word, first.as_bytes()))
 }
 
 /// Says why a word is no name.
