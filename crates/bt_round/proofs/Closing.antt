@@ -50,7 +50,7 @@ same_at : {A B C : Type 0} (f : A → C) (g : B → C) (xs : List A) (ys : List 
 same_at {A} {B} {C} f g xs ys place d e same within =
     sym (get_or-map f xs place d (f d) (omega (arith, within, as_many f g xs ys same))) ∙ ap (λ (l : List C). get_or l place (f d)) same ∙ get_or-map g ys place e (f d) within
 
-of_board : {E : Type 0} (last : Posted) (job : Job E) (place : ℕ) → IsOfPlace place job → (place ≡ 1 → publisher_in job ≡ Some last)
+of_board : (last : Posted) (job : Job AirState) (place : ℕ) → IsOfPlace place job → (place ≡ 1 → publisher_in job ≡ Some last)
     → (2 ≤ place → (reader : Posted) × (reader_in job ≡ Some reader) × IsPrefix reader.plans last.plans) → IsOfBoard last job
 of_board last (Air lines centre) place at second behind = tt
 of_board last (Plans count publisher) place at second behind = let is : Some publisher ≡ Some last = second at in cc
@@ -59,7 +59,7 @@ of_board last (Desk desk lines reader) place at second behind =
     let same : there.0 ≡ reader = let is : Some reader ≡ Some there.0 = there.1 in cc in
     subst (λ (p : Posted). IsPrefix p.plans last.plans) same there.2
 
-module _ {W E : Type 0} (caller : W → Calling) (job : W → Job E) (ended : W → Result Unit OutOfMemory) (text : W → List ℕ) where
+module _ {W : Type 0} (caller : W → Calling) (job : W → Job AirState) (ended : W → Result Unit OutOfMemory) (text : W → List ℕ) where
   -- the workers of a line are over, each at its place
   pub record AreOver (net : Net) (table : TableId) (start : Books) (round : Round) (posted : Posted) (air : AirState) (workers : List W) : Type 0 where
     pub seats : length workers ≡ SEATS
@@ -91,7 +91,7 @@ module _ {W E : Type 0} (caller : W → Calling) (job : W → Job E) (ended : W 
   -- each did what the round has at its place, with the entries of its caller in the line's history
   pub all_done : {P : Type 0} (at : P → Place Books Call Reply) (net : Net) (table : TableId) (start : Books) (round : Round) (posted last : Posted) (air over : AirState) (workers : List W) (passes : List P) (log : List (line.TurnEntry Call Reply))
       → AreOver net table start round posted air workers → map at passes ≡ map (λ (w : W). (caller w).place) workers → All (λ (w : W). IsOk (ended w)) workers → ((d : W) → air_in (job (get_or workers 0 d)) ≡ Some over)
-      → All (λ (w : W). IsOfBoard last (job w)) workers → HaveSeen log (map at passes) → AllDone E net round posted last air over (map journal_entry log) (map text workers)
+      → All (λ (w : W). IsOfBoard last (job w)) workers → HaveSeen log (map at passes) → AllDone net round posted last air over (map journal_entry log) (map text workers)
   all_done at net table start round posted last air over workers passes log so same well first boards seen =
       let count : length passes ≡ length workers = as_many at (λ (w : W). (caller w).place) passes workers same in
       let entries = map journal_entry log in

@@ -40,7 +40,7 @@ same_flat f g [] all = refl
 same_flat {A} {B} f g (x ∷ xs) all =
     ap (λ (e : List B). e ++ flat_map f xs) (All-head (λ (y : A). f y ≡ g y) x xs all) ∙ ap (λ (e : List B). g x ++ e) (same_flat f g xs (All-tail (λ (y : A). f y ≡ g y) x xs all))
 
-below_or_past : (a b : ℕ) → (a < b) ⊎ (b ≤ a)
+pub below_or_past : (a b : ℕ) → (a < b) ⊎ (b ≤ a)
 below_or_past a zero = inr (omega arith)
 below_or_past a (suc b) = ⊎_elim
     (λ (less : a < b). inl (omega (arith, less)))
@@ -61,14 +61,14 @@ unfolding from_below
 holds_below P a b default value less holds = from_cases P a b default value less holds (below_or_past a b)
 
 -- the desk of that number did its lines
-desk_at : {E : Type 0} (net : Net) (round : Round) (posted last : Posted) (air over : AirState) (entries : List Entry) (texts : List (List ℕ)) (number : ℕ) → AllDone E net round posted last air over entries texts
+desk_at : (net : Net) (round : Round) (posted last : Posted) (air over : AirState) (entries : List Entry) (texts : List (List ℕ)) (number : ℕ) → AllDone net round posted last air over entries texts
     → 1 ≤ number → number + 1 < SEATS → DeskIsDone net round posted last number (calls_of entries (number + 1)) (text_at (number + 1) texts)
 desk_at net round posted last air over entries texts number all from_one within =
     let place = all.each (number + 1) within in
     desk_done net round posted last air number place.0 (calls_of entries (number + 1)) (text_at (number + 1) texts) from_one place.1 place.2
 
 -- the plans that the desk of that number was shown
-shown_at : {E : Type 0} (net : Net) (round : Round) (posted last : Posted) (air over : AirState) (entries : List Entry) (texts : List (List ℕ)) → AllDone E net round posted last air over entries texts → ℕ → List Plan
+shown_at : (net : Net) (round : Round) (posted last : Posted) (air over : AirState) (entries : List Entry) (texts : List (List ℕ)) → AllDone net round posted last air over entries texts → ℕ → List Plan
 shown_at net round posted last air over entries texts all number =
     from_below 0 number [] (λ (from_one : 0 < number). from_below (number + 1) SEATS [] (λ (within : number + 1 < SEATS).
     (desk_at net round posted last air over entries texts number all (omega (arith, from_one)) within).lines.shown))
@@ -78,7 +78,7 @@ record IsShown (net : Net) (round : Round) (posted last : Posted) (entries : Lis
   done : DeskIsDone net round posted last number (calls_of entries (number + 1)) (text_at (number + 1) texts)
   same : done.lines.shown ≡ shown
 
-desk_shown_at : {E : Type 0} (net : Net) (round : Round) (posted last : Posted) (air over : AirState) (entries : List Entry) (texts : List (List ℕ)) (number : ℕ) → (all : AllDone E net round posted last air over entries texts)
+desk_shown_at : (net : Net) (round : Round) (posted last : Posted) (air over : AirState) (entries : List Entry) (texts : List (List ℕ)) (number : ℕ) → (all : AllDone net round posted last air over entries texts)
     → 1 ≤ number → number + 1 < SEATS → IsShown net round posted last entries texts number (shown_at net round posted last air over entries texts all number)
 unfolding shown_at
 desk_shown_at net round posted last air over entries texts number all from_one within =
@@ -88,8 +88,8 @@ desk_shown_at net round posted last air over entries texts number all from_one w
     record { done = desk_at net round posted last air over entries texts number all (omega (arith, some)) less; same = refl }))
 
 -- each desk asked what its lines ask
-desk_asks : {E : Type 0} (net : Net) (round : Round) (posted last : Posted) (air over : AirState) (entries : List Entry) (texts : List (List ℕ)) (number : ℕ) → AreDesks round.desks → 1 ≤ number
-    → AllDone E net round posted last air over entries texts → map call_in (calls_of entries (number + 1)) ≡ asked_by (number + 1) round.desks
+desk_asks : (net : Net) (round : Round) (posted last : Posted) (air over : AirState) (entries : List Entry) (texts : List (List ℕ)) (number : ℕ) → AreDesks round.desks → 1 ≤ number
+    → AllDone net round posted last air over entries texts → map call_in (calls_of entries (number + 1)) ≡ asked_by (number + 1) round.desks
 desk_asks net round posted last air over entries texts number desks from_one all = ⊎_elim
     (λ (within : number + 1 < SEATS).
     let one = (desk_at net round posted last air over entries texts number all from_one within).lines in
@@ -100,8 +100,8 @@ desk_asks net round posted last air over entries texts number desks from_one all
     (below_or_past (number + 1) SEATS)
 
 -- the text of each desk is that of its lines
-desk_prints : {E : Type 0} (net : Net) (round : Round) (posted last : Posted) (air over : AirState) (entries : List Entry) (texts : List (List ℕ)) → AreDesks round.desks
-    → (all : AllDone E net round posted last air over entries texts)
+desk_prints : (net : Net) (round : Round) (posted last : Posted) (air over : AirState) (entries : List Entry) (texts : List (List ℕ)) → AreDesks round.desks
+    → (all : AllDone net round posted last air over entries texts)
     → flat_map (λ (desk : Desk). text_at (desk.0 + 1) texts) round.desks
     ≡ desks_text net round.desks entries (seen_in (shown_at net round posted last air over entries texts all) round.desks)
 desk_prints net round posted last air over entries texts desks all =
@@ -122,7 +122,7 @@ desk_prints net round posted last air over entries texts desks all =
     ∙ ap (λ (p : List Plan). desk_text net desk.0 desk.1 (calls_of entries (desk.0 + 1)) p) shown)
 
 -- nobody but the planner installs a plan
-others_install_none : {E : Type 0} (net : Net) (round : Round) (posted last : Posted) (air over : AirState) (entries : List Entry) (texts : List (List ℕ)) → AllDone E net round posted last air over entries texts
+others_install_none : (net : Net) (round : Round) (posted last : Posted) (air over : AirState) (entries : List Entry) (texts : List (List ℕ)) → AllDone net round posted last air over entries texts
     → (caller : ℕ) → caller ≢ 1 → installed_by (calls_of entries caller) ≡ []
 others_install_none net round posted last air over entries texts all caller differ = ⊎_elim
     (λ (first : caller ≡ 0).
@@ -143,8 +143,8 @@ others_install_none net round posted last air over entries texts all caller diff
     (cases_eq caller 0)
 
 -- what was posted is, at the end of a round, the newest plan when the board was made, and what was installed since
-pub posted_over : {E : Type 0} (net : Net) (round : Round) (posted last : Posted) (air over : AirState) (entries : List Entry) (texts : List (List ℕ)) (opening since : List Change)
-    → AllDone E net round posted last air over entries texts → posted.plans ≡ newest opening ∷ installs since → last.plans ≡ newest opening ∷ installs (since ++ changes_of entries)
+pub posted_over : (net : Net) (round : Round) (posted last : Posted) (air over : AirState) (entries : List Entry) (texts : List (List ℕ)) (opening since : List Change)
+    → AllDone net round posted last air over entries texts → posted.plans ≡ newest opening ∷ installs since → last.plans ≡ newest opening ∷ installs (since ++ changes_of entries)
 posted_over net round posted last air over entries texts opening since all first =
     let place = all.each 1 (omega arith) in
     let planner = planner_done net round posted last air place.0 (calls_of entries 1) (text_at 1 texts) place.1 place.2 in
@@ -162,8 +162,8 @@ changes_over old new entries opening since from parts =
     ap (λ (s : State). s.changes) from ∙ ap (λ (c : List Change). c ++ changes_of entries) parts ∙ append_assoc opening since (changes_of entries)
 
 -- a round is over when all of its workers are
-pub round_over : {E : Type 0} (net : Net) (round : Round) (posted last : Posted) (air over : AirState) (entries : List Entry) (texts : List (List ℕ)) (old new : Books) (opening since : List Change)
-    (text written : List ℕ) → AreDesks round.desks → AllDone E net round posted last air over entries texts → new.history ≡ old.history ++ entries → new.state ≡ state_from old.state entries
+pub round_over : (net : Net) (round : Round) (posted last : Posted) (air over : AirState) (entries : List Entry) (texts : List (List ℕ)) (old new : Books) (opening since : List Change)
+    (text written : List ℕ) → AreDesks round.desks → AllDone net round posted last air over entries texts → new.history ≡ old.history ++ entries → new.state ≡ state_from old.state entries
     → old.state.changes ≡ opening ++ since → Follows net new.state.changes → posted.plans ≡ newest opening ∷ installs since
     → written ≡ text ++ (flat_map (λ (desk : Desk). text_at (desk.0 + 1) texts) round.desks ++ text_at 1 texts ++ text_at 0 texts)
     → RoundDone net round air over old new text written

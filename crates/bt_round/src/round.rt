@@ -57,7 +57,10 @@ fn work_all<R: Threads + Wait + Sync, G: Gate + Sync, K: Keeper + Send, E: Event
         rt,
         &mut workers[..apart],
         1,
-        &|_, part| work_part(rt, alloc, net, part),
+        &|_, part: &mut [Worker<'_, G, K, E>]|
+            requires can { All (λ worker. (worker.caller.start.net ≡ net.now) × CanDo net.now worker.caller worker.job) part.old }
+            ensures done { (i : ℕ) (d : _) → i < length part.old → WorkDone net.entry.now (slice_index_or part.old i d) (slice_index_or part.new i d) }
+        { work_part(rt, alloc, net, part) },
     );
     work_part(rt, alloc, net, &mut workers[apart..]);
 }
@@ -195,7 +198,7 @@ fn run_on<'a, R: Threads + Wait + Sync, G: Gate + Sync, K: Keeper + Send, E: Eve
     ensures opening { result.0.centre.life.opening ≡ crew.centre.life.opening }
     ensures desks { OnOk result.1 (length result.0.readers.items ≡ DESKS) }
     ensures met { OnOk result.1 (All (λ reader. reader ≡ result.0.publisher) result.0.readers.items) }
-    ensures done { OnOk result.1 (HaveWorked E net.now round.now crew.publisher result.0.publisher crew.centre result.0.centre (map (λ pass. pass.place) result.0.passes.items) text.old.items text.new.items) }
+    ensures done { OnOk result.1 (HaveWorked net.now round.now crew.publisher result.0.publisher crew.centre result.0.centre (map (λ pass. pass.place) result.0.passes.items) text.old.items text.new.items) }
 {
     let (workers, passes, readers) = match room_for(alloc) {
         Ok(room) => room,

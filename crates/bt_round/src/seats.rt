@@ -97,7 +97,11 @@ pub(crate) fn seat_all<'a, G: Gate, K: Keeper, E: Events>(
 }
 
 /// The job of the desk whose caller has that number.
-fn desk_job<'a, E: Events>(round: &'a Round, number: u32, reader: Reader) -> Job<'a, E>
+fn desk_job<'a, E: Events>(
+    round: &'a Round,
+    number: u32,
+    reader: Reader,
+) -> Job<'a, CentreWorker<E>>
     requires number { (2 ≤ number) × (number < SEATS) }
     ensures job { (air : AirState) → IsJobAt round.now reader air number result }
 {
@@ -123,7 +127,7 @@ fn seat<'a, G: Gate, K: Keeper, E: Events>(
     gate: &'a G,
     line: &'a Line<Book<K>>,
     pass: Pass<Book<K>>,
-    job: Job<'a, E>,
+    job: Job<'a, CentreWorker<E>>,
 ) -> Worker<'a, G, K, E>
     requires of_line { IsPass line.now.table.shared.table_id line.now.table.shared.key.value SEATS pass.number pass.place }
     requires unseen { seen_at pass.place ≡ [] }

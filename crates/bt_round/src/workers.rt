@@ -15,10 +15,11 @@ use bt_world::Events;
 use std::alloc::Global;
 use std::sync::Wait;
 
-/// What a worker does in a round, and what it has for it. A publisher cannot be let go, and so no worker either.
-pub(crate) enum Job<'a, E: Events> {
+/// What a worker does in a round, and what it has for it; `C` is the centre's worker. A publisher cannot be let go, and so
+/// no worker either.
+pub(crate) enum Job<'a, C> {
     /// The centre's worker plays the lines of the air.
-    Air(&'a [AirLine], CentreWorker<E>),
+    Air(&'a [AirLine], C),
     /// The planner plans so often, and its publisher posts what it installs.
     Plans(u32, Publisher),
     /// The desk of that number does its lines, and its reader looks at the board for its shows.
@@ -31,7 +32,7 @@ where
     Book<K>: Object<Call = Call, Reply = Reply>,
 {
     pub(crate) caller: Caller<'a, G, K>,
-    pub(crate) job: Job<'a, E>,
+    pub(crate) job: Job<'a, CentreWorker<E>>,
     /// What is printed of its lines.
     pub(crate) text: Vec<u8>,
     /// Whether memory ran out over its lines.
