@@ -18,7 +18,7 @@ use bt_net::Network;
 use bt_outside::Keeper;
 use bt_round::Station;
 use bt_workers::CentreWorker;
-use bt_world::World;
+use bt_world::{KeptEvents, World};
 use std::alloc::Global;
 use std::sync::Wait;
 use std::thread::Threads;
@@ -85,7 +85,7 @@ fn man<R: Threads + Wait + Sync, K: Keeper>(
     alloc: Global,
     net: &Network,
     book: Book<K>,
-) -> Result<Station<K>, Book<K>>
+) -> Result<Station<K, KeptEvents>, Book<K>>
     requires follow { Follows net.now book.state.changes }
     ensures book { IfOk result (λ station. station.book ≡ book) }
     ensures air { IfOk result (λ station. station.centre ≡ (at_start net.now book.state.changes).air) }
@@ -99,7 +99,7 @@ fn man<R: Threads + Wait + Sync, K: Keeper>(
         Ok(station) => Ok(station),
         Err((book, centre)) => {
             // A world that has just opened has no events to keep.
-            let _none = centre.into_events();
+            let _none = centre.into_told();
             Err(book)
         }
     }

@@ -9,6 +9,7 @@ use bt_air::Event;
 use bt_journal::{Entries, Entry};
 use bt_outside::Keeper;
 use bt_round::Station;
+use bt_world::KeptEvents;
 use std::alloc::Global;
 use std::marker::Model;
 use std::sync::Wait;
@@ -16,7 +17,7 @@ use std::thread::Threads;
 
 /// A run in its present time. Its board shows the plans of its book.
 pub(crate) struct Playing<K: Keeper> {
-    pub(crate) station: Station<K>,
+    pub(crate) station: Station<K, KeptEvents>,
     /// How many changes the book had when the time began.
     pub(crate) before: u32,
     /// The histories of the times that are over, with room for that of the present time.
@@ -114,7 +115,7 @@ pub(crate) fn take_only(histories: &mut Vec<History>) -> History
 /// A run stops in the time that began with so many changes, behind these times.
 pub(crate) fn leave<R: Wait, K: Keeper>(
     rt: &R,
-    station: Station<K>,
+    station: Station<K, KeptEvents>,
     before: u32,
     over: Vec<History>,
 ) -> Remains<K>
@@ -131,7 +132,7 @@ pub(crate) fn leave<R: Wait, K: Keeper>(
     Remains {
         store,
         histories,
-        events: centre.into_events(),
+        events: centre.into_told().into_events(),
     }
 }
 

@@ -18,6 +18,7 @@ use bt_net::Network;
 use bt_outside::Keeper;
 use bt_timeline::{restart_text, start_text};
 use bt_workers::CentreWorker;
+use bt_world::KeptEvents;
 use std::alloc::Global;
 use std::sync::Wait;
 use std::thread::Threads;
@@ -73,7 +74,7 @@ pub(crate) fn play_restart<R: Threads + Wait + Sync, K: Keeper>(
             let remains = Remains {
                 store,
                 histories: over,
-                events: centre.into_events(),
+                events: centre.into_told().into_events(),
             };
             Err((remains, fault))
         }
@@ -86,7 +87,7 @@ struct Time<K: Keeper> {
     /// As it was recovered.
     book: Book<K>,
     /// As it was before the restart.
-    centre: CentreWorker,
+    centre: CentreWorker<KeptEvents>,
     over: Vec<History>,
     rounds: u64,
 }
@@ -128,13 +129,17 @@ fn begin_again<R: Threads + Wait + Sync, K: Keeper>(
 }
 
 /// What is left of a run with this book, whose own history is empty, and these histories.
-fn remains_of<K: Keeper>(book: Book<K>, centre: CentreWorker, over: Vec<History>) -> Remains<K>
+fn remains_of<K: Keeper>(
+    book: Book<K>,
+    centre: CentreWorker<KeptEvents>,
+    over: Vec<History>,
+) -> Remains<K>
     ensures { IsLeftBehind book centre over.items result }
 {
     Remains {
         store: book.into_parts().0,
         histories: over,
-        events: centre.into_events(),
+        events: centre.into_told().into_events(),
     }
 }
 
@@ -143,7 +148,7 @@ fn restart_centre<K: Keeper>(
     alloc: Global,
     net: &Network,
     book: &Book<K>,
-    centre: &mut CentreWorker,
+    centre: &mut CentreWorker<KeptEvents>,
 ) -> Result<Vec<u8>, OutOfMemory>
     requires air_network { centre.old.life.opening.net ≡ net.now }
     ensures opening { centre.new.life.opening ≡ centre.old.life.opening }
@@ -165,7 +170,7 @@ fn restart_centre<K: Keeper>(
 }
 
 /// The book has one order more than the world, and that is the one that the centre wanted.
-fn joins_order<K: Keeper>(book: &Book<K>, centre: &CentreWorker) -> bool
+fn joins_order<K: Keeper>(book: &Book<K>, centre: &CentreWorker<KeptEvents>) -> bool
     ensures { JoinsOrder centre.now book.now.state.changes result }
 {
     match centre.wanted() {

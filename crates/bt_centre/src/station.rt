@@ -7,6 +7,7 @@ use bt_book::Book;
 use bt_outside::Keeper;
 use bt_round::{DESKS, Station};
 use bt_workers::CentreWorker;
+use bt_world::KeptEvents;
 use std::alloc::Global;
 use std::sync::Wait;
 
@@ -16,8 +17,8 @@ pub(crate) fn station_of<R: Wait, K: Keeper>(
     rt: &R,
     alloc: Global,
     book: Book<K>,
-    centre: CentreWorker,
-) -> Result<Station<K>, (Book<K>, CentreWorker)>
+    centre: CentreWorker<KeptEvents>,
+) -> Result<Station<K, KeptEvents>, (Book<K>, CentreWorker<KeptEvents>)>
     ensures book { IfOk result (λ station. station.book ≡ book) }
     ensures centre { IfOk result (λ station. station.centre ≡ centre) }
     ensures published { IfOk result (λ station. IsPublished station.book.state.changes station.publisher station.readers.items) }
@@ -41,8 +42,8 @@ pub(crate) fn station_of<R: Wait, K: Keeper>(
 /// The book and the centre's worker of a station, whose board is closed.
 pub(crate) fn book_and_centre<R: Wait, K: Keeper>(
     rt: &R,
-    station: Station<K>,
-) -> (Book<K>, CentreWorker)
+    station: Station<K, KeptEvents>,
+) -> (Book<K>, CentreWorker<KeptEvents>)
     ensures book { result.0 ≡ station.book }
     ensures centre { result.1 ≡ station.centre }
 {

@@ -50,7 +50,7 @@ same_at : {A B C : Type 0} (f : A → C) (g : B → C) (xs : List A) (ys : List 
 same_at {A} {B} {C} f g xs ys place d e same within =
     sym (get_or-map f xs place d (f d) (omega (arith, within, as_many f g xs ys same))) ∙ ap (λ (l : List C). get_or l place (f d)) same ∙ get_or-map g ys place e (f d) within
 
-of_board : (last : Posted) (job : Job) (place : ℕ) → IsOfPlace place job → (place ≡ 1 → publisher_in job ≡ Some last)
+of_board : (last : Posted) (job : Job AirState) (place : ℕ) → IsOfPlace place job → (place ≡ 1 → publisher_in job ≡ Some last)
     → (2 ≤ place → (reader : Posted) × (reader_in job ≡ Some reader) × IsPrefix reader.plans last.plans) → IsOfBoard last job
 of_board last (Air lines centre) place at second behind = tt
 of_board last (Plans count publisher) place at second behind = let is : Some publisher ≡ Some last = second at in cc
@@ -59,7 +59,7 @@ of_board last (Desk desk lines reader) place at second behind =
     let same : there.0 ≡ reader = let is : Some reader ≡ Some there.0 = there.1 in cc in
     subst (λ (p : Posted). IsPrefix p.plans last.plans) same there.2
 
-module _ {W : Type 0} (caller : W → Calling) (job : W → Job) (ended : W → Result Unit OutOfMemory) (text : W → List ℕ) where
+module _ {W : Type 0} (caller : W → Calling) (job : W → Job AirState) (ended : W → Result Unit OutOfMemory) (text : W → List ℕ) where
   -- the workers of a line are over, each at its place
   pub record AreOver (net : Net) (table : TableId) (start : Books) (round : Round) (posted : Posted) (air : AirState) (workers : List W) : Type 0 where
     pub seats : length workers ≡ SEATS

@@ -1,3 +1,4 @@
+pub mod Apart
 pub mod Boards
 pub mod DeskSeats
 pub mod Seating

@@ -40,7 +40,7 @@ same_flat f g [] all = refl
 same_flat {A} {B} f g (x ∷ xs) all =
     ap (λ (e : List B). e ++ flat_map f xs) (All-head (λ (y : A). f y ≡ g y) x xs all) ∙ ap (λ (e : List B). g x ++ e) (same_flat f g xs (All-tail (λ (y : A). f y ≡ g y) x xs all))
 
-below_or_past : (a b : ℕ) → (a < b) ⊎ (b ≤ a)
+pub below_or_past : (a b : ℕ) → (a < b) ⊎ (b ≤ a)
 below_or_past a zero = inr (omega arith)
 below_or_past a (suc b) = ⊎_elim
     (λ (less : a < b). inl (omega (arith, less)))

@@ -93,7 +93,7 @@ taken {P} table start at all place number next left seats passes unseen is numbe
     }
 
 -- a worker that was seated is ready
-pub seated : (table : TableId) (start : Books) (round : Round) (posted : Posted) (air : AirState) (place : ℕ) (pass : Place Books Call Reply) (caller : Calling) (job : Job) (text : List ℕ)
+pub seated : (table : TableId) (start : Books) (round : Round) (posted : Posted) (air : AirState) (place : ℕ) (pass : Place Books Call Reply) (caller : Calling) (job : Job AirState) (text : List ℕ)
     → IsPass table start SEATS place pass → seen_at pass ≡ [] → caller ≡ record { table = table; start = start; place = pass } → IsJobAt round posted air place job → text ≡ []
     → IsReady table start round posted air place caller job text
 seated table start round posted air place pass caller job text is_pass unseen is job_is silent = record {
@@ -106,7 +106,7 @@ seated table start round posted air place pass caller job text is_pass unseen is
 }
 
 -- the caller at a place can do the job of that place
-can_do : (net : Net) (round : Round) (posted : Posted) (air : AirState) (place : ℕ) (caller : Calling) (job : Job) → caller_number caller ≡ place → air.life.opening.net ≡ net → IsRoundFor net round
+can_do : (net : Net) (round : Round) (posted : Posted) (air : AirState) (place : ℕ) (caller : Calling) (job : Job AirState) → caller_number caller ≡ place → air.life.opening.net ≡ net → IsRoundFor net round
     → HasPosted caller posted.plans → IsJobAt round posted air place job → CanDo net caller job
 can_do net round posted air place caller (Air lines centre) at same named has (zero, lines_are, centre_is) =
     (at ∙ zero, subst (All (IsAirLineFor net)) (sym lines_are) named.air, ap (λ (a : AirState). a.life.opening.net) centre_is ∙ same)
@@ -125,7 +125,7 @@ begins_posted start plans caller same unseen last =
     subst (λ (c : List Change). next_edition plans ≤ (newest c).edition.0 + 1) (sym changes) last
 
 -- a worker that is seated can work
-pub ready_can : (net : Net) (table : TableId) (start : Books) (round : Round) (posted : Posted) (air : AirState) (place : ℕ) (caller : Calling) (job : Job) (text : List ℕ)
+pub ready_can : (net : Net) (table : TableId) (start : Books) (round : Round) (posted : Posted) (air : AirState) (place : ℕ) (caller : Calling) (job : Job AirState) (text : List ℕ)
     → start.net ≡ net → air.life.opening.net ≡ net → IsRoundFor net round → next_edition posted.plans ≤ (newest start.state.changes).edition.0 + 1
     → IsReady table start round posted air place caller job text → (caller.start.net ≡ net) × CanDo net caller job
 ready_can net table start round posted air place caller job text same airs named last so =
@@ -141,24 +141,24 @@ still_pass table start passes place old new so same = record {
 }
 
 -- what was done is what the round has at that place
-done_at : (net : Net) (round : Round) (posted : Posted) (air : AirState) (place : ℕ) (job after : Job) (ended : Result Unit OutOfMemory) (own : List Entry) (written : List ℕ)
+done_at : (net : Net) (round : Round) (posted : Posted) (air : AirState) (place : ℕ) (job after : Job AirState) (ended : Result Unit OutOfMemory) (own : List Entry) (written : List ℕ)
     → IsJobAt round posted air place job → JobDone net job after ended [] own [] written → IsDoneAt net round posted air place after ended own written
 done_at net round posted air place (Air lines centre) after ended own written (zero, lines_are, centre_is) (over, after_is, opening, played) =
-    subst (λ (j : Job). IsDoneAt net round posted air place j ended own written) (sym after_is) (
+    subst (λ (j : Job AirState). IsDoneAt net round posted air place j ended own written) (sym after_is) (
       zero,
       opening ∙ ap (λ (a : AirState). a.life.opening) centre_is,
       subst (λ (a : AirState). OnOk ended (Asks (PlaysAirLines net a round.air) over [] own [] written)) centre_is
           (subst (λ (l : List AirLine). OnOk ended (Asks (PlaysAirLines net centre l) over [] own [] written)) lines_are played),
     )
 done_at net round posted air place (Plans count publisher) after ended own written (one, count_is, publisher_is) (over, after_is, board, planned) =
-    subst (λ (j : Job). IsDoneAt net round posted air place j ended own written) (sym after_is) (
+    subst (λ (j : Job AirState). IsDoneAt net round posted air place j ended own written) (sym after_is) (
       one,
       board ∙ ap (λ (p : Posted). p.board) publisher_is,
       subst (λ (p : Posted). OnOk ended (PlannerDone net round.plans p.plans over.plans [] own [] written)) publisher_is
           (subst (λ (n : ℕ). OnOk ended (PlannerDone net n publisher.plans over.plans [] own [] written)) count_is planned),
     )
 done_at net round posted air place (Desk desk lines reader) after ended own written (next, from_one, lines_are, reader_is) (over, after_is, board, done) =
-    subst (λ (j : Job). IsDoneAt net round posted air place j ended own written) (sym after_is) (
+    subst (λ (j : Job AirState). IsDoneAt net round posted air place j ended own written) (sym after_is) (
       next,
       from_one,
       board ∙ ap (λ (p : Posted). p.board) reader_is,
@@ -167,7 +167,7 @@ done_at net round posted air place (Desk desk lines reader) after ended own writ
     )
 
 -- a worker that was seated is over once it did its lines
-pub over_after : (net : Net) (table : TableId) (start : Books) (round : Round) (posted : Posted) (air : AirState) (place : ℕ) (old new : Calling) (job after : Job)
+pub over_after : (net : Net) (table : TableId) (start : Books) (round : Round) (posted : Posted) (air : AirState) (place : ℕ) (old new : Calling) (job after : Job AirState)
     (ended : Result Unit OutOfMemory) (text written : List ℕ) → IsReady table start round posted air place old job text → IsSameCaller old new
     → JobDone net job after ended (own_of old) (own_of new) text written → IsOver net table start round posted air place new after ended written
 over_after net table start round posted air place old new job after ended text written so same done =
@@ -180,7 +180,7 @@ over_after net table start round posted air place old new job after ended text w
     }
 
 -- at place 0 the centre's worker played its lines
-pub centre_done : (net : Net) (round : Round) (posted : Posted) (air over : AirState) (job : Job) (ended : Result Unit OutOfMemory) (own : List Entry) (text : List ℕ) → air_in job ≡ Some over
+pub centre_done : (net : Net) (round : Round) (posted : Posted) (air over : AirState) (job : Job AirState) (ended : Result Unit OutOfMemory) (own : List Entry) (text : List ℕ) → air_in job ≡ Some over
     → IsDoneAt net round posted air 0 job ended own text
     → (over.life.opening ≡ air.life.opening) × OnOk ended (Asks (PlaysAirLines net air round.air) over [] own [] text)
 centre_done net round posted air over (Air lines centre) ended own text is (zero, opening, played) =
@@ -190,14 +190,14 @@ centre_done net round posted air over (Plans count publisher) ended own text is 
 centre_done net round posted air over (Desk desk lines reader) ended own text is done = absurd (omega (arith, done.0))
 
 -- the job at a place is that of its worker
-pub is_of_place : (net : Net) (round : Round) (posted : Posted) (air : AirState) (place : ℕ) (job : Job) (ended : Result Unit OutOfMemory) (own : List Entry) (text : List ℕ)
+pub is_of_place : (net : Net) (round : Round) (posted : Posted) (air : AirState) (place : ℕ) (job : Job AirState) (ended : Result Unit OutOfMemory) (own : List Entry) (text : List ℕ)
     → IsDoneAt net round posted air place job ended own text → IsOfPlace place job
 is_of_place net round posted air place (Air lines centre) ended own text done = done.0
 is_of_place net round posted air place (Plans count publisher) ended own text done = done.0
 is_of_place net round posted air place (Desk desk lines reader) ended own text done = omega (arith, done.0, done.1)
 
 -- at place 1 the planner planned
-pub planner_done : (net : Net) (round : Round) (posted last : Posted) (air : AirState) (job : Job) (own : List Entry) (text : List ℕ)
+pub planner_done : (net : Net) (round : Round) (posted last : Posted) (air : AirState) (job : Job AirState) (own : List Entry) (text : List ℕ)
     → IsDoneAt net round posted air 1 job (Ok tt) own text → IsOfBoard last job → PlannerDone net round.plans posted.plans last.plans [] own [] text
 planner_done net round posted last air (Air lines centre) own text done of_board = absurd (omega (arith, done.0))
 planner_done net round posted last air (Plans count publisher) own text (one, board, planned) of_board =
@@ -205,7 +205,7 @@ planner_done net round posted last air (Plans count publisher) own text (one, bo
 planner_done net round posted last air (Desk desk lines reader) own text done of_board = absurd (omega (arith, done.0, done.1))
 
 -- the publisher that the planner leaves is of the same board
-pub publisher_done : (net : Net) (round : Round) (posted last : Posted) (air : AirState) (place : ℕ) (job : Job) (ended : Result Unit OutOfMemory) (own : List Entry) (text : List ℕ)
+pub publisher_done : (net : Net) (round : Round) (posted last : Posted) (air : AirState) (place : ℕ) (job : Job AirState) (ended : Result Unit OutOfMemory) (own : List Entry) (text : List ℕ)
     → publisher_in job ≡ Some last → IsDoneAt net round posted air place job ended own text → last.board ≡ posted.board
 publisher_done net round posted last air place (Air lines centre) ended own text is done = cc
 publisher_done net round posted last air place (Plans count publisher) ended own text is done =
@@ -219,7 +219,7 @@ pub record DeskIsDone (net : Net) (round : Round) (posted last : Posted) (number
   pub lines : DeskDone net number (lines_of number round.desks) posted.plans over.plans [] own [] text
 
 -- and at each other place a desk did its lines
-pub desk_done : (net : Net) (round : Round) (posted last : Posted) (air : AirState) (number : ℕ) (job : Job) (own : List Entry) (text : List ℕ) → 1 ≤ number
+pub desk_done : (net : Net) (round : Round) (posted last : Posted) (air : AirState) (number : ℕ) (job : Job AirState) (own : List Entry) (text : List ℕ) → 1 ≤ number
     → IsDoneAt net round posted air (number + 1) job (Ok tt) own text → IsOfBoard last job → DeskIsDone net round posted last number own text
 desk_done net round posted last air number (Air lines centre) own text from_one done of_board = absurd (omega (arith, done.0))
 desk_done net round posted last air number (Plans count publisher) own text from_one done of_board = absurd (omega (arith, from_one, done.0))
@@ -232,7 +232,7 @@ desk_done net round posted last air number (Desk desk lines reader) own text fro
     }
 
 -- a reader that a desk leaves is of the same board
-pub reader_done : (net : Net) (round : Round) (posted reader : Posted) (air : AirState) (place : ℕ) (job : Job) (ended : Result Unit OutOfMemory) (own : List Entry) (text : List ℕ)
+pub reader_done : (net : Net) (round : Round) (posted reader : Posted) (air : AirState) (place : ℕ) (job : Job AirState) (ended : Result Unit OutOfMemory) (own : List Entry) (text : List ℕ)
     → reader_in job ≡ Some reader → IsDoneAt net round posted air place job ended own text → reader.board ≡ posted.board
 reader_done net round posted reader air place (Air lines centre) ended own text is done = cc
 reader_done net round posted reader air place (Plans count publisher) ended own text is done = cc
@@ -250,7 +250,7 @@ pub none_in_all : (log : List (line.TurnEntry Call Reply)) (number : ℕ) → ca
 none_in_all log number none = calls_in_log log number ∙ ap (map journal_entry) none
 
 -- a worker behind the second is a desk
-pub behind_is_desk : (job : Job) (place : ℕ) → 1 < place → IsOfPlace place job → IsOfPlace 2 job
+pub behind_is_desk : (job : Job AirState) (place : ℕ) → 1 < place → IsOfPlace place job → IsOfPlace 2 job
 behind_is_desk (Air lines centre) place behind at = absurd (omega (arith, behind, at))
 behind_is_desk (Plans count publisher) place behind at = absurd (omega (arith, behind, at))
 behind_is_desk (Desk desk lines reader) place behind at = omega arith

@@ -35,13 +35,13 @@ lines_of number (desk ∷ desks) = if desk.0 == number then desk.1 else lines_of
 
 -- The job at a place of a round: the centre's worker has place 0, the planner place 1, and desk `d` place `d + 1`. The publisher
 -- and the readers have the same plans of one board.
-abbrev pub IsJobAt : Round → Posted → AirState → ℕ → Job → Type 0
+abbrev pub IsJobAt : Round → Posted → AirState → ℕ → Job AirState → Type 0
 IsJobAt round posted air place (Air lines centre) = (place ≡ 0) × (lines.now ≡ round.air) × (centre ≡ air)
 IsJobAt round posted air place (Plans count publisher) = (place ≡ 1) × (count ≡ round.plans) × (publisher ≡ posted)
 IsJobAt round posted air place (Desk desk lines reader) = (place ≡ desk + 1) × (1 ≤ desk) × (lines.now ≡ lines_of desk round.desks) × (reader ≡ posted)
 
 -- the worker at a place of a line before its lines: nothing was seen or printed yet
-pub record IsReady (table : TableId) (start : Books) (round : Round) (posted : Posted) (air : AirState) (place : ℕ) (caller : Calling) (job : Job) (text : List ℕ) : Type 0 where
+pub record IsReady (table : TableId) (start : Books) (round : Round) (posted : Posted) (air : AirState) (place : ℕ) (caller : Calling) (job : Job AirState) (text : List ℕ) : Type 0 where
   pub table_is : caller.table ≡ table
   pub start_is : caller.start ≡ start
   pub pass : IsPass table start SEATS place caller.place
@@ -50,7 +50,7 @@ pub record IsReady (table : TableId) (start : Books) (round : Round) (posted : P
   pub silent : text ≡ []
 
 -- the lines at a place were done, where memory did not run out, with these entries and this text
-abbrev pub IsDoneAt : Net → Round → Posted → AirState → ℕ → Job → Result Unit OutOfMemory → List Entry → List ℕ → Type 0
+abbrev pub IsDoneAt : Net → Round → Posted → AirState → ℕ → Job AirState → Result Unit OutOfMemory → List Entry → List ℕ → Type 0
 IsDoneAt net round posted air place (Air lines over) ended own text =
     (place ≡ 0) × (over.life.opening ≡ air.life.opening) × OnOk ended (Asks (PlaysAirLines net air round.air) over [] own [] text)
 IsDoneAt net round posted air place (Plans count over) ended own text =
@@ -60,33 +60,33 @@ IsDoneAt net round posted air place (Desk desk lines over) ended own text =
     × OnOk ended (DeskDone net desk (lines_of desk round.desks) posted.plans over.plans [] own [] text)
 
 -- the worker at a place of a line after its lines
-pub record IsOver (net : Net) (table : TableId) (start : Books) (round : Round) (posted : Posted) (air : AirState) (place : ℕ) (caller : Calling) (job : Job) (ended : Result Unit OutOfMemory) (text : List ℕ) : Type 0 where
+pub record IsOver (net : Net) (table : TableId) (start : Books) (round : Round) (posted : Posted) (air : AirState) (place : ℕ) (caller : Calling) (job : Job AirState) (ended : Result Unit OutOfMemory) (text : List ℕ) : Type 0 where
   pub pass : IsPass table start SEATS place caller.place
   pub done : IsDoneAt net round posted air place job ended (own_of caller) text
 
 -- the air of the centre's worker, if it is the job's
-abbrev pub air_in : Job → Option AirState
+abbrev pub air_in : Job AirState → Option AirState
 air_in (Air lines centre) = Some centre
 air_in _ = None
 
 -- the publisher of the planner, if it is the job's
-abbrev pub publisher_in : Job → Option Posted
+abbrev pub publisher_in : Job AirState → Option Posted
 publisher_in (Plans count publisher) = Some publisher
 publisher_in _ = None
 
 -- the reader of a desk, if it is the job's
-abbrev pub reader_in : Job → Option Posted
+abbrev pub reader_in : Job AirState → Option Posted
 reader_in (Desk desk lines reader) = Some reader
 reader_in _ = None
 
 -- the centre's worker has place 0, the planner place 1, and desks the places behind
-abbrev pub IsOfPlace : ℕ → Job → Type 0
+abbrev pub IsOfPlace : ℕ → Job AirState → Type 0
 IsOfPlace place (Air lines centre) = place ≡ 0
 IsOfPlace place (Plans count publisher) = place ≡ 1
 IsOfPlace place (Desk desk lines reader) = 2 ≤ place
 
 -- the publisher of a job is this one, and what its reader has seen this publisher has posted
-abbrev pub IsOfBoard : Posted → Job → Type 0
+abbrev pub IsOfBoard : Posted → Job AirState → Type 0
 IsOfBoard last (Air lines centre) = Unit {0}
 IsOfBoard last (Plans count publisher) = publisher ≡ last
 IsOfBoard last (Desk desk lines reader) = IsPrefix reader.plans last.plans
@@ -98,8 +98,8 @@ text_at place texts = slice_index_or texts place []
 -- The workers of a round did their lines: at each place is its job, done with the entries of that caller, and its text; and
 -- nobody else has an entry. The publisher ends with the last of these boards' plans.
 pub record AllDone (net : Net) (round : Round) (posted last : Posted) (air over : AirState) (entries : List Entry) (texts : List (List ℕ)) : Type 0 where
-  pub first : (job : Job) × (air_in job ≡ Some over) × IsDoneAt net round posted air 0 job (Ok tt) (calls_of entries 0) (text_at 0 texts)
-  pub each : (place : ℕ) → place < SEATS → (job : Job) × IsDoneAt net round posted air place job (Ok tt) (calls_of entries place) (text_at place texts) × IsOfBoard last job
+  pub first : (job : Job AirState) × (air_in job ≡ Some over) × IsDoneAt net round posted air 0 job (Ok tt) (calls_of entries 0) (text_at 0 texts)
+  pub each : (place : ℕ) → place < SEATS → (job : Job AirState) × IsDoneAt net round posted air place job (Ok tt) (calls_of entries place) (text_at place texts) × IsOfBoard last job
   pub strangers : (caller : ℕ) → SEATS ≤ caller → calls_of entries caller ≡ []
 
 -- Each pass has seen all of its caller's entries in the line's history, and no other caller has one.

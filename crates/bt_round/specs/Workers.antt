@@ -16,7 +16,7 @@ use Rattle.bt_workers.specs.Worker.{Asks}
 
 -- The caller can do the job: the centre's worker is caller 0, the planner caller 1, and desk `d` is caller `d + 1`; and the lines
 -- name terminals of the network alone.
-abbrev pub CanDo : Net → Calling → Job → Type 0
+abbrev pub CanDo : Net → Calling → Job AirState → Type 0
 CanDo net caller (Air lines centre) = (caller_number caller ≡ 0) × All (IsAirLineFor net) lines.now × (centre.life.opening.net ≡ net)
 CanDo net caller (Plans count publisher) = (caller_number caller ≡ 1) × HasPosted caller publisher.plans
 CanDo net caller (Desk desk lines reader) = (caller_number caller ≡ desk + 1) × All (IsLineFor net) lines.now
@@ -24,7 +24,7 @@ CanDo net caller (Desk desk lines reader) = (caller_number caller ≡ desk + 1) 
 -- The lines of a job were done, where memory did not run out: the caller's own entries and its text before and after. The
 -- centre's worker has its air as it is then, the planner its publisher and a desk its reader, both of the same board; all else of
 -- a job stays.
-abbrev pub JobDone : Net → Job → Job → Result Unit OutOfMemory → List Entry → List Entry → List ℕ → List ℕ → Type 0
+abbrev pub JobDone : Net → Job AirState → Job AirState → Result Unit OutOfMemory → List Entry → List Entry → List ℕ → List ℕ → Type 0
 JobDone net (Air lines centre) job ended before after text written =
     (over : AirState) × (job ≡ Air lines over) × (over.life.opening ≡ centre.life.opening)
     × OnOk ended (Asks (PlaysAirLines net centre lines.now) over before after text written)
@@ -36,6 +36,6 @@ JobDone net (Desk desk lines reader) job ended before after text written =
     × OnOk ended (DeskDone net desk lines.now reader.plans over.plans before after text written)
 
 -- a worker before and after its lines
-pub record WorkDone {G K : Type 0} (net : Net) (old new : Worker G K) : Type 0 where
+pub record WorkDone {G K E : Type 0} (net : Net) (old new : Worker G K E) : Type 0 where
   pub same : IsSameCaller old.caller new.caller
   pub done : JobDone net old.job new.job new.ended (own_of old.caller) (own_of new.caller) old.text.items new.text.items

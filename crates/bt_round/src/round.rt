@@ -25,27 +25,28 @@ use bt_net::Network;
 use bt_outside::Keeper;
 use bt_script::{DeskLines, Round};
 use bt_workers::{CentreWorker, Gate};
+use bt_world::Events;
 use std::alloc::Global;
 use std::sync::Wait;
 use std::thread::{Threads, for_each_chunk_mut};
 
 /// What the parts of a script are played on: the book, the board with its publisher and the readers of the desks in
 /// order, and the centre's worker with its world.
-pub struct Station<K: Keeper> {
+pub struct Station<K: Keeper, E: Events> {
     pub book: Book<K>,
     pub publisher: Publisher,
     pub readers: Vec<Reader>,
-    pub centre: CentreWorker,
+    pub centre: CentreWorker<E>,
 }
 
 /// All workers do their lines: the first `apart` of them at once, each on a thread of its own where one can be made, and
 /// then the others one after the other.
-fn work_all<R: Threads + Wait + Sync, G: Gate + Sync, K: Keeper + Send>(
+fn work_all<R: Threads + Wait + Sync, G: Gate + Sync, K: Keeper + Send, E: Events + Send>(
     rt: &R,
     alloc: Global,
     net: &Network,
     apart: usize,
-    workers: &mut [Worker<'_, G, K>],
+    workers: &mut [Worker<'_, G, K, E>],
 )
     requires apart { apart ≤ length workers.old }
     requires can { All (λ worker. (worker.caller.start.net ≡ net.now) × CanDo net.now worker.caller worker.job) workers.old }
@@ -56,17 +57,20 @@ fn work_all<R: Threads + Wait + Sync, G: Gate + Sync, K: Keeper + Send>(
         rt,
         &mut workers[..apart],
         1,
-        &|_, part| work_part(rt, alloc, net, part),
+        &|_, part: &mut [Worker<'_, G, K, E>]|
+            requires can { All (λ worker. (worker.caller.start.net ≡ net.now) × CanDo net.now worker.caller worker.job) part.old }
+            ensures done { (i : ℕ) (d : _) → i < length part.old → WorkDone net.entry.now (slice_index_or part.old i d) (slice_index_or part.new i d) }
+        { work_part(rt, alloc, net, part) },
     );
     work_part(rt, alloc, net, &mut workers[apart..]);
 }
 
 /// Workers do their lines one after the other.
-fn work_part<R: Wait, G: Gate, K: Keeper>(
+fn work_part<R: Wait, G: Gate, K: Keeper, E: Events>(
     rt: &R,
     alloc: Global,
     net: &Network,
-    workers: &mut [Worker<'_, G, K>],
+    workers: &mut [Worker<'_, G, K, E>],
 )
     requires can { All (λ worker. (worker.caller.start.net ≡ net.now) × CanDo net.now worker.caller worker.job) workers.old }
     ensures length { length workers.new ≡ length workers.old }
@@ -96,9 +100,9 @@ fn seats_apart(round: &Round) -> usize
 
 /// Appends the texts of a round's workers: of its desks by number, of the planner and of the centre's worker. None of
 /// them is whole where memory ran out for one.
-fn add_texts<G: Gate, K: Keeper>(
+fn add_texts<G: Gate, K: Keeper, E: Events>(
     round: &Round,
-    workers: &[Worker<'_, G, K>],
+    workers: &[Worker<'_, G, K, E>],
     text: &mut Vec<u8>,
 ) -> Result<(), OutOfMemory>
     requires seats { length workers.now ≡ SEATS }
@@ -115,7 +119,9 @@ fn add_texts<G: Gate, K: Keeper>(
 }
 
 /// Ok where memory ran out for none of these workers.
-fn all_ended<G: Gate, K: Keeper>(workers: &[Worker<'_, G, K>]) -> Result<(), OutOfMemory>
+fn all_ended<G: Gate, K: Keeper, E: Events>(
+    workers: &[Worker<'_, G, K, E>],
+) -> Result<(), OutOfMemory>
     ensures { OnOk result (All (λ worker. IsOk worker.ended) workers.now) }
 {
     for worker in workers {
@@ -127,9 +133,9 @@ fn all_ended<G: Gate, K: Keeper>(workers: &[Worker<'_, G, K>]) -> Result<(), Out
 }
 
 /// Appends the texts of these desks in order.
-fn add_desk_texts<G: Gate, K: Keeper>(
+fn add_desk_texts<G: Gate, K: Keeper, E: Events>(
     desks: &[(u8, DeskLines)],
-    workers: &[Worker<'_, G, K>],
+    workers: &[Worker<'_, G, K, E>],
     text: &mut Vec<u8>,
 ) -> Result<(), OutOfMemory>
     requires desks { AreDesks desks.now }
@@ -167,16 +173,16 @@ fn meet_all<R: Wait>(
 /// Runs a round over a line of the book, and appends what is printed of it, but for its number. At its end the publisher
 /// has met the readers of all desks. The passes of the line come back in order, the board and the centre's worker, also
 /// where memory runs out.
-fn run_on<'a, R: Threads + Wait + Sync, G: Gate + Sync, K: Keeper + Send>(
+fn run_on<'a, R: Threads + Wait + Sync, G: Gate + Sync, K: Keeper + Send, E: Events + Send>(
     rt: &R,
     alloc: Global,
     net: &Network,
     gate: &'a G,
     line: &'a Line<Book<K>>,
     round: &'a Round,
-    crew: Crew<K>,
+    crew: Crew<K, E>,
     text: &mut Vec<u8>,
-) -> (Crew<K>, Result<(), OutOfMemory>)
+) -> (Crew<K, E>, Result<(), OutOfMemory>)
     requires network { line.now.table.shared.key.value.net ≡ net.now }
     requires air_network { crew.centre.life.opening.net ≡ net.now }
     requires terminals { IsRoundFor net.now round.now }
@@ -208,15 +214,15 @@ fn run_on<'a, R: Threads + Wait + Sync, G: Gate + Sync, K: Keeper + Send>(
 
 /// Runs a round, and appends what is printed of it, but for its number. The station comes back, also where memory runs
 /// out; and where it does not, its board is again that of its book.
-pub fn run_round<'a, R: Threads + Wait + Sync, G: Gate + Sync, K: Keeper + Send>(
+pub fn run_round<'a, R: Threads + Wait + Sync, G: Gate + Sync, K: Keeper + Send, E: Events + Send>(
     rt: &R,
     alloc: Global,
     net: &Network,
     gate: &'a G,
     round: &'a Round,
-    station: Station<K>,
+    station: Station<K, E>,
     text: &mut Vec<u8>,
-) -> (Station<K>, Result<(), OutOfMemory>)
+) -> (Station<K, E>, Result<(), OutOfMemory>)
     requires network { station.book.net ≡ net.now }
     requires air_network { station.centre.life.opening.net ≡ net.now }
     requires terminals { IsRoundFor net.now round.now }

@@ -15,6 +15,7 @@ use bt_line::{Line, Object, Pass};
 use bt_outside::Keeper;
 use bt_script::{DeskLine, DeskLines, Round};
 use bt_workers::{Caller, CentreWorker, Gate};
+use bt_world::Events;
 use std::alloc::Global;
 
 /// How many desks a round can have: one of each number from 1 on.
@@ -24,7 +25,7 @@ pub const DESKS: u32 = MOST_DESKS as u32;
 pub(crate) const SEATS: u32 = DESKS + 2;
 
 /// What the workers of a round have, before they have their places and after they left them.
-pub(crate) struct Crew<K: Keeper>
+pub(crate) struct Crew<K: Keeper, E: Events>
 where
     Book<K>: Object<Call = Call, Reply = Reply>,
 {
@@ -33,13 +34,13 @@ where
     pub(crate) publisher: Publisher,
     /// The readers of all desks in order.
     pub(crate) readers: Vec<Reader>,
-    pub(crate) centre: CentreWorker,
+    pub(crate) centre: CentreWorker<E>,
 }
 
 /// Room for the workers of a round, and for their passes and readers when they leave.
-pub(crate) fn room_for<'a, G: Gate, K: Keeper>(
+pub(crate) fn room_for<'a, G: Gate, K: Keeper, E: Events>(
     alloc: Global,
-) -> Result<(Vec<Worker<'a, G, K>>, Vec<Pass<Book<K>>>, Vec<Reader>), OutOfMemory>
+) -> Result<(Vec<Worker<'a, G, K, E>>, Vec<Pass<Book<K>>>, Vec<Reader>), OutOfMemory>
     ensures workers { IfOk result (λ room. (room.0.items ≡ []) × (SEATS ≤ vec_capacity room.0)) }
     ensures passes { IfOk result (λ room. (room.1.items ≡ []) × (SEATS ≤ vec_capacity room.1)) }
     ensures readers { IfOk result (λ room. (room.2.items ≡ []) × (DESKS ≤ vec_capacity room.2)) }
@@ -52,14 +53,14 @@ pub(crate) fn room_for<'a, G: Gate, K: Keeper>(
 
 /// Gives each pass its worker: the first to the centre's worker, the second to the planner, and the others to the desks
 /// by number, each with its reader.
-pub(crate) fn seat_all<'a, G: Gate, K: Keeper>(
+pub(crate) fn seat_all<'a, G: Gate, K: Keeper, E: Events>(
     alloc: Global,
     gate: &'a G,
     line: &'a Line<Book<K>>,
     round: &'a Round,
-    crew: Crew<K>,
-    mut workers: Vec<Worker<'a, G, K>>,
-) -> Vec<Worker<'a, G, K>>
+    crew: Crew<K, E>,
+    mut workers: Vec<Worker<'a, G, K, E>>,
+) -> Vec<Worker<'a, G, K, E>>
     requires seats { vec_len crew.passes ≡ SEATS }
     requires passes { AllAt (λ place pass. IsPass line.now.table.shared.table_id line.now.table.shared.key.value SEATS place pass.place) crew.passes.items }
     requires unseen { All (λ pass. seen_at pass.place ≡ []) crew.passes.items }
@@ -96,7 +97,11 @@ pub(crate) fn seat_all<'a, G: Gate, K: Keeper>(
 }
 
 /// The job of the desk whose caller has that number.
-fn desk_job<'a>(round: &'a Round, number: u32, reader: Reader) -> Job<'a>
+fn desk_job<'a, E: Events>(
+    round: &'a Round,
+    number: u32,
+    reader: Reader,
+) -> Job<'a, CentreWorker<E>>
     requires number { (2 ≤ number) × (number < SEATS) }
     ensures job { (air : AirState) → IsJobAt round.now reader air number result }
 {
@@ -117,13 +122,13 @@ fn lines_of(desks: &[(u8, DeskLines)], number: u8) -> &[DeskLine]
 }
 
 /// The worker of a pass, of whose lines nothing is printed yet.
-fn seat<'a, G: Gate, K: Keeper>(
+fn seat<'a, G: Gate, K: Keeper, E: Events>(
     alloc: Global,
     gate: &'a G,
     line: &'a Line<Book<K>>,
     pass: Pass<Book<K>>,
-    job: Job<'a>,
-) -> Worker<'a, G, K>
+    job: Job<'a, CentreWorker<E>>,
+) -> Worker<'a, G, K, E>
     requires of_line { IsPass line.now.table.shared.table_id line.now.table.shared.key.value SEATS pass.number pass.place }
     requires unseen { seen_at pass.place ≡ [] }
     requires begins { Follows line.now.table.shared.key.value.net line.now.table.shared.key.value.state.changes }
@@ -145,11 +150,11 @@ fn seat<'a, G: Gate, K: Keeper>(
 
 /// Takes workers apart: the passes of their callers and the readers of the desks in order, into vectors with room for
 /// them, the centre's worker and the publisher.
-pub(crate) fn take_apart<G: Gate, K: Keeper>(
-    mut workers: Vec<Worker<'_, G, K>>,
+pub(crate) fn take_apart<G: Gate, K: Keeper, E: Events>(
+    mut workers: Vec<Worker<'_, G, K, E>>,
     mut passes: Vec<Pass<Book<K>>>,
     mut readers: Vec<Reader>,
-) -> Crew<K>
+) -> Crew<K, E>
     requires seats { vec_len workers ≡ SEATS }
     requires jobs { AllAt (λ place worker. IsOfPlace place worker.job) workers.items }
     requires none { (passes.items ≡ []) × (readers.items ≡ []) }
@@ -179,7 +184,9 @@ pub(crate) fn take_apart<G: Gate, K: Keeper>(
 }
 
 /// Takes the worker of the air apart: its pass, and the centre's worker.
-fn leave_air<G: Gate, K: Keeper>(worker: Worker<'_, G, K>) -> (Pass<Book<K>>, CentreWorker)
+fn leave_air<G: Gate, K: Keeper, E: Events>(
+    worker: Worker<'_, G, K, E>,
+) -> (Pass<Book<K>>, CentreWorker<E>)
     requires { IsOfPlace 0 worker.job }
     ensures pass { result.0.place ≡ worker.entry.caller.place }
     ensures centre { air_in worker.entry.job ≡ Some result.1 }
@@ -197,7 +204,9 @@ fn leave_air<G: Gate, K: Keeper>(worker: Worker<'_, G, K>) -> (Pass<Book<K>>, Ce
 }
 
 /// Takes the planner apart: its pass, and the publisher.
-fn leave_plans<G: Gate, K: Keeper>(worker: Worker<'_, G, K>) -> (Pass<Book<K>>, Publisher)
+fn leave_plans<G: Gate, K: Keeper, E: Events>(
+    worker: Worker<'_, G, K, E>,
+) -> (Pass<Book<K>>, Publisher)
     requires { IsOfPlace 1 worker.job }
     ensures pass { result.0.place ≡ worker.entry.caller.place }
     ensures publisher { publisher_in worker.entry.job ≡ Some result.1 }
@@ -215,7 +224,7 @@ fn leave_plans<G: Gate, K: Keeper>(worker: Worker<'_, G, K>) -> (Pass<Book<K>>, 
 }
 
 /// Takes a desk apart: its pass, and its reader.
-fn leave_desk<G: Gate, K: Keeper>(worker: Worker<'_, G, K>) -> (Pass<Book<K>>, Reader)
+fn leave_desk<G: Gate, K: Keeper, E: Events>(worker: Worker<'_, G, K, E>) -> (Pass<Book<K>>, Reader)
     requires { IsOfPlace 2 worker.job }
     ensures pass { result.0.place ≡ worker.entry.caller.place }
     ensures reader { reader_in worker.entry.job ≡ Some result.1 }

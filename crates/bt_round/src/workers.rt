@@ -11,13 +11,15 @@ use bt_net::Network;
 use bt_outside::Keeper;
 use bt_script::{AirLine, DeskLine};
 use bt_workers::{Caller, CentreWorker, Gate, run_desk, run_planner};
+use bt_world::Events;
 use std::alloc::Global;
 use std::sync::Wait;
 
-/// What a worker does in a round, and what it has for it. A publisher cannot be let go, and so no worker either.
-pub(crate) enum Job<'a> {
+/// What a worker does in a round, and what it has for it; `C` is the centre's worker. A publisher cannot be let go, and so
+/// no worker either.
+pub(crate) enum Job<'a, C> {
     /// The centre's worker plays the lines of the air.
-    Air(&'a [AirLine], CentreWorker),
+    Air(&'a [AirLine], C),
     /// The planner plans so often, and its publisher posts what it installs.
     Plans(u32, Publisher),
     /// The desk of that number does its lines, and its reader looks at the board for its shows.
@@ -25,12 +27,12 @@ pub(crate) enum Job<'a> {
 }
 
 /// A worker of a round. Its bound is that of its caller.
-pub(crate) struct Worker<'a, G: Gate, K: Keeper>
+pub(crate) struct Worker<'a, G: Gate, K: Keeper, E: Events>
 where
     Book<K>: Object<Call = Call, Reply = Reply>,
 {
     pub(crate) caller: Caller<'a, G, K>,
-    pub(crate) job: Job<'a>,
+    pub(crate) job: Job<'a, CentreWorker<E>>,
     /// What is printed of its lines.
     pub(crate) text: Vec<u8>,
     /// Whether memory ran out over its lines.
@@ -38,11 +40,11 @@ where
 }
 
 /// Does the lines of a worker.
-pub(crate) fn work<R: Wait, G: Gate, K: Keeper>(
+pub(crate) fn work<R: Wait, G: Gate, K: Keeper, E: Events>(
     rt: &R,
     alloc: Global,
     net: &Network,
-    worker: &mut Worker<'_, G, K>,
+    worker: &mut Worker<'_, G, K, E>,
 )
     requires network { worker.old.caller.start.net ≡ net.now }
     requires job { CanDo net.now worker.old.caller worker.old.job }

@@ -13,9 +13,10 @@ use bt_timeline::{
     ahead_text, back_text, frame_text, last_tick_text, lost_text, not_installed_text, over_text,
     reset_text, tick_text,
 };
+use bt_world::Events;
 use std::alloc::Global;
 
-impl CentreWorker {
+impl<E: Events> CentreWorker<E> {
     /// The satellite's next superframe begins, where there is one.
     pub(crate) fn tick(
         &mut self,

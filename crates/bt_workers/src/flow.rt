@@ -10,9 +10,10 @@ use bt_air::{Event, Place, Shown};
 use bt_frame::OutOfMemory;
 use bt_net::Network;
 use bt_timeline::{flow_text, got_text, not_sent_text};
+use bt_world::Events;
 use std::alloc::Global;
 
-impl CentreWorker {
+impl<E: Events> CentreWorker<E> {
     /// The message of that number is heard at a place, whoever waits, where one was sent.
     pub(crate) fn deliver(
         &mut self,

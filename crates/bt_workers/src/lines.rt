@@ -12,10 +12,11 @@ use bt_frame::OutOfMemory;
 use bt_net::Network;
 use bt_outside::Keeper;
 use bt_script::AirLine;
+use bt_world::Events;
 use std::alloc::Global;
 use std::sync::Wait;
 
-impl CentreWorker {
+impl<E: Events> CentreWorker<E> {
     /// Plays the lines of the air in a round, and appends what is printed of them.
     ///
     /// Where memory runs out, the events so far have happened, and the book has the entries so far.

@@ -8,9 +8,10 @@ use bt_air::{Event, Sent};
 use bt_frame::OutOfMemory;
 use bt_net::Network;
 use bt_timeline::{noticed_text, standby_burst_text, unnoticed_text, unsent_text};
+use bt_world::Events;
 use std::alloc::Global;
 
-impl CentreWorker {
+impl<E: Events> CentreWorker<E> {
     /// The standby hears the message of that number, where one was sent and it is a status. No event happens.
     pub(crate) fn standby_hears(
         &mut self,

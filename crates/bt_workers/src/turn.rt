@@ -19,10 +19,11 @@ use bt_journal::{Call, Entry, Reply};
 use bt_net::Network;
 use bt_outside::Keeper;
 use bt_timeline::{back_turn_text, order_text, turn_text, unplaced_text};
+use bt_world::Events;
 use std::alloc::Global;
 use std::sync::Wait;
 
-impl CentreWorker {
+impl<E: Events> CentreWorker<E> {
     /// The book is asked for a plan newer than those of the world. Then the centre has its turn, and the order that it
     /// wants is asked to be placed.
     pub(crate) fn turn<R: Wait, G: Gate, K: Keeper>(

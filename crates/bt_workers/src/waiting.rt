@@ -14,7 +14,7 @@ use bt_frame::{OutOfMemory, TermNo};
 use bt_net::Network;
 use bt_script::Losing;
 use bt_timeline::waiting_text;
-use bt_world::World;
+use bt_world::{Events, WorldOver};
 use std::alloc::Global;
 use std::collections::VecDeque;
 use std::marker::Model;
@@ -81,9 +81,9 @@ impl Waiting {
     }
 
     /// All messages from a number on are to be heard by their receivers.
-    pub(crate) fn add_sent(
+    pub(crate) fn add_sent<E: Events>(
         &mut self,
-        world: &World,
+        world: &WorldOver<E>,
         terminals: u8,
         first: u32,
     ) -> Result<(), OutOfMemory>
@@ -100,7 +100,12 @@ impl Waiting {
     }
 
     /// The same, but want of memory leaves the first of them.
-    fn add_each(&mut self, world: &World, terminals: u8, first: u32) -> Result<(), OutOfMemory>
+    fn add_each<E: Events>(
+        &mut self,
+        world: &WorldOver<E>,
+        terminals: u8,
+        first: u32,
+    ) -> Result<(), OutOfMemory>
         requires { first ≤ length (sent world.now.opening (past_of world.now)) }
         ensures ok { OnOk result (self.new ≡ self.old ++ deliveries (numbered terminals) first (drop first (sent world.now.opening (past_of world.now)))) }
         ensures kept { Begins self.old self.new }

@@ -16,14 +16,14 @@ use bt_frame::{EditionNo, MOST_COUNTED, Mark, OutOfMemory};
 use bt_net::Network;
 use bt_standby::Standby;
 use bt_timeline::sent_text;
-use bt_world::World;
+use bt_world::{Events, WorldOver};
 use std::alloc::Global;
 use std::marker::Model;
 
-/// The centre's worker.
+/// The centre's worker. `E` says how the events of its world are kept.
 #[derive(Drop)]
-pub struct CentreWorker {
-    pub(crate) world: World,
+pub struct CentreWorker<E: Events> {
+    pub(crate) world: WorldOver<E>,
     pub(crate) waiting: Waiting,
     // the edition to which the centre goes back; no journal has it
     pub(crate) back: Option<EditionNo>,
@@ -31,7 +31,7 @@ pub struct CentreWorker {
     pub(crate) standby: Standby,
 }
 
-impl Model for CentreWorker {
+impl<E: Events> Model for CentreWorker<E> {
     ghost use Rattle.bt_workers.specs.AirLines.{AirState};
     ghost use Rattle.bt_workers.specs.Worker.{IsRunning};
 
@@ -42,9 +42,9 @@ impl Model for CentreWorker {
     ghost invariant = { λ a. IsRunning (record { life = a.world; waiting = a.waiting; back = a.back; standby = a.standby }) };
 }
 
-impl CentreWorker {
+impl<E: Events> CentreWorker<E> {
     /// The worker of a world. Nobody waits, the centre goes back to no edition, and the standby keeps nothing.
-    pub fn new(alloc: Global, world: World) -> CentreWorker
+    pub fn new(alloc: Global, world: WorldOver<E>) -> CentreWorker<E>
         requires world { IsWorld world.opening (reverse world.events) }
         ensures made { result ≡ record { life = world; waiting = []; back = None; standby = None } }
     {
@@ -106,12 +106,12 @@ impl CentreWorker {
         Ok(text)
     }
 
-    /// The events, the first first.
-    pub fn into_events(self) -> Vec<Event>
-        ensures events { result.items ≡ self.life.events }
+    /// The events, as they are kept.
+    pub fn into_told(self) -> E
+        ensures events { E.told result ≡ self.life.events }
         ensures world { IsWorld self.life.opening (reverse self.life.events) }
     {
-        self.world.into_events()
+        self.world.into_told()
     }
 
     /// An event happens, and the messages that it sends wait for their receivers.
@@ -186,10 +186,10 @@ impl CentreWorker {
 }
 
 /// Appends the lines of the messages that were sent, from a number on.
-fn sent_lines(
+fn sent_lines<E: Events>(
     alloc: Global,
     net: &Network,
-    world: &World,
+    world: &WorldOver<E>,
     first: u32,
     text: &mut Vec<u8>,
 ) -> Result<(), OutOfMemory>

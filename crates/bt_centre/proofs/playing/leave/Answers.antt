@@ -23,7 +23,7 @@ returns g c = λ rounds.
       told = parts.told;
       faults = parts.faults;
       histories = c.push_reserved.ensures.items ∙ ap (λ (entries : List Entry). over ++ time_of entries ∷ []) (c.of.ensures.same ∙ parts.history);
-      events = c.into_events.ensures.events;
-      world = subst (λ (events : List Event). IsWorld now.1.life.opening (reverse events)) (sym c.into_events.ensures.events) c.into_events.ensures.world;
+      events = c.into_events.ensures.events ∙ c.into_told.ensures.events;
+      world = subst (λ (events : List Event). IsWorld now.1.life.opening (reverse events)) (sym (c.into_events.ensures.events ∙ c.into_told.ensures.events)) c.into_told.ensures.world;
       kept = parts.kept.kept;
     }))

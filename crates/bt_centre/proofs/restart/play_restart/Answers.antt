@@ -73,5 +73,5 @@ returns-in-Err-clause-failed g c =
     (g.K.Keeper.told c.into_parts-store.result.0) (g.K.Keeper.fault_count c.into_parts-store.result.0) c.beam_count-beams.ensures.sound is
     (ap (λ (hand : Hand). hand.book.net) view ∙ c.requires.network) (subst (λ (hand : Hand). Follows net hand.book.state.changes) (sym view) c.requires.follow) c.into_parts-store.ensures.kept
     c.into_parts-store.ensures.told c.into_parts-store.ensures.faults c.in-Err.ensures.fault c.in-Err.ensures.fault_later c.in-Err.ensures.exact_changes all
-    (c.into_events.ensures.events ∙ ap (λ (a : AirState). a.life.events) air_is)
-    (world_at c.book_and_centre-book.result.1 old.air c.into_events.result.items air_is c.into_events.ensures.events c.into_events.ensures.world)))
+    (c.into_events.ensures.events ∙ c.into_told.ensures.events ∙ ap (λ (a : AirState). a.life.events) air_is)
+    (world_at c.book_and_centre-book.result.1 old.air c.into_events.result.items air_is (c.into_events.ensures.events ∙ c.into_told.ensures.events) c.into_told.ensures.world)))

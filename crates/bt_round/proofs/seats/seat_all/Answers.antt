@@ -50,6 +50,25 @@ loop-pass-init g c =
           (subst (λ n. IsReady table start round posted centre n c.seat-2.result.caller c.seat-2.result.job c.seat-2.result.text.items) (sym (ap length one)) next));
     }
 
+pub seat-requires-clause-of_line : goal.seat-requires-clause-of_line
+seat-requires-clause-of_line g c =
+    let table = c.args.line.now.table.shared.table_id in
+    let start = c.args.line.now.table.shared.key.value in
+    let first = c.remove-first.result in
+    let pass : IsPass table start SEATS 0 first.place = subst (λ p. IsPass table start SEATS 0 p.place) (sym c.remove-first.ensures.value) (c.requires.passes 0 first (omega (arith, c.requires.seats))) in
+    subst (λ n. IsPass table start SEATS n first.place) (sym pass.number_is ∙ first.numbered) pass
+
+pub seat-requires-2-clause-of_line : goal.seat-requires-2-clause-of_line
+seat-requires-2-clause-of_line g c =
+    let all = c.args.crew.passes.items in
+    let table = c.args.line.now.table.shared.table_id in
+    let start = c.args.line.now.table.shared.key.value in
+    let second = c.remove-second.result in
+    let left : c.remove-first.new.self.items ≡ drop 1 all = c.remove-first.ensures.by_index.2 in
+    let second_is : second ≡ get_or all 1 second = c.remove-second.ensures.value ∙ ap (λ (l : List _). get_or l 0 second) left ∙ get_or_after_one all 0 second in
+    let pass : IsPass table start SEATS 1 second.place = subst (λ p. IsPass table start SEATS 1 p.place) (sym second_is) (c.requires.passes 1 second (omega (arith, c.requires.seats))) in
+    subst (λ n. IsPass table start SEATS n second.place) (sym pass.number_is ∙ second.numbered) pass
+
 pub desk_job-job-requires : goal.desk_job-job-requires
 desk_job-job-requires g c =
     let all = c.args.crew.passes.items in

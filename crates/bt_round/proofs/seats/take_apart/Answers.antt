@@ -1,12 +1,22 @@
 -- the passes come in the order of their workers, and the readers in that of the desks
 use Rattle.std.proofs.Common.{◌≡◌, ◌+◌, [], ◌∷◌, ◌++◌, List, Some, length, length-append, map, drop, get_or, sym, ap, ◌∙◌, subst, arith}
 use Rattle.std.proofs.lemmas.Grind.{get_or_after_one}
-use Rattle.std.proofs.lemmas.List.{append-nil, drop-drop, nil_from_length}
+use Rattle.std.proofs.lemmas.List.{append-nil, drop-drop, get_or_default, nil_from_length}
 use Rattle.std.specs.Vec.Iter.{into_iter_items}
 use Rattle.bt_board.specs.Posted.{Posted}
-use Rattle.bt_round.specs.Seats.{IsOfPlace, reader_in}
+use Rattle.bt_round.specs.Seats.{IsOfPlace, air_in, publisher_in, reader_in}
 use Rattle.bt_round.proofs.Seating.{behind_is_desk, moved_on, moved_two, next_of}
 use Rattle.bt_round.proofs.seats.take_apart.Goals as goal
+
+pub leave_air-first-requires : goal.leave_air-first-requires
+leave_air-first-requires g c = subst (λ w. IsOfPlace 0 w.job) (sym c.remove.ensures.value) (c.requires.jobs 0 c.remove.result (omega (arith, c.requires.seats)))
+
+pub leave_plans-second-requires : goal.leave_plans-second-requires
+leave_plans-second-requires g c =
+    let all = c.args.workers.items in
+    let left : c.remove.new.self.items ≡ drop 1 all = c.remove.ensures.by_index.2 in
+    let second_is = c.remove-2.ensures.value ∙ ap (λ (l : List _). get_or l 0 c.remove-2.result) left ∙ get_or_after_one all 0 c.remove-2.result in
+    subst (λ w. IsOfPlace 1 w.job) (sym second_is) (c.requires.jobs 1 c.remove-2.result (omega (arith, c.requires.seats)))
 
 pub loop-worker-init : goal.loop-worker-init
 loop-worker-init g c =
@@ -83,3 +93,15 @@ returns-clause-readers g c =
     let readers = map (λ reader. Some reader) c.loop-worker.readers.items in
     let none : into_iter_items c.loop-worker.others ≡ [] = nil_from_length (into_iter_items c.loop-worker.others) (omega (arith, c.loop-worker.others.rest.ok.0, c.in_default.ensures.cases.0)) in
     sym (append-nil readers) ∙ ap (λ (l : List _). readers ++ map (λ worker. reader_in worker.job) l) (sym none) ∙ c.loop-worker.invariant.read
+
+pub returns-clause-centre : goal.returns-clause-centre
+returns-clause-centre g c d =
+    let all = c.args.workers.items in
+    ap (λ w. air_in w.job) (sym (c.remove.ensures.value ∙ get_or_default all 0 c.remove.result d (omega (arith, c.requires.seats)))) ∙ c.leave_air-first.ensures.centre
+
+pub returns-clause-publisher : goal.returns-clause-publisher
+returns-clause-publisher g c d =
+    let all = c.args.workers.items in
+    let left : c.remove.new.self.items ≡ drop 1 all = c.remove.ensures.by_index.2 in
+    let second_is = c.remove-2.ensures.value ∙ ap (λ (l : List _). get_or l 0 c.remove-2.result) left ∙ get_or_after_one all 0 c.remove-2.result in
+    ap (λ w. publisher_in w.job) (sym (second_is ∙ get_or_default all 1 c.remove-2.result d (omega (arith, c.requires.seats)))) ∙ c.leave_plans-second.ensures.publisher

@@ -7,4 +7,4 @@ use Rattle.bt_workers.proofs.waiting.Waiting.add_each.Given as goal
 
 -- the messages so far are to be heard
 abbrev pub invariant-loop-number : goal.invariant-loop-number
-invariant-loop-number l = l.self ≡ l.fn.self ++ deliveries (numbered l.terminals) l.first (take (l.number - l.first) (drop l.first (sent l.world.opening (past_of l.world))))
+invariant-loop-number g l = l.self ≡ l.fn.self ++ deliveries (numbered l.terminals) l.first (take (l.number - l.first) (drop l.first (sent l.world.opening (past_of l.world))))

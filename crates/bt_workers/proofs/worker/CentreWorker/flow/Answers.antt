@@ -4,7 +4,7 @@ use Rattle.bt_workers.proofs.Flowing.{flowed}
 use Rattle.bt_workers.proofs.worker.CentreWorker.flow.Goals as goal
 
 pub returns-clause-played : goal.returns-clause-played
-returns-clause-played c =
+returns-clause-played g c =
     on_ok_weaker c.hear_waiting-2.result
     (λ came. flowed c.args.net.now c.args.self.now c.hear_waiting.new.self c.hear_waiting-2.new.self (length c.args.self.now.waiting) (length c.hear_waiting.new.self.waiting)
     c.args.text.now.items c.flow_text.new.out.items c.hear_waiting.new.text.items c.hear_waiting-2.new.text.items

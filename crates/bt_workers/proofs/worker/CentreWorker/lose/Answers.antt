@@ -6,7 +6,7 @@ use Rattle.bt_workers.specs.Worker.{CanHear}
 use Rattle.bt_workers.proofs.worker.CentreWorker.lose.Goals as goal
 
 pub invariant_of-self : goal.invariant_of-self
-invariant_of-self c = record {
+invariant_of-self g c = record {
   world = c.self.invariant.world;
   waiting = subst (λ (l : List (ℕ × Place)). All (CanHear c.self.inside.world) l) (sym c.lose-lost.ensures.left)
       (All-filter (λ (delivery : ℕ × Place). not (loses c.args.losing delivery.1)) (CanHear c.self.inside.world) c.self.inside.waiting c.self.invariant.waiting);

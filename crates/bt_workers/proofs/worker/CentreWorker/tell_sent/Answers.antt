@@ -8,7 +8,7 @@ use Rattle.bt_workers.proofs.Sending.{all-name}
 use Rattle.bt_workers.proofs.worker.CentreWorker.tell_sent.Goals as goal
 
 pub sent_lines-requires-clause-terminals : goal.sent_lines-requires-clause-terminals
-sent_lines-requires-clause-terminals c =
+sent_lines-requires-clause-terminals g c =
     let life = c.self.inside.world in
     subst (λ (net : Net). All (NamesOwn net) (sent life.opening (past_of life)))
     (ap (λ (a : AirState). a.life.opening.net) c.self.view_is ∙ c.requires.network)

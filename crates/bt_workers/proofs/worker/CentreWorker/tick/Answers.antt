@@ -9,13 +9,13 @@ use Rattle.bt_workers.proofs.Running.{told}
 use Rattle.bt_workers.proofs.worker.CentreWorker.tick.Goals as goal
 
 pub returns-then-mark-ge-LAST_MARK-clause-played : goal.returns-then-mark-ge-LAST_MARK-clause-played
-returns-then-mark-ge-LAST_MARK-clause-played c =
+returns-then-mark-ge-LAST_MARK-clause-played g c =
     on_ok_weaker c.last_tick_text.result
     (λ added. record { own = last_tick_line; played = inl (last-mark c.args.self.now _ c.self.view_is c.self.invariant (subst (λ (n : ℕ). 4000000000 ≤ n) c.mark.ensures.mark c.if-mark-ge-LAST_MARK.true), refl, refl); added = added })
     c.last_tick_text.ensures.added
 
 pub returns-clause-played : goal.returns-clause-played
-returns-clause-played c =
+returns-clause-played g c =
     let next : c.mark-2.result ≡ record { 0 = (mark_of c.args.self.now).0 + 1 } =
     c.mark-2.ensures.mark ∙ ap mark_of c.in_ok-happen.ensures.air ∙ mark-ticked c.args.self.now in
     let small : (mark_of c.args.self.now).0 < 4000000000 =
