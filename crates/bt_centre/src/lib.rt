@@ -31,6 +31,7 @@ mod total;
 mod turn_laws;
 
 pub use bt_workers::{Gate, NoGate};
+pub use bt_world::TracedEvents;
 pub use fault::print_fault;
 pub use history::{Histories, History, SessionHistories};
 pub use joining_laws::orders_join_as_told;

@@ -1,4 +1,5 @@
-// The run of a session: between its lines the book hands its entries over, so that no bytes of them are kept.
+// The run of a session: between its lines the book hands its entries over, so that no bytes of them are kept; nor are any of
+// the events of its world, but for the plans that were installed.
 ghost use Rattle.std.specs.Prelude.{◌≡◌, ◌<◌, ◌++◌, ◌∷◌, [], length, IfErr, IfOk, OnOk};
 ghost use Rattle.bt_history.specs.Causes.{Follows};
 ghost use Rattle.bt_script.specs.Named.{IsItemFor, IsRoundFor};
@@ -20,7 +21,6 @@ use crate::restart::play_restart;
 use crate::tally::Tally;
 use crate::tell::tell;
 use crate::{SessionEnd, SessionHistories};
-use bt_air::Event;
 use bt_book::RecoverFault;
 use bt_frame::OutOfMemory;
 use bt_journal::Entries;
@@ -29,6 +29,7 @@ use bt_outside::Keeper;
 use bt_script::{Item, Round};
 use bt_talk::{Query, Step};
 use bt_workers::Gate;
+use bt_world::TracedEvents;
 use std::alloc::Global;
 use std::marker::Model;
 use std::sync::Wait;
@@ -36,7 +37,7 @@ use std::thread::Threads;
 
 /// A run whose entries are handed over between its lines. What it has in hand is that of a run which keeps all of them.
 pub(crate) struct Live<K: Keeper> {
-    pub(crate) run: Playing<K>,
+    pub(crate) run: Playing<K, TracedEvents>,
     log: Log,
 }
 
@@ -57,7 +58,7 @@ pub(crate) struct LiveRemains<K: Keeper> {
     store: K,
     histories: SessionHistories,
     tally: Tally,
-    events: Vec<Event>,
+    events: TracedEvents,
 }
 
 impl<K: Keeper> Model for LiveRemains<K> {
@@ -71,7 +72,7 @@ impl<K: Keeper> Model for LiveRemains<K> {
       told = K.told a.store;
       faults = K.fault_count a.store;
       histories = a.histories;
-      events = a.events.items;
+      events = a.events;
     } };
 
     ghost invariant = { λ a. IsTally (entries_of a.histories) a.tally };
@@ -79,7 +80,7 @@ impl<K: Keeper> Model for LiveRemains<K> {
 
 impl<K: Keeper> Live<K> {
     /// A run in its first time, before the first entry.
-    pub(crate) fn new(run: Playing<K>) -> Live<K>
+    pub(crate) fn new(run: Playing<K, TracedEvents>) -> Live<K>
         requires over { run.over ≡ [] }
         requires none { run.book.history ≡ [] }
         ensures same { result ≡ run }
@@ -120,7 +121,7 @@ impl<K: Keeper> Live<K> {
 }
 
 /// What is left behind what was handed over.
-fn left_behind<K: Keeper>(remains: Remains<K>, log: Log) -> LiveRemains<K>
+fn left_behind<K: Keeper>(remains: Remains<K, TracedEvents>, log: Log) -> LiveRemains<K>
     requires one { length remains.histories ≡ 1 }
     ensures { result ≡ whole_left log.times log.front remains }
 {
@@ -145,7 +146,7 @@ impl<K: Keeper> LiveRemains<K> {
         ensures told { K.told result.store ≡ self.told }
         ensures faults { K.fault_count result.store ≡ self.faults }
         ensures histories { result.histories ≡ self.histories }
-        ensures events { result.events.items ≡ self.events }
+        ensures events { result.events ≡ self.events }
     {
         let LiveRemains {
             store,
@@ -280,7 +281,7 @@ fn live_restart<R: Threads + Wait + Sync, K: Keeper>(
 }
 
 /// The run behind a restart: the time that is over goes into the log.
-fn begun_again<K: Keeper>(mut run: Playing<K>, mut log: Log) -> Live<K>
+fn begun_again<K: Keeper>(mut run: Playing<K, TracedEvents>, mut log: Log) -> Live<K>
     requires one { length run.over ≡ 1 }
     requires none { run.book.history ≡ [] }
     ensures { (past : History) → run.over ≡ past ∷ [] → result ≡ whole (log.times ++ with_front log.front past ∷ []) [] run }

@@ -18,19 +18,19 @@ use bt_net::Network;
 use bt_outside::Keeper;
 use bt_round::Station;
 use bt_workers::CentreWorker;
-use bt_world::{KeptEvents, World};
+use bt_world::{Events, WorldOver};
 use std::alloc::Global;
 use std::sync::Wait;
 use std::thread::Threads;
 
 /// A run of the changes that the store tells. The store is handed back where they are not recovered, and where memory
 /// runs out.
-pub(crate) fn open<R: Threads + Wait + Sync, K: Keeper>(
+pub(crate) fn open<R: Threads + Wait + Sync, K: Keeper, E: Events>(
     rt: &R,
     alloc: Global,
     net: &Network,
     store: K,
-) -> Result<Playing<K>, (K, RecoverFault)>
+) -> Result<Playing<K, E>, (K, RecoverFault)>
     ensures begun { IfOk result (λ hand. IsBegun net.now hand) }
     ensures told { IfOk result (λ hand. hand.book.told ≡ option_map (marked net.now) (K.told store)) }
     ensures changes { IfOk result (λ hand. IfSome (K.told store) (λ bytes. Recovered net.now bytes hand.book.state.changes)) }
@@ -49,12 +49,12 @@ pub(crate) fn open<R: Threads + Wait + Sync, K: Keeper>(
 }
 
 /// A run that begins with a book as it was recovered. Where memory runs out, its store is handed back.
-fn begin<R: Threads + Wait + Sync, K: Keeper>(
+fn begin<R: Threads + Wait + Sync, K: Keeper, E: Events>(
     rt: &R,
     alloc: Global,
     net: &Network,
     book: Book<K>,
-) -> Result<Playing<K>, K>
+) -> Result<Playing<K, E>, K>
     requires network { book.net ≡ net.now }
     requires none { book.history ≡ [] }
     requires runs { book.state ≡ running book.state.changes }
@@ -80,12 +80,12 @@ fn begin<R: Threads + Wait + Sync, K: Keeper>(
 }
 
 /// The station of a book and of the world that opens with it. Where memory runs out, the book comes back.
-fn man<R: Threads + Wait + Sync, K: Keeper>(
+fn man<R: Threads + Wait + Sync, K: Keeper, E: Events>(
     rt: &R,
     alloc: Global,
     net: &Network,
     book: Book<K>,
-) -> Result<Station<K, KeptEvents>, Book<K>>
+) -> Result<Station<K, E>, Book<K>>
     requires follow { Follows net.now book.state.changes }
     ensures book { IfOk result (λ station. station.book ≡ book) }
     ensures air { IfOk result (λ station. station.centre ≡ (at_start net.now book.state.changes).air) }
@@ -106,7 +106,11 @@ fn man<R: Threads + Wait + Sync, K: Keeper>(
 }
 
 /// The world of a network with the plans and the orders of a book.
-fn open_world<K: Keeper>(alloc: Global, net: &Network, book: &Book<K>) -> Result<World, OutOfMemory>
+fn open_world<K: Keeper, E: Events>(
+    alloc: Global,
+    net: &Network,
+    book: &Book<K>,
+) -> Result<WorldOver<E>, OutOfMemory>
     requires follow { Follows net.now book.now.state.changes }
     ensures { IfOk result (λ world. world ≡ record { opening = opening_on net.now book.now.state.changes; events = [] }) }
 {
@@ -115,7 +119,7 @@ fn open_world<K: Keeper>(alloc: Global, net: &Network, book: &Book<K>) -> Result
     // And this, of each book: its orders are not too many.
     let _orders = book.order_count();
     installed_plans_can_be_flown();
-    World::start(alloc, net, plans_of(alloc, book)?, orders_of(alloc, book)?)
+    WorldOver::start(alloc, net, plans_of(alloc, book)?, orders_of(alloc, book)?)
 }
 
 /// The plans that a book has, the empty one first.

@@ -13,20 +13,26 @@ use bt_round::run_round;
 use bt_script::{Item, Round};
 use bt_timeline::round_text;
 use bt_workers::Gate;
+use bt_world::Events;
 use std::alloc::Global;
 use std::sync::Wait;
 use std::thread::Threads;
 
 /// Plays a part of a script, and gives its text; or what is left of the run, where memory runs out or the recovery at a
 /// restart fails.
-pub(crate) fn play_item<R: Threads + Wait + Sync, G: Gate + Sync, K: Keeper + Send>(
+pub(crate) fn play_item<
+    R: Threads + Wait + Sync,
+    G: Gate + Sync,
+    K: Keeper + Send,
+    E: Events + Send,
+>(
     rt: &R,
     alloc: Global,
     net: &Network,
     gate: &G,
     item: &Item,
-    playing: Playing<K>,
-) -> Result<(Playing<K>, Vec<u8>), (Remains<K>, RecoverFault)>
+    playing: Playing<K, E>,
+) -> Result<(Playing<K, E>, Vec<u8>), (Remains<K, E>, RecoverFault)>
     requires few { playing.rounds < 9223372036854775808 }
     requires network { playing.book.net ≡ net.now }
     requires air_network { playing.air.life.opening.net ≡ net.now }
@@ -45,14 +51,19 @@ pub(crate) fn play_item<R: Threads + Wait + Sync, G: Gate + Sync, K: Keeper + Se
 }
 
 /// Plays a round, and gives its text; or what is left of the run, where memory runs out.
-pub(crate) fn play_round<R: Threads + Wait + Sync, G: Gate + Sync, K: Keeper + Send>(
+pub(crate) fn play_round<
+    R: Threads + Wait + Sync,
+    G: Gate + Sync,
+    K: Keeper + Send,
+    E: Events + Send,
+>(
     rt: &R,
     alloc: Global,
     net: &Network,
     gate: &G,
     round: &Round,
-    playing: Playing<K>,
-) -> Result<(Playing<K>, Vec<u8>), Remains<K>>
+    playing: Playing<K, E>,
+) -> Result<(Playing<K, E>, Vec<u8>), Remains<K, E>>
     requires few { playing.rounds < 9223372036854775808 }
     requires network { playing.book.net ≡ net.now }
     requires air_network { playing.air.life.opening.net ≡ net.now }

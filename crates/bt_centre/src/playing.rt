@@ -5,19 +5,18 @@ ghost use Rattle.bt_centre.specs.Whole.{whole};
 
 use crate::station::book_and_centre;
 use crate::{Histories, History, RunEnd};
-use bt_air::Event;
 use bt_journal::{Entries, Entry};
 use bt_outside::Keeper;
 use bt_round::Station;
-use bt_world::KeptEvents;
+use bt_world::{Events, KeptEvents};
 use std::alloc::Global;
 use std::marker::Model;
 use std::sync::Wait;
 use std::thread::Threads;
 
-/// A run in its present time. Its board shows the plans of its book.
-pub(crate) struct Playing<K: Keeper> {
-    pub(crate) station: Station<K, KeptEvents>,
+/// A run in its present time. Its board shows the plans of its book. `E` says how the events of its world are kept.
+pub(crate) struct Playing<K: Keeper, E: Events> {
+    pub(crate) station: Station<K, E>,
     /// How many changes the book had when the time began.
     pub(crate) before: u32,
     /// The histories of the times that are over, with room for that of the present time.
@@ -26,7 +25,7 @@ pub(crate) struct Playing<K: Keeper> {
     pub(crate) rounds: u64,
 }
 
-impl<K: Keeper> Model for Playing<K> {
+impl<K: Keeper, E: Events> Model for Playing<K, E> {
     ghost use Rattle.std.specs.Prelude.{◌<◌, length, vec_capacity};
     ghost use Rattle.bt_round.specs.Boards.{IsPublished};
     ghost use Rattle.bt_centre.specs.Progress.{Hand};
@@ -47,13 +46,13 @@ impl<K: Keeper> Model for Playing<K> {
 
 /// What is left of a run: the store, the histories of all times, and the events.
 #[derive(Drop)]
-pub(crate) struct Remains<K: Keeper> {
+pub(crate) struct Remains<K: Keeper, E: Events> {
     pub(crate) store: K,
     pub(crate) histories: Vec<History>,
-    pub(crate) events: Vec<Event>,
+    pub(crate) events: E,
 }
 
-impl<K: Keeper> Model for Remains<K> {
+impl<K: Keeper, E: Events> Model for Remains<K, E> {
     ghost use Rattle.bt_centre.specs.Progress.{Left};
 
     ghost Value = { Left };
@@ -62,13 +61,13 @@ impl<K: Keeper> Model for Remains<K> {
       told = K.told a.store;
       faults = K.fault_count a.store;
       histories = a.histories.items;
-      events = a.events.items;
+      events = E.told a.events;
     } };
 }
 
-impl<K: Keeper> Playing<K> {
+impl<K: Keeper, E: Events> Playing<K, E> {
     /// The run stops here.
-    pub(crate) fn stop<R: Threads + Wait + Sync>(self, rt: &R) -> Remains<K>
+    pub(crate) fn stop<R: Threads + Wait + Sync>(self, rt: &R) -> Remains<K, E>
         ensures { IsLeftOf self result }
     {
         let Playing {
@@ -113,12 +112,12 @@ pub(crate) fn take_only(histories: &mut Vec<History>) -> History
 }
 
 /// A run stops in the time that began with so many changes, behind these times.
-pub(crate) fn leave<R: Wait, K: Keeper>(
+pub(crate) fn leave<R: Wait, K: Keeper, E: Events>(
     rt: &R,
-    station: Station<K, KeptEvents>,
+    station: Station<K, E>,
     before: u32,
     over: Vec<History>,
-) -> Remains<K>
+) -> Remains<K, E>
     requires room { length over.items < vec_capacity over }
     ensures { (rounds : ℕ) → IsLeftOf (record { over = over.items; before = before; book = station.book; air = station.centre; rounds = rounds }) result }
 {
@@ -132,11 +131,11 @@ pub(crate) fn leave<R: Wait, K: Keeper>(
     Remains {
         store,
         histories,
-        events: centre.into_told().into_events(),
+        events: centre.into_told(),
     }
 }
 
-impl<K: Keeper> Remains<K> {
+impl<K: Keeper> Remains<K, KeptEvents> {
     /// The end of a run, with its status.
     pub(crate) fn end(self, status: u8) -> RunEnd<K>
         ensures status { result.status ≡ status }
@@ -149,7 +148,7 @@ impl<K: Keeper> Remains<K> {
             status,
             store: self.store,
             histories: Histories::of(self.histories),
-            events: self.events,
+            events: self.events.into_events(),
         }
     }
 }

@@ -18,19 +18,19 @@ use bt_net::Network;
 use bt_outside::Keeper;
 use bt_timeline::{restart_text, start_text};
 use bt_workers::CentreWorker;
-use bt_world::KeptEvents;
+use bt_world::Events;
 use std::alloc::Global;
 use std::sync::Wait;
 use std::thread::Threads;
 
 /// The time is over: the book is recovered from its store, and the centre restarts. Gives the text of it; or what is left
 /// of the run, where memory runs out or the recovery fails.
-pub(crate) fn play_restart<R: Threads + Wait + Sync, K: Keeper>(
+pub(crate) fn play_restart<R: Threads + Wait + Sync, K: Keeper, E: Events>(
     rt: &R,
     alloc: Global,
     net: &Network,
-    mut playing: Playing<K>,
-) -> Result<(Playing<K>, Vec<u8>), (Remains<K>, RecoverFault)>
+    mut playing: Playing<K, E>,
+) -> Result<(Playing<K, E>, Vec<u8>), (Remains<K, E>, RecoverFault)>
     requires network { playing.book.net ≡ net.now }
     requires air_network { playing.air.life.opening.net ≡ net.now }
     requires follow { Follows net.now playing.book.state.changes }
@@ -74,7 +74,7 @@ pub(crate) fn play_restart<R: Threads + Wait + Sync, K: Keeper>(
             let remains = Remains {
                 store,
                 histories: over,
-                events: centre.into_told().into_events(),
+                events: centre.into_told(),
             };
             Err((remains, fault))
         }
@@ -83,22 +83,22 @@ pub(crate) fn play_restart<R: Threads + Wait + Sync, K: Keeper>(
 
 /// A time of a run before it begins.
 #[derive(Drop)]
-struct Time<K: Keeper> {
+struct Time<K: Keeper, E: Events> {
     /// As it was recovered.
     book: Book<K>,
     /// As it was before the restart.
-    centre: CentreWorker<KeptEvents>,
+    centre: CentreWorker<E>,
     over: Vec<History>,
     rounds: u64,
 }
 
 /// The centre restarts over a book that was recovered; or what is left of the run, where memory runs out.
-fn begin_again<R: Threads + Wait + Sync, K: Keeper>(
+fn begin_again<R: Threads + Wait + Sync, K: Keeper, E: Events>(
     rt: &R,
     alloc: Global,
     net: &Network,
-    time: Time<K>,
-) -> Result<(Playing<K>, Vec<u8>), Remains<K>>
+    time: Time<K, E>,
+) -> Result<(Playing<K, E>, Vec<u8>), Remains<K, E>>
     requires air_network { time.centre.life.opening.net ≡ net.now }
     requires room { length time.over.items < vec_capacity time.over }
     ensures began { IfOk result (λ on. BeganAgain time.book time.centre time.over.items time.rounds on.0 on.1.items) }
@@ -129,26 +129,26 @@ fn begin_again<R: Threads + Wait + Sync, K: Keeper>(
 }
 
 /// What is left of a run with this book, whose own history is empty, and these histories.
-fn remains_of<K: Keeper>(
+fn remains_of<K: Keeper, E: Events>(
     book: Book<K>,
-    centre: CentreWorker<KeptEvents>,
+    centre: CentreWorker<E>,
     over: Vec<History>,
-) -> Remains<K>
+) -> Remains<K, E>
     ensures { IsLeftBehind book centre over.items result }
 {
     Remains {
         store: book.into_parts().0,
         histories: over,
-        events: centre.into_told().into_events(),
+        events: centre.into_told(),
     }
 }
 
 /// The centre restarts over a book, and gives the text of it. Where memory runs out, it may have restarted.
-fn restart_centre<K: Keeper>(
+fn restart_centre<K: Keeper, E: Events>(
     alloc: Global,
     net: &Network,
     book: &Book<K>,
-    centre: &mut CentreWorker<KeptEvents>,
+    centre: &mut CentreWorker<E>,
 ) -> Result<Vec<u8>, OutOfMemory>
     requires air_network { centre.old.life.opening.net ≡ net.now }
     ensures opening { centre.new.life.opening ≡ centre.old.life.opening }
@@ -170,7 +170,7 @@ fn restart_centre<K: Keeper>(
 }
 
 /// The book has one order more than the world, and that is the one that the centre wanted.
-fn joins_order<K: Keeper>(book: &Book<K>, centre: &CentreWorker<KeptEvents>) -> bool
+fn joins_order<K: Keeper, E: Events>(book: &Book<K>, centre: &CentreWorker<E>) -> bool
     ensures { JoinsOrder centre.now book.now.state.changes result }
 {
     match centre.wanted() {

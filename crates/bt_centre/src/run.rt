@@ -15,6 +15,7 @@ use bt_report::unwritten;
 use bt_script::Item;
 use bt_timeline::start_text;
 use bt_workers::Gate;
+use bt_world::KeptEvents;
 use std::alloc::Global;
 use std::sync::Wait;
 use std::thread::Threads;
@@ -27,9 +28,9 @@ pub(crate) fn play_items<R: Threads + Wait + Sync, G: Gate + Sync, O: Sink, K: K
     net: &Network,
     gate: &G,
     items: &[Item],
-    mut playing: Playing<K>,
+    mut playing: Playing<K, KeptEvents>,
     out: &mut O,
-) -> Result<Playing<K>, RunEnd<K>>
+) -> Result<Playing<K, KeptEvents>, RunEnd<K>>
     requires begun { IsBegun net.now playing }
     requires terminals { All (IsItemFor net.now) items.now }
     ensures written { IfOk result (λ on. ItemsWritten net.now playing.book items.now on (O.told out.old) (O.told out.new)) }
@@ -61,7 +62,7 @@ pub(crate) fn play_items<R: Threads + Wait + Sync, G: Gate + Sync, O: Sink, K: K
 /// Writes the first line of a run.
 fn write_start<O: Sink, K: Keeper>(
     alloc: Global,
-    playing: &Playing<K>,
+    playing: &Playing<K, KeptEvents>,
     out: &mut O,
 ) -> Result<(), SinkFault>
     ensures ok { OnOk result (O.told out.new ≡ gained (O.told out.old) (start_of playing.now)) }

@@ -19,7 +19,7 @@ use bt_outside::{Keeper, Sink, SinkFault};
 use bt_report::{DONE, STORE_FAILED, unwritten};
 use bt_script::Script;
 use bt_workers::Gate;
-use bt_world::frames_are_safe;
+use bt_world::{KeptEvents, frames_are_safe};
 use std::alloc::Global;
 use std::sync::Wait;
 use std::thread::Threads;
@@ -78,7 +78,7 @@ fn run_from<R: Threads + Wait + Sync, G: Gate + Sync, O: Sink, K: Keeper + Send>
     net: &Network,
     script: &Script,
     gate: &G,
-    playing: Playing<K>,
+    playing: Playing<K, KeptEvents>,
     out: &mut O,
 ) -> RunEnd<K>
     requires begun { IsBegun net.now playing }

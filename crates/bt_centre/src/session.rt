@@ -15,7 +15,6 @@ use crate::live::{Live, LiveRemains, play_step};
 use crate::open::open;
 use crate::playing::Playing;
 use crate::say::{say_fault, say_restart_fault, say_text};
-use bt_air::Event;
 use bt_book::installed_plans_are_good;
 use bt_frame::OutOfMemory;
 use bt_input::{Incoming, SourceFault, Talk};
@@ -25,7 +24,7 @@ use bt_report::{DONE, OUT_OF_MEMORY, READ_FAILED, STORE_FAILED, unwritten};
 use bt_talk::{Block, Step, add_input_fault, add_ready, answer_text};
 use bt_timeline::start_text;
 use bt_workers::Gate;
-use bt_world::frames_are_safe;
+use bt_world::{Events, TracedEvents, frames_are_safe};
 use std::alloc::Global;
 use std::sync::Wait;
 use std::thread::Threads;
@@ -45,8 +44,8 @@ pub struct SessionEnd<K> {
     pub store: K,
     /// What was asked and answered, for each start of the centre.
     pub histories: SessionHistories,
-    /// What happened on the air, from the first on.
-    pub events: Vec<Event>,
+    /// What happened on the air, from the first on. Clauses read it; at run time there are the installed plans of it.
+    pub events: TracedEvents,
 }
 
 impl<K> SessionEnd<K> {
@@ -55,13 +54,13 @@ impl<K> SessionEnd<K> {
         ensures status { result.status ≡ status }
         ensures store { result.store ≡ store }
         ensures histories { result.histories ≡ [] }
-        ensures events { result.events.items ≡ [] }
+        ensures events { result.events ≡ [] }
     {
         SessionEnd {
             status,
             store,
             histories: SessionHistories::none(),
-            events: Vec::new(alloc),
+            events: TracedEvents::none(alloc),
         }
     }
 }
@@ -78,7 +77,8 @@ pub enum InputEnd {
 /// Plays what the lines of a talk ask, on a network, from the changes that the store tells, and answers each line before
 /// the next is heard. The store keeps each change that is made. A line that asks and changes nothing is told of what there is.
 /// Of what was asked and answered no bytes are kept once it is played, but how many edits there were and how they were
-/// answered; of a book that a fault of its store has stopped they are kept until the centre restarts.
+/// answered; of a book that a fault of its store has stopped they are kept until the centre restarts. Of what happened on
+/// the air the plans that were installed are kept.
 ///
 /// The status is that of a run; it is 5 where the input failed and the store lost nothing.
 pub fn run_session<R: Threads + Wait + Sync, G: Gate + Sync, T: Talk, K: Keeper + Send>(
@@ -99,7 +99,7 @@ pub fn run_session<R: Threads + Wait + Sync, G: Gate + Sync, T: Talk, K: Keeper 
           turns_after = T.turns talk.new;
         })
         (record { before = K.told store; after = K.told result.store; faults_before = K.fault_count store; faults_after = K.fault_count result.store })
-        result.status result.histories result.events.items }
+        result.status result.histories result.events }
 {
     frames_are_safe();
     match open(rt, alloc, net, store) {
@@ -130,7 +130,7 @@ fn session_from<R: Threads + Wait + Sync, G: Gate + Sync, T: Talk, K: Keeper + S
           turns_before = T.turns talk.old;
           turns_after = T.turns talk.new;
         })
-        playing.book (record { told = K.told result.store; faults = K.fault_count result.store; histories = result.histories; events = result.events.items }) result.status }
+        playing.book (record { told = K.told result.store; faults = K.fault_count result.store; histories = result.histories; events = result.events }) result.status }
 {
     installed_plans_are_good();
     match play_lines(rt, alloc, net, gate, playing, talk) {
@@ -173,7 +173,7 @@ fn play_lines<R: Threads + Wait + Sync, G: Gate + Sync, T: Talk, K: Keeper + Sen
           turns_before = T.turns talk.old;
           turns_after = T.turns talk.new;
         })
-        playing.book (record { told = K.told end.store; faults = K.fault_count end.store; histories = end.histories; events = end.events.items }) end.status) }
+        playing.book (record { told = K.told end.store; faults = K.fault_count end.store; histories = end.histories; events = end.events }) end.status) }
     ensures later { T.fault_count talk.old ≤ T.fault_count talk.new }
 {
     installed_plans_are_good();
@@ -258,7 +258,10 @@ fn opening_text<K: Keeper>(alloc: Global, playing: &Live<K>) -> Result<Vec<u8>, 
     begin_text(alloc, &playing.run)
 }
 
-fn begin_text<K: Keeper>(alloc: Global, run: &Playing<K>) -> Result<Vec<u8>, OutOfMemory>
+fn begin_text<K: Keeper>(
+    alloc: Global,
+    run: &Playing<K, TracedEvents>,
+) -> Result<Vec<u8>, OutOfMemory>
     ensures { IfOk result (λ text. text.items ≡ start_of run.now ++ ready_line 0) }
 {
     let book = &run.station.book;

@@ -7,18 +7,18 @@ use bt_book::Book;
 use bt_outside::Keeper;
 use bt_round::{DESKS, Station};
 use bt_workers::CentreWorker;
-use bt_world::KeptEvents;
+use bt_world::Events;
 use std::alloc::Global;
 use std::sync::Wait;
 
 /// A station over a book and the centre's worker, with a board that shows the book's newest plan. Where memory runs out
 /// both come back.
-pub(crate) fn station_of<R: Wait, K: Keeper>(
+pub(crate) fn station_of<R: Wait, K: Keeper, E: Events>(
     rt: &R,
     alloc: Global,
     book: Book<K>,
-    centre: CentreWorker<KeptEvents>,
-) -> Result<Station<K, KeptEvents>, (Book<K>, CentreWorker<KeptEvents>)>
+    centre: CentreWorker<E>,
+) -> Result<Station<K, E>, (Book<K>, CentreWorker<E>)>
     ensures book { IfOk result (λ station. station.book ≡ book) }
     ensures centre { IfOk result (λ station. station.centre ≡ centre) }
     ensures published { IfOk result (λ station. IsPublished station.book.state.changes station.publisher station.readers.items) }
@@ -40,10 +40,10 @@ pub(crate) fn station_of<R: Wait, K: Keeper>(
 }
 
 /// The book and the centre's worker of a station, whose board is closed.
-pub(crate) fn book_and_centre<R: Wait, K: Keeper>(
+pub(crate) fn book_and_centre<R: Wait, K: Keeper, E: Events>(
     rt: &R,
-    station: Station<K, KeptEvents>,
-) -> (Book<K>, CentreWorker<KeptEvents>)
+    station: Station<K, E>,
+) -> (Book<K>, CentreWorker<E>)
     ensures book { result.0 ≡ station.book }
     ensures centre { result.1 ≡ station.centre }
 {

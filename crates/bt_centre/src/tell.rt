@@ -11,14 +11,15 @@ use bt_net::Network;
 use bt_outside::Keeper;
 use bt_talk::{Query, counted_text, help_text};
 use bt_workers::CentreWorker;
+use bt_world::Events;
 use std::alloc::Global;
 
 /// What is told of a book and of the air, with the number of its lines in front.
-pub(crate) fn tell<K: Keeper>(
+pub(crate) fn tell<K: Keeper, E: Events>(
     alloc: Global,
     net: &Network,
     book: &Book<K>,
-    centre: &CentreWorker,
+    centre: &CentreWorker<E>,
     query: Query,
 ) -> Result<Vec<u8>, OutOfMemory>
     requires network { book.now.net ≡ net.now }
@@ -32,11 +33,11 @@ pub(crate) fn tell<K: Keeper>(
 }
 
 /// What is told.
-fn answer<K: Keeper>(
+fn answer<K: Keeper, E: Events>(
     alloc: Global,
     net: &Network,
     book: &Book<K>,
-    centre: &CentreWorker,
+    centre: &CentreWorker<E>,
     query: Query,
 ) -> Result<Vec<u8>, OutOfMemory>
     requires network { book.now.net ≡ net.now }

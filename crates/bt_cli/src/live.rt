@@ -68,7 +68,7 @@ pub fn live_main<R: Threads + Wait + Sync, F: Files, T: Talk, K: Keeper + Send>(
         })
         (record { before = K.told store; after = K.told result.store; faults_before = K.fault_count store; faults_after = K.fault_count result.store })
         (live_words (map string_bytes words.now))
-        (record { status = result.status; histories = result.histories; events = result.events.items }) }
+        (record { status = result.status; histories = result.histories; events = result.events }) }
 {
     match live_words(words) {
         Some((net, _)) => live_on(rt, alloc, net, files, talk, store),
@@ -95,7 +95,7 @@ fn live_on<R: Threads + Wait + Sync, F: Files, T: Talk, K: Keeper + Send>(
           turns_after = T.turns talk.new;
         })
         (record { before = K.told store; after = K.told result.store; faults_before = K.fault_count store; faults_after = K.fault_count result.store })
-        net.now (record { status = result.status; histories = result.histories; events = result.events.items }) }
+        net.now (record { status = result.status; histories = result.histories; events = result.events }) }
 {
     match load_network(alloc, files, net) {
         Ok(network) => {

@@ -67,11 +67,11 @@ returns-in-Err-clause-failed g c =
     let all = pushed_is c.push_reserved.new.self.items c.reserve.new.self.items inside.over.items inside.before c.of.result _ old.book.history c.push_reserved.ensures.items c.reserve.ensures.items c.of.ensures.same
     (c.into_parts-store.ensures.history ∙ ap (λ (b : Books). b.history) is) in
     let laws : Laws = record { next = c.stores_tell_next_openings.ensures.next; short = c.stores_tell_next_openings.ensures.short } in
-    let left : Left = record { told = g.K.Keeper.told c.in-Err.store; faults = g.K.Keeper.fault_count c.in-Err.store; histories = c.push_reserved.new.self.items; events = c.into_events.result.items } in
+    let left : Left = record { told = g.K.Keeper.told c.in-Err.store; faults = g.K.Keeper.fault_count c.in-Err.store; histories = c.push_reserved.new.self.items; events = g.E.Events.told c.into_told.result } in
     subst (λ (hand : Hand). ItemFailed net item.Restart hand left c.in-Err.fault) view
     (restart_failed net old left c.in-Err.fault (fails laws net old c.book_and_centre-book.result.0 left c.in-Err.fault
     (g.K.Keeper.told c.into_parts-store.result.0) (g.K.Keeper.fault_count c.into_parts-store.result.0) c.beam_count-beams.ensures.sound is
     (ap (λ (hand : Hand). hand.book.net) view ∙ c.requires.network) (subst (λ (hand : Hand). Follows net hand.book.state.changes) (sym view) c.requires.follow) c.into_parts-store.ensures.kept
     c.into_parts-store.ensures.told c.into_parts-store.ensures.faults c.in-Err.ensures.fault c.in-Err.ensures.fault_later c.in-Err.ensures.exact_changes all
-    (c.into_events.ensures.events ∙ c.into_told.ensures.events ∙ ap (λ (a : AirState). a.life.events) air_is)
-    (world_at c.book_and_centre-book.result.1 old.air c.into_events.result.items air_is (c.into_events.ensures.events ∙ c.into_told.ensures.events) c.into_told.ensures.world)))
+    (c.into_told.ensures.events ∙ ap (λ (a : AirState). a.life.events) air_is)
+    (world_at c.book_and_centre-book.result.1 old.air (g.E.Events.told c.into_told.result) air_is c.into_told.ensures.events c.into_told.ensures.world)))

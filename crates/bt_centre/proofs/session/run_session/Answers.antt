@@ -9,7 +9,7 @@ pub returns-in-Ok : goal.returns-in-Ok
 returns-in-Ok g c =
     let now = c.in-Ok.ensures in
     let end = c.session_from.result in
-    let left : Left = record { told = g.K.Keeper.told end.store; faults = g.K.Keeper.fault_count end.store; histories = end.histories; events = end.events.items } in
+    let left : Left = record { told = g.K.Keeper.told end.store; faults = g.K.Keeper.fault_count end.store; histories = end.histories; events = end.events } in
     record {
       ends = inr (inr (session_runs_from c.frames_are_safe.ensures.flyable c.frames_are_safe.ensures.safe c.args.net.now _ (g.K.Keeper.told c.args.store) (g.K.Keeper.fault_count c.args.store) c.in-Ok.playing left _
           now.begun now.told now.changes now.readable now.later
@@ -26,7 +26,7 @@ returns-in-Err g c =
       faults_after = g.K.Keeper.fault_count end.store;
     } in
     record {
-      ends = session_nothing_left c.args.net.now _ stored (g.K.Keeper.told c.in-Err.store) (g.K.Keeper.fault_count c.in-Err.store) c.in-Err.fault end.status _ end.histories end.events.items
+      ends = session_nothing_left c.args.net.now _ stored (g.K.Keeper.told c.in-Err.store) (g.K.Keeper.fault_count c.in-Err.store) c.in-Err.fault end.status _ end.histories end.events
           (ap g.K.Keeper.told c.unbegun.ensures.store) (ap g.K.Keeper.fault_count c.unbegun.ensures.store) c.unbegun.ensures.status c.in-Err.ensures.fault c.in-Err.ensures.fault_later
           c.unbegun.ensures.histories c.unbegun.ensures.events c.say_fault-status.ensures.said;
     }
