@@ -41,7 +41,7 @@ const MEANINGS: [Meaning; 18] = [
     Meaning { status: DONE,           of: CHART,   when: "the picture was drawn",                line: "" },
     Meaning { status: OUT_OF_MEMORY,  of: BOTH,    when: "memory ran out",                       line: "" },
     Meaning { status: FAULTY_WORDS,   of: BOTH,    when: "the words are none of a command",      line: "fault words" },
-    Meaning { status: FAULTY_WORDS,   of: NOZGURT, when: "a journal has no such edition or plan", line: "fault words" },
+    Meaning { status: FAULTY_WORDS,   of: NOZGURT, when: "a journal lacks the edition or plan",  line: "fault words" },
     Meaning { status: FAULTY_WORDS,   of: CHART,   when: "a NAME is that of no terminal",        line: "fault words" },
     Meaning { status: NO_NETWORK,     of: NOZGURT, when: "a network file is no network",         line: "fault CODE PLACE" },
     Meaning { status: NO_NETWORK,     of: CHART,   when: "the network file is no network",       line: "fault CODE PLACE" },
