@@ -1,5 +1,6 @@
 pub mod BurstOrder
 pub mod BurstTriples
+pub mod BySender
 pub mod FewLinks
 pub mod Flyable
 pub mod Links

@@ -22,4 +22,4 @@ pub use line_fault::JournalLineFault;
 pub use mark::{mark_text, read_mark};
 pub use reader::read_change;
 pub use reply::Reply;
-pub use writer::change_text;
+pub use writer::{change_text, write_change};

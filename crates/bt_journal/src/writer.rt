@@ -23,8 +23,8 @@ use bt_plan::plan_text;
 use bt_text::number_text;
 use std::alloc::Global;
 
-/// The bytes for which there is room when the line of an edit is begun. Most lines are no longer.
-const EDIT_BYTES: usize = 64;
+/// The bytes for which there is room when the text of a line is begun. Most lines of edits are no longer.
+const LINE_BYTES: usize = 64;
 
 /// The line of a change, its newline included, as `read_change` reads it. `edition` is the edition that an edit makes;
 /// it is not looked at for another change.
@@ -37,30 +37,51 @@ pub fn change_text(
     requires range { IsChangeInRange net.now edition.0 change.now }
     ensures line { IfOk result (λ line. line.items ≡ change_line net.now edition.0 change.now) }
 {
-    let mut line = match change {
-        Change::Edit(edit) => edit_text(alloc, net, edition, *edit)?,
-        Change::Install(plan) => install_text(alloc, net, plan)?,
-        Change::Order(order) => order_text(alloc, *order)?,
-    };
-    line.push(b'\n')?;
+    let mut line = Vec::with_capacity(alloc, LINE_BYTES)?;
+    write_change(alloc, net, edition, change, &mut line)?;
     Ok(line)
 }
 
-// `edit K` and the edit.
-fn edit_text(
+/// Appends the line of a change, its newline included. `edition` is that of `change_text`.
+pub fn write_change(
     alloc: Global,
     net: &Network,
-    made: EditionNo,
-    edit: Edit,
-) -> Result<Vec<u8>, OutOfMemory>
-    requires { NamesTerminals net.now edit }
-    ensures { IfOk result (λ text. text.items ≡ spaced (change_parts net.now made.0 (Change.Edit edit))) }
+    edition: EditionNo,
+    change: &Change,
+    text: &mut Vec<u8>,
+) -> Result<(), OutOfMemory>
+    requires range { IsChangeInRange net.now edition.0 change.now }
+    ensures line { OnOk result (text.new.items ≡ text.old.items ++ change_line net.now edition.0 change.now) }
 {
-    let mut text = Vec::with_capacity(alloc, EDIT_BYTES)?;
-    text.extend_from_slice(b"edit")?;
-    write_number(alloc, made.0, &mut text)?;
-    write_edit(alloc, net, edit, &mut text)?;
-    Ok(text)
+    write_words(alloc, net, edition, change, text)?;
+    text.push(b'\n')?;
+    Ok(())
+}
+
+// Appends the words of a change, with a space between each two.
+fn write_words(
+    alloc: Global,
+    net: &Network,
+    edition: EditionNo,
+    change: &Change,
+    text: &mut Vec<u8>,
+) -> Result<(), OutOfMemory>
+    requires { IsChangeInRange net.now edition.0 change.now }
+    ensures { OnOk result (text.new.items ≡ text.old.items ++ spaced (change_parts net.now edition.0 change.now)) }
+{
+    match change {
+        Change::Edit(edit) => {
+            text.extend_from_slice(b"edit")?;
+            write_number(alloc, edition.0, text)?;
+            write_edit(alloc, net, *edit, text)
+        }
+        Change::Install(plan) => {
+            let line = install_text(alloc, net, plan)?;
+            text.extend_from_slice(line.as_slice())?;
+            Ok(())
+        }
+        Change::Order(order) => write_order(alloc, *order, text),
+    }
 }
 
 // Appends an edit, behind a space.
@@ -129,27 +150,25 @@ pub(crate) fn write_number(
     number_text(alloc, u64::from(number), text)
 }
 
-// An order.
-fn order_text(alloc: Global, order: Order) -> Result<Vec<u8>, OutOfMemory>
-    ensures { IfOk result (λ text. text.items ≡ spaced (order_words order)) }
+// Appends an order.
+fn write_order(alloc: Global, order: Order, text: &mut Vec<u8>) -> Result<(), OutOfMemory>
+    ensures { OnOk result (text.new.items ≡ text.old.items ++ spaced (order_words order)) }
 {
     match order {
         Order::Load { command, edition } => {
-            let mut text = Vec::from_slice(alloc, b"load")?;
-            write_number(alloc, command.0, &mut text)?;
-            write_number(alloc, edition.0, &mut text)?;
-            Ok(text)
+            text.extend_from_slice(b"load")?;
+            write_number(alloc, command.0, text)?;
+            write_number(alloc, edition.0, text)
         }
         Order::Arm {
             command,
             edition,
             due,
         } => {
-            let mut text = Vec::from_slice(alloc, b"arm")?;
-            write_number(alloc, command.0, &mut text)?;
-            write_number(alloc, edition.0, &mut text)?;
-            write_number(alloc, due.0, &mut text)?;
-            Ok(text)
+            text.extend_from_slice(b"arm")?;
+            write_number(alloc, command.0, text)?;
+            write_number(alloc, edition.0, text)?;
+            write_number(alloc, due.0, text)
         }
     }
 }
