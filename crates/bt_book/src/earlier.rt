@@ -22,11 +22,8 @@ impl Machine {
         let mut occupancy = Occupancy::new(alloc, self.network())?;
         // This is there for what holds of each network: its frame has at most `MOST_SLOTS` slots.
         let _slots = occupancy.slots();
-        let redone = self.redo(alloc, &mut occupancy, number.0);
-        // The demand alone is left before the answer is looked at: what else is there goes with the occupancy.
-        let demand = occupancy.into_demand();
-        redone?;
-        Ok(demand)
+        self.redo(alloc, &mut occupancy, number.0)?;
+        occupancy.demand(alloc)
     }
 
     /// Makes the first edits, so many, again.
@@ -39,8 +36,9 @@ impl Machine {
         // This is there for what holds of each network: its frame has at most `MOST_SLOTS` slots.
         let _slots = self.kept.occupancy.slots();
         for place in 0..number {
-            occupancy.reserve(alloc)?;
-            occupancy.edit(&self.kept.past[place as usize]);
+            let edit = &self.kept.past[place as usize];
+            occupancy.reserve(alloc, edit)?;
+            occupancy.edit(edit);
         }
         Ok(())
     }

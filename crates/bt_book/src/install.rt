@@ -45,7 +45,8 @@ impl Machine {
     {
         let net = self.network();
         if plan.edition == self.edition() {
-            return Ok(check(net, self.demand(), plan));
+            let last = self.demand(alloc)?;
+            return Ok(check(net, &last, plan));
         }
         let demand = self.demand_at(alloc, plan.edition)?;
         Ok(check(net, &demand, plan))

@@ -30,7 +30,8 @@ pub fn compact_journal(
     let _beams = net.beam_count();
     demands_fit_the_frame();
     let book = look(alloc, net, bytes)?;
-    Ok(compact_text(alloc, net, book.demand())?)
+    let demand = book.demand(alloc)?;
+    Ok(compact_text(alloc, net, &demand)?)
 }
 
 /// The journal with the fewest edits that comes to a demand, which fits the frame.

@@ -42,7 +42,8 @@ pub fn demand_of_book<K: Keeper>(
 {
     // This is there for what holds of each network: it is sound.
     let _beams = net.beam_count();
-    demand_text(alloc, net, book.demand())
+    let demand = book.demand(alloc)?;
+    demand_text(alloc, net, &demand)
 }
 
 /// The same of a book that a journal's bytes came to.
@@ -76,7 +77,7 @@ fn demand_in<K: Keeper>(
     // This is there for what holds of each network: it is sound.
     let _beams = net.beam_count();
     let Some(number) = asked else {
-        return Ok(Some(book.demand().copy(alloc)?));
+        return Ok(Some(book.demand(alloc)?));
     };
     if number.0 > book.edition().0 {
         return Ok(None);
