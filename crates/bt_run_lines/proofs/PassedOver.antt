@@ -1,5 +1,5 @@
 -- What a session is told stands behind a line that tells how many lines it has, and is passed over.
-use Rattle.std.proofs.Common.{◌≡◌, ℕ, suc, ◌+◌, ◌-◌, ◌<◌, ◌^◌, ◌&&◌, Bool, true, false, cond, nat_lt, List, [], ◌∷◌, ◌++◌, length, length-append, codes, decimal, Option, unwrap_or, Ok, Err, refl, sym, ap, ◌∙◌, append_assoc, arith}
+use Rattle.std.proofs.Common.{◌≡◌, ℕ, suc, ◌+◌, ◌-◌, ◌<◌, ◌^◌, Bool, true, false, cond, nat_lt, List, [], ◌∷◌, ◌++◌, length, length-append, codes, decimal, Option, unwrap_or, Ok, refl, ap, ◌∙◌, append_assoc, arith}
 use Rattle.std.specs.List.{list_all}
 use Rattle.std.proofs.lemmas.Bool.{lt-ltb}
 use Rattle.bt_text.specs.Reading.{◌>>=◌, LineReading, or_fault}
@@ -9,12 +9,12 @@ use Rattle.bt_text.proofs.TextNumbers.{lacks-decimal}
 use Rattle.bt_text.proofs.TextLines.{lacks-spaced, lines-ended, lines-ended_append, words-spaced}
 use Rattle.bt_net.specs.Network.{Net, IsSound}
 use Rattle.bt_talk.specs.Answers as talk
-use Rattle.bt_run_lines.specs.declared.form.Form.TheVariants as form
+use Rattle.bt_forms.specs.declared.form.Form.TheVariants as form
 use Rattle.bt_run_lines.specs.declared.output.OutputCode.{OutputCode}
 use Rattle.bt_run_lines.specs.declared.output.OutputCode.TheVariants.{O1}
 use Rattle.bt_run_lines.specs.declared.printed.Printed.{Printed}
 use Rattle.bt_run_lines.specs.Lines.{lines_from, numbered_line, told_behind, told_in}
-use Rattle.bt_run_lines.specs.Printers.{line, numbers, printed_line}
+use Rattle.bt_run_lines.specs.Printers.{line, numbers}
 use Rattle.bt_run_lines.specs.Spelled.{spelled}
 use Rattle.bt_run_lines.proofs.Outputs.{behind_line, then_lines}
 use Rattle.bt_run_lines.proofs.ReadBack.{spelled_read}

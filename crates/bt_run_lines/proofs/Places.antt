@@ -1,29 +1,21 @@
 -- Words and places, one after the other, as a loop goes over them.
-use Rattle.std.proofs.Common.{◌≡◌, ℕ, ◌+◌, ◌<◌, ◌≤◌, Bool, true, false, cond, Option, Some, None, List, [], ◌∷◌, ◌++◌, length, map, get_or, drop, option_map, refl, sym, ap, ◌∙◌, append_assoc, append-nil, length-append, subst, not, add-one, drop-cons, arith}
+use Rattle.std.proofs.Common.{◌≡◌, ℕ, ◌+◌, ◌<◌, ◌≤◌, Bool, true, false, cond, Option, Some, None, List, [], ◌∷◌, ◌++◌, length, get_or, drop, option_map, refl, sym, ap, ◌∙◌, append_assoc, append-nil, length-append, subst, not, add-one, drop-cons, arith}
 use Rattle.std.proofs.lemmas.List.Sums.{sum_by-cons}
 use Rattle.bt_text.specs.Text.{is_word}
 use Rattle.bt_text.specs.WordReader.{first_word}
 use Rattle.bt_text.proofs.Fronts.{front_word}
 use Rattle.bt_net.specs.Network.{Net}
-use Rattle.bt_run_lines.specs.declared.form.Form.{Form}
-use Rattle.bt_run_lines.specs.declared.form.Form.TheVariants as form
+use Rattle.bt_forms.specs.declared.form.Form.{Form}
+use Rattle.bt_forms.specs.declared.form.Form.TheVariants as form
 use Rattle.bt_run_lines.specs.declared.printed.Printed.{Printed}
 use Rattle.bt_run_lines.specs.declared.printed.Value.{Value}
-use Rattle.bt_run_lines.specs.declared.token.Token.{Token}
-use Rattle.bt_run_lines.specs.declared.token.Token.TheVariants as token
-use Rattle.bt_run_lines.specs.Forms as part
-use Rattle.bt_run_lines.specs.Forms.{Part, part_of, is_fixed, open_places}
+use Rattle.bt_forms.specs.declared.token.Token.{Token}
+use Rattle.bt_forms.specs.declared.token.Token.TheVariants as token
+use Rattle.bt_forms.proofs.Places.{places_at, places_at-cons}
+use Rattle.bt_forms.specs.Forms as part
+use Rattle.bt_forms.specs.Forms.{Part, part_of, is_fixed, open_places}
 use Rattle.bt_run_lines.specs.Words.{said_by, value_of}
 use Rattle.bt_run_lines.specs.Lines.{followed, values_in, or_else, printed_as, first_of_forms}
-
--- the places from one on
-abbrev pub places_at : List Token → ℕ → List Part
-places_at tokens at = map part_of (drop at tokens)
-
-pub places_at-cons : (tokens : List Token) (at : ℕ) → at < length tokens → places_at tokens at ≡ part_of (get_or tokens at token.Number) ∷ places_at tokens (at + 1)
-places_at-cons tokens at within =
-    let cut : drop at tokens ≡ get_or tokens at token.Number ∷ drop (at + 1) tokens = rw add-one (drop-cons tokens at token.Number within) in
-    ap (map part_of) cut
 
 regroup : (front here : List Value) (more : Option (List Value)) → followed (Some front) (followed (Some here) more) ≡ followed (Some (front ++ here)) more
 regroup front here None = refl

@@ -1,5 +1,5 @@
 -- What a run prints, as printed lines: both are the same words with the same spaces.
-use Rattle.std.proofs.Common.{◌≡◌, ℕ, List, [], ◌∷◌, ◌++◌, codes, decimal, IfSome, Option, Some, None, append_assoc, ap, sym, ◌∙◌}
+use Rattle.std.proofs.Common.{◌≡◌, ℕ, List, [], ◌∷◌, ◌++◌, codes, decimal, IfSome, Option, Some, None, append_assoc, ap, ◌∙◌}
 use Rattle.bt_net.specs.Network.{Net}
 use Rattle.bt_air.specs.declared.order.Armed.{Armed}
 use Rattle.bt_air.specs.declared.order.Status.{Status}
@@ -12,7 +12,7 @@ use Rattle.bt_air.specs.declared.sent.Sent.{Sent}
 use Rattle.bt_air.specs.declared.sent.Sent.TheVariants as sends
 use Rattle.bt_air.specs.declared.sent.Taken.TheVariants as taken
 use Rattle.bt_text.specs.Text.{spaced}
-use Rattle.bt_text.proofs.TextLines.{spaced-cons}
+use Rattle.bt_forms.proofs.Places.{line_of-spaced}
 use Rattle.bt_journal.specs.declared.call.Call.{Call}
 use Rattle.bt_journal.specs.declared.reply.Reply.{Reply}
 use Rattle.bt_journal.specs.declared.reply.Reply.TheVariants as reply
@@ -26,10 +26,6 @@ use Rattle.bt_script.specs.declared.fault.ScriptCode.TheVariants.{S1, S2, S3, S4
 use Rattle.bt_talk.specs.Answers.{fault_line}
 use Rattle.bt_run_lines.specs.Printers.{printed_line, line, numbers, form_of_fault, sent_printed, status_printed, got_printed, edit_printed, plan_printed, order_printed, unplaced_printed}
 
--- a line of words is they with single spaces between, and a newline
-line_of-spaced : (first : List ℕ) (rest : List (List ℕ)) → line_of (first ∷ rest) ≡ spaced (first ∷ rest) ++ 10 ∷ []
-line_of-spaced first rest = sym (ap (λ (l : List ℕ). l ++ 10 ∷ []) (spaced-cons first rest))
-
 -- the change is one word of the printer, and four of the line
 armed_behind : (edition due rest : List ℕ) → (codes "armed " ++ edition ++ codes " due " ++ due) ++ rest ≡ codes "armed" ++ 32 ∷ (edition ++ 32 ∷ (codes "due" ++ 32 ∷ (due ++ rest)))
 armed_behind edition due rest = simp append_assoc
@@ -38,7 +34,7 @@ armed_status : (number mark fore back edition due last : List ℕ)
     → line_of (codes "sent" ∷ number ∷ codes "status" ∷ codes "mark" ∷ mark ∷ codes "fore" ∷ fore ∷ codes "back" ∷ back ∷ (codes "armed " ++ edition ++ codes " due " ++ due) ∷ codes "last" ∷ last ∷ [])
     ≡ spaced (codes "sent" ∷ number ∷ codes "status" ∷ codes "mark" ∷ mark ∷ codes "fore" ∷ fore ∷ codes "back" ∷ back ∷ codes "armed" ∷ edition ∷ codes "due" ∷ due ∷ codes "last" ∷ last ∷ []) ++ 10 ∷ []
 armed_status number mark fore back edition due last =
-    line_of-spaced (codes "sent") (number ∷ codes "status" ∷ codes "mark" ∷ mark ∷ codes "fore" ∷ fore ∷ codes "back" ∷ back ∷ (codes "armed " ++ edition ++ codes " due " ++ due) ∷ codes "last" ∷ last ∷ [])
+    line_of-spaced (codes "sent" ∷ number ∷ codes "status" ∷ codes "mark" ∷ mark ∷ codes "fore" ∷ fore ∷ codes "back" ∷ back ∷ (codes "armed " ++ edition ++ codes " due " ++ due) ∷ codes "last" ∷ last ∷ [])
     ∙ ap (λ (rest : List ℕ). (codes "sent" ++ 32 ∷ (number ++ 32 ∷ (codes "status" ++ 32 ∷ (codes "mark" ++ 32 ∷ (mark ++ 32 ∷ (codes "fore" ++ 32 ∷ (fore ++ 32 ∷ (codes "back" ++ 32 ∷ (back ++ 32 ∷ rest))))))))) ++ 10 ∷ [])
     (armed_behind edition due (32 ∷ spaced (codes "last" ∷ last ∷ [])))
 

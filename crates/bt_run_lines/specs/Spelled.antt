@@ -1,5 +1,5 @@
 -- How a printed line is spelled, and which values suit its form.
-use Rattle.std.specs.Prelude.{◌≢◌, ℕ, ◌<◌, ◌^◌, List, [], ◌∷◌, decimal}
+use Rattle.std.specs.Prelude.{◌≢◌, ℕ, ◌<◌, ◌^◌, List, [], ◌∷◌, decimal, map}
 use Rattle.bt_frame.specs.declared.limits.TheConstants.{MOST_DESKS}
 use Rattle.bt_frame.specs.Range.{IsWithin}
 use Rattle.bt_text.specs.Text.{spaced}
@@ -13,8 +13,9 @@ use Rattle.bt_timeline.specs.Timeline.{IsBeam, name_of_beam}
 use Rattle.bt_run_lines.specs.declared.printed.Printed.{Printed}
 use Rattle.bt_run_lines.specs.declared.printed.Value.{Value}
 use Rattle.bt_run_lines.specs.declared.printed.Value.TheVariants as value
-use Rattle.bt_run_lines.specs.Forms as part
-use Rattle.bt_run_lines.specs.Forms.{Part, parts_of}
+use Rattle.bt_forms.specs.Filled.{filled}
+use Rattle.bt_forms.specs.Forms as part
+use Rattle.bt_forms.specs.Forms.{Part, parts_of}
 
 -- the word of a value
 abbrev pub word_of : Net → Value → List ℕ
@@ -27,10 +28,7 @@ word_of net (value.Heard heard) = heard_name heard
 
 -- the words of these places, with the values at those that have no fixed word
 abbrev pub words_of : Net → List Part → List Value → List (List ℕ)
-words_of net [] values = []
-words_of net (part.Text text ∷ places) values = text ∷ words_of net places values
-words_of net (place ∷ places) [] = []
-words_of net (place ∷ places) (first ∷ values) = word_of net first ∷ words_of net places values
+words_of net places values = filled places (map (word_of net) values)
 
 -- the line, its newline left out
 abbrev pub spelled : Net → Printed → List ℕ

@@ -20,7 +20,7 @@ ghost use Rattle.bt_talk.specs.Answers as talk;
 ghost use Rattle.bt_words.specs.Lines.{desk_name, frame_name, line_of};
 ghost use Rattle.bt_timeline.specs.Air as air;
 ghost use Rattle.bt_timeline.specs.Timeline as timeline;
-ghost use Rattle.bt_run_lines.specs.declared.form.Form.TheVariants as form;
+ghost use Rattle.bt_forms.specs.declared.form.Form.TheVariants as form;
 ghost use Rattle.bt_run_lines.specs.declared.printed.Printed.{Printed};
 ghost use Rattle.bt_run_lines.specs.declared.printed.Value.TheVariants as value;
 ghost use Rattle.bt_run_lines.specs.Lines.{line_in, lines_from, with_line};

@@ -1,9 +1,9 @@
 // A printed line: its form and its values.
 ghost use Rattle.std.specs.Prelude.{◌≡◌, ◌<◌, [], ◌∷◌, ◌++◌, length};
-ghost use Rattle.bt_run_lines.specs.declared.printed.TheConstants.{MOST_VALUES};
+ghost use Rattle.bt_forms.specs.declared.token.TheConstants.{MOST_VALUES};
 
-use crate::form::Form;
 use bt_air::{Heard, Taken};
+use bt_forms::{Form, MOST_VALUES};
 use bt_frame::{BeamNo, Mark, TermNo};
 use std::marker::Model;
 
@@ -40,9 +40,6 @@ impl Printed {
     }
 }
 
-// The most words of a line that are not fixed.
-pub(crate) const MOST_VALUES: usize = 7;
-
 /// The values of a line, in place.
 #[derive(Drop)]
 pub(crate) struct Values {
@@ -53,7 +50,7 @@ pub(crate) struct Values {
 impl Model for Values {
     ghost use Rattle.std.specs.Prelude.{List, take, ◌≤◌};
     ghost use Rattle.bt_run_lines.specs.declared.printed.Value.{Value as OneValue};
-    ghost use Rattle.bt_run_lines.specs.declared.printed.TheConstants.{MOST_VALUES};
+    ghost use Rattle.bt_forms.specs.declared.token.TheConstants.{MOST_VALUES};
 
     ghost Value = { List OneValue };
 

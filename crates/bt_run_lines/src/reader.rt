@@ -1,14 +1,13 @@
 // A printed line from its bytes.
 ghost use Rattle.std.specs.Prelude.{◌≡◌, ◌≤◌, All, IfSome, length, map, option_map};
 ghost use Rattle.bt_text.specs.Text.{words};
-ghost use Rattle.bt_run_lines.specs.declared.printed.TheConstants.{MOST_VALUES};
-ghost use Rattle.bt_run_lines.specs.Forms.{part_of, open_places};
+ghost use Rattle.bt_forms.specs.declared.token.TheConstants.{MOST_VALUES};
+ghost use Rattle.bt_forms.specs.Forms.{part_of, open_places};
 ghost use Rattle.bt_run_lines.specs.Lines.{IsOf, first_of_forms, line_in, printed_as, told_behind, values_in};
 
-use crate::form::Form;
 use crate::printed::{Printed, Values};
-use crate::token::{Token, forms_from, tokens_of};
 use crate::word::add_said;
+use bt_forms::{Form, Token, forms_from, tokens_of};
 use bt_net::Network;
 use bt_text::WordReader;
 

@@ -1,13 +1,13 @@
 // What a word of a printed line says.
 ghost use Rattle.std.specs.Prelude.{◌≡◌, ◌<◌, ◌==◌, ◌++◌, Some, None, IfSome, IsTrue, length, not, option_map, position, if◌then◌else◌};
 ghost use Rattle.bt_text.specs.WordReader.{number_to};
-ghost use Rattle.bt_run_lines.specs.declared.printed.TheConstants.{MOST_VALUES};
-ghost use Rattle.bt_run_lines.specs.Forms.{part_of, is_fixed};
+ghost use Rattle.bt_forms.specs.declared.token.TheConstants.{MOST_VALUES};
+ghost use Rattle.bt_forms.specs.Forms.{part_of, is_fixed};
 ghost use Rattle.bt_run_lines.specs.Words.{small_number, desk_number, frame_in, beam_of, taken_of, heard_of, value_of, said_by};
 
 use crate::printed::{Value, Values};
-use crate::token::Token;
 use bt_air::{Heard, Taken};
+use bt_forms::Token;
 use bt_frame::{BeamNo, MOST_DESKS, Mark};
 use bt_net::Network;
 use bt_text::{is_word, number, number_of_digits};

@@ -1,10 +1,10 @@
 -- The forms of the lines that a run and a session print: what stands at each place of them.
 use Rattle.std.specs.Prelude.{ℕ, if◌then◌else◌, List, [], ◌∷◌, codes, Bool, true, false, count_by, not}
 use Rattle.bt_text.specs.Text.{is_word}
-use Rattle.bt_run_lines.specs.declared.form.Form.{Form}
-use Rattle.bt_run_lines.specs.declared.form.Form.TheVariants as form
-use Rattle.bt_run_lines.specs.declared.token.Token.{Token}
-use Rattle.bt_run_lines.specs.declared.token.Token.TheVariants as token
+use Rattle.bt_forms.specs.declared.form.Form.{Form}
+use Rattle.bt_forms.specs.declared.form.Form.TheVariants as form
+use Rattle.bt_forms.specs.declared.token.Token.{Token}
+use Rattle.bt_forms.specs.declared.token.Token.TheVariants as token
 
 -- What may stand at a place of a line: a number, a count, the number of a desk, a frame, the name of a beam or of a
 -- terminal, what the satellite or a terminal did with a message, and this word alone.

@@ -1,14 +1,17 @@
 // What stands at each place of a form.
 ghost use Rattle.std.specs.Prelude.{◌≡◌, ◌≤◌, map};
-ghost use Rattle.bt_run_lines.specs.Forms.{part_of, parts_of, open_places, forms_from};
-ghost use Rattle.bt_run_lines.specs.declared.printed.TheConstants.{MOST_VALUES};
+ghost use Rattle.bt_forms.specs.Forms.{part_of, parts_of, open_places, forms_from};
+ghost use Rattle.bt_forms.specs.declared.token.TheConstants.{MOST_VALUES};
 
 use crate::form::Form;
 use bt_text::is_word;
 
+/// The most words of a line that are not fixed.
+pub const MOST_VALUES: usize = 7;
+
 /// What may stand at a place of a printed line.
 #[derive(Clone, Copy)]
-pub(crate) enum Token {
+pub enum Token {
     /// A number of a u32.
     Number,
     /// A number of at most 19 digits.
@@ -31,7 +34,7 @@ pub(crate) enum Token {
 
 /// The places of a form, in order.
 #[rattlefmt::skip]
-pub(crate) fn tokens_of(form: Form) -> &'static [Token]
+pub fn tokens_of(form: Form) -> &'static [Token]
     ensures parts { map part_of result.now ≡ parts_of form }
     ensures few { open_places (parts_of form) ≤ MOST_VALUES }
 {
@@ -110,7 +113,7 @@ pub(crate) fn tokens_of(form: Form) -> &'static [Token]
 }
 
 /// The forms whose first word is this one.
-pub(crate) fn forms_from(head: &[u8]) -> &'static [Form]
+pub fn forms_from(head: &[u8]) -> &'static [Form]
     ensures forms { result.now ≡ forms_from head.now }
 {
     if is_word(head, b"sent") {
