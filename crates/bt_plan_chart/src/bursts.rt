@@ -10,7 +10,7 @@ ghost use Rattle.bt_plan_chart.specs.Scale.{beam_number, IsScale};
 
 use crate::fullness::beam_number;
 use crate::part::add_titled;
-use crate::scale::slots_box;
+use crate::scale::{end_of, slots_box};
 use crate::{Direction, Scale};
 use bt_demand::Burst;
 use bt_frame::{OutOfMemory, TermNo};
@@ -256,7 +256,7 @@ fn add_overrun_of(
     requires to { IsTerminal net.now burst.to }
     ensures { OnOk result (out.new.items ≡ out.old.items ++ parts_text (overrun_parts net.now scale burst)) }
 {
-    let end = u64::from(burst.start) + u64::from(burst.length);
+    let end = end_of(burst);
     if scale.length < end {
         let start = u64::from(burst.start).max(scale.length);
         let up = u64::from(beam_number(net, burst.from));

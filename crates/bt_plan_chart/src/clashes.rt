@@ -8,7 +8,7 @@ ghost use Rattle.bt_plan_chart.specs.Scale.{IsScale};
 
 use crate::fullness::beam_at;
 use crate::part::add_titled;
-use crate::scale::slots_box;
+use crate::scale::{end_of, slots_box};
 use crate::{Direction, Scale};
 use bt_demand::Burst;
 use bt_frame::{MOST_BEAMS, OutOfMemory};
@@ -36,7 +36,7 @@ pub(crate) fn add_clashes(
         let beam = beam_at(net, direction, *burst);
         let before: u64 = latest[beam as usize];
         add_clash_of(alloc, scale, direction, beam, *burst, before, out)?;
-        latest[beam as usize] = before.max(u64::from(burst.start) + u64::from(burst.length));
+        latest[beam as usize] = before.max(end_of(*burst));
     }
     Ok(())
 }
@@ -56,7 +56,7 @@ fn add_clash_of(
     ensures { OnOk result (out.new.items ≡ out.old.items ++ parts_text (clash_parts scale direction beam burst latest)) }
 {
     let start = u64::from(burst.start);
-    let end = (start + u64::from(burst.length)).min(latest);
+    let end = end_of(burst).min(latest);
     if start < end {
         add_clash(
             alloc,
@@ -89,8 +89,8 @@ fn add_clash(
     ensures { OnOk result (out.new.items ≡ out.old.items ++ parts_text (clash_part scale direction beam start slots ∷ [])) }
 {
     let last = (start + slots).saturating_sub(1);
-    let lane = slots_box(scale, direction, beam, start, slots);
-    add_mark(alloc, start, last, lane, out)
+    let edge = slots_box(scale, direction, beam, start, slots);
+    add_mark(alloc, start, last, edge, out)
 }
 
 /// Appends the mark of slots from one to another, in their box.
@@ -98,10 +98,10 @@ fn add_mark(
     alloc: Global,
     first: u64,
     last: u64,
-    lane: Rect,
+    edge: Rect,
     out: &mut Vec<u8>,
 ) -> Result<(), OutOfMemory>
-    ensures { OnOk result (out.new.items ≡ out.old.items ++ parts_text (clash_mark first last lane ∷ [])) }
+    ensures { OnOk result (out.new.items ≡ out.old.items ++ parts_text (clash_mark first last edge ∷ [])) }
 {
     let title = [
         Word::Text("bursts meet from slot "),
@@ -109,5 +109,5 @@ fn add_mark(
         Word::Text(" to slot "),
         Word::Number(last),
     ];
-    add_titled(alloc, &title, &[Shape::Rectangle(lane, Style::Fault)], out)
+    add_titled(alloc, &title, &[Shape::Rectangle(edge, Style::Fault)], out)
 }

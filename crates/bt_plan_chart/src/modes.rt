@@ -8,7 +8,7 @@ ghost use Rattle.bt_plan_chart.specs.Scale.{IsScale};
 
 use crate::Scale;
 use crate::bursts::ARROW;
-use crate::heading::counted;
+use crate::heading::{counted, name_of_beam};
 use crate::part::{add_alone, add_titled};
 use crate::scale::x_of;
 use bt_frame::{BeamNo, Mode, OutOfMemory};
@@ -100,7 +100,7 @@ fn name_if_any(net: &Network, beam: u64) -> &str
     ensures { result.now ≡ name_of_beam net.now beam }
 {
     if beam < u64::from(net.beam_count()) {
-        net.beam_name(BeamNo(beam as u8))
+        name_of_beam(net, BeamNo(beam as u8))
     } else {
         ""
     }

@@ -1,7 +1,7 @@
 // Where slots and lanes lie in the picture. All places and sizes are in twips.
 ghost use Rattle.std.specs.Prelude.{◌≡◌, ◌+◌, ◌*◌, ◌^◌, ◌≤◌, max, length};
 ghost use Rattle.bt_frame.specs.declared.limits.TheConstants.{MOST_BEAMS};
-ghost use Rattle.bt_plan_chart.specs.Scale.{IsScale, height_of, lane_top, legend_top, scale_of, slots_box, span_of, unit_of, width_of, x_of};
+ghost use Rattle.bt_plan_chart.specs.Scale.{IsScale, end_of, height_of, lane_top, legend_top, scale_of, slots_box, span_of, unit_of, width_of, x_of};
 
 use bt_demand::{Burst, Plan};
 use bt_net::Network;
@@ -91,9 +91,17 @@ fn span_of(slots: u32, bursts: &[Burst]) -> u64
 {
     let mut span = u64::from(slots).max(1);
     for burst in bursts {
-        span = span.max(u64::from(burst.start) + u64::from(burst.length));
+        span = span.max(end_of(*burst));
     }
     span
+}
+
+/// The slot behind the last one of a burst.
+pub(crate) fn end_of(burst: Burst) -> u64
+    ensures same { result ≡ end_of burst }
+    ensures small { result ≤ 2 ^ 33 }
+{
+    u64::from(burst.start) + u64::from(burst.length)
 }
 
 /// The place of a slot from the left.
