@@ -1,5 +1,4 @@
-use Rattle.std.proofs.Common.{◌≡◌, List, get_or, ap, ◌∙◌, arith}
-use Rattle.bt_plan_chart.specs.Scale.{lanes_before}
+use Rattle.std.proofs.Common.{get_or, ap, ◌∙◌, arith}
 use Rattle.bt_plan_chart.proofs.Places.{few_before, places_read}
 use Rattle.bt_plan_chart.proofs.scale.lanes_before.Goals as goal
 

@@ -1,4 +1,4 @@
-use Rattle.std.proofs.Common.{◌≡◌, ◌<◌, ◌≤◌, ℕ, get_or, length}
+use Rattle.std.proofs.Common.{◌≡◌, ◌≤◌, ℕ, get_or, length}
 use Rattle.bt_plan_chart.specs.Scale.{lanes_before}
 use Rattle.bt_plan_chart.proofs.scale.places_of.Given as goal
 
