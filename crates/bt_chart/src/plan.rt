@@ -8,7 +8,7 @@ ghost use Rattle.bt_chart.specs.Plans.{DrawsPlan, plan_files};
 use bt_load::{load_network, load_plan};
 use bt_net::Network;
 use bt_outside::Files;
-use bt_plan_chart::plan_picture;
+use bt_plan_chart::{Choice, plan_picture};
 use bt_report::{DONE, Report, Stop};
 use std::alloc::Global;
 
@@ -35,6 +35,6 @@ fn chart_plan_file<F: Files>(
 {
     let plan = load_plan(alloc, files, plan, net)?;
     let mut text = Vec::new(alloc);
-    plan_picture(alloc, net, &plan, &mut text)?;
+    plan_picture(alloc, net, &plan, Choice::whole(), &mut text)?;
     Ok(Report { text, status: DONE })
 }

@@ -8,7 +8,7 @@ ghost use Rattle.bt_plan_chart.specs.Scale.{IsScale};
 
 use crate::fullness::beam_at;
 use crate::part::add_titled;
-use crate::scale::slots_box;
+use crate::scale::{end_of, is_drawn, is_shown, slots_box};
 use crate::{Direction, Scale};
 use bt_demand::Burst;
 use bt_frame::{MOST_BEAMS, OutOfMemory};
@@ -36,12 +36,14 @@ pub(crate) fn add_clashes(
         let beam = beam_at(net, direction, *burst);
         let before: u64 = latest[beam as usize];
         add_clash_of(alloc, scale, direction, beam, *burst, before, out)?;
-        latest[beam as usize] = before.max(u64::from(burst.start) + u64::from(burst.length));
+        latest[beam as usize] = before.max(end_of(*burst));
     }
     Ok(())
 }
 
-/// Appends the mark of a burst, where those before it in its lane end behind its start.
+/// Appends the mark of a burst, where those before it in its lane end behind its start, where it has a lane and slots of the
+/// mark are shown.
+#[tactic(auto, using(crate::proofs::Adding::left_out))]
 fn add_clash_of(
     alloc: Global,
     scale: Scale,
@@ -56,15 +58,17 @@ fn add_clash_of(
     ensures { OnOk result (out.new.items ≡ out.old.items ++ parts_text (clash_parts scale direction beam burst latest)) }
 {
     let start = u64::from(burst.start);
-    let end = (start + u64::from(burst.length)).min(latest);
-    if start < end {
+    let end = end_of(burst).min(latest);
+    let beam = u64::from(beam);
+    let marked = start < end && (is_drawn(scale, beam) && is_shown(scale, start, end));
+    if marked {
         add_clash(
             alloc,
             scale,
             direction,
-            u64::from(beam),
+            beam,
             start,
-            end - start,
+            end.saturating_sub(start),
             out,
         )
     } else {
@@ -89,8 +93,8 @@ fn add_clash(
     ensures { OnOk result (out.new.items ≡ out.old.items ++ parts_text (clash_part scale direction beam start slots ∷ [])) }
 {
     let last = (start + slots).saturating_sub(1);
-    let lane = slots_box(scale, direction, beam, start, slots);
-    add_mark(alloc, start, last, lane, out)
+    let edge = slots_box(scale, direction, beam, start, slots);
+    add_mark(alloc, start, last, edge, out)
 }
 
 /// Appends the mark of slots from one to another, in their box.
@@ -98,10 +102,10 @@ fn add_mark(
     alloc: Global,
     first: u64,
     last: u64,
-    lane: Rect,
+    edge: Rect,
     out: &mut Vec<u8>,
 ) -> Result<(), OutOfMemory>
-    ensures { OnOk result (out.new.items ≡ out.old.items ++ parts_text (clash_mark first last lane ∷ [])) }
+    ensures { OnOk result (out.new.items ≡ out.old.items ++ parts_text (clash_mark first last edge ∷ [])) }
 {
     let title = [
         Word::Text("bursts meet from slot "),
@@ -109,5 +113,5 @@ fn add_mark(
         Word::Text(" to slot "),
         Word::Number(last),
     ];
-    add_titled(alloc, &title, &[Shape::Rectangle(lane, Style::Fault)], out)
+    add_titled(alloc, &title, &[Shape::Rectangle(edge, Style::Fault)], out)
 }

@@ -27,7 +27,7 @@ loop-burst-preserved c =
     let before = get_or c.loop-burst.latest beam 0 in
     record {
       wide = search rules;
-      so_far = λ b below. latest_more net c.args.direction bursts k beam c.max.result c.loop-burst.latest b c.loop-burst-test.true c.beam_at-beam.ensures.beam (omega (arith, c.loop-burst.invariant.wide, c.beam_at-beam.ensures.few)) (c.loop-burst.invariant.so_far b below) (omega (arith, c.max.ensures, c.from.ensures, c.from-in-loop-burst.ensures));
+      so_far = λ b below. latest_more net c.args.direction bursts k beam c.max.result c.loop-burst.latest b c.loop-burst-test.true c.beam_at-beam.ensures.beam (omega (arith, c.loop-burst.invariant.wide, c.beam_at-beam.ensures.few)) (c.loop-burst.invariant.so_far b below) (omega (arith, c.max.ensures, c.end_of.ensures.same));
       added = next_parts (clash_parts_at net c.args.scale c.args.direction bursts) k _ _ _ c.loop-burst.invariant.added
           (c.in_ok-add_clash_of.ensures ∙ ap (λ parts. c.loop-burst.out.items ++ parts_text parts) (marked net c.args.scale c.args.direction bursts k burst beam before refl c.beam_at-beam.ensures.beam (c.loop-burst.invariant.so_far beam c.beam_at-beam.ensures.few)));
     }
