@@ -219,10 +219,10 @@ impl<K: Keeper> Book<K> {
     }
 
     /// The demand after the changes.
-    pub fn demand(&self, alloc: Global) -> Result<Demand, OutOfMemory>
-        ensures demand { IfOk result (λ demand. IsDemandAfter self.now.state.changes demand) }
+    pub fn demand(&self) -> &Demand
+        ensures demand { IsDemandAfter self.now.state.changes result.now }
     {
-        self.machine.demand(alloc)
+        self.machine.demand()
     }
 
     /// The demand of an edition: that after as many edits. The edition is not past the last.

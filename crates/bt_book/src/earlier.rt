@@ -22,8 +22,11 @@ impl Machine {
         let mut occupancy = Occupancy::new(alloc, self.network())?;
         // This is there for what holds of each network: its frame has at most `MOST_SLOTS` slots.
         let _slots = occupancy.slots();
-        self.redo(alloc, &mut occupancy, number.0)?;
-        occupancy.demand(alloc)
+        let redone = self.redo(alloc, &mut occupancy, number.0);
+        // The demand alone is left before the answer is looked at: what else is there goes with the occupancy.
+        let demand = occupancy.into_demand();
+        redone?;
+        Ok(demand)
     }
 
     /// Makes the first edits, so many, again.
@@ -36,9 +39,8 @@ impl Machine {
         // This is there for what holds of each network: its frame has at most `MOST_SLOTS` slots.
         let _slots = self.kept.occupancy.slots();
         for place in 0..number {
-            let edit = &self.kept.past[place as usize];
-            occupancy.reserve(alloc, edit)?;
-            occupancy.edit(edit);
+            occupancy.reserve(alloc)?;
+            occupancy.edit(&self.kept.past[place as usize]);
         }
         Ok(())
     }

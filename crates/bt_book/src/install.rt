@@ -45,8 +45,7 @@ impl Machine {
     {
         let net = self.network();
         if plan.edition == self.edition() {
-            let last = self.demand(alloc)?;
-            return Ok(check(net, &last, plan));
+            return Ok(check(net, self.demand(), plan));
         }
         let demand = self.demand_at(alloc, plan.edition)?;
         Ok(check(net, &demand, plan))

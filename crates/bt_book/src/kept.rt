@@ -39,9 +39,9 @@ impl Kept {
         ensures room { OnOk result (HasRoomFor self.new change.now) }
     {
         match change {
-            Change::Edit(edit) => {
+            Change::Edit(_) => {
                 self.past.reserve(1)?;
-                self.occupancy.reserve(alloc, edit)
+                self.occupancy.reserve(alloc)
             }
             Change::Install(_) => Ok(self.plans.reserve(1)?),
             Change::Order(_) => Ok(self.orders.reserve(1)?),

@@ -101,14 +101,14 @@ impl Machine {
     }
 
     /// The demand after the changes.
-    pub(crate) fn demand(&self, alloc: Global) -> Result<Demand, OutOfMemory>
-        ensures demand { IfOk result (λ demand. IsDemandAfter self.now.state.changes demand) }
-        ensures network { IfOk result (λ demand. AreOfNetwork self.now.net demand) }
-        ensures sums { IfOk result (λ demand. HasSumsTo MOST_SUM (matrix_of self.now.net demand)) }
+    pub(crate) fn demand(&self) -> &Demand
+        ensures demand { IsDemandAfter self.now.state.changes result.now }
+        ensures network { AreOfNetwork self.now.net result.now }
+        ensures sums { HasSumsTo MOST_SUM (matrix_of self.now.net result.now) }
     {
         // This is there for what holds of each network: its frame has at most `MOST_SLOTS` slots.
         let _slots = self.kept.occupancy.slots();
-        self.kept.occupancy.demand(alloc)
+        self.kept.occupancy.demand()
     }
 
     /// The newest plan.
@@ -170,6 +170,9 @@ impl Machine {
     pub(crate) fn into_history(self) -> Vec<Entry>
         ensures { result.items ≡ self.history }
     {
+        let kept = self.kept;
+        // The network and the traffic matrix go with the demand.
+        kept.occupancy.into_demand();
         self.history
     }
 }

@@ -23,7 +23,7 @@ impl Machine {
         let reply = Reply::Demand {
             edition: self.edition(),
             newest: self.newest().edition,
-            demand: self.demand(alloc)?,
+            demand: self.demand().copy(alloc)?,
         };
         self.answer(alloc, caller, Call::Snapshot, reply)
     }

@@ -85,8 +85,15 @@ fn state_report<K: Keeper>(alloc: Global, net: &Network, book: &Book<K>) -> Resu
     let _beams = net.beam_count();
     demands_fit_the_frame();
     let (edition, newest, orders) = (book.edition(), book.newest(), book.order_count());
-    let demand = book.demand(alloc)?;
     let mut text = Vec::new(alloc);
-    replay_text(alloc, net, edition, newest, orders, &demand, &mut text)?;
+    replay_text(
+        alloc,
+        net,
+        edition,
+        newest,
+        orders,
+        book.demand(),
+        &mut text,
+    )?;
     Ok(Report { text, status: DONE })
 }

@@ -1,6 +1,5 @@
 pub mod BurstOrder
 pub mod BurstTriples
-pub mod BySender
 pub mod FewLinks
 pub mod Flyable
 pub mod Links

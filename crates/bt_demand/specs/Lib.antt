@@ -1,5 +1,4 @@
 pub mod Demand
-pub mod Rows
 pub mod Traffic
 pub mod Burst
 pub mod Plan

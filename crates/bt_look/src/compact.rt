@@ -30,8 +30,7 @@ pub fn compact_journal(
     let _beams = net.beam_count();
     demands_fit_the_frame();
     let book = look(alloc, net, bytes)?;
-    let demand = book.demand(alloc)?;
-    Ok(compact_text(alloc, net, &demand)?)
+    Ok(compact_text(alloc, net, book.demand())?)
 }
 
 /// The journal with the fewest edits that comes to a demand, which fits the frame.

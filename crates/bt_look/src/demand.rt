@@ -42,8 +42,7 @@ pub fn demand_of_book<K: Keeper>(
 {
     // This is there for what holds of each network: it is sound.
     let _beams = net.beam_count();
-    let demand = book.demand(alloc)?;
-    demand_text(alloc, net, &demand)
+    demand_text(alloc, net, book.demand())
 }
 
 /// The same of a book that a journal's bytes came to.
@@ -77,7 +76,7 @@ fn demand_in<K: Keeper>(
     // This is there for what holds of each network: it is sound.
     let _beams = net.beam_count();
     let Some(number) = asked else {
-        return Ok(Some(book.demand(alloc)?));
+        return Ok(Some(book.demand().copy(alloc)?));
     };
     if number.0 > book.edition().0 {
         return Ok(None);

@@ -83,8 +83,7 @@ pub(crate) fn matrix_in<K: Keeper>(
     // This is there for what holds of each network: it is sound, and so its frame has at most `MOST_SLOTS` slots.
     let _beams = net.beam_count();
     demands_fit_the_frame();
-    let demand = book.demand(alloc)?;
-    traffic_of(alloc, net, &demand)
+    traffic_of(alloc, net, book.demand())
 }
 
 /// Appends how far a book has come: its edition, its newest plan and how many orders it has.

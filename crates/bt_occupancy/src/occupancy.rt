@@ -1,5 +1,4 @@
-// How the frame is occupied: the demand on a network, a row of links for each terminal that sends, with its traffic matrix beside
-// it.
+// How the frame is occupied: the demand on a network, with its traffic matrix beside it.
 ghost use Rattle.std.specs.Prelude.{◌≡◌, ◌≢◌, ◌<◌, ◌≤◌, [], length, IfOk, OnOk};
 ghost use Rattle.bt_frame.specs.declared.schedule.Critical.{Critical};
 ghost use Rattle.bt_matrix.specs.Traffic.{row_sum, column_sum, IsHeaviest};
@@ -8,9 +7,9 @@ ghost use Rattle.bt_demand.specs.Traffic.{matrix_of, HasSumsTo};
 ghost use Rattle.bt_net.specs.Terminals.{IsInBeam, IsTerminal};
 ghost use Rattle.bt_net.specs.Network.{IsSound};
 ghost use Rattle.bt_journal.specs.Journal.{NamesTerminals};
-ghost use Rattle.bt_occupancy.specs.Occupancy.{HasEnds, EditsLinks, HasRoom, HasRoomFrom, HoldsTaken};
+ghost use Rattle.bt_occupancy.specs.Occupancy.{HasEnds, EditsLinks, HasRoom, HoldsTaken};
 
-use bt_demand::{Demand, Link, SenderRows};
+use bt_demand::{Demand, Link};
 use bt_frame::{BeamNo, MOST_SLOTS, OutOfMemory, TermNo, Units};
 use bt_journal::Edit;
 use bt_links::Crosslinked;
@@ -23,8 +22,8 @@ use std::marker::Model;
 #[derive(Drop)]
 pub struct Occupancy {
     net: Network,
-    rows: SenderRows,
-    // a list without links, into which those of a row move where they fill their own memory
+    demand: Demand,
+    // a list without links, into which those of the demand move where they fill their own memory
     room: Vec<Link>,
     matrix: Crosslinked,
 }
@@ -34,17 +33,17 @@ impl Model for Occupancy {
 
     ghost Value = { Occupied };
 
-    ghost use Rattle.std.specs.Prelude.{◌≡◌, [], length, vec_capacity};
+    ghost use Rattle.std.specs.Prelude.{◌≡◌, [], vec_capacity};
     ghost use Rattle.bt_demand.specs.Traffic.{matrix_of};
 
     ghost view = { λ a. record {
       net = a.net;
-      links = a.rows.links;
+      links = a.demand;
       link_room = vec_capacity a.room;
       entry_room = a.matrix.room;
     } };
 
-    ghost invariant = { λ a. (a.matrix.rows ≡ matrix_of a.net a.rows.links) × (a.room.items ≡ []) × (a.rows.senders ≡ length a.net.terminals) };
+    ghost invariant = { λ a. (a.matrix.rows ≡ matrix_of a.net a.demand) × (a.room.items ≡ []) };
 }
 
 impl Occupancy {
@@ -55,18 +54,20 @@ impl Occupancy {
     {
         Ok(Occupancy {
             net: net.copy(alloc)?,
-            rows: SenderRows::empty(alloc, net.terminal_count())?,
+            demand: Demand::empty(alloc),
             room: Vec::new(alloc),
             matrix: Crosslinked::new(alloc, net.beam_count())?,
         })
     }
 
-    /// The demand: its links as one list.
-    pub fn demand(&self, alloc: Global) -> Result<Demand, OutOfMemory>
-        ensures same { IfOk result (λ demand. demand ≡ self.now.links) }
+    /// The demand.
+    pub fn demand(&self) -> &Demand
+        ensures same { result.now ≡ self.now.links }
         ensures demand { IsDemand self.now.links }
     {
-        self.rows.demand(alloc)
+        // This is there for what holds of each demand.
+        let _links = self.demand.as_slice();
+        &self.demand
     }
 
     /// The network.
@@ -77,6 +78,16 @@ impl Occupancy {
         // This is there for what holds of each network.
         let _beams = self.net.beam_count();
         &self.net
+    }
+
+    /// The demand alone.
+    pub fn into_demand(self) -> Demand
+        ensures same { result ≡ self.links }
+        ensures demand { IsDemand self.links }
+    {
+        // This is there for what holds of each demand.
+        let _links = self.demand.as_slice();
+        self.demand
     }
 
     /// Traffic slots of a frame.
@@ -94,7 +105,7 @@ impl Occupancy {
     pub fn units(&self, from: TermNo, to: TermNo) -> u32
         ensures slots { result ≡ units_of self.now.links from to }
     {
-        self.rows.units(from, to)
+        self.demand.units(from, to)
     }
 
     /// The beam of a terminal that sends, and the slots of its row.
@@ -132,32 +143,19 @@ impl Occupancy {
         self.matrix.heaviest().1
     }
 
-    /// Takes room for an edit, so that it takes no memory. One that only takes slots from a link needs none.
-    pub fn reserve(&mut self, alloc: Global, edit: &Edit) -> Result<(), OutOfMemory>
-        ensures room { OnOk result (HasRoom self.new edit.now) }
+    /// Takes room for an edit, so that it takes no memory.
+    pub fn reserve(&mut self, alloc: Global) -> Result<(), OutOfMemory>
+        ensures room { OnOk result (HasRoom self.new) }
         ensures net { self.new.net ≡ self.old.net }
         ensures links { self.new.links ≡ self.old.links }
     {
-        match *edit {
-            Edit::Add { from, .. } => self.reserve_from(alloc, from),
-            Edit::Drop { .. } => Ok(()),
-            Edit::Move { new_from, .. } => self.reserve_from(alloc, new_from),
-        }
-    }
-
-    /// Takes room for one link more that a terminal sends on.
-    fn reserve_from(&mut self, alloc: Global, from: TermNo) -> Result<(), OutOfMemory>
-        ensures room { OnOk result (HasRoomFrom self.new from) }
-        ensures net { self.new.net ≡ self.old.net }
-        ensures links { self.new.links ≡ self.old.links }
-    {
-        self.rows.reserve(from, &mut self.room)?;
+        self.demand.reserve(&mut self.room)?;
         self.matrix.reserve(alloc, 1)
     }
 
     /// Makes an edit, for which there is room.
     pub fn edit(&mut self, edit: &Edit)
-        requires room { HasRoom self.old edit.now }
+        requires room { HasRoom self.old }
         requires terminals { NamesTerminals self.old.net edit.now }
         requires ends { HasEnds edit.now }
         requires held { HoldsTaken self.old.links edit.now }
@@ -183,7 +181,7 @@ impl Occupancy {
 
     /// A link asks for so many slots more, for which there is room.
     fn gain(&mut self, from: TermNo, to: TermNo, units: Units)
-        requires room { HasRoomFrom self.old from }
+        requires room { HasRoom self.old }
         requires sends { IsTerminal self.old.net from }
         requires receives { IsTerminal self.old.net to }
         requires differ { from.0 ≢ to.0 }
@@ -193,7 +191,7 @@ impl Occupancy {
     {
         let (up, down) = (self.net.beam_of(from), self.net.beam_of(to));
         let slots = units.get();
-        self.rows.add_reserved(&mut self.room, from, to, slots);
+        self.demand.add_reserved(&mut self.room, from, to, slots);
         self.matrix.add(up, down, slots);
     }
 
@@ -207,7 +205,7 @@ impl Occupancy {
     {
         let (up, down) = (self.net.beam_of(from), self.net.beam_of(to));
         let slots = units.get();
-        self.rows.take(from, to, slots);
+        self.demand.take(from, to, slots);
         self.matrix.take(up, down, slots);
     }
 }

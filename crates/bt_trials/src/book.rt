@@ -137,15 +137,12 @@ fn lines_in(bytes: &[u8]) -> usize {
 }
 
 // What is not as it must be in a book after all calls of two desks, if anything.
-fn wrong_in_book(alloc: Global, book: &Book<SureKeeper>) -> Option<&'static str> {
+fn wrong_in_book(book: &Book<SureKeeper>) -> Option<&'static str> {
     let (there, back) = (TermNo(0), TermNo(1));
     if book.edition() != EditionNo(40) {
         return Some("edition");
     }
-    let Ok(demand) = book.demand(alloc) else {
-        return Some("memory");
-    };
-    if demand.units(there, back) != 210 || demand.units(back, there) != 210 {
+    if book.demand().units(there, back) != 210 || book.demand().units(back, there) != 210 {
         return Some("demand");
     }
     None
@@ -169,7 +166,7 @@ fn two_desks_on_threads_make_one_history_of_a_book(rt: HostRuntime) -> Result<()
     let Some(book) = book_of_two_desks(&rt, rt.alloc()) else {
         return Err(test::Fail::from("out of memory"));
     };
-    let in_book = wrong_in_book(rt.alloc(), &book);
+    let in_book = wrong_in_book(&book);
     let (store, history) = book.into_parts();
     let in_history = wrong_in_history(&history, store.kept());
     assert_eq!(rt; (in_book, in_history), (None, None));

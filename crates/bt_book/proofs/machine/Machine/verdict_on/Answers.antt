@@ -6,10 +6,10 @@ use Rattle.bt_book.proofs.machine.Machine.verdict_on.Goals as goal
 
 -- the demand is the network's, the last
 pub check-requires-clause-demand : goal.check-requires-clause-demand
-check-requires-clause-demand c = subst (λ (n : Net). AreOfNetwork n c.in_ok-last.last) (sym c.network-net.ensures.same) c.in_ok-last.ensures.network
+check-requires-clause-demand c = subst (λ (n : Net). AreOfNetwork n c.demand.result.now) (sym c.network-net.ensures.same) c.demand.ensures.network
 
 pub check-requires-clause-sums : goal.check-requires-clause-sums
-check-requires-clause-sums c = subst (λ (n : Net). HasSumsTo MOST_SUM (matrix_of n c.in_ok-last.last)) (sym c.network-net.ensures.same) c.in_ok-last.ensures.sums
+check-requires-clause-sums c = subst (λ (n : Net). HasSumsTo MOST_SUM (matrix_of n c.demand.result.now)) (sym c.network-net.ensures.same) c.demand.ensures.sums
 
 -- and an earlier one
 pub check-requires-2-clause-sums : goal.check-requires-2-clause-sums

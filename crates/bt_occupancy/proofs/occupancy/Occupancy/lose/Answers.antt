@@ -1,22 +1,21 @@
-use Rattle.std.proofs.Common.{◌∙◌}
 use Rattle.bt_demand.specs.Traffic.{matrix_of}
 use Rattle.bt_occupancy.proofs.Occupied.{in_matrix, matrix-Loses, matrix-less}
 use Rattle.bt_occupancy.proofs.occupancy.Occupancy.lose.Goals as goal
 
 -- both beams are on the matrix
 pub take-requires-2-clause-up : goal.take-requires-2-clause-up
-take-requires-2-clause-up c = in_matrix c.self.inside.net c.self.inside.rows.links c.self.inside.matrix.rows c.beam_of-up.result.0 c.self.invariant.0 c.beam_of-up.ensures.in_range
+take-requires-2-clause-up c = in_matrix c.self.inside.net c.self.inside.demand c.self.inside.matrix.rows c.beam_of-up.result.0 c.self.invariant.0 c.beam_of-up.ensures.in_range
 
 pub take-requires-2-clause-down : goal.take-requires-2-clause-down
-take-requires-2-clause-down c = in_matrix c.self.inside.net c.self.inside.rows.links c.self.inside.matrix.rows c.beam_of-down.result.0 c.self.invariant.0 c.beam_of-down.ensures.in_range
+take-requires-2-clause-down c = in_matrix c.self.inside.net c.self.inside.demand c.self.inside.matrix.rows c.beam_of-down.result.0 c.self.invariant.0 c.beam_of-down.ensures.in_range
 
 -- the entry of the link's beams has what the link had
 pub take-requires-2-clause-held : goal.take-requires-2-clause-held
 take-requires-2-clause-held c =
-    (matrix-Loses c.self.inside.net c.self.inside.rows.links c.take.new.self.links c.self.inside.matrix.rows c.args.from c.args.to c.get-slots.result c.beam_of-up.result c.beam_of-down.result c.self.invariant.0 c.take.ensures.loses c.beam_of-up.ensures.beam c.beam_of-down.ensures.beam c.beam_of-up.ensures.in_range c.beam_of-down.ensures.in_range).held
+    (matrix-Loses c.self.inside.net c.self.inside.demand c.take.new.self c.self.inside.matrix.rows c.args.from c.args.to c.get-slots.result c.beam_of-up.result c.beam_of-down.result c.self.invariant.0 c.take.ensures.loses c.beam_of-up.ensures.beam c.beam_of-down.ensures.beam c.beam_of-up.ensures.in_range c.beam_of-down.ensures.in_range).held
 
 -- and loses as much
 pub invariant_of-self : goal.invariant_of-self
 invariant_of-self c =
-    let loses = matrix-Loses c.self.inside.net c.self.inside.rows.links c.take.new.self.links c.self.inside.matrix.rows c.args.from c.args.to c.get-slots.result c.beam_of-up.result c.beam_of-down.result c.self.invariant.0 c.take.ensures.loses c.beam_of-up.ensures.beam c.beam_of-down.ensures.beam c.beam_of-up.ensures.in_range c.beam_of-down.ensures.in_range in
-    (matrix-less c.self.inside.matrix.rows c.take-2.new.self.rows (matrix_of c.self.inside.net c.take.new.self.links) c.beam_of-up.result.0 c.beam_of-down.result.0 c.get-slots.result loses c.take-2.ensures.rows, c.self.invariant.1, c.take.ensures.senders ∙ c.self.invariant.2)
+    let loses = matrix-Loses c.self.inside.net c.self.inside.demand c.take.new.self c.self.inside.matrix.rows c.args.from c.args.to c.get-slots.result c.beam_of-up.result c.beam_of-down.result c.self.invariant.0 c.take.ensures.loses c.beam_of-up.ensures.beam c.beam_of-down.ensures.beam c.beam_of-up.ensures.in_range c.beam_of-down.ensures.in_range in
+    (matrix-less c.self.inside.matrix.rows c.take-2.new.self.rows (matrix_of c.self.inside.net c.take.new.self) c.beam_of-up.result.0 c.beam_of-down.result.0 c.get-slots.result loses c.take-2.ensures.rows, c.self.invariant.1)
