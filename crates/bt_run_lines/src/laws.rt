@@ -46,9 +46,9 @@ pub fn messages_are_printed_lines()
     ensures got { (net : Net) → (number : ℕ) → (place : Place) → (answer : Answer)
         → IfSome (got_printed number place answer) (λ printed. air.got_line net number place answer ≡ printed_line net printed) }
     ensures on_air { (net : Net) → (burst : Burst)
-        → timeline.burst_line net (codes "air") burst ≡ printed_line net (burst_printed form.Air burst) }
+        → timeline.burst_line net form.Air burst ≡ printed_line net (burst_printed form.Air burst) }
     ensures of_plan { (net : Net) → (burst : Burst)
-        → timeline.burst_line net (codes "burst") burst ≡ printed_line net (burst_printed form.Burst burst) }
+        → timeline.burst_line net form.Burst burst ≡ printed_line net (burst_printed form.Burst burst) }
 {}
 
 /// What else happens on the air is printed lines.
