@@ -24,12 +24,11 @@ use Rattle.bt_words.specs.Lines.{desk_name}
 use Rattle.bt_timeline.specs.Air.{sent_line, status_line, got_line, order_line, unplaced_line}
 use Rattle.bt_timeline.specs.Timeline.{answer_line}
 use Rattle.bt_script.specs.declared.fault.ScriptCode.{ScriptCode}
-use Rattle.bt_script.specs.declared.fault.ScriptCode.TheVariants.{S1, S2, S3, S4, S5}
-use Rattle.bt_talk.specs.Answers.{fault_line}
+use Rattle.bt_talk.specs.Answers.{fault_line, form_of_fault}
 use Rattle.bt_run_lines.specs.declared.printed.Printed.{Printed}
 use Rattle.bt_run_lines.specs.declared.printed.Value.TheVariants as value
 use Rattle.bt_run_lines.specs.Spelled.{word_of, words_of}
-use Rattle.bt_run_lines.specs.Printers.{printed_line, line, numbers, form_of_fault, sent_printed, status_printed, got_printed, edit_printed, plan_printed, order_printed, unplaced_printed}
+use Rattle.bt_run_lines.specs.Printers.{printed_line, line, numbers, sent_printed, status_printed, got_printed, edit_printed, plan_printed, order_printed, unplaced_printed}
 
 -- what is printed by a form is the line of this form with these values
 pub by_form : (net : Net) (printed : Printed) → form_line printed.form (map (word_of net) printed.said) ≡ printed_line net printed
@@ -87,8 +86,4 @@ unplaced_lines net reply.Stopped = by_form net (line form.OrderStopped [])
 unplaced_lines net _ = tt
 
 pub fault_lines : (net : Net) (code : ScriptCode) (at : ℕ) → fault_line code at ≡ printed_line net (line (form_of_fault code) (numbers (at ∷ [])))
-fault_lines net S1 at = simp append_assoc
-fault_lines net S2 at = simp append_assoc
-fault_lines net S3 at = simp append_assoc
-fault_lines net S4 at = simp append_assoc
-fault_lines net S5 at = simp append_assoc
+fault_lines net code at = by_form net (line (form_of_fault code) (numbers (at ∷ [])))
