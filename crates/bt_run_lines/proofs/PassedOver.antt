@@ -1,5 +1,5 @@
 -- What a session is told stands behind a line that tells how many lines it has, and is passed over.
-use Rattle.std.proofs.Common.{◌≡◌, ℕ, suc, ◌+◌, ◌-◌, ◌<◌, ◌^◌, Bool, true, false, cond, nat_lt, List, [], ◌∷◌, ◌++◌, length, length-append, codes, decimal, Option, unwrap_or, Ok, refl, ap, ◌∙◌, append_assoc, arith}
+use Rattle.std.proofs.Common.{◌≡◌, ℕ, suc, ◌+◌, ◌-◌, ◌<◌, ◌^◌, Bool, true, false, cond, nat_lt, List, [], ◌∷◌, ◌++◌, length, length-append, codes, decimal, Option, unwrap_or, Ok, refl, ap, ◌∙◌, arith}
 use Rattle.std.specs.List.{list_all}
 use Rattle.std.proofs.lemmas.Bool.{lt-ltb}
 use Rattle.bt_text.specs.Reading.{◌>>=◌, LineReading, or_fault}
@@ -17,6 +17,7 @@ use Rattle.bt_run_lines.specs.Lines.{lines_from, numbered_line, told_behind, tol
 use Rattle.bt_run_lines.specs.Printers.{line, numbers}
 use Rattle.bt_run_lines.specs.Spelled.{spelled}
 use Rattle.bt_run_lines.proofs.Outputs.{behind_line, then_lines}
+use Rattle.bt_run_lines.proofs.Printing.{by_form}
 use Rattle.bt_run_lines.proofs.ReadBack.{spelled_read}
 use Rattle.bt_run_lines.proofs.WordsRead.{count_read}
 
@@ -57,7 +58,7 @@ abbrev heading : ℕ → Printed
 heading count = line form.Lines (numbers (count ∷ []))
 
 heading_is : (net : Net) (count : ℕ) → talk.lines_line count ≡ spelled net (heading count) ++ 10 ∷ []
-heading_is net count = simp append_assoc
+heading_is net count = by_form net (heading count)
 
 -- it has no newline inside
 lacks_end : (net : Net) (count : ℕ) → count < 10 ^ 19 → lacks 10 (spelled net (heading count)) ≡ true

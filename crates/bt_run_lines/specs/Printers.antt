@@ -16,8 +16,6 @@ use Rattle.bt_air.specs.declared.sent.Sent.TheVariants as sends
 use Rattle.bt_air.specs.declared.sent.Taken.TheVariants as taken
 use Rattle.bt_journal.specs.declared.reply.Reply.{Reply}
 use Rattle.bt_journal.specs.declared.reply.Reply.TheVariants as reply
-use Rattle.bt_script.specs.declared.fault.ScriptCode.{ScriptCode}
-use Rattle.bt_script.specs.declared.fault.ScriptCode.TheVariants.{S1, S2, S3, S4, S5}
 use Rattle.bt_forms.specs.declared.form.Form.{Form}
 use Rattle.bt_forms.specs.declared.form.Form.TheVariants as form
 use Rattle.bt_run_lines.specs.declared.printed.Printed.{Printed}
@@ -101,11 +99,3 @@ unplaced_printed (reply.NotInstalled newest) = Some (line form.OrderNotInstalled
 unplaced_printed reply.StoreFault = Some (line form.OrderStoreFault [])
 unplaced_printed reply.Stopped = Some (line form.OrderStopped [])
 unplaced_printed _ = None
-
--- the form of the answer to a line of a session that is at fault, by its code
-abbrev pub form_of_fault : ScriptCode → Form
-form_of_fault S1 = form.LineFaultS1
-form_of_fault S2 = form.LineFaultS2
-form_of_fault S3 = form.LineFaultS3
-form_of_fault S4 = form.LineFaultS4
-form_of_fault S5 = form.LineFaultS5

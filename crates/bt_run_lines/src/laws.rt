@@ -25,7 +25,7 @@ ghost use Rattle.bt_run_lines.specs.declared.printed.Printed.{Printed};
 ghost use Rattle.bt_run_lines.specs.declared.printed.Value.TheVariants as value;
 ghost use Rattle.bt_run_lines.specs.Lines.{line_in, lines_from, with_line};
 ghost use Rattle.bt_run_lines.specs.Spelled.{Suits, spelled};
-ghost use Rattle.bt_run_lines.specs.Printers.{printed_line, line, numbers, sent_printed, got_printed, burst_printed, order_printed, edit_printed, plan_printed, unplaced_printed, form_of_fault};
+ghost use Rattle.bt_run_lines.specs.Printers.{printed_line, line, numbers, sent_printed, got_printed, burst_printed, order_printed, edit_printed, plan_printed, unplaced_printed};
 
 /// Of the lines that are read as a printed line, it has one spelling.
 pub fn printed_lines_have_one_spelling()
@@ -46,9 +46,9 @@ pub fn messages_are_printed_lines()
     ensures got { (net : Net) → (number : ℕ) → (place : Place) → (answer : Answer)
         → IfSome (got_printed number place answer) (λ printed. air.got_line net number place answer ≡ printed_line net printed) }
     ensures on_air { (net : Net) → (burst : Burst)
-        → timeline.burst_line net (codes "air") burst ≡ printed_line net (burst_printed form.Air burst) }
+        → timeline.burst_line net form.Air burst ≡ printed_line net (burst_printed form.Air burst) }
     ensures of_plan { (net : Net) → (burst : Burst)
-        → timeline.burst_line net (codes "burst") burst ≡ printed_line net (burst_printed form.Burst burst) }
+        → timeline.burst_line net form.Burst burst ≡ printed_line net (burst_printed form.Burst burst) }
 {}
 
 /// What else happens on the air is printed lines.
@@ -115,7 +115,7 @@ pub fn answers_are_printed_lines()
     ensures ready { (net : Net) → (at : ℕ) → talk.ready_line at ≡ printed_line net (line form.Ready (numbers (at ∷ []))) }
     ensures lines { (net : Net) → (count : ℕ) → talk.lines_line count ≡ printed_line net (line form.Lines (numbers (count ∷ []))) }
     ensures fault { (net : Net) → (code : ScriptCode) → (at : ℕ)
-        → talk.fault_line code at ≡ printed_line net (line (form_of_fault code) (numbers (at ∷ []))) }
+        → talk.fault_line code at ≡ printed_line net (line (talk.form_of_fault code) (numbers (at ∷ []))) }
     ensures input { (net : Net) → talk.input_fault_line ≡ printed_line net (line form.InputFault []) }
 {}
 

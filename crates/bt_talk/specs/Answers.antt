@@ -1,27 +1,37 @@
 -- The lines of a session that no script has.
-use Rattle.std.specs.Prelude.{ℕ, ◌-◌, ◌++◌, List, [], ◌∷◌, codes, decimal, length}
+use Rattle.std.specs.Prelude.{ℕ, ◌-◌, ◌++◌, List, [], ◌∷◌, decimal, length}
 use Rattle.bt_script.specs.declared.fault.ScriptCode.{ScriptCode}
-use Rattle.bt_script.specs.Codes.{code_name}
+use Rattle.bt_script.specs.declared.fault.ScriptCode.TheVariants.{S1, S2, S3, S4, S5}
 use Rattle.bt_text.specs.Text.{lines}
-use Rattle.bt_words.specs.Lines.{line_of}
+use Rattle.bt_forms.specs.declared.form.Form.{Form}
+use Rattle.bt_forms.specs.declared.form.Form.TheVariants as form
+use Rattle.bt_forms.specs.Filled.{form_line}
 use Rattle.bt_talk.specs.declared.block.Step.{Step}
 use Rattle.bt_talk.specs.declared.block.Step.TheVariants as step
 
 -- so many lines were heard, and the next may come
 abbrev pub ready_line : ℕ → List ℕ
-ready_line at = line_of (codes "ready" ∷ decimal at ∷ [])
+ready_line at = form_line form.Ready (decimal at ∷ [])
+
+-- the form of the answer to a line that is at fault, by its code
+abbrev pub form_of_fault : ScriptCode → Form
+form_of_fault S1 = form.LineFaultS1
+form_of_fault S2 = form.LineFaultS2
+form_of_fault S3 = form.LineFaultS3
+form_of_fault S4 = form.LineFaultS4
+form_of_fault S5 = form.LineFaultS5
 
 -- line `at` is at fault
 abbrev pub fault_line : ScriptCode → ℕ → List ℕ
-fault_line code at = line_of (codes "fault" ∷ code_name code ∷ decimal at ∷ [])
+fault_line code at = form_line (form_of_fault code) (decimal at ∷ [])
 
 -- the input failed
 abbrev pub input_fault_line : List ℕ
-input_fault_line = line_of (codes "fault" ∷ codes "input" ∷ [])
+input_fault_line = form_line form.InputFault []
 
 -- so many lines follow that are told
 abbrev pub lines_line : ℕ → List ℕ
-lines_line count = line_of (codes "lines" ∷ decimal count ∷ [])
+lines_line count = form_line form.Lines (decimal count ∷ [])
 
 -- what is told, with the number of its lines in front
 abbrev pub counted : List ℕ → List ℕ

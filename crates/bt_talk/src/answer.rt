@@ -1,13 +1,14 @@
 // The lines of a session that no script has.
 ghost use Rattle.std.specs.Prelude.{◌≡◌, ◌-◌, ◌++◌, OnOk, IfOk, length};
 ghost use Rattle.bt_text.specs.Text.{lines};
-ghost use Rattle.bt_talk.specs.Answers.{answer_of, counted, fault_line, input_fault_line, lines_line, ready_line};
+ghost use Rattle.bt_talk.specs.Answers.{answer_of, counted, fault_line, form_of_fault, input_fault_line, lines_line, ready_line};
 
 use crate::block::Step;
+use bt_forms::{Form, print};
 use bt_frame::OutOfMemory;
 use bt_script::ScriptCode;
 use bt_text::first_line;
-use bt_words::{Word, add_line};
+use bt_words::Word;
 use std::alloc::Global;
 
 /// The answer to line `at`: its fault, where it has one, and that the next may come.
@@ -26,7 +27,7 @@ pub fn answer_text(alloc: Global, at: u64, step: &Step) -> Result<Vec<u8>, OutOf
 pub fn add_ready(alloc: Global, at: u64, text: &mut Vec<u8>) -> Result<(), OutOfMemory>
     ensures line { OnOk result (text.new.items ≡ text.old.items ++ ready_line at) }
 {
-    add_line(alloc, &[Word::Text("ready"), Word::Number(at)], text)
+    print(alloc, Form::Ready, &[Word::Number(at)], text)
 }
 
 /// Appends that line `at` is at fault.
@@ -38,19 +39,27 @@ fn add_fault(
 ) -> Result<(), OutOfMemory>
     ensures line { OnOk result (text.new.items ≡ text.old.items ++ fault_line code at) }
 {
-    let words = [
-        Word::Text("fault"),
-        Word::Text(code.name()),
-        Word::Number(at),
-    ];
-    add_line(alloc, &words, text)
+    print(alloc, form_of_fault(code), &[Word::Number(at)], text)
+}
+
+/// The form of the answer to a line that is at fault.
+fn form_of_fault(code: ScriptCode) -> Form
+    ensures { result ≡ form_of_fault code }
+{
+    match code {
+        ScriptCode::S1 => Form::LineFaultS1,
+        ScriptCode::S2 => Form::LineFaultS2,
+        ScriptCode::S3 => Form::LineFaultS3,
+        ScriptCode::S4 => Form::LineFaultS4,
+        ScriptCode::S5 => Form::LineFaultS5,
+    }
 }
 
 /// Appends that the input failed.
 pub fn add_input_fault(alloc: Global, text: &mut Vec<u8>) -> Result<(), OutOfMemory>
     ensures line { OnOk result (text.new.items ≡ text.old.items ++ input_fault_line) }
 {
-    add_line(alloc, &[Word::Text("fault"), Word::Text("input")], text)
+    print(alloc, Form::InputFault, &[], text)
 }
 
 /// What is told, with the number of its lines in front. It ends with a newline, or is empty.
@@ -67,7 +76,7 @@ pub fn counted_text(alloc: Global, told: &[u8]) -> Result<Vec<u8>, OutOfMemory>
 fn add_lines(alloc: Global, count: u64, text: &mut Vec<u8>) -> Result<(), OutOfMemory>
     ensures line { OnOk result (text.new.items ≡ text.old.items ++ lines_line count) }
 {
-    add_line(alloc, &[Word::Text("lines"), Word::Number(count)], text)
+    print(alloc, Form::Lines, &[Word::Number(count)], text)
 }
 
 /// How many lines of a text end with a newline.

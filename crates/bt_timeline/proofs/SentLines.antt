@@ -1,14 +1,15 @@
 -- The lines of those bursts that a terminal sends.
-use Rattle.std.proofs.Common.{refl, ◌≡◌, ◌==◌, ◌++◌, ℕ, Bool, true, false, if◌then◌else◌, List, [], ◌∷◌, codes, filter, flat_map, ap}
+use Rattle.std.proofs.Common.{refl, ◌≡◌, ◌==◌, ◌++◌, ℕ, Bool, true, false, if◌then◌else◌, List, [], ◌∷◌, filter, flat_map, ap}
 use Rattle.bt_frame.specs.declared.numbers.TermNo.{TermNo}
 use Rattle.bt_net.specs.Network.{Net}
 use Rattle.bt_demand.specs.Apart.{bursts_from}
 use Rattle.bt_demand.specs.declared.burst.Burst.{Burst}
+use Rattle.bt_forms.specs.declared.form.Form.TheVariants as form
 use Rattle.bt_timeline.specs.Timeline.{burst_line, burst_lines}
 
 -- the line of a burst where the terminal sends it
 abbrev pub line_where_sent : Net → TermNo → Burst → List ℕ
-line_where_sent net terminal burst = if burst.from.0 == terminal.0 then burst_line net (codes "burst") burst else []
+line_where_sent net terminal burst = if burst.from.0 == terminal.0 then burst_line net form.Burst burst else []
 
 -- one item more, where it passes the test
 first_passed : {A : Type 0} (f : A → List ℕ) (test : Bool) (x : A) (passed : List A) (pieces : List ℕ) → pieces ≡ flat_map f passed
@@ -23,5 +24,5 @@ pieces_of_passed p f (x ∷ xs) = first_passed f (p x) x (filter p xs) (flat_map
 
 -- the lines of all bursts that the terminal sends
 pub lines_of_sent : (net : Net) (terminal : TermNo) (bursts : List Burst)
-    → flat_map (line_where_sent net terminal) bursts ≡ burst_lines net (codes "burst") (bursts_from terminal bursts)
-lines_of_sent net terminal bursts = pieces_of_passed (λ (burst : Burst). burst.from.0 == terminal.0) (burst_line net (codes "burst")) bursts
+    → flat_map (line_where_sent net terminal) bursts ≡ burst_lines net form.Burst (bursts_from terminal bursts)
+lines_of_sent net terminal bursts = pieces_of_passed (λ (burst : Burst). burst.from.0 == terminal.0) (burst_line net form.Burst) bursts

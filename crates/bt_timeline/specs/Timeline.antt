@@ -1,4 +1,4 @@
--- The lines that a run prints of its rounds, each as its words.
+-- The lines that a run prints of its rounds, each by its form, or as its words where it has none.
 use Rattle.std.specs.Prelude.{◌≡◌, ℕ, ◌++◌, ◌<◌, List, [], ◌∷◌, length, codes, decimal, flat_map, Option, Some, None}
 use Rattle.std.specs.List.{slice_index_or}
 use Rattle.bt_frame.specs.declared.numbers.BeamNo.{BeamNo}
@@ -8,14 +8,16 @@ use Rattle.bt_net.specs.Network.{Net}
 use Rattle.bt_net.specs.Terminals.{name_at}
 use Rattle.bt_demand.specs.Apart.{bursts_from}
 use Rattle.bt_demand.specs.declared.burst.Burst.{Burst}
-use Rattle.bt_demand.specs.declared.plan.Plan.{Plan}
 use Rattle.bt_journal.specs.declared.call.Call.{Call}
 use Rattle.bt_journal.specs.declared.call.Call.TheVariants as call
 use Rattle.bt_journal.specs.declared.entry.Entry.{Entry}
 use Rattle.bt_journal.specs.declared.reply.Reply.{Reply}
-use Rattle.bt_journal.specs.declared.reply.Reply.TheVariants.{Done, SameTerminal, NotThere, RowFull, ColumnFull, BookFull, NotNewer, NoSuchEdition, NotGood, OutOfTurn, NotInstalled, Demand, Installed, Newest, Placed, StoreFault, Stopped}
+use Rattle.bt_journal.specs.declared.reply.Reply.TheVariants.{Done, SameTerminal, NotThere, RowFull, ColumnFull, BookFull, NotNewer, NoSuchEdition, NotGood, Demand, Installed, StoreFault, Stopped}
 use Rattle.bt_verdict.specs.declared.verdict.Verdict.{Verdict}
 use Rattle.bt_words.specs.Lines.{line_of, desk_name}
+use Rattle.bt_forms.specs.declared.form.Form.{Form}
+use Rattle.bt_forms.specs.declared.form.Form.TheVariants as form
+use Rattle.bt_forms.specs.Filled.{form_line}
 use Rattle.bt_timeline.specs.Verdicts.{CanName, verdict_line}
 
 -- the beam is one of the network's
@@ -71,17 +73,19 @@ abbrev pub caller_name : Option ℕ → List ℕ
 caller_name (Some desk) = desk_name desk
 caller_name None = codes "plan"
 
--- the reply has words of its own, which name no beam, no terminal and no plan
+-- a reply to an edit or an install that names no beam, no terminal and no plan
 abbrev pub HasWords : Reply → Type 0
-HasWords (RowFull _ _) = ⊥
-HasWords (ColumnFull _ _) = ⊥
-HasWords (NotGood _) = ⊥
-HasWords (Installed _) = ⊥
-HasWords (Newest _) = ⊥
-HasWords Placed = ⊥
-HasWords _ = Unit {0}
+HasWords (Done _ _) = Unit {0}
+HasWords SameTerminal = Unit {0}
+HasWords (NotThere _) = Unit {0}
+HasWords (BookFull _) = Unit {0}
+HasWords (NotNewer _) = Unit {0}
+HasWords (NoSuchEdition _) = Unit {0}
+HasWords StoreFault = Unit {0}
+HasWords Stopped = Unit {0}
+HasWords _ = ⊥
 
--- the words of a reply that names no beam, no terminal and no plan
+-- the words of such a reply, behind the name of who called
 abbrev pub reply_words : Reply → List (List ℕ)
 reply_words (Done edition length) = codes "done" ∷ decimal edition.0 ∷ decimal length ∷ []
 reply_words SameTerminal = codes "refused" ∷ codes "E1" ∷ []
@@ -89,11 +93,8 @@ reply_words (NotThere held) = codes "refused" ∷ codes "E2" ∷ decimal held �
 reply_words (BookFull length) = codes "refused" ∷ codes "E5" ∷ decimal length ∷ []
 reply_words (NotNewer newest) = codes "refused" ∷ codes "E6" ∷ decimal newest.0 ∷ []
 reply_words (NoSuchEdition last) = codes "refused" ∷ codes "E7" ∷ decimal last.0 ∷ []
-reply_words (OutOfTurn last) = codes "refused" ∷ codes "E9" ∷ decimal last.0 ∷ []
-reply_words (NotInstalled newest) = codes "refused" ∷ codes "E10" ∷ decimal newest.0 ∷ []
 reply_words StoreFault = codes "store" ∷ codes "fault" ∷ []
 reply_words Stopped = codes "stopped" ∷ []
-reply_words (Demand _ _ _) = codes "nothing" ∷ codes "new" ∷ []
 reply_words _ = []
 
 -- the call asks for an install
@@ -101,52 +102,53 @@ abbrev pub IsInstall : Call → Type 0
 IsInstall (call.Install _) = Unit {0}
 IsInstall _ = ⊥
 
--- the words of the plan that was installed as this edition
-abbrev pub installed_words : Call → EditionNo → List (List ℕ)
-installed_words (call.Install plan) edition = decimal edition.0 ∷ codes "length" ∷ decimal plan.schedule.length ∷ codes "modes" ∷ decimal (length plan.schedule.modes) ∷ codes "bursts" ∷ decimal (length plan.bursts) ∷ []
-installed_words _ edition = []
+-- the line of the plan that the planner had installed as this edition
+abbrev pub installed_line : Call → EditionNo → List ℕ
+installed_line (call.Install plan) edition = form_line form.Planned (decimal edition.0 ∷ decimal plan.schedule.length ∷ decimal (length plan.schedule.modes) ∷ decimal (length plan.bursts) ∷ [])
+installed_line _ edition = []
 
 -- the line of a plan that was not good: the refusal, and the line of its verdict
 abbrev pub not_good_line : Net → List ℕ → Verdict → List ℕ
 not_good_line net caller verdict = caller ++ codes " refused E8 " ++ verdict_line (Some net) verdict
 
--- the line of a reply to a call, behind the name of who called
+-- The line of a reply to a call, behind the name of who called. A plan is installed, and nothing is new, for the planner alone.
 abbrev pub answer_line : Net → List ℕ → Call → Reply → List ℕ
 answer_line net caller asked (RowFull beam sum) = line_of (caller ∷ codes "refused" ∷ codes "E3" ∷ name_of_beam net beam ∷ decimal sum ∷ [])
 answer_line net caller asked (ColumnFull beam sum) = line_of (caller ∷ codes "refused" ∷ codes "E4" ∷ name_of_beam net beam ∷ decimal sum ∷ [])
 answer_line net caller asked (NotGood verdict) = not_good_line net caller verdict
-answer_line net caller asked (Installed edition) = line_of (caller ∷ installed_words asked edition)
+answer_line net caller asked (Installed edition) = installed_line asked edition
+answer_line net caller asked (Demand _ _ _) = form_line form.NothingNew []
 answer_line net caller asked reply = line_of (caller ∷ reply_words reply)
 
 -- the line of an entry: who called, and what was answered
 abbrev pub entry_line : Net → Option ℕ → Entry → List ℕ
 entry_line net desk entry = answer_line net (caller_name desk) entry.call entry.reply
 
--- the line of a burst, with this name in front: its first slot, its slots, and the terminals that send and receive
-abbrev pub burst_line : Net → List ℕ → Burst → List ℕ
-burst_line net name burst = line_of (name ∷ decimal burst.start ∷ decimal burst.length ∷ name_at net burst.from ∷ name_at net burst.to ∷ [])
+-- the line of a burst, on the air or of a plan by its form: its first slot, its slots, and the terminals that send and receive
+abbrev pub burst_line : Net → Form → Burst → List ℕ
+burst_line net form burst = form_line form (decimal burst.start ∷ decimal burst.length ∷ name_at net burst.from ∷ name_at net burst.to ∷ [])
 
 -- the lines of bursts, in the order in which they stand
-abbrev pub burst_lines : Net → List ℕ → List Burst → List ℕ
-burst_lines net name bursts = flat_map (burst_line net name) bursts
+abbrev pub burst_lines : Net → Form → List Burst → List ℕ
+burst_lines net form bursts = flat_map (burst_line net form) bursts
 
 -- what a desk is shown of a plan of this edition, length, number of modes and bursts: these, and then each burst that the
 -- terminal sends
 abbrev pub show_lines : Net → ℕ → TermNo → EditionNo → ℕ → ℕ → List Burst → List ℕ
-show_lines net desk terminal edition length modes bursts = line_of (desk_name desk ∷ codes "shows" ∷ decimal edition.0 ∷ codes "length" ∷ decimal length ∷ codes "modes" ∷ decimal modes ∷ []) ++ burst_lines net (codes "burst") (bursts_from terminal bursts)
+show_lines net desk terminal edition length modes bursts = form_line form.Shows (decimal desk ∷ decimal edition.0 ∷ decimal length ∷ decimal modes ∷ []) ++ burst_lines net form.Burst (bursts_from terminal bursts)
 
 -- the first line after a start: the last edition, the edition of the newest plan, and the mark of the superframe
 abbrev pub start_line : ℕ → ℕ → ℕ → List ℕ
-start_line edition plan mark = line_of (codes "start" ∷ codes "edition" ∷ decimal edition ∷ codes "plan" ∷ decimal plan ∷ codes "mark" ∷ decimal mark ∷ [])
+start_line edition plan mark = form_line form.Start (decimal edition ∷ decimal plan ∷ decimal mark ∷ [])
 
 -- the line before the start that follows a restart
 abbrev pub restart_line : List ℕ
-restart_line = line_of (codes "restart" ∷ [])
+restart_line = form_line form.Restart []
 
 -- the line that begins a round
 abbrev pub round_line : ℕ → List ℕ
-round_line number = line_of (codes "round" ∷ decimal number ∷ [])
+round_line number = form_line form.Round (decimal number ∷ [])
 
 -- the last line: how many edits were done, how many were refused, and how many the store failed
 abbrev pub total_line : ℕ → ℕ → ℕ → List ℕ
-total_line done refused failed = line_of (codes "total" ∷ codes "done" ∷ decimal done ∷ codes "refused" ∷ decimal refused ∷ codes "store" ∷ decimal failed ∷ [])
+total_line done refused failed = form_line form.Total (decimal done ∷ decimal refused ∷ decimal failed ∷ [])

@@ -1,17 +1,20 @@
 // Lines that bursts stand under: what a desk is shown of a plan, and what is on the air in a frame.
-ghost use Rattle.std.specs.Prelude.{◌≡◌, ◌==◌, ◌++◌, [], if◌then◌else◌, codes, OnOk, OnErr, map};
+ghost use Rattle.std.specs.Prelude.{◌≡◌, ◌==◌, ◌++◌, [], if◌then◌else◌, OnOk, OnErr, map};
 ghost use Rattle.bt_demand.specs.Apart.{bursts_from};
 ghost use Rattle.bt_net.specs.Terminals.{name_at};
 ghost use Rattle.bt_timeline.specs.Air.{frame_lines};
-ghost use Rattle.bt_words.specs.Lines.{line_of, word_bytes};
+ghost use Rattle.bt_forms.specs.declared.form.Form.TheVariants as form;
+ghost use Rattle.bt_forms.specs.Filled.{form_line};
+ghost use Rattle.bt_words.specs.Lines.{word_bytes};
 ghost use Rattle.bt_timeline.specs.Timeline.{burst_line, burst_lines, show_lines};
 ghost use Rattle.bt_words.specs.Written.{Extends};
 
 use bt_air::AirFrame;
 use bt_demand::Burst;
+use bt_forms::{Form, print};
 use bt_frame::{EditionNo, OutOfMemory, TermNo};
 use bt_net::Network;
-use bt_words::{Word, add_line};
+use bt_words::Word;
 use std::alloc::Global;
 
 /// Appends what a desk is shown of a plan: its edition, its length in slots and the number of its modes, and then those of
@@ -31,12 +34,9 @@ pub fn show_text(
     ensures unchanged { OnErr result (out.new.items ≡ out.old.items) }
 {
     let words = [
-        Word::Desk(desk),
-        Word::Text("shows"),
+        Word::number(u32::from(desk)),
         Word::number(edition.0),
-        Word::Text("length"),
         Word::number(length),
-        Word::Text("modes"),
         Word::number(modes),
     ];
     let before = out.len();
@@ -47,8 +47,8 @@ pub fn show_text(
     added
 }
 
-/// Appends a line of these words, and under it the lines of the bursts that a terminal sends. Want of memory leaves the
-/// first of them.
+/// Appends the line of what a desk is shown, with these words, and under it the lines of the bursts that a terminal sends. Want of
+/// memory leaves the first of them.
 #[tactic(auto, using(bt_words::proofs::Extending::extends_on))]
 fn add_show(
     alloc: Global,
@@ -58,10 +58,10 @@ fn add_show(
     bursts: &[Burst],
     out: &mut Vec<u8>,
 ) -> Result<(), OutOfMemory>
-    ensures added { OnOk result (out.new.items ≡ out.old.items ++ line_of (map word_bytes words.now) ++ burst_lines net.now (codes "burst") (bursts_from terminal bursts.now)) }
+    ensures added { OnOk result (out.new.items ≡ out.old.items ++ form_line form.Shows (map word_bytes words.now) ++ burst_lines net.now form.Burst (bursts_from terminal bursts.now)) }
     ensures kept { Extends out.old.items out.new.items }
 {
-    add_line(alloc, words, out)?;
+    print(alloc, Form::Shows, words, out)?;
     add_sent(alloc, net, terminal, bursts, out)
 }
 
@@ -73,7 +73,7 @@ fn add_sent(
     bursts: &[Burst],
     out: &mut Vec<u8>,
 ) -> Result<(), OutOfMemory>
-    ensures added { OnOk result (out.new.items ≡ out.old.items ++ burst_lines net.now (codes "burst") (bursts_from terminal bursts.now)) }
+    ensures added { OnOk result (out.new.items ≡ out.old.items ++ burst_lines net.now form.Burst (bursts_from terminal bursts.now)) }
     ensures kept { Extends out.old.items out.new.items }
 {
     for burst in bursts {
@@ -90,11 +90,11 @@ fn sent_text(
     burst: Burst,
     out: &mut Vec<u8>,
 ) -> Result<(), OutOfMemory>
-    ensures added { OnOk result (out.new.items ≡ out.old.items ++ (if burst.from.0 == terminal.0 then burst_line net.now (codes "burst") burst else [])) }
+    ensures added { OnOk result (out.new.items ≡ out.old.items ++ (if burst.from.0 == terminal.0 then burst_line net.now form.Burst burst else [])) }
     ensures unchanged { OnErr result (out.new.items ≡ out.old.items) }
 {
     if burst.from == terminal {
-        burst_text(alloc, net, "burst", burst, out)
+        burst_text(alloc, net, Form::Burst, burst, out)
     } else {
         Ok(())
     }
@@ -111,29 +111,8 @@ pub fn frame_text(
     ensures added { OnOk result (out.new.items ≡ out.old.items ++ frame_lines net.now frame.now) }
     ensures unchanged { OnErr result (out.new.items ≡ out.old.items) }
 {
-    let words = [
-        Word::Text("frame"),
-        Word::Frame(frame.mark, frame.number),
-        Word::Text("fore"),
-        Word::number(frame.fore.0),
-    ];
-    list_text(alloc, net, &words, "air", frame.bursts.as_slice(), out)
-}
-
-/// Appends a line of these words, and under it the lines of bursts, each with the name of its kind in front.
-fn list_text(
-    alloc: Global,
-    net: &Network,
-    words: &[Word<'_>],
-    name: &str,
-    bursts: &[Burst],
-    out: &mut Vec<u8>,
-) -> Result<(), OutOfMemory>
-    ensures added { OnOk result (out.new.items ≡ out.old.items ++ line_of (map word_bytes words.now) ++ burst_lines net.now name.now bursts.now) }
-    ensures unchanged { OnErr result (out.new.items ≡ out.old.items) }
-{
     let before = out.len();
-    let added = add_list(alloc, net, words, name, bursts, out);
+    let added = add_frame(alloc, net, frame, out);
     if added.is_err() {
         out.truncate(before);
     }
@@ -142,57 +121,58 @@ fn list_text(
 
 /// Appends these lines. Want of memory leaves the first of them.
 #[tactic(auto, using(bt_words::proofs::Extending::extends_on))]
-fn add_list(
+fn add_frame(
     alloc: Global,
     net: &Network,
-    words: &[Word<'_>],
-    name: &str,
-    bursts: &[Burst],
+    frame: &AirFrame,
     out: &mut Vec<u8>,
 ) -> Result<(), OutOfMemory>
-    ensures added { OnOk result (out.new.items ≡ out.old.items ++ line_of (map word_bytes words.now) ++ burst_lines net.now name.now bursts.now) }
+    ensures added { OnOk result (out.new.items ≡ out.old.items ++ frame_lines net.now frame.now) }
     ensures kept { Extends out.old.items out.new.items }
 {
-    add_line(alloc, words, out)?;
-    add_bursts(alloc, net, name, bursts, out)
+    let words = [
+        Word::Frame(frame.mark, frame.number),
+        Word::number(frame.fore.0),
+    ];
+    print(alloc, Form::Frame, &words, out)?;
+    add_bursts(alloc, net, Form::Air, frame.bursts.as_slice(), out)
 }
 
-/// Appends the lines of bursts. Want of memory leaves the first of them.
+/// Appends the lines of bursts, each by this form. Want of memory leaves the first of them.
 fn add_bursts(
     alloc: Global,
     net: &Network,
-    name: &str,
+    form: Form,
     bursts: &[Burst],
     out: &mut Vec<u8>,
 ) -> Result<(), OutOfMemory>
-    ensures added { OnOk result (out.new.items ≡ out.old.items ++ burst_lines net.now name.now bursts.now) }
+    ensures added { OnOk result (out.new.items ≡ out.old.items ++ burst_lines net.now form bursts.now) }
     ensures kept { Extends out.old.items out.new.items }
 {
     for burst in bursts {
-        burst_text(alloc, net, name, *burst, out)?;
+        burst_text(alloc, net, form, *burst, out)?;
     }
     Ok(())
 }
 
-/// Appends the line of a burst.
+/// Appends the line of a burst by its form.
 fn burst_text(
     alloc: Global,
     net: &Network,
-    name: &str,
+    form: Form,
     burst: Burst,
     out: &mut Vec<u8>,
 ) -> Result<(), OutOfMemory>
-    ensures added { OnOk result (out.new.items ≡ out.old.items ++ burst_line net.now name.now burst) }
+    ensures added { OnOk result (out.new.items ≡ out.old.items ++ burst_line net.now form burst) }
     ensures unchanged { OnErr result (out.new.items ≡ out.old.items) }
 {
     let words = [
-        Word::Text(name),
         Word::number(burst.start),
         Word::number(burst.length),
         Word::Text(name_at(net, burst.from)),
         Word::Text(name_at(net, burst.to)),
     ];
-    add_line(alloc, &words, out)
+    print(alloc, form, &words, out)
 }
 
 /// The name of a terminal, and nothing where the network has none of that number.

@@ -4,6 +4,7 @@ ghost use Rattle.bt_timeline.specs.Air.{IsPlaceOf, answer_name, got_line, heard_
 ghost use Rattle.bt_words.specs.Lines.{word_bytes};
 
 use bt_air::{Answer, Heard, Place, Taken};
+use bt_forms::{Form, print};
 use bt_frame::OutOfMemory;
 use bt_net::Network;
 use bt_words::{Word, add_line};
@@ -23,12 +24,11 @@ pub fn got_text(
     ensures unchanged { OnErr result (out.new.items ≡ out.old.items) }
 {
     let words = [
-        Word::Text("got"),
         Word::number(number),
         place_word(net, place),
         Word::Text(answer_text(answer)),
     ];
-    add_line(alloc, &words, out)
+    print(alloc, Form::GotTerminal, &words, out)
 }
 
 /// Appends the line of a delivery of a message that was not sent.
@@ -36,13 +36,7 @@ pub fn not_sent_text(alloc: Global, number: u32, out: &mut Vec<u8>) -> Result<()
     ensures added { OnOk result (out.new.items ≡ out.old.items ++ not_sent_line number) }
     ensures unchanged { OnErr result (out.new.items ≡ out.old.items) }
 {
-    let words = [
-        Word::Text("deliver"),
-        Word::number(number),
-        Word::Text("not"),
-        Word::Text("sent"),
-    ];
-    add_line(alloc, &words, out)
+    print(alloc, Form::NotSent, &[Word::number(number)], out)
 }
 
 /// Appends the line of a delivery that is to come: of the message of that number, at a place.

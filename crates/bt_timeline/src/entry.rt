@@ -1,12 +1,13 @@
 // The line of an entry of a history.
 ghost use Rattle.std.specs.Prelude.{◌≡◌, ◌++◌, ◌∷◌, [], codes, decimal, OnOk, OnErr, Some};
 ghost use Rattle.bt_words.specs.Lines.{line_of, word_bytes};
-ghost use Rattle.bt_timeline.specs.Timeline.{IsBeam, IsInstall, IsPrinted, caller_name, entry_line, installed_words, name_of_beam, not_good_line};
+ghost use Rattle.bt_timeline.specs.Timeline.{IsBeam, IsInstall, IsPrinted, caller_name, entry_line, installed_line, name_of_beam, not_good_line};
 ghost use Rattle.bt_timeline.specs.Verdicts.{CanName};
 ghost use Rattle.bt_words.specs.Written.{Extends};
 
 use crate::reply::reply_text;
 use crate::verdict::verdict_text;
+use bt_forms::{Form, print};
 use bt_frame::{BeamNo, EditionNo, OutOfMemory};
 use bt_journal::{Call, Entry, Reply};
 use bt_net::Network;
@@ -32,7 +33,8 @@ pub fn entry_text(
         Reply::RowFull { beam, sum } => full_text(alloc, net, caller, "E3", (*beam, *sum), out),
         Reply::ColumnFull { beam, sum } => full_text(alloc, net, caller, "E4", (*beam, *sum), out),
         Reply::NotGood { verdict } => not_good_text(alloc, net, caller, verdict, out),
-        Reply::Installed { edition } => installed_text(alloc, caller, &entry.call, *edition, out),
+        Reply::Installed { edition } => installed_text(alloc, &entry.call, *edition, out),
+        Reply::Demand { .. } => print(alloc, Form::NothingNew, &[], out),
         reply => reply_text(alloc, caller, reply, out),
     }
 }
@@ -74,13 +76,12 @@ fn full_text<'a>(
 /// Appends the line of a plan that was installed, by the call that asked for it.
 fn installed_text(
     alloc: Global,
-    caller: Word<'_>,
     call: &Call,
     edition: EditionNo,
     out: &mut Vec<u8>,
 ) -> Result<(), OutOfMemory>
     requires { IsInstall call.now }
-    ensures added { OnOk result (out.new.items ≡ out.old.items ++ line_of (word_bytes caller.entry ∷ installed_words call.now edition)) }
+    ensures added { OnOk result (out.new.items ≡ out.old.items ++ installed_line call.now edition) }
     ensures unchanged { OnErr result (out.new.items ≡ out.old.items) }
 {
     let Call::Install(plan) = call else {
@@ -88,17 +89,13 @@ fn installed_text(
     };
     let modes = plan.schedule.modes.as_slice().len() as u64;
     let bursts = plan.bursts.as_slice().len() as u64;
-    let words = [
-        caller,
+    let numbers = [
         Word::number(edition.0),
-        Word::Text("length"),
         Word::number(plan.schedule.length),
-        Word::Text("modes"),
         Word::Number(modes),
-        Word::Text("bursts"),
         Word::Number(bursts),
     ];
-    add_line(alloc, &words, out)
+    print(alloc, Form::Planned, &numbers, out)
 }
 
 /// Appends the line of a plan that was not good, with its verdict.

@@ -2,8 +2,9 @@
 ghost use Rattle.std.specs.Prelude.{◌≡◌, ◌++◌, OnOk, OnErr};
 ghost use Rattle.bt_timeline.specs.Timeline.{restart_line, round_line, start_line, total_line};
 
+use bt_forms::{Form, print};
 use bt_frame::OutOfMemory;
-use bt_words::{Word, add_line};
+use bt_words::Word;
 use std::alloc::Global;
 
 /// Appends the line of a start: the last edition, the edition of the newest plan, and the mark of the superframe.
@@ -17,16 +18,12 @@ pub fn start_text(
     ensures added { OnOk result (out.new.items ≡ out.old.items ++ start_line edition plan mark) }
     ensures unchanged { OnErr result (out.new.items ≡ out.old.items) }
 {
-    let words = [
-        Word::Text("start"),
-        Word::Text("edition"),
+    let numbers = [
         Word::number(edition),
-        Word::Text("plan"),
         Word::number(plan),
-        Word::Text("mark"),
         Word::number(mark),
     ];
-    add_line(alloc, &words, out)
+    print(alloc, Form::Start, &numbers, out)
 }
 
 /// Appends the line that begins a round.
@@ -34,8 +31,7 @@ pub fn round_text(alloc: Global, number: u64, out: &mut Vec<u8>) -> Result<(), O
     ensures added { OnOk result (out.new.items ≡ out.old.items ++ round_line number) }
     ensures unchanged { OnErr result (out.new.items ≡ out.old.items) }
 {
-    let words = [Word::Text("round"), Word::Number(number)];
-    add_line(alloc, &words, out)
+    print(alloc, Form::Round, &[Word::Number(number)], out)
 }
 
 /// How the edits of a run were answered.
@@ -54,16 +50,12 @@ pub fn total_text(alloc: Global, totals: Totals, out: &mut Vec<u8>) -> Result<()
     ensures added { OnOk result (out.new.items ≡ out.old.items ++ total_line totals.done totals.refused totals.failed) }
     ensures unchanged { OnErr result (out.new.items ≡ out.old.items) }
 {
-    let words = [
-        Word::Text("total"),
-        Word::Text("done"),
+    let counts = [
         Word::Number(totals.done),
-        Word::Text("refused"),
         Word::Number(totals.refused),
-        Word::Text("store"),
         Word::Number(totals.failed),
     ];
-    add_line(alloc, &words, out)
+    print(alloc, Form::Total, &counts, out)
 }
 
 /// Appends the line of a restart. The line of the start that follows is another.
@@ -71,5 +63,5 @@ pub fn restart_text(alloc: Global, out: &mut Vec<u8>) -> Result<(), OutOfMemory>
     ensures added { OnOk result (out.new.items ≡ out.old.items ++ restart_line) }
     ensures unchanged { OnErr result (out.new.items ≡ out.old.items) }
 {
-    add_line(alloc, &[Word::Text("restart")], out)
+    print(alloc, Form::Restart, &[], out)
 }

@@ -2,11 +2,11 @@
 ghost use Rattle.std.specs.Prelude.{◌≡◌, ◌++◌, OnOk, OnErr};
 ghost use Rattle.bt_timeline.specs.Air.{IsUnplaced, order_line, unplaced_line};
 
-use crate::reply::reply_text;
 use bt_air::Order;
+use bt_forms::{Form, print};
 use bt_frame::OutOfMemory;
 use bt_journal::Reply;
-use bt_words::{Word, add_line};
+use bt_words::Word;
 use std::alloc::Global;
 
 /// Appends the line of an order that the centre wants.
@@ -14,26 +14,22 @@ pub fn order_text(alloc: Global, order: Order, out: &mut Vec<u8>) -> Result<(), 
     ensures added { OnOk result (out.new.items ≡ out.old.items ++ order_line order) }
     ensures unchanged { OnErr result (out.new.items ≡ out.old.items) }
 {
-    let title = Word::Text("order");
     match order {
         Order::Load { command, edition } => {
-            let (command, edition) = (Word::number(command.0), Word::number(edition.0));
-            add_line(alloc, &[title, Word::Text("load"), command, edition], out)
+            let numbers = [Word::number(command.0), Word::number(edition.0)];
+            print(alloc, Form::OrderLoad, &numbers, out)
         }
         Order::Arm {
             command,
             edition,
             due,
         } => {
-            let (command, edition) = (Word::number(command.0), Word::number(edition.0));
-            let words = [
-                title,
-                Word::Text("arm"),
-                command,
-                edition,
+            let numbers = [
+                Word::number(command.0),
+                Word::number(edition.0),
                 Word::number(due.0),
             ];
-            add_line(alloc, &words, out)
+            print(alloc, Form::OrderArm, &numbers, out)
         }
     }
 }
@@ -45,5 +41,21 @@ pub fn unplaced_text(alloc: Global, reply: &Reply, out: &mut Vec<u8>) -> Result<
     ensures added { OnOk result (out.new.items ≡ out.old.items ++ unplaced_line reply.now) }
     ensures unchanged { OnErr result (out.new.items ≡ out.old.items) }
 {
-    reply_text(alloc, Word::Text("order"), reply, out)
+    match reply {
+        Reply::BookFull { length } => {
+            let length = Word::number(*length);
+            print(alloc, Form::OrderBookFull, &[length], out)
+        }
+        Reply::OutOfTurn { last } => {
+            let last = Word::number(last.0);
+            print(alloc, Form::OrderOutOfTurn, &[last], out)
+        }
+        Reply::NotInstalled { newest } => {
+            let newest = Word::number(newest.0);
+            print(alloc, Form::OrderNotInstalled, &[newest], out)
+        }
+        Reply::StoreFault => print(alloc, Form::OrderStoreFault, &[], out),
+        Reply::Stopped => print(alloc, Form::OrderStopped, &[], out),
+        _ => unreachable!(),
+    }
 }

@@ -33,23 +33,12 @@ pub(crate) fn reply_text(
         Reply::BookFull { length } => refused_text(alloc, caller, "E5", *length, out),
         Reply::NotNewer { newest } => refused_text(alloc, caller, "E6", newest.0, out),
         Reply::NoSuchEdition { last } => refused_text(alloc, caller, "E7", last.0, out),
-        Reply::OutOfTurn { last } => refused_text(alloc, caller, "E9", last.0, out),
-        Reply::NotInstalled { newest } => refused_text(alloc, caller, "E10", newest.0, out),
         Reply::StoreFault => {
             let words = [caller, Word::Text("store"), Word::Text("fault")];
             add_line(alloc, &words, out)
         }
         Reply::Stopped => add_line(alloc, &[caller, Word::Text("stopped")], out),
-        Reply::Demand { .. } => {
-            let words = [caller, Word::Text("nothing"), Word::Text("new")];
-            add_line(alloc, &words, out)
-        }
-        Reply::RowFull { .. } => unreachable!(),
-        Reply::ColumnFull { .. } => unreachable!(),
-        Reply::NotGood { .. } => unreachable!(),
-        Reply::Installed { .. } => unreachable!(),
-        Reply::Newest { .. } => unreachable!(),
-        Reply::Placed => unreachable!(),
+        _ => unreachable!(),
     }
 }
 

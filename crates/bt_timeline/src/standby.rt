@@ -1,10 +1,11 @@
 // The lines of the standby.
 ghost use Rattle.std.specs.Prelude.{◌≡◌, ◌++◌, OnOk, OnErr};
-ghost use Rattle.bt_timeline.specs.Air.{noticed_line, noticed_name, standby_burst_line, unnoticed_line, unsent_line};
+ghost use Rattle.bt_timeline.specs.Air.{noticed_form, noticed_line, noticed_name, standby_burst_line, unnoticed_line, unsent_line};
 
+use bt_forms::{Form, print};
 use bt_frame::OutOfMemory;
 use bt_standby::Noticed;
-use bt_words::{Word, add_line};
+use bt_words::Word;
 use std::alloc::Global;
 
 /// Appends the line of a status that the standby heard: the number of its message, and what the standby did with it.
@@ -17,13 +18,17 @@ pub fn noticed_text(
     ensures added { OnOk result (out.new.items ≡ out.old.items ++ noticed_line number noticed) }
     ensures unchanged { OnErr result (out.new.items ≡ out.old.items) }
 {
-    let words = [
-        Word::Text("standby"),
-        Word::Text("hears"),
-        Word::number(number),
-        Word::Text(noticed_word(noticed)),
-    ];
-    add_line(alloc, &words, out)
+    print(alloc, noticed_form(noticed), &[Word::number(number)], out)
+}
+
+/// The form of the line of a status that the standby heard.
+fn noticed_form(noticed: Noticed) -> Form
+    ensures { result ≡ noticed_form noticed }
+{
+    match noticed {
+        Noticed::Noted => Form::StandbyNoted,
+        Noticed::WrongMark => Form::StandbyWrongMark,
+    }
 }
 
 /// Appends the line of a message that is no status, and so none for the standby.
@@ -31,13 +36,7 @@ pub fn unnoticed_text(alloc: Global, number: u32, out: &mut Vec<u8>) -> Result<(
     ensures added { OnOk result (out.new.items ≡ out.old.items ++ unnoticed_line number) }
     ensures unchanged { OnErr result (out.new.items ≡ out.old.items) }
 {
-    let words = [
-        Word::Text("standby"),
-        Word::Text("hears"),
-        Word::number(number),
-        Word::Text("notforme"),
-    ];
-    add_line(alloc, &words, out)
+    print(alloc, Form::StandbyNotForMe, &[Word::number(number)], out)
 }
 
 /// Appends the line of a message that the standby was to hear and that was not sent.
@@ -45,14 +44,7 @@ pub fn unsent_text(alloc: Global, number: u32, out: &mut Vec<u8>) -> Result<(), 
     ensures added { OnOk result (out.new.items ≡ out.old.items ++ unsent_line number) }
     ensures unchanged { OnErr result (out.new.items ≡ out.old.items) }
 {
-    let words = [
-        Word::Text("standby"),
-        Word::Text("hears"),
-        Word::number(number),
-        Word::Text("not"),
-        Word::Text("sent"),
-    ];
-    add_line(alloc, &words, out)
+    print(alloc, Form::StandbyNotSent, &[Word::number(number)], out)
 }
 
 /// Appends the line of the standby's reference burst. That of its message is another.
@@ -60,7 +52,7 @@ pub fn standby_burst_text(alloc: Global, out: &mut Vec<u8>) -> Result<(), OutOfM
     ensures added { OnOk result (out.new.items ≡ out.old.items ++ standby_burst_line) }
     ensures unchanged { OnErr result (out.new.items ≡ out.old.items) }
 {
-    add_line(alloc, &[Word::Text("standby"), Word::Text("burst")], out)
+    print(alloc, Form::StandbyBurst, &[], out)
 }
 
 /// The printed word of what the standby does with a status.

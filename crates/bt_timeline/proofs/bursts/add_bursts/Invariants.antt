@@ -5,5 +5,5 @@ use Rattle.bt_timeline.proofs.bursts.add_bursts.Given as goal
 -- the bursts so far were added
 abbrev pub invariant-loop-burst : goal.invariant-loop-burst
 invariant-loop-burst l = record {
-  added : l.out.items ≡ l.fn.out.items ++ burst_lines l.net l.name (take l.burst-index l.bursts);
+  added : l.out.items ≡ l.fn.out.items ++ burst_lines l.net l.form (take l.burst-index l.bursts);
 }
