@@ -43,10 +43,10 @@ and_then (Err _) one two before between after first second = tt
 pub none_yet : (before : List ℕ) → before ≡ before ++ parts_text []
 none_yet before = sym (append-nil before) ∙ ap (λ t. before ++ t) (sym parts_text-none)
 
--- a part that is left out
-pub left_out : (test : Bool) (part : Part) (before : List ℕ) → test ≡ false → before ≡ before ++ parts_text (if test then part ∷ [] else [])
-left_out false part before none = none_yet before
-left_out true part before none = cc
+-- parts that are left out
+pub left_out : (test : Bool) (parts : List Part) (before : List ℕ) → test ≡ false → before ≡ before ++ parts_text (if test then parts else [])
+left_out false parts before none = none_yet before
+left_out true parts before none = cc
 
 -- the parts of so many items, and those of one more
 pub one_more : {A : Type 0} (f : A → List Part) (xs : List A) (k : ℕ) (x : A) (before between after : List ℕ) → k < length xs → between ≡ before ++ parts_text (flat_map f (take k xs))

@@ -3,3 +3,5 @@ pub mod Marked
 pub mod Meetings
 pub mod Overlaps
 pub mod Permutations
+pub mod Places
+pub mod Shown

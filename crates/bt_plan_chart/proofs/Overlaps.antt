@@ -1,5 +1,5 @@
 -- Boxes of bursts overlap in a lane exactly where the bursts share a slot and a beam.
-use Rattle.std.proofs.Common.{refl, arith, ◌≡◌, ◌⊎◌, inl, inr, ℕ, ◌+◌, ◌-◌, ◌*◌, ◌/◌, ◌<◌, ◌≤◌, List, [], length, get_or, Option, Some, option_map, unwrap_or, ap, sym, ◌∙◌, subst}
+use Rattle.std.proofs.Common.{refl, arith, ◌≡◌, ◌⊎◌, inl, inr, ℕ, zero, suc, ◌+◌, ◌-◌, ◌*◌, ◌/◌, ◌<◌, ◌≤◌, true, List, [], length, get_or, replicate, Option, Some, option_map, unwrap_or, ap, sym, ◌∙◌, subst}
 use Rattle.std.proofs.lemmas.Option.{slice_get-get_or}
 use Rattle.std.proofs.Math.Nat.{le-div_iff_mul-le, div-lt_iff_lt-mul, mul-le-mul_right, mul-lt-mul_of_pos_right, le-max_left, add-mul}
 use Rattle.bt_frame.specs.declared.numbers.BeamNo.{BeamNo}
@@ -14,48 +14,81 @@ use Rattle.bt_demand.specs.Plan.{ShareABeam}
 use Rattle.bt_plan_chart.specs.declared.scale.Direction.{Direction}
 use Rattle.bt_plan_chart.specs.declared.scale.Direction.TheVariants.{Up, Down}
 use Rattle.bt_plan_chart.specs.declared.scale.Scale.{Scale}
-use Rattle.bt_plan_chart.specs.Overlap.{IsIn, Overlap, OverlapIn, AreDrawnApart}
-use Rattle.bt_plan_chart.specs.Scale.{beam_number, box_of, lane_top, scale_of, slots_box, terminal_of, x_of}
+use Rattle.bt_plan_chart.specs.declared.scale.TheConstants.{LEFT}
+use Rattle.bt_plan_chart.specs.declared.choice.Choice.{Choice}
+use Rattle.bt_plan_chart.specs.Overlap.{AreBoxesApart, AreDrawnApart, HasLane, IsIn, MeetIn, Overlap, OverlapDrawn}
+use Rattle.bt_plan_chart.specs.Scale.{beam_number, box_of, column_of, is_drawn, is_shown, lane_top, scale_of, slots_box, terminal_of, whole, x_of}
+use Rattle.bt_plan_chart.proofs.Places.{in_order, one_place}
+use Rattle.bt_plan_chart.proofs.Shown.{column_kept, column_less, slot_at, slot_from, slot_shown, slot_under}
 
--- a slot of a burst begins in its box
-in_box : (scale : Scale) (direction : Direction) (beam start slots slot : ℕ) → 0 < scale.unit → start ≤ slot → slot < start + slots → IsIn (slots_box scale direction beam start slots) (x_of scale slot) (lane_top scale direction beam)
-in_box scale direction beam start slots slot some from to =
-    let left : start * scale.unit ≤ slot * scale.unit = mul-le-mul_right scale.unit from in
-    let right : slot * scale.unit < (start + slots) * scale.unit = mul-lt-mul_of_pos_right to some in
-    let both : (start + slots) * scale.unit ≡ start * scale.unit + slots * scale.unit = add-mul start slots scale.unit in
-    record { from_left = omega arith; to_right = omega arith; from_top = omega arith; to_bottom = omega arith }
+-- a slot of a burst that is shown begins in its box
+in_box : (scale : Scale) (direction : Direction) (beam start slots slot : ℕ) → 0 < scale.unit → is_shown scale slot (slot + 1) ≡ true → start ≤ slot → slot < start + slots
+    → IsIn (slots_box scale direction beam start slots) (x_of scale slot) (lane_top scale direction beam)
+in_box scale direction beam start slots slot some shown from to =
+    let first = column_of scale start in
+    let here = column_of scale slot in
+    let last = column_of scale (start + slots) in
+    let order : first ≤ here = column_kept scale.is_cut scale.begin scale.end start slot from in
+    let under : here < last = column_less scale.is_cut scale.begin scale.end slot (start + slots) shown to in
+    let left : first * scale.unit ≤ here * scale.unit = mul-le-mul_right scale.unit order in
+    let right : here * scale.unit < last * scale.unit = mul-lt-mul_of_pos_right under some in
+    let whole_width : first * scale.unit + (last - first) * scale.unit ≡ last * scale.unit = sym (add-mul first (last - first) scale.unit) ∙ ap (λ n. n * scale.unit) (omega (arith, order, under)) in
+    record { from_left = omega (arith, left); to_right = omega (arith, right, whole_width); from_top = omega arith; to_bottom = omega arith }
 
--- two bursts that share a slot, and a beam in a direction, have boxes there that overlap
-pub overlap_in : (net : Net) (scale : Scale) (direction : Direction) (a b : Burst) (slot : ℕ) → 0 < scale.unit → Covers a slot → Covers b slot
-    → beam_at net (terminal_of direction a) ≡ beam_at net (terminal_of direction b) → OverlapIn net scale direction a b
-overlap_in net scale direction a b slot some first second same =
+-- two bursts that share a slot that is shown, and a beam in a direction that has a lane, have boxes there that overlap
+pub overlap_in : (net : Net) (scale : Scale) (direction : Direction) (a b : Burst) → 0 < scale.unit → MeetIn net scale direction a b → OverlapDrawn net scale direction a b
+overlap_in net scale direction a b some meet =
+    let slot = meet.slot in
     let a_beam = beam_number net (terminal_of direction a) in
     let b_beam = beam_number net (terminal_of direction b) in
-    let lanes : lane_top scale direction b_beam ≡ lane_top scale direction a_beam = ap (λ (beam : Option BeamNo). lane_top scale direction (unwrap_or (option_map (λ (one : BeamNo). one.0) beam) 0)) (sym same) in
+    let same : b_beam ≡ a_beam = ap (λ (beam : Option BeamNo). unwrap_or (option_map (λ (one : BeamNo). one.0) beam) 0) (sym meet.beam) in
     record {
-      x = x_of scale slot;
-      y = lane_top scale direction a_beam;
-      first = in_box scale direction a_beam a.start a.length slot some first.from_start first.before_end;
-      second = subst (λ (y : ℕ). IsIn (slots_box scale direction b_beam b.start b.length) (x_of scale slot) y) lanes (in_box scale direction b_beam b.start b.length slot some second.from_start second.before_end);
+      first = meet.lane;
+      second = ap (is_drawn scale) same ∙ meet.lane;
+      boxes = record {
+        x = x_of scale slot;
+        y = lane_top scale direction a_beam;
+        first = in_box scale direction a_beam a.start a.length slot some meet.shown meet.first.from_start meet.first.before_end;
+        second = subst (λ (y : ℕ). IsIn (slots_box scale direction b_beam b.start b.length) (x_of scale slot) y) (ap (lane_top scale direction) same) (in_box scale direction b_beam b.start b.length slot some meet.shown meet.second.from_start meet.second.before_end);
+      };
     }
 
+-- the slot of a place from the left
+abbrev slot_there : Scale → ℕ → ℕ
+slot_there scale x = slot_at scale.is_cut scale.begin ((x - LEFT) / scale.unit)
+
+-- the column of a place in a box is one of the burst's
+column_from : (scale : Scale) (direction : Direction) (beam : ℕ) (burst : Burst) (x y : ℕ) → 0 < scale.unit → IsIn (slots_box scale direction beam burst.start burst.length) x y → column_of scale burst.start ≤ (x - LEFT) / scale.unit
+column_from scale direction beam burst x y some is =
+    let from : column_of scale burst.start * scale.unit ≤ x - LEFT = omega (arith, is.from_left) in
+    (le-div_iff_mul-le some).1 from
+
+column_to : (scale : Scale) (direction : Direction) (beam : ℕ) (burst : Burst) (x y : ℕ) → 0 < scale.unit → IsIn (slots_box scale direction beam burst.start burst.length) x y → (x - LEFT) / scale.unit < column_of scale (burst.start + burst.length)
+column_to scale direction beam burst x y some is =
+    let first = column_of scale burst.start in
+    let last = column_of scale (burst.start + burst.length) in
+    let order : first ≤ last = column_kept scale.is_cut scale.begin scale.end burst.start (burst.start + burst.length) (omega arith) in
+    let whole_width : first * scale.unit + (last - first) * scale.unit ≡ last * scale.unit = sym (add-mul first (last - first) scale.unit) ∙ ap (λ n. n * scale.unit) (omega (arith, order)) in
+    let to : x - LEFT < last * scale.unit = omega (arith, is.from_left, is.to_right, whole_width) in
+    (div-lt_iff_lt-mul some).1 to
+
 -- the slot of a place in a box is one of the burst's
-slot_of : (scale : Scale) (direction : Direction) (beam : ℕ) (burst : Burst) (x y : ℕ) → 0 < scale.unit → IsIn (slots_box scale direction beam burst.start burst.length) x y → Covers burst ((x - x_of scale 0) / scale.unit)
+slot_of : (scale : Scale) (direction : Direction) (beam : ℕ) (burst : Burst) (x y : ℕ) → 0 < scale.unit → IsIn (slots_box scale direction beam burst.start burst.length) x y → Covers burst (slot_there scale x)
 slot_of scale direction beam burst x y some is =
-    let place = x - x_of scale 0 in
-    let both : (burst.start + burst.length) * scale.unit ≡ burst.start * scale.unit + burst.length * scale.unit = add-mul burst.start burst.length scale.unit in
-    let from : burst.start * scale.unit ≤ place = omega (arith, is.from_left) in
-    let to : place < (burst.start + burst.length) * scale.unit = omega (arith, is.to_right, is.from_left) in
-    record { from_start = (le-div_iff_mul-le some).1 from; before_end = (div-lt_iff_lt-mul some).1 to }
+    let place = (x - LEFT) / scale.unit in
+    let to = burst.start + burst.length in
+    let from = column_from scale direction beam burst x y some is in
+    let under = column_to scale direction beam burst x y some is in
+    record { from_start = slot_from scale.is_cut scale.begin scale.end burst.start to place from under; before_end = slot_under scale.is_cut scale.begin scale.end to place under }
 
 -- a place lies in one lane of a direction at most
-one_lane : (scale : Scale) (direction : Direction) (a b y : ℕ) → lane_top scale direction a ≤ y → y < lane_top scale direction a + 480 → lane_top scale direction b ≤ y → y < lane_top scale direction b + 480 → a ≡ b
-one_lane scale Up a b y a_from a_to b_from b_to = omega arith
-one_lane scale Down a b y a_from a_to b_from b_to = omega arith
+one_lane : (scale : Scale) (direction : Direction) (a b y : ℕ) → is_drawn scale a ≡ true → is_drawn scale b ≡ true → lane_top scale direction a ≤ y → y < lane_top scale direction a + 480 → lane_top scale direction b ≤ y → y < lane_top scale direction b + 480 → a ≡ b
+one_lane scale Up a b y a_has b_has a_from a_to b_from b_to = one_place scale.drawn a b a_has b_has (omega (arith, a_from, a_to, b_from, b_to))
+one_lane scale Down a b y a_has b_has a_from a_to b_from b_to = one_place scale.drawn a b a_has b_has (omega (arith, a_from, a_to, b_from, b_to))
 
 -- and in none of the other direction
-no_lane : (scale : Scale) (up down y : ℕ) → up < scale.beams → y < lane_top scale Up up + 480 → lane_top scale Down down ≤ y → ⊥
-no_lane scale up down y within to from = omega arith
+no_lane : (scale : Scale) (up down y : ℕ) → up < scale.beams → is_drawn scale up ≡ true → y < lane_top scale Up up + 480 → lane_top scale Down down ≤ y → ⊥
+no_lane scale up down y within has to from = let before = in_order scale.drawn up scale.beams within has in omega (arith, before, to, from)
 
 -- the beam of a terminal of the network
 beam_of : (net : Net) (terminal : TermNo) → IsTerminal net terminal → beam_at net terminal ≡ Some (record { 0 = beam_number net terminal })
@@ -88,46 +121,67 @@ pub shared : (net : Net) (direction : Direction) (a b : Burst) → beam_at net (
 shared net Up a b same = inl same
 shared net Down a b same = inr same
 
--- bursts whose boxes overlap in a direction meet
-pub meet_in : (net : Net) (scale : Scale) (direction : Direction) (a b : Burst) → 0 < scale.unit → IsBetweenTerminals net a.from a.to → IsBetweenTerminals net b.from b.to → OverlapIn net scale direction a b → Collide net a b
-meet_in net scale direction a b some a_between b_between over =
+-- bursts whose boxes are drawn and overlap in a direction meet there
+pub meet_in : (net : Net) (scale : Scale) (direction : Direction) (a b : Burst) → 0 < scale.unit → IsBetweenTerminals net a.from a.to → IsBetweenTerminals net b.from b.to → OverlapDrawn net scale direction a b → MeetIn net scale direction a b
+meet_in net scale direction a b some a_between b_between drawn =
+    let over = drawn.boxes in
     let a_beam = beam_number net (terminal_of direction a) in
     let b_beam = beam_number net (terminal_of direction b) in
-    let lanes : a_beam ≡ b_beam = one_lane scale direction a_beam b_beam over.y over.first.from_top over.first.to_bottom over.second.from_top over.second.to_bottom in
+    let lanes : a_beam ≡ b_beam = one_lane scale direction a_beam b_beam over.y drawn.first drawn.second over.first.from_top over.first.to_bottom over.second.from_top over.second.to_bottom in
     record {
-      slot = (over.x - x_of scale 0) / scale.unit;
+      slot = slot_there scale over.x;
+      shown = slot_shown scale.is_cut scale.begin scale.end (a.start + a.length) ((over.x - LEFT) / scale.unit) (column_to scale direction a_beam a over.x over.y some over.first);
       first = slot_of scale direction a_beam a over.x over.y some over.first;
       second = slot_of scale direction b_beam b over.x over.y some over.second;
-      beam = shared net direction a b (same_beam net (terminal_of direction a) (terminal_of direction b) (of_net net direction a a_between) (of_net net direction b b_between) lanes);
+      beam = same_beam net (terminal_of direction a) (terminal_of direction b) (of_net net direction a a_between) (of_net net direction b b_between) lanes;
+      lane = drawn.first;
     }
 
--- bursts that meet have boxes that overlap in one of the directions
-pub overlaps : (net : Net) (scale : Scale) (a b : Burst) → 0 < scale.unit → Collide net a b → OverlapIn net scale Up a b ⊎ OverlapIn net scale Down a b
-overlaps net scale a b some meet = elim meet.beam [
-  | inl same ↦ inl (overlap_in net scale Up a b meet.slot some meet.first meet.second same)
-  | inr same ↦ inr (overlap_in net scale Down a b meet.slot some meet.first meet.second same)
+-- bursts that meet where a direction is drawn meet
+pub collide_in : (net : Net) (scale : Scale) (direction : Direction) (a b : Burst) → MeetIn net scale direction a b → Collide net a b
+collide_in net scale direction a b meet = record { slot = meet.slot; first = meet.first; second = meet.second; beam = shared net direction a b meet.beam }
+
+-- every beam has lanes where all have some
+all_true : (count beam : ℕ) → get_or (replicate count true) beam true ≡ true
+all_true zero beam = refl
+all_true (suc count) zero = refl
+all_true (suc count) (suc beam) = all_true count beam
+
+-- in the picture of a whole plan each burst has a lane
+pub has_lane : (net : Net) (plan : Plan) (direction : Direction) (burst : Burst) → HasLane net (scale_of net plan whole) direction burst
+has_lane net plan direction burst = all_true 32 (beam_number net (terminal_of direction burst))
+
+-- and bursts that meet do so where they are drawn
+pub meets_drawn : (net : Net) (plan : Plan) (a b : Burst) → Collide net a b → MeetIn net (scale_of net plan whole) Up a b ⊎ MeetIn net (scale_of net plan whole) Down a b
+meets_drawn net plan a b meet = elim meet.beam [
+  | inl same ↦ inl (record { slot = meet.slot; shown = refl; first = meet.first; second = meet.second; beam = same; lane = has_lane net plan Up a })
+  | inr same ↦ inr (record { slot = meet.slot; shown = refl; first = meet.first; second = meet.second; beam = same; lane = has_lane net plan Down a })
 ]
 
 -- boxes in lanes of the two directions do not overlap
-pub apart_lanes : (net : Net) (scale : Scale) (up down : Burst) → beam_number net up.from < scale.beams → (x y : ℕ) → IsIn (box_of net scale Up up) x y → IsIn (box_of net scale Down down) x y → ⊥
-apart_lanes net scale up down within x y first second = no_lane scale (beam_number net up.from) (beam_number net down.to) y within first.to_bottom second.from_top
+pub apart_lanes : (net : Net) (scale : Scale) (up down : Burst) → beam_number net up.from < scale.beams → is_drawn scale (beam_number net up.from) ≡ true → (x y : ℕ) → IsIn (box_of net scale Up up) x y → IsIn (box_of net scale Down down) x y → ⊥
+apart_lanes net scale up down within has x y first second = no_lane scale (beam_number net up.from) (beam_number net down.to) y within has first.to_bottom second.from_top
 
--- two bursts that do not meet have no boxes that overlap
+-- two bursts that do not meet have no boxes that are drawn and overlap
 pub drawn_apart : (net : Net) (scale : Scale) (a b : Burst) → 0 < scale.unit → scale.beams ≡ length net.beams → IsSound net → IsBetweenTerminals net a.from a.to → IsBetweenTerminals net b.from b.to
-    → ¬ (Collide net a b) → (one other : Direction) → ¬ (Overlap (box_of net scale one a) (box_of net scale other b))
-drawn_apart net scale a b some beams sound a_between b_between apart Up Up = λ over. apart (meet_in net scale Up a b some a_between b_between over)
-drawn_apart net scale a b some beams sound a_between b_between apart Down Down = λ over. apart (meet_in net scale Down a b some a_between b_between over)
-drawn_apart net scale a b some beams sound a_between b_between apart Up Down = λ over.
+    → ¬ (Collide net a b) → (one other : Direction) → HasLane net scale one a → HasLane net scale other b → ¬ (Overlap (box_of net scale one a) (box_of net scale other b))
+drawn_apart net scale a b some beams sound a_between b_between apart Up Up a_has b_has = λ over. apart (collide_in net scale Up a b (meet_in net scale Up a b some a_between b_between (record { first = a_has; second = b_has; boxes = over })))
+drawn_apart net scale a b some beams sound a_between b_between apart Down Down a_has b_has = λ over. apart (collide_in net scale Down a b (meet_in net scale Down a b some a_between b_between (record { first = a_has; second = b_has; boxes = over })))
+drawn_apart net scale a b some beams sound a_between b_between apart Up Down a_has b_has = λ over.
     let below : beam_number net a.from < length net.beams = beam_below net a.from sound a_between.0 in
-    apart_lanes net scale a b (omega (arith, below, beams)) over.x over.y over.first over.second
-drawn_apart net scale a b some beams sound a_between b_between apart Down Up = λ over.
+    apart_lanes net scale a b (omega (arith, below, beams)) a_has over.x over.y over.first over.second
+drawn_apart net scale a b some beams sound a_between b_between apart Down Up a_has b_has = λ over.
     let below : beam_number net b.from < length net.beams = beam_below net b.from sound b_between.0 in
-    apart_lanes net scale b a (omega (arith, below, beams)) over.x over.y over.second over.first
+    apart_lanes net scale b a (omega (arith, below, beams)) b_has over.x over.y over.second over.first
 
 -- a slot has a twip at least
-pub some_unit : (net : Net) (plan : Plan) → 0 < (scale_of net plan).unit
-some_unit net plan = let least : 1 ≤ (scale_of net plan).unit = le-max_left 1 _ in omega (arith, least)
+pub some_unit : (net : Net) (plan : Plan) (choice : Choice) → 0 < (scale_of net plan choice).unit
+some_unit net plan choice = let least : 1 ≤ (scale_of net plan choice).unit = le-max_left 1 _ in omega (arith, least)
 
-pub apart_plan : (net : Net) (plan : Plan) → IsSound net → AreBetweenTerminals net plan.bursts → AreApart net plan.bursts → AreDrawnApart net (scale_of net plan) plan.bursts
-apart_plan net plan sound between apart = λ i j d before within.
-    drawn_apart net (scale_of net plan) (get_or plan.bursts i d) (get_or plan.bursts j d) (some_unit net plan) refl sound (between i d (omega arith)) (between j d within) (apart i j d before within)
+pub apart_part : (net : Net) (plan : Plan) (choice : Choice) → IsSound net → AreBetweenTerminals net plan.bursts → AreApart net plan.bursts → AreBoxesApart net (scale_of net plan choice) plan.bursts
+apart_part net plan choice sound between apart = λ i j d before within.
+    drawn_apart net (scale_of net plan choice) (get_or plan.bursts i d) (get_or plan.bursts j d) (some_unit net plan choice) refl sound (between i d (omega arith)) (between j d within) (apart i j d before within)
+
+pub apart_plan : (net : Net) (plan : Plan) → IsSound net → AreBetweenTerminals net plan.bursts → AreApart net plan.bursts → AreDrawnApart net (scale_of net plan whole) plan.bursts
+apart_plan net plan sound between apart = λ i j d before within one other.
+    apart_part net plan whole sound between apart i j d before within one other (has_lane net plan one (get_or plan.bursts i d)) (has_lane net plan other (get_or plan.bursts j d))

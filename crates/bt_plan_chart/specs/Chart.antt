@@ -1,5 +1,5 @@
 -- Which parts the picture of a plan has. All places and sizes are in twips, from the left and from the top.
-use Rattle.std.specs.Prelude.{ℕ, ◌+◌, ◌-◌, ◌*◌, ◌/◌, ◌%◌, ◌++◌, ◌==◌, ◌&&◌, ◌||◌, not, max, min, nat_lt, nat_le, Bool, true, false, if◌then◌else◌, List, [], ◌∷◌, length, map, flat_map, codes, decimal, sum_by, take, unwrap_or, slice_get}
+use Rattle.std.specs.Prelude.{ℕ, ◌+◌, ◌-◌, ◌*◌, ◌/◌, ◌%◌, ◌++◌, ◌==◌, ◌&&◌, ◌||◌, not, max, min, nat_lt, nat_le, Bool, true, false, if◌then◌else◌, List, [], ◌∷◌, length, map, flat_map, codes, decimal, sum_by, take, Option, Some, None, unwrap_or, slice_get}
 use Rattle.std.specs.List.{list_all, fold, list_any, range_with_len, slice_index_or}
 use Rattle.bt_frame.specs.declared.mode.Mode.{Mode}
 use Rattle.bt_frame.specs.declared.schedule.Critical.{Critical}
@@ -17,12 +17,14 @@ use Rattle.bt_picture.specs.declared.style.Style.{Style}
 use Rattle.bt_picture.specs.declared.style.Style.TheVariants as style
 use Rattle.bt_plan_chart.specs.declared.bursts.TheConstants.{ARROW}
 use Rattle.bt_plan_chart.specs.declared.heading.TheConstants.{STEPS, LAST_STEP, TICKS}
+use Rattle.bt_plan_chart.specs.declared.choice.Choice.{Choice}
+use Rattle.bt_plan_chart.specs.declared.choice.SlotRange.{SlotRange}
 use Rattle.bt_plan_chart.specs.declared.scale.Direction.{Direction}
 use Rattle.bt_plan_chart.specs.declared.scale.Direction.TheVariants.{Up, Down}
 use Rattle.bt_plan_chart.specs.declared.scale.Scale.{Scale}
 use Rattle.bt_plan_chart.specs.declared.scale.TheConstants.{LEFT}
 use Rattle.bt_plan_chart.specs.Parts.{text_of}
-use Rattle.bt_plan_chart.specs.Scale.{terminal_of, beam_number, end_of, scale_of, x_of, lane_top, slots_box, legend_top, height_of, width_of}
+use Rattle.bt_plan_chart.specs.Scale.{terminal_of, beam_number, column_of, end_of, is_drawn, is_shown, scale_of, x_of, lane_top, slots_box, legend_top, height_of, width_of}
 
 -- a place
 abbrev pub at : ℕ → ℕ → Point
@@ -62,8 +64,9 @@ abbrev pub counted : ℕ → List ℕ → List ℕ → List ℕ
 counted number one many = if number == 1 then one else many
 
 -- the heading
-abbrev pub title_part : ℕ → Part
-title_part edition = Alone (Label (at 320 480) Start style.Title (text_of (codes "Plan of edition " ∷ decimal edition ∷ [])))
+abbrev pub title_part : ℕ → Option SlotRange → Part
+title_part edition None = Alone (Label (at 320 480) Start style.Title (text_of (codes "Plan of edition " ∷ decimal edition ∷ [])))
+title_part edition (Some range) = Alone (Label (at 320 480) Start style.Title (text_of (codes "Plan of edition " ∷ decimal edition ∷ codes ", slots " ∷ decimal range.first ∷ codes " to " ∷ decimal range.last ∷ [])))
 
 abbrev pub counts_part : ℕ → ℕ → ℕ → List ℕ → List ℕ → ℕ → Part
 counts_part slots modes bursts line name frame = Alone (Label (at 320 880) Start style.Text (text_of (
@@ -71,8 +74,8 @@ counts_part slots modes bursts line name frame = Alone (Label (at 320 880) Start
     ∷ decimal bursts ∷ counted bursts (codes " burst") (codes " bursts") ∷ codes "; the critical line is " ∷ line ∷ codes " " ∷ name
     ∷ codes " (frame of " ∷ decimal frame ∷ counted frame (codes " slot)") (codes " slots)") ∷ [])))
 
-abbrev pub heading_parts : Net → Plan → List Part
-heading_parts net plan = title_part plan.edition.0
+abbrev pub heading_parts : Net → Plan → Choice → List Part
+heading_parts net plan choice = title_part plan.edition.0 choice.slots
     ∷ counts_part plan.schedule.length (length plan.schedule.modes) (length plan.bursts) (direction_name (critical_direction plan.schedule.critical)) (name_of_beam net (critical_beam plan.schedule.critical)) net.slots ∷ []
 
 -- the first of some steps that leaves few enough ticks
@@ -89,20 +92,28 @@ abbrev pub tick_part : ℕ → ℕ → Part
 tick_part slot x = Titled (text_of (codes "slot " ∷ decimal slot ∷ []))
     (Line (at x 1400) (at x 1520) style.Line ∷ Label (at x 1340) Middle style.Text (text_of (decimal slot ∷ [])) ∷ [])
 
--- whether a slot has a tick: it is not past those that are shown, and more than half a step from the end of the frame
+-- whether a slot has a tick: it is none before or past those that are shown, and more than half a step from the end of the frame
 abbrev pub has_tick : Scale → ℕ → ℕ → Bool
-has_tick scale step slot = nat_le slot scale.span && (nat_lt (slot + step / 2) scale.frame || nat_lt (scale.frame + step / 2) slot)
+has_tick scale step slot = nat_le scale.begin slot && nat_le slot scale.end && (nat_lt (slot + step / 2) scale.frame || nat_lt (scale.frame + step / 2) slot)
 
 -- the tick there, where it has one
 abbrev pub tick_parts : Scale → ℕ → ℕ → List Part
 tick_parts scale step slot = if has_tick scale step slot then tick_part slot (x_of scale slot) ∷ [] else []
 
+-- the first slot from one on that is a multiple of a step
+abbrev pub first_tick : ℕ → ℕ → ℕ
+first_tick begin step = if begin % step == 0 then begin else begin - begin % step + step
+
+-- the tick at the end of the frame, where that is shown
+abbrev pub last_tick_parts : Scale → List Part
+last_tick_parts scale = if nat_le scale.begin scale.frame && nat_le scale.frame scale.end then tick_part scale.frame (x_of scale scale.frame) ∷ [] else []
+
 -- ticks with so many slots from one to the next, and one at the end of the frame; those of a scale
 abbrev pub ticks_parts : Scale → ℕ → List Part
-ticks_parts scale step = flat_map (λ tick. tick_parts scale step (tick * step)) (range_with_len 0 TICKS) ++ tick_part scale.frame (x_of scale scale.frame) ∷ []
+ticks_parts scale step = flat_map (λ tick. tick_parts scale step (first_tick scale.begin step + tick * step)) (range_with_len 0 TICKS) ++ last_tick_parts scale
 
 abbrev pub ruler_parts : Scale → List Part
-ruler_parts scale = ticks_parts scale (step_of scale.span)
+ruler_parts scale = ticks_parts scale (step_of (scale.end - scale.begin))
 
 -- no two of the downlinks are the same
 abbrev pub are_distinct : List ℕ → Bool
@@ -119,7 +130,7 @@ is_permutation beams perm = length perm == beams && are_below beams perm && are_
 
 -- the band of a mode from a slot to another, cut where the picture ends
 abbrev pub band_of : Scale → ℕ → ℕ → Rect
-band_of scale begin end = record { x = x_of scale (min begin scale.span); y = 1520; width = (min end scale.span - min begin scale.span) * scale.unit; height = 280 }
+band_of scale begin end = record { x = x_of scale (min begin scale.end); y = 1520; width = (column_of scale (min end scale.end) - column_of scale (min begin scale.end)) * scale.unit; height = 280 }
 
 -- how the title of a mode ends
 abbrev pub mode_ending : Bool → List ℕ
@@ -149,23 +160,29 @@ abbrev pub mode_part : ℕ → ℕ → Bool → List ℕ → Rect → Part
 mode_part place duration good connections band = Titled (text_of (codes "mode " ∷ decimal place ∷ codes ", " ∷ decimal duration ∷ counted duration (codes " slot:") (codes " slots:") ∷ connections ∷ mode_ending good ∷ []))
     (band_shapes good band ++ mode_label duration connections band)
 
--- a mode of a list, which begins where those before it end
+-- a mode of a list, which begins where those before it end, where slots of it are shown
 abbrev pub mode_part_from : Net → Scale → ℕ → ℕ → Mode → Part
 mode_part_from net scale place begin mode = mode_part place mode.duration (is_permutation scale.beams mode.perm) (connections_text net mode.perm) (band_of scale begin (begin + mode.duration))
+
+abbrev pub mode_parts_from : Net → Scale → ℕ → ℕ → Mode → List Part
+mode_parts_from net scale place begin mode = if is_shown scale begin (begin + mode.duration) then mode_part_from net scale place begin mode ∷ [] else []
 
 -- what stands in no list
 abbrev pub no_mode : Mode
 no_mode = record { duration = 0; perm = [] }
 
-abbrev pub mode_part_at : Net → Scale → List Mode → ℕ → Part
-mode_part_at net scale modes place = mode_part_from net scale place (begin_of modes place) (slice_index_or modes place no_mode)
+abbrev pub mode_parts_at : Net → Scale → List Mode → ℕ → List Part
+mode_parts_at net scale modes place = mode_parts_from net scale place (begin_of modes place) (slice_index_or modes place no_mode)
+
+abbrev pub bands_parts : Net → Scale → List Mode → List Part
+bands_parts net scale modes = flat_map (mode_parts_at net scale modes) (range_with_len 0 (length modes))
 
 -- what stands beside the bands, and the bands
 abbrev pub modes_head : Part
 modes_head = Alone (Label (at 1560 1740) End style.Text (text_of (codes "modes" ∷ [])))
 
 abbrev pub modes_parts : Net → Scale → List Mode → List Part
-modes_parts net scale modes = modes_head ∷ map (mode_part_at net scale modes) (range_with_len 0 (length modes))
+modes_parts net scale modes = modes_head ∷ bands_parts net scale modes
 
 -- the slots of the bursts in a lane
 abbrev pub slots_in_lane : Net → Direction → List Burst → ℕ → ℕ
@@ -192,14 +209,21 @@ lane_part direction name slots whole heavy lane rest right = Titled (text_of (di
 -- the lane of a beam
 abbrev pub lane_part_at : Net → Scale → Plan → Direction → ℕ → Part
 lane_part_at net scale plan direction beam = lane_part direction (name_of_beam net beam) (slots_in_lane net direction plan.bursts beam) scale.length
-    (is_critical plan.schedule.critical direction beam) (slots_box scale direction beam 0 scale.length) (slots_box scale direction beam scale.length (scale.frame - scale.length)) (x_of scale scale.span + 160)
+    (is_critical plan.schedule.critical direction beam) (slots_box scale direction beam 0 scale.length) (slots_box scale direction beam scale.length (scale.frame - scale.length)) (x_of scale scale.end + 160)
+
+-- the lane of a beam, where it has one, and the lanes of all beams
+abbrev pub lane_parts_at : Net → Scale → Plan → Direction → ℕ → List Part
+lane_parts_at net scale plan direction beam = if is_drawn scale beam then lane_part_at net scale plan direction beam ∷ [] else []
+
+abbrev pub each_lane_parts : Net → Scale → Plan → Direction → List Part
+each_lane_parts net scale plan direction = flat_map (lane_parts_at net scale plan direction) (range_with_len 0 scale.beams)
 
 -- what stands over the lanes of a direction, and the lanes
 abbrev pub lanes_head : Scale → Direction → Part
 lanes_head scale direction = Alone (Label (at 320 (lane_top scale direction 0 - 160)) Start style.Head (text_of (direction_head direction ∷ [])))
 
 abbrev pub lanes_parts : Net → Scale → Plan → Direction → List Part
-lanes_parts net scale plan direction = lanes_head scale direction ∷ map (lane_part_at net scale plan direction) (range_with_len 0 scale.beams)
+lanes_parts net scale plan direction = lanes_head scale direction ∷ each_lane_parts net scale plan direction
 
 -- the title of a burst: who sends to whom in which slots
 abbrev pub burst_title : List ℕ → List ℕ → ℕ → ℕ → List ℕ
@@ -236,24 +260,51 @@ burst_shapes up down up_beam down_beam from to = if has_room up.width from to
     then lined_shapes up down down_beam up_beam (text_of (from ∷ [])) (text_of (ARROW.now ∷ to ∷ []))
     else Rectangle up (style.Fill down_beam) ∷ Rectangle down (style.Fill up_beam) ∷ [])
 
+-- a box with its fill, and two lines of letters in it
+abbrev pub one_lined_shapes : Rect → ℕ → List ℕ → List ℕ → List Shape
+one_lined_shapes box fill first second = Rectangle box (style.Fill fill) ∷ line_in box 210 first ∷ line_in box 400 second ∷ []
+
+-- one box of a burst, where the other has no lane: its fill, and the names where there is room
+abbrev pub one_box_shapes : Rect → ℕ → List ℕ → List ℕ → List Shape
+one_box_shapes box fill from to = if has_room box.width from to
+    then Rectangle box (style.Fill fill) ∷ names_in box from to ∷ []
+    else (if have_lines box.width from to
+    then one_lined_shapes box fill (text_of (from ∷ [])) (text_of (ARROW.now ∷ to ∷ []))
+    else Rectangle box (style.Fill fill) ∷ [])
+
+-- a burst under its title, by whether its uplink beam has a lane, and whether its downlink beam has one
+abbrev pub boxed_parts : Bool → Bool → List ℕ → Rect → Rect → ℕ → ℕ → List ℕ → List ℕ → List Part
+boxed_parts true true title up down up_beam down_beam from to = Titled title (burst_shapes up down up_beam down_beam from to) ∷ []
+boxed_parts true false title up down up_beam down_beam from to = Titled title (one_box_shapes up down_beam from to) ∷ []
+boxed_parts false true title up down up_beam down_beam from to = Titled title (one_box_shapes down up_beam from to) ∷ []
+boxed_parts false false title up down up_beam down_beam from to = []
+
 -- a burst between two beams
-abbrev pub burst_part : Scale → Burst → ℕ → List ℕ → ℕ → List ℕ → Part
-burst_part scale burst up_beam from down_beam to = Titled (burst_title from to burst.start burst.length)
-    (burst_shapes (slots_box scale Up up_beam burst.start burst.length) (slots_box scale Down down_beam burst.start burst.length) up_beam down_beam from to)
+abbrev pub burst_parts : Scale → Burst → ℕ → List ℕ → ℕ → List ℕ → List Part
+burst_parts scale burst up_beam from down_beam to = boxed_parts (is_drawn scale up_beam) (is_drawn scale down_beam) (burst_title from to burst.start burst.length)
+    (slots_box scale Up up_beam burst.start burst.length) (slots_box scale Down down_beam burst.start burst.length) up_beam down_beam from to
 
--- a burst of a network
-abbrev pub burst_part_of : Net → Scale → Burst → Part
-burst_part_of net scale burst = burst_part scale burst (beam_number net burst.from) (name_at net burst.from) (beam_number net burst.to) (name_at net burst.to)
+-- a burst of a network, where slots of it are shown
+abbrev pub burst_parts_of : Net → Scale → Burst → List Part
+burst_parts_of net scale burst = if is_shown scale burst.start (end_of burst)
+    then burst_parts scale burst (beam_number net burst.from) (name_at net burst.from) (beam_number net burst.to) (name_at net burst.to) else []
 
--- the slots of a burst that lie past the length, in both of its lanes
-abbrev pub overrun_part : Scale → ℕ → ℕ → ℕ → ℕ → Part
-overrun_part scale up_beam down_beam start slots = Titled (text_of (codes "past the length" ∷ []))
-    (Rectangle (slots_box scale Up up_beam start slots) style.Fault ∷ Rectangle (slots_box scale Down down_beam start slots) style.Fault ∷ [])
+-- broken edges round the boxes of a burst, by whether its uplink beam has a lane, and whether its downlink beam has one
+abbrev pub edges_parts : Bool → Bool → List ℕ → Rect → Rect → List Part
+edges_parts true true title up down = Titled title (Rectangle up style.Fault ∷ Rectangle down style.Fault ∷ []) ∷ []
+edges_parts true false title up down = Titled title (Rectangle up style.Fault ∷ []) ∷ []
+edges_parts false true title up down = Titled title (Rectangle down style.Fault ∷ []) ∷ []
+edges_parts false false title up down = []
 
--- the mark of a burst that runs past the length
-abbrev pub overrun_parts : Net → Scale → Burst → List Part
-overrun_parts net scale burst = if nat_lt scale.length (end_of burst)
-    then overrun_part scale (beam_number net burst.from) (beam_number net burst.to) (max burst.start scale.length) (end_of burst - max burst.start scale.length) ∷ [] else []
+-- the slots of a burst that lie past the length, in the lanes of its beams
+abbrev pub overrun_parts : Scale → ℕ → ℕ → ℕ → ℕ → List Part
+overrun_parts scale up_beam down_beam start slots = edges_parts (is_drawn scale up_beam) (is_drawn scale down_beam) (text_of (codes "past the length" ∷ []))
+    (slots_box scale Up up_beam start slots) (slots_box scale Down down_beam start slots)
+
+-- the mark of a burst that runs past the length, where slots of it there are shown
+abbrev pub overrun_parts_of : Net → Scale → Burst → List Part
+overrun_parts_of net scale burst = if nat_lt scale.length (end_of burst) && is_shown scale (max burst.start scale.length) (end_of burst)
+    then overrun_parts scale (beam_number net burst.from) (beam_number net burst.to) (max burst.start scale.length) (end_of burst - max burst.start scale.length) else []
 
 -- the latest end of the bursts in a lane, and 0 where there are none
 abbrev pub latest_end : Net → Direction → List Burst → ℕ → ℕ
@@ -267,9 +318,9 @@ clash_mark first last box = Titled (text_of (codes "bursts meet from slot " ∷ 
 abbrev pub clash_part : Scale → Direction → ℕ → ℕ → ℕ → Part
 clash_part scale direction beam start slots = clash_mark start (start + slots - 1) (slots_box scale direction beam start slots)
 
--- the mark of a burst, where those before it in its lane end behind its start
+-- the mark of a burst, where those before it in its lane end behind its start, where it has a lane and slots of the mark are shown
 abbrev pub clash_parts : Scale → Direction → ℕ → Burst → ℕ → List Part
-clash_parts scale direction beam burst latest = if nat_lt burst.start (min (end_of burst) latest)
+clash_parts scale direction beam burst latest = if nat_lt burst.start (min (end_of burst) latest) && (is_drawn scale beam && is_shown scale burst.start (min (end_of burst) latest))
     then clash_part scale direction beam burst.start (min (end_of burst) latest - burst.start) ∷ [] else []
 
 -- what stands in no list
@@ -314,12 +365,12 @@ abbrev pub legend_parts : Net → Scale → List Part
 legend_parts net scale = legend_head scale ∷ map (fill_part_at net scale) (range_with_len 0 scale.beams) ++ silent_part scale ∷ free_part scale ∷ []
 
 -- all parts, each of which lies over those before it
-abbrev pub chart_parts : Net → Scale → Plan → List Part
-chart_parts net scale plan = heading_parts net plan ++ ruler_parts scale ++ modes_parts net scale plan.schedule.modes
+abbrev pub chart_parts : Net → Scale → Plan → Choice → List Part
+chart_parts net scale plan choice = heading_parts net plan choice ++ ruler_parts scale ++ modes_parts net scale plan.schedule.modes
     ++ lanes_parts net scale plan Up ++ lanes_parts net scale plan Down
-    ++ map (burst_part_of net scale) plan.bursts ++ flat_map (overrun_parts net scale) plan.bursts
+    ++ flat_map (burst_parts_of net scale) plan.bursts ++ flat_map (overrun_parts_of net scale) plan.bursts
     ++ clashes_parts net scale Up plan.bursts ++ clashes_parts net scale Down plan.bursts ++ legend_parts net scale
 
--- the picture of a plan
-abbrev pub plan_picture : Net → Plan → Picture
-plan_picture net plan = let scale = scale_of net plan in record { width = width_of scale; height = height_of scale; parts = chart_parts net scale plan }
+-- the picture of what is chosen of a plan
+abbrev pub plan_picture : Net → Plan → Choice → Picture
+plan_picture net plan choice = let scale = scale_of net plan choice in record { width = width_of scale; height = height_of scale; parts = chart_parts net scale plan choice }

@@ -14,28 +14,29 @@ use crate::lanes::add_lanes;
 use crate::legend::add_legend;
 use crate::modes::add_modes;
 use crate::scale::{height_of, scale_of, width_of};
-use crate::{Direction, Scale};
+use crate::{Choice, Direction, Scale};
 use bt_demand::Plan;
 use bt_frame::OutOfMemory;
 use bt_net::Network;
 use bt_picture::{write_foot, write_head};
 use std::alloc::Global;
 
-/// Appends the picture of a plan of a network, as SVG: what stands in which slot of which lane, whether the plan is good or
-/// not. Want of memory leaves a first part of it.
+/// Appends the picture of what is chosen of a plan of a network, as SVG: what stands in which slot of which lane, whether the
+/// plan is good or not. Want of memory leaves a first part of it.
 pub fn plan_picture(
     alloc: Global,
     net: &Network,
     plan: &Plan,
+    choice: Choice,
     out: &mut Vec<u8>,
 ) -> Result<(), OutOfMemory>
     requires terminals { AreBetweenTerminals net.now plan.now.bursts }
     requires critical { IsOfBeams (length net.now.beams) plan.now.schedule.critical }
-    ensures written { OnOk result (out.new.items ≡ out.old.items ++ picture_text (plan_picture net.now plan.now)) }
+    ensures written { OnOk result (out.new.items ≡ out.old.items ++ picture_text (plan_picture net.now plan.now choice)) }
 {
-    let scale = scale_of(net, plan);
+    let scale = scale_of(net, plan, choice);
     write_head(alloc, width_of(scale), height_of(scale), out)?;
-    add_chart(alloc, net, scale, plan, out)?;
+    add_chart(alloc, net, scale, plan, choice, out)?;
     write_foot(out)
 }
 
@@ -45,15 +46,16 @@ fn add_chart(
     net: &Network,
     scale: Scale,
     plan: &Plan,
+    choice: Choice,
     out: &mut Vec<u8>,
 ) -> Result<(), OutOfMemory>
     requires scale { IsScale scale }
     requires beams { scale.beams ≡ length net.now.beams }
     requires terminals { AreBetweenTerminals net.now plan.now.bursts }
     requires critical { IsOfBeams (length net.now.beams) plan.now.schedule.critical }
-    ensures { OnOk result (out.new.items ≡ out.old.items ++ parts_text (chart_parts net.now scale plan.now)) }
+    ensures { OnOk result (out.new.items ≡ out.old.items ++ parts_text (chart_parts net.now scale plan.now choice)) }
 {
-    add_heading(alloc, net, plan, out)?;
+    add_heading(alloc, net, plan, choice, out)?;
     add_ruler(alloc, scale, out)?;
     add_modes(alloc, net, scale, plan.schedule.modes.as_slice(), out)?;
     add_lanes(alloc, net, scale, plan, Direction::Up, out)?;

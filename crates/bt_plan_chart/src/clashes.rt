@@ -8,7 +8,7 @@ ghost use Rattle.bt_plan_chart.specs.Scale.{IsScale};
 
 use crate::fullness::beam_at;
 use crate::part::add_titled;
-use crate::scale::{end_of, slots_box};
+use crate::scale::{end_of, is_drawn, is_shown, slots_box};
 use crate::{Direction, Scale};
 use bt_demand::Burst;
 use bt_frame::{MOST_BEAMS, OutOfMemory};
@@ -41,7 +41,9 @@ pub(crate) fn add_clashes(
     Ok(())
 }
 
-/// Appends the mark of a burst, where those before it in its lane end behind its start.
+/// Appends the mark of a burst, where those before it in its lane end behind its start, where it has a lane and slots of the
+/// mark are shown.
+#[tactic(auto, using(crate::proofs::Adding::left_out))]
 fn add_clash_of(
     alloc: Global,
     scale: Scale,
@@ -57,14 +59,16 @@ fn add_clash_of(
 {
     let start = u64::from(burst.start);
     let end = end_of(burst).min(latest);
-    if start < end {
+    let beam = u64::from(beam);
+    let marked = start < end && (is_drawn(scale, beam) && is_shown(scale, start, end));
+    if marked {
         add_clash(
             alloc,
             scale,
             direction,
-            u64::from(beam),
+            beam,
             start,
-            end - start,
+            end.saturating_sub(start),
             out,
         )
     } else {

@@ -1,10 +1,11 @@
 // What stands over the lanes: the heading and the ruler.
-ghost use Rattle.std.specs.Prelude.{◌≡◌, ◌++◌, ◌*◌, ◌≤◌, ◌<◌, ◌^◌, true, [], ◌∷◌, length, OnOk};
+ghost use Rattle.std.specs.Prelude.{◌≡◌, ◌++◌, ◌+◌, ◌*◌, ◌≤◌, ◌<◌, ◌^◌, true, [], ◌∷◌, length, Some, None, OnOk};
 ghost use Rattle.bt_frame.specs.Critical.{IsOfBeams};
-ghost use Rattle.bt_plan_chart.specs.Chart.{counted, counts_part, critical_beam, critical_direction, direction_name, has_tick, heading_parts, name_of_beam, ruler_parts, step_among, step_of, tick_part, tick_parts, ticks_parts, title_part};
+ghost use Rattle.bt_plan_chart.specs.Chart.{counted, counts_part, critical_beam, critical_direction, direction_name, first_tick, has_tick, heading_parts, last_tick_parts, name_of_beam, ruler_parts, step_among, step_of, tick_part, tick_parts, ticks_parts, title_part};
 ghost use Rattle.bt_plan_chart.specs.Parts.{parts_text};
 ghost use Rattle.bt_plan_chart.specs.Scale.{IsScale, x_of};
 
+use crate::choice::{Choice, SlotRange};
 use crate::part::{add_alone, add_titled};
 use crate::scale::x_of;
 use crate::{Direction, Scale};
@@ -34,22 +35,63 @@ pub(crate) fn add_heading(
     alloc: Global,
     net: &Network,
     plan: &Plan,
+    choice: Choice,
     out: &mut Vec<u8>,
 ) -> Result<(), OutOfMemory>
     requires { IsOfBeams (length net.now.beams) plan.now.schedule.critical }
-    ensures { OnOk result (out.new.items ≡ out.old.items ++ parts_text (heading_parts net.now plan.now)) }
+    ensures { OnOk result (out.new.items ≡ out.old.items ++ parts_text (heading_parts net.now plan.now choice)) }
 {
-    add_title(alloc, plan.edition.0, out)?;
+    add_title(alloc, plan.edition.0, choice.slots, out)?;
     add_counts(alloc, net, plan, out)
 }
 
-/// Appends the edition.
-fn add_title(alloc: Global, edition: u32, out: &mut Vec<u8>) -> Result<(), OutOfMemory>
-    ensures { OnOk result (out.new.items ≡ out.old.items ++ parts_text (title_part edition ∷ [])) }
+/// Appends the edition, and the slots where not all are shown.
+fn add_title(
+    alloc: Global,
+    edition: u32,
+    slots: Option<SlotRange>,
+    out: &mut Vec<u8>,
+) -> Result<(), OutOfMemory>
+    ensures { OnOk result (out.new.items ≡ out.old.items ++ parts_text (title_part edition slots ∷ [])) }
+{
+    match slots {
+        None => add_whole_title(alloc, edition, out),
+        Some(range) => add_part_title(alloc, edition, range, out),
+    }
+}
+
+/// Appends the edition, where all slots are shown.
+fn add_whole_title(alloc: Global, edition: u32, out: &mut Vec<u8>) -> Result<(), OutOfMemory>
+    ensures { OnOk result (out.new.items ≡ out.old.items ++ parts_text (title_part edition None ∷ [])) }
 {
     let words = [
         Word::Text("Plan of edition "),
         Word::Number(u64::from(edition)),
+    ];
+    let at = Point { x: 320, y: 480 };
+    add_alone(
+        alloc,
+        Shape::Label(at, Anchor::Start, Style::Title, &words),
+        out,
+    )
+}
+
+/// Appends the edition and the slots that are shown.
+fn add_part_title(
+    alloc: Global,
+    edition: u32,
+    range: SlotRange,
+    out: &mut Vec<u8>,
+) -> Result<(), OutOfMemory>
+    ensures { OnOk result (out.new.items ≡ out.old.items ++ parts_text (title_part edition (Some range) ∷ [])) }
+{
+    let words = [
+        Word::Text("Plan of edition "),
+        Word::Number(u64::from(edition)),
+        Word::Text(", slots "),
+        Word::Number(u64::from(range.first)),
+        Word::Text(" to "),
+        Word::Number(u64::from(range.last)),
     ];
     let at = Point { x: 320, y: 480 };
     add_alone(
@@ -162,14 +204,16 @@ pub(crate) fn name_of_beam(net: &Network, beam: BeamNo) -> &str
 
 /// Slots from a tick to the next.
 fn step_of(span: u64) -> u32
-    ensures { result ≡ step_of span }
+    ensures same { result ≡ step_of span }
+    ensures some { 1 ≤ result }
 {
     step_among(&STEPS, span)
 }
 
 /// The first of some steps that leaves few enough ticks.
 fn step_among(steps: &[u32], span: u64) -> u32
-    ensures { result ≡ step_among steps.now span }
+    ensures same { result ≡ step_among steps.now span }
+    ensures some { 1 ≤ result }
 {
     match steps {
         [step, rest @ ..] => {
@@ -188,19 +232,51 @@ pub(crate) fn add_ruler(alloc: Global, scale: Scale, out: &mut Vec<u8>) -> Resul
     requires { IsScale scale }
     ensures { OnOk result (out.new.items ≡ out.old.items ++ parts_text (ruler_parts scale)) }
 {
-    add_ticks(alloc, scale, u64::from(step_of(scale.span)), out)
+    let step = step_of(scale.end - scale.begin);
+    add_ticks(alloc, scale, u64::from(step), out)
 }
 
 /// Appends the ticks of a ruler, with so many slots from one to the next, and that at the end of the frame.
 fn add_ticks(alloc: Global, scale: Scale, step: u64, out: &mut Vec<u8>) -> Result<(), OutOfMemory>
     requires scale { IsScale scale }
+    requires some { 1 ≤ step }
     requires small { step ≤ 2 ^ 32 }
     ensures { OnOk result (out.new.items ≡ out.old.items ++ parts_text (ticks_parts scale step)) }
 {
+    let first = first_tick(scale.begin, step);
     for tick in 0..TICKS {
-        add_tick_within(alloc, scale, step, tick * step, out)?;
+        add_tick_within(alloc, scale, step, first + tick * step, out)?;
     }
-    add_tick_at(alloc, scale, scale.frame, out)
+    add_last_tick(alloc, scale, out)
+}
+
+/// The first slot from one on that is a multiple of a step.
+fn first_tick(begin: u64, step: u64) -> u64
+    requires begin { begin ≤ 2 ^ 33 }
+    requires some { 1 ≤ step }
+    requires small { step ≤ 2 ^ 32 }
+    ensures same { result ≡ first_tick begin step }
+    ensures near { result ≤ begin + step }
+{
+    let past = begin % step;
+    if past == 0 {
+        begin
+    } else {
+        begin.saturating_sub(past) + step
+    }
+}
+
+/// Appends the tick at the end of the frame, where that is shown.
+#[tactic(auto, using(crate::proofs::Adding::left_out))]
+fn add_last_tick(alloc: Global, scale: Scale, out: &mut Vec<u8>) -> Result<(), OutOfMemory>
+    requires { IsScale scale }
+    ensures { OnOk result (out.new.items ≡ out.old.items ++ parts_text (last_tick_parts scale)) }
+{
+    if scale.begin <= scale.frame && scale.frame <= scale.end {
+        add_tick_at(alloc, scale, scale.frame, out)
+    } else {
+        Ok(())
+    }
 }
 
 /// Appends a tick at a slot, where it has one.
@@ -230,10 +306,12 @@ fn has_tick(scale: Scale, step: u64, slot: u64) -> bool
     requires step { step ≤ 2 ^ 32 }
     requires slot { slot ≤ 2 ^ 36 }
     ensures same { result ≡ has_tick scale step slot }
-    ensures shown { result ≡ true → slot ≤ scale.span }
+    ensures shown { result ≡ true → slot ≤ scale.end }
 {
     let half = step / 2;
-    slot <= scale.span && (slot + half < scale.frame || scale.frame + half < slot)
+    scale.begin <= slot
+        && slot <= scale.end
+        && (slot + half < scale.frame || scale.frame + half < slot)
 }
 
 /// Appends the tick at a slot.

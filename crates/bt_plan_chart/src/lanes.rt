@@ -2,14 +2,14 @@
 ghost use Rattle.std.specs.Prelude.{◌≡◌, ◌++◌, ◌<◌, ◌≤◌, ◌^◌, [], ◌∷◌, codes, length, OnOk};
 ghost use Rattle.bt_demand.specs.Apart.{AreBetweenTerminals};
 ghost use Rattle.bt_picture.specs.Picture.{drawn, words_text, Titled};
-ghost use Rattle.bt_plan_chart.specs.Chart.{direction_head, is_critical, lane_letters, lane_part, lane_part_at, lane_style, lanes_parts, name_letters, slots_in_lane};
+ghost use Rattle.bt_plan_chart.specs.Chart.{direction_head, each_lane_parts, is_critical, lane_letters, lane_part, lane_part_at, lane_parts_at, lane_style, lanes_head, lanes_parts, name_letters, slots_in_lane};
 ghost use Rattle.bt_plan_chart.specs.Parts.{parts_text};
 ghost use Rattle.bt_plan_chart.specs.Scale.{IsScale};
 
 use crate::fullness::fullness;
 use crate::heading::{counted, direction_name, name_of_beam};
 use crate::part::{add_alone, add_titled};
-use crate::scale::{lane_top, slots_box, x_of};
+use crate::scale::{is_drawn, lane_top, slots_box, x_of};
 use crate::{Direction, Scale};
 use bt_demand::Plan;
 use bt_frame::{BeamNo, Critical, OutOfMemory};
@@ -32,19 +32,27 @@ pub(crate) fn add_lanes(
     requires terminals { AreBetweenTerminals net.now plan.now.bursts }
     ensures { OnOk result (out.new.items ≡ out.old.items ++ parts_text (lanes_parts net.now scale plan.now direction)) }
 {
-    let words = [Word::Text(direction_head(direction))];
-    let at = Point {
-        x: 320,
-        y: lane_top(scale, direction, 0) - 160,
-    };
-    add_alone(
-        alloc,
-        Shape::Label(at, Anchor::Start, Style::Head, &words),
-        out,
-    )?;
+    add_lanes_head(alloc, scale, direction, out)?;
+    add_each_lane(alloc, net, scale, plan, direction, out)
+}
+
+/// Appends the lanes of all beams that have one in a direction.
+fn add_each_lane(
+    alloc: Global,
+    net: &Network,
+    scale: Scale,
+    plan: &Plan,
+    direction: Direction,
+    out: &mut Vec<u8>,
+) -> Result<(), OutOfMemory>
+    requires scale { IsScale scale }
+    requires beams { scale.beams ≡ length net.now.beams }
+    requires terminals { AreBetweenTerminals net.now plan.now.bursts }
+    ensures { OnOk result (out.new.items ≡ out.old.items ++ parts_text (each_lane_parts net.now scale plan.now direction)) }
+{
     let slots = fullness(net, direction, plan.bursts.as_slice());
     for beam in 0..scale.beams {
-        add_lane_of(
+        add_lane_if_any(
             alloc,
             net,
             scale,
@@ -56,6 +64,54 @@ pub(crate) fn add_lanes(
         )?;
     }
     Ok(())
+}
+
+/// Appends the lane of a beam, where it has one, with so many slots of bursts in it.
+#[tactic(auto, using(crate::proofs::Adding::left_out))]
+fn add_lane_if_any(
+    alloc: Global,
+    net: &Network,
+    scale: Scale,
+    plan: &Plan,
+    direction: Direction,
+    beam: u64,
+    slots: u64,
+    out: &mut Vec<u8>,
+) -> Result<(), OutOfMemory>
+    requires scale { IsScale scale }
+    requires beams { scale.beams ≡ length net.now.beams }
+    requires beam { beam < scale.beams }
+    requires slots { slots ≡ slots_in_lane net.now direction plan.now.bursts beam }
+    ensures { OnOk result (out.new.items ≡ out.old.items ++ parts_text (lane_parts_at net.now scale plan.now direction beam)) }
+{
+    let drawn = is_drawn(scale, beam);
+    if drawn {
+        add_lane_of(alloc, net, scale, plan, direction, beam, slots, out)
+    } else {
+        Ok(())
+    }
+}
+
+/// Appends what stands over the lanes of a direction.
+fn add_lanes_head(
+    alloc: Global,
+    scale: Scale,
+    direction: Direction,
+    out: &mut Vec<u8>,
+) -> Result<(), OutOfMemory>
+    requires { IsScale scale }
+    ensures { OnOk result (out.new.items ≡ out.old.items ++ parts_text (lanes_head scale direction ∷ [])) }
+{
+    let words = [Word::Text(direction_head(direction))];
+    let at = Point {
+        x: 320,
+        y: lane_top(scale, direction, 0) - 160,
+    };
+    add_alone(
+        alloc,
+        Shape::Label(at, Anchor::Start, Style::Head, &words),
+        out,
+    )
 }
 
 /// What stands over the lanes of a direction.
@@ -102,7 +158,7 @@ fn add_lane_of(
     let lane = slots_box(scale, direction, beam, 0, scale.length);
     let free = scale.frame.saturating_sub(scale.length);
     let rest = slots_box(scale, direction, beam, scale.length, free);
-    let right = x_of(scale, scale.span) + 160;
+    let right = x_of(scale, scale.end) + 160;
     add_lane(
         alloc,
         direction,

@@ -16,6 +16,7 @@
 
 mod bursts;
 mod chart;
+mod choice;
 mod clashes;
 mod fullness;
 mod heading;
@@ -27,6 +28,7 @@ mod part;
 mod scale;
 
 pub use chart::plan_picture;
+pub use choice::{Choice, SlotRange};
 pub use laws::{
     good_plans_have_no_overlap, meeting_bursts_are_marked, meeting_bursts_overlap,
     permutations_are_told,

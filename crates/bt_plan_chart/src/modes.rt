@@ -1,7 +1,7 @@
 // The band of the modes, over the lanes.
 ghost use Rattle.std.specs.Prelude.{◌≡◌, ◌++◌, ◌+◌, ◌^◌, ◌≤◌, [], ◌∷◌, codes, length, string_bytes, IfOk, OnOk};
 ghost use Rattle.bt_picture.specs.Picture.{drawn, words_text, Titled};
-ghost use Rattle.bt_plan_chart.specs.Chart.{are_below, are_distinct, band_of, band_shapes, connections_text, is_permutation, mode_ending, mode_part, mode_part_from, modes_parts, name_of_beam};
+ghost use Rattle.bt_plan_chart.specs.Chart.{are_below, are_distinct, band_of, band_shapes, bands_parts, connections_text, is_permutation, mode_ending, mode_part, mode_part_from, mode_parts_from, modes_parts, name_of_beam};
 ghost use Rattle.bt_plan_chart.specs.declared.bursts.TheConstants.{ARROW};
 ghost use Rattle.bt_plan_chart.specs.Parts.{parts_text};
 ghost use Rattle.bt_plan_chart.specs.Scale.{IsScale};
@@ -10,7 +10,7 @@ use crate::Scale;
 use crate::bursts::ARROW;
 use crate::heading::{counted, name_of_beam};
 use crate::part::{add_alone, add_titled};
-use crate::scale::x_of;
+use crate::scale::{is_shown, width_between, x_of};
 use bt_frame::{BeamNo, Mode, OutOfMemory};
 use bt_net::Network;
 use bt_picture::{Anchor, Point, Rect, Shape, Style};
@@ -36,12 +36,50 @@ pub(crate) fn add_modes(
         Shape::Label(at, Anchor::End, Style::Text, &words),
         out,
     )?;
+    add_bands(alloc, net, scale, modes, out)
+}
+
+/// Appends the bands of the modes of which slots are shown.
+fn add_bands(
+    alloc: Global,
+    net: &Network,
+    scale: Scale,
+    modes: &[Mode],
+    out: &mut Vec<u8>,
+) -> Result<(), OutOfMemory>
+    requires scale { IsScale scale }
+    requires few { length modes.now ≤ 2147483648 }
+    ensures { OnOk result (out.new.items ≡ out.old.items ++ parts_text (bands_parts net.now scale modes.now)) }
+{
     let mut begin = 0u64;
     for (place, mode) in modes.iter().enumerate() {
-        add_mode(alloc, net, scale, place as u64, begin, mode, out)?;
+        add_mode_if_shown(alloc, net, scale, place as u64, begin, mode, out)?;
         begin += u64::from(mode.duration);
     }
     Ok(())
+}
+
+/// Appends the band of a mode that begins at a slot, where slots of it are shown.
+#[tactic(auto, using(crate::proofs::Adding::left_out))]
+fn add_mode_if_shown(
+    alloc: Global,
+    net: &Network,
+    scale: Scale,
+    place: u64,
+    begin: u64,
+    mode: &Mode,
+    out: &mut Vec<u8>,
+) -> Result<(), OutOfMemory>
+    requires scale { IsScale scale }
+    requires begin { begin ≤ 2 ^ 63 }
+    ensures { OnOk result (out.new.items ≡ out.old.items ++ parts_text (mode_parts_from net.now scale place begin mode.now)) }
+{
+    let shown = is_shown(scale, begin, begin + u64::from(mode.duration));
+    if shown {
+        add_mode(alloc, net, scale, place, begin, mode, out)
+    } else {
+        Ok(())
+    }
 }
 
 /// Appends the band of a mode that begins at a slot.
@@ -114,12 +152,12 @@ fn band_of(scale: Scale, begin: u64, end: u64) -> Rect
     ensures across { result.x ≤ 2 ^ 48 }
     ensures wide { result.width ≤ 2 ^ 48 }
 {
-    let first = begin.min(scale.span);
-    let last = end.min(scale.span);
+    let first = begin.min(scale.end);
+    let last = end.min(scale.end);
     Rect {
         x: x_of(scale, first),
         y: 1520,
-        width: (last - first) * scale.unit,
+        width: width_between(scale, first, last),
         height: 280,
     }
 }
