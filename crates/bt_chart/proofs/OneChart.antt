@@ -7,6 +7,7 @@ use Rattle.bt_load.specs.Loaders.{Loader, file}
 use Rattle.bt_load.proofs.OneLoad.{IsLawful, Loads-same, done_alike, file_lawful, nothing_lawful, tested_lawful, then_lawful}
 use Rattle.bt_report.specs.Outcome.{Outcome}
 use Rattle.bt_chart.specs.Request.{Request, Faulty, ChartPlan, ChartRun}
+use Rattle.bt_chart.specs.Plans.{ChooseAPart, ChooseNone, part_file}
 use Rattle.bt_chart.specs.Runs.{AreTerminals, FindsStranger, chosen_file}
 use Rattle.bt_chart.specs.Top.{AreTold, Charts, ChartsBy, Command, Draws, IsOneBy, IsOneChart, NeedsBy, command_of}
 
@@ -20,6 +21,16 @@ never_both names net a one all = let both : false ≡ true = sym one.0 ∙ all i
 chosen_lawful : (net : List ℕ) (names : List (List ℕ)) → IsLawful (chosen_file net names)
 chosen_lawful net names = tested_lawful (AreTerminals names) (FindsStranger names) (file network_file net) (file_lawful network_file net) (stranger_same names) (never_both names)
 
+-- words choose a part of the plans of a network, or none
+none_same : (words : List (List ℕ)) (net : Net) (a b : Outcome) → ChooseNone words net a → ChooseNone words net b → a ≡ b
+none_same words net a b one other = one.1 ∙ sym other.1
+
+none_apart : (words : List (List ℕ)) (net : Net) (a : Outcome) → ChooseNone words net a → ChooseAPart words net → ⊥
+none_apart words net a none some = let both : false ≡ true = sym none.0 ∙ some in cc
+
+part_lawful : (net : List ℕ) (words : List (List ℕ)) → IsLawful (part_file net words)
+part_lawful net words = tested_lawful (ChooseAPart words) (ChooseNone words) (file network_file net) (file_lawful network_file net) (none_same words) (none_apart words)
+
 -- a command whose loads stop in one way, or give one value, with which it draws one picture, or one as good as another
 record IsLawfulCommand {Value : Type 0} (loads : Loader Value) (after : Value → Outcome → Type 0) (choice : Choice) : Type 1 where
   lawful : IsLawful loads
@@ -30,8 +41,8 @@ LawsBy (Draws Value loads after choice) = IsLawfulCommand loads after choice
 
 laws_of : (request : Request) → LawsBy (command_of request)
 laws_of Faulty = record { lawful = nothing_lawful; same = λ none a b one other. one ∙ sym other }
-laws_of (ChartPlan net plan) = record {
-  lawful = then_lawful (file network_file net) (λ network. file (plan_file network) plan) (file_lawful network_file net) (λ network. file_lawful (plan_file network) plan);
+laws_of (ChartPlan net plan words) = record {
+  lawful = then_lawful (part_file net words) (λ network. file (plan_file network) plan) (part_lawful net words) (λ network. file_lawful (plan_file network) plan);
   same = λ both a b one other. one ∙ sym other;
 }
 laws_of (ChartRun net output names) = record {

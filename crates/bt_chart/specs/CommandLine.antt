@@ -8,5 +8,5 @@ use Rattle.bt_chart.specs.Request.{Request, Faulty, ChartPlan, ChartRun}
 -- what the command line asks for
 abbrev pub asked : CommandLine → Request
 asked command.Faulty = Faulty
-asked (command.ChartPlan net plan) = ChartPlan net.now plan.now
+asked (command.ChartPlan net plan words) = ChartPlan net.now plan.now (map string_bytes words.now)
 asked (command.ChartRun net output names) = ChartRun net.now output.now (map string_bytes names.now)

@@ -1,5 +1,6 @@
 pub mod Request
 pub mod CommandLine
+pub mod Choosing
 pub mod Plans
 pub mod Runs
 pub mod Top

@@ -1,17 +1,16 @@
 -- What the words after the program's name ask for.
-use Rattle.std.specs.Prelude.{ℕ, ◌&&◌, if◌then◌else◌, nat_lt, length, codes, List, [], ◌∷◌}
+use Rattle.std.specs.Prelude.{ℕ, ◌&&◌, if◌then◌else◌, nat_lt, length, codes, List, ◌∷◌}
 use Rattle.std.specs.Str.{bytes_eq}
 
 -- a command with its words, or words of no command
 pub data Request : Type 0 where
   Faulty : Request
-  ChartPlan : List ℕ → List ℕ → Request
+  ChartPlan : List ℕ → List ℕ → List (List ℕ) → Request
   ChartRun : List ℕ → List ℕ → List (List ℕ) → Request
 
--- `plan NET PLAN`; a word that names a file is not empty, and no word stands behind the two
+-- `plan NET PLAN [BEAM ..] [FIRST-LAST]`; a word that names a file is not empty
 abbrev pub plan_request : List ℕ → List ℕ → List (List ℕ) → Request
-plan_request net plan [] = if nat_lt 0 (length net) && nat_lt 0 (length plan) then ChartPlan net plan else Faulty
-plan_request net plan (_ ∷ _) = Faulty
+plan_request net plan words = if nat_lt 0 (length net) && nat_lt 0 (length plan) then ChartPlan net plan words else Faulty
 
 -- `run NET OUTPUT [NAME ..]`
 abbrev pub run_request : List ℕ → List ℕ → List (List ℕ) → Request

@@ -20,7 +20,7 @@ command {Value} loads after choice = Draws Value loads after choice
 -- THE TABLE: what is loaded for a command, what it draws of the value that is loaded, and whether one picture is right, or any.
 abbrev pub command_of : Request → Command
 command_of Faulty = command nothing (λ none. SaysFaultyWords) Exactly
-command_of (ChartPlan net plan) = command (plan_files net plan) (λ both. DrawsPlan both.0 both.1) Exactly
+command_of (ChartPlan net plan words) = command (plan_files net plan words) (λ both. DrawsPlan words both.0 both.1) Exactly
 command_of (ChartRun net output names) = command (output_files net output names) (λ both. DrawsRun) AnyGood
 
 -- the outcomes of a command: its loads stop with them, or it has them with the value that they give

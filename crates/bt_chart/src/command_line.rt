@@ -9,10 +9,11 @@ ghost use Rattle.bt_chart.specs.Request.{asked_with, chart_request_of, plan_requ
 pub enum CommandLine<'a> {
     /// The words are none of the table.
     Faulty,
-    /// `plan NET PLAN`.
+    /// `plan NET PLAN [BEAM ..] [FIRST-LAST]`.
     ChartPlan {
         net: &'a str,
         plan: &'a str,
+        words: &'a [String],
     },
     /// `run NET OUTPUT [NAME ..]`.
     ChartRun {
@@ -50,13 +51,13 @@ fn with_files<'a>(
     }
 }
 
-fn plan_of<'a>(net: &'a str, plan: &'a str, names: &[String]) -> CommandLine<'a>
-    ensures { asked result ≡ plan_request net.now plan.now (map string_bytes names.now) }
+fn plan_of<'a>(net: &'a str, plan: &'a str, words: &'a [String]) -> CommandLine<'a>
+    ensures { asked result ≡ plan_request net.now plan.now (map string_bytes words.now) }
 {
-    if net.is_empty() || plan.is_empty() || !names.is_empty() {
+    if net.is_empty() || plan.is_empty() {
         CommandLine::Faulty
     } else {
-        CommandLine::ChartPlan { net, plan }
+        CommandLine::ChartPlan { net, plan, words }
     }
 }
 

@@ -35,7 +35,9 @@ fn chart_words<F: Files>(alloc: Global, words: &[String], files: &mut F) -> Resu
 {
     match command_line_of(words) {
         CommandLine::Faulty => Ok(faulty_words(alloc)?),
-        CommandLine::ChartPlan { net, plan } => chart_plan(alloc, files, net, plan),
+        CommandLine::ChartPlan { net, plan, words } => {
+            chart_plan(alloc, files, net, plan, words)
+        }
         CommandLine::ChartRun { net, output, names } => {
             chart_run(alloc, files, net, output, names)
         }

@@ -5,7 +5,6 @@ use Rattle.bt_load.specs.Kinds.{output_file}
 use Rattle.bt_load.specs.Loaders.{file}
 use Rattle.bt_load.proofs.Loads.{came_then, file_sooner}
 use Rattle.bt_chart.specs.Runs.{DrawsRun, chosen_file}
-use Rattle.bt_chart.proofs.Chosen.{came_to_stranger}
 use Rattle.bt_chart.proofs.run.chart_run.Goals as goal
 
 pub returns : goal.returns
