@@ -12,7 +12,7 @@ use crate::look::look;
 use bt_book::{RecoverFault, demands_fit_the_frame};
 use bt_demand::{Demand, Link};
 use bt_frame::{EditionNo, OutOfMemory, Units};
-use bt_journal::{Change, Edit, change_text, mark_text};
+use bt_journal::{Change, Edit, mark_text, write_change};
 use bt_net::Network;
 use std::alloc::Global;
 
@@ -86,7 +86,5 @@ fn add_link(
         to: link.to,
         units,
     });
-    let line = change_text(alloc, net, edition, &add)?;
-    text.extend_from_slice(line.as_slice())?;
-    Ok(())
+    write_change(alloc, net, edition, &add, text)
 }
