@@ -7,14 +7,15 @@ ghost use Rattle.bt_journal.specs.JournalLines.{IsChangeInRange, edits_in, units
 ghost use Rattle.bt_history.specs.Changes.{edition};
 ghost use Rattle.bt_history.specs.Causes.{IsChangeOn, IsGood};
 ghost use Rattle.bt_history.specs.Machine.{ChangeStep, line_behind};
-ghost use Rattle.bt_history.specs.Records.{CrashStep, IsBookFull, Stores, call_of};
+ghost use Rattle.bt_history.specs.Records.{CrashStep, IsBookFull, IsSpelled, Stores, call_of};
 
 use crate::machine::Machine;
 use crate::place::parts_of;
 use bt_frame::{EditionNo, OutOfMemory};
-use bt_journal::{Call, Change, Edit, Entry, Reply, change_text};
+use bt_journal::{Call, Change, Edit, Entry, Reply, write_change};
 use bt_outside::Keeper;
 use std::alloc::Global;
+use std::mem;
 
 impl Machine {
     /// Answers a change that is asked for: refuses it for its first cause, or makes it and keeps its line in the store.
@@ -75,10 +76,45 @@ impl Machine {
         ensures err_crashes { OnErr result (K.crashes store.new ≡ K.crashes store.old) }
     {
         let number = self.number_of(&asked);
-        let line = change_text(alloc, self.network(), number, &asked)?;
+        let mut line = mem::replace(&mut self.line, Vec::new(alloc));
+        line.clear();
+        write_change(alloc, self.network(), number, &asked, &mut line)?;
+        let reply = self.make_with_line(alloc, caller, asked, line.as_slice(), store);
+        self.line = line;
+        reply
+    }
+
+    /// Makes a good change where the journal has room for its line, which is this one.
+    fn make_with_line<K: Keeper>(
+        &mut self,
+        alloc: Global,
+        caller: u32,
+        asked: Change,
+        line: &[u8],
+        store: &mut K,
+    ) -> Result<Reply, OutOfMemory>
+        requires on { IsChangeOn self.old.net asked }
+        requires runs { self.old.state.stopped ≡ false }
+        requires good { IsGood self.old.net self.old.state.changes asked }
+        requires line { line.now ≡ line_behind self.old.net self.old.state.changes asked }
+        requires spelled { IsSpelled self.old.net self.old.state.changes asked }
+        requires settled { IsSettled (K.told store.old) (K.crashes store.old) }
+        ensures step { IfOk result (λ reply. ChangeStep self.old.net self.old.state asked reply self.new.state) }
+        ensures entry { IfOk result (λ reply. self.new.history
+            ≡ self.old.history ++ record { caller = caller; call = call_of asked; reply = reply } ∷ []) }
+        ensures store { IfOk result (λ reply. Stores self.old.net self.old.state.changes asked reply
+            (K.told store.old) (K.told store.new) (K.fault_count store.old) (K.fault_count store.new)) }
+        ensures crash { IfOk result (λ reply. CrashStep (line_behind self.old.net self.old.state.changes asked) reply
+            (K.told store.old) (K.told store.new) (K.crashes store.old) (K.crashes store.new)) }
+        ensures net { self.new.net ≡ self.old.net }
+        ensures err { OnErr result (self.new ≡ self.old) }
+        ensures err_told { OnErr result (K.told store.new ≡ K.told store.old) }
+        ensures err_faults { OnErr result (K.fault_count store.new ≡ K.fault_count store.old) }
+        ensures err_crashes { OnErr result (K.crashes store.new ≡ K.crashes store.old) }
+    {
         match self.book_full(line.len()) {
             Some(full) => self.answer(alloc, caller, call_of(asked), full),
-            None => self.make(alloc, caller, asked, line.as_slice(), store),
+            None => self.make(alloc, caller, asked, line, store),
         }
     }
 

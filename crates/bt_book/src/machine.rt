@@ -28,6 +28,8 @@ pub(crate) struct Machine {
     pub(crate) kept: Kept,
     pub(crate) history: Vec<Entry>,
     pub(crate) stopped: bool,
+    // the memory in which the line of a change is spelled; no call reads what stands there
+    pub(crate) line: Vec<u8>,
 }
 
 impl Model for Machine {
@@ -68,6 +70,7 @@ impl Machine {
             kept,
             history: Vec::new(alloc),
             stopped: false,
+            line: Vec::new(alloc),
         })
     }
 
