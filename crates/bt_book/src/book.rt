@@ -288,8 +288,8 @@ impl<K: Keeper> Book<K> {
         self.machine.take_entries(alloc)
     }
 
-    /// The store, and the entries of all calls in order, but for those that were handed over. The next opening of the store has the book's changes, or these and
-    /// the one that it lost, also where a crash comes before it.
+    /// The store, and the entries that were not handed over, in order. The next opening of the store has the book's changes, or
+    /// these and the one that it lost, also where a crash comes before it.
     pub fn into_parts(self) -> (K, Vec<Entry>)
         ensures told { K.told result.0 ≡ self.told }
         ensures faults { K.fault_count result.0 ≡ self.faults }

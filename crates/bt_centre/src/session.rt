@@ -258,6 +258,7 @@ fn opening_text<K: Keeper>(alloc: Global, playing: &Live<K>) -> Result<Vec<u8>, 
     begin_text(alloc, &playing.run)
 }
 
+// What is said in front of the first line: the start, and that the session is ready.
 fn begin_text<K: Keeper>(
     alloc: Global,
     run: &Playing<K, TracedEvents>,

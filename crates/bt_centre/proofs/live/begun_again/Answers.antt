@@ -1,5 +1,5 @@
 -- the time that is over is one of the times
-use Rattle.std.proofs.Common.{◌≡◌, List, [], ◌∷◌, ◌++◌, ap, ◌∙◌, map, sym}
+use Rattle.std.proofs.Common.{List, [], ◌∷◌, ◌++◌, ap, ◌∙◌, map, sym}
 use Rattle.bt_centre.specs.declared.history.History.{History}
 use Rattle.bt_centre.specs.Handed.{with_front}
 use Rattle.bt_centre.specs.Progress.{Hand}

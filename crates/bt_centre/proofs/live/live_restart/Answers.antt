@@ -1,7 +1,6 @@
 -- the time is over, and the centre restarted; or memory ran out, or the recovery failed
-use Rattle.std.proofs.Common.{◌≡◌, List, [], ◌∷◌, ◌++◌, subst, sym, ap, ◌∙◌, length}
+use Rattle.std.proofs.Common.{[], ◌∷◌, ◌++◌, subst, sym, ap, length}
 use Rattle.bt_script.specs.declared.script.Item.TheVariants as item
-use Rattle.bt_centre.specs.declared.history.History.{History}
 use Rattle.bt_centre.specs.Handed.{with_front}
 use Rattle.bt_centre.specs.Progress.{Hand, ItemFailed, Left, RestartPlayed, history_in}
 use Rattle.bt_centre.specs.Whole.{whole, whole_left}

@@ -1,5 +1,5 @@
 -- a round was played, and the entries were handed over; or memory ran out over it
-use Rattle.std.proofs.Common.{subst, sym, ap, ◌∙◌}
+use Rattle.std.proofs.Common.{subst, sym}
 use Rattle.bt_centre.specs.Progress.{Hand, IsLeftEarly, Left, RoundPlayed}
 use Rattle.bt_centre.specs.Whole.{whole, whole_left}
 use Rattle.bt_centre.proofs.Whole.{early_whole, live_round, one_of_early, round_whole}

@@ -1,5 +1,5 @@
 -- with the entries in front of those that it keeps, the book is as it was
-use Rattle.std.proofs.Common.{◌≡◌, ap, ◌∙◌, subst, sym}
+use Rattle.std.proofs.Common.{ap, ◌∙◌, subst, sym}
 use Rattle.bt_history.specs.Book.{Books}
 use Rattle.bt_history.specs.Machine.{State}
 use Rattle.bt_round.specs.Boards.{IsPublished}

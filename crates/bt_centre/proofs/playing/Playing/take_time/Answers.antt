@@ -1,5 +1,5 @@
 -- the room stays, and all else
-use Rattle.std.proofs.Common.{◌≡◌, List, ap, ◌∙◌, sym, length, arith}
+use Rattle.std.proofs.Common.{List, ap, ◌∙◌, sym, length, arith}
 use Rattle.bt_centre.specs.declared.history.History.{History}
 use Rattle.bt_centre.specs.Progress.{Hand}
 use Rattle.bt_centre.proofs.playing.Playing.take_time.Goals as goal
