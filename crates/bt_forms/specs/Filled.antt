@@ -1,7 +1,6 @@
 -- The line of a form, with words at its places.
-use Rattle.std.specs.Prelude.{ℕ, List, [], ◌∷◌, drop, map}
-use Rattle.bt_words.specs.declared.line.Word.{Word}
-use Rattle.bt_words.specs.Lines.{line_of, word_bytes}
+use Rattle.std.specs.Prelude.{ℕ, List, [], ◌∷◌}
+use Rattle.bt_words.specs.Lines.{line_of}
 use Rattle.bt_forms.specs.declared.form.Form.{Form}
 use Rattle.bt_forms.specs.Forms as part
 use Rattle.bt_forms.specs.Forms.{Part, parts_of}
@@ -16,7 +15,3 @@ filled (place ∷ places) (first ∷ words) = first ∷ filled places words
 -- the line of this form, with these words at the places that have no fixed one, in order
 abbrev pub form_line : Form → List (List ℕ) → List ℕ
 form_line form words = line_of (filled (parts_of form) words)
-
--- for bodies: what the words spell behind the first so many of them
-abbrev pub words_from : List Word → ℕ → List (List ℕ)
-words_from words used = map word_bytes (drop used words)

@@ -2,8 +2,8 @@
 //!
 //! A form is what stands at each place of its line, in order: a fixed word, or a word of some kind. `form.rt` has the forms,
 //! `token.rt` and `specs/Forms.antt` the table, a row a form in the same order. It stands on words and lines (`bt_words`), and a
-//! name is a word here, so that no network is needed. `specs/Forms.antt` is promise, and `specs/Filled.antt`, the line of a form
-//! with these words at its places; its last definition is for bodies.
+//! name is a word here, so that no network is needed. All of `specs/` is promise: `Forms.antt`, the table; `Filled.antt`, the
+//! line of a form with these words at its places.
 #![tactic(auto)]
 
 mod form;

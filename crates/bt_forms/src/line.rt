@@ -1,10 +1,10 @@
 // The line of a form, place by place.
-ghost use Rattle.std.specs.Prelude.{◌≡◌, ◌++◌, ◌∷◌, [], List, map, IfSome, IsNone, OnOk, OnErr};
+ghost use Rattle.std.specs.Prelude.{◌≡◌, ◌++◌, ◌∷◌, map, OnOk, OnErr};
 ghost use Rattle.bt_text.specs.Text.{spaced};
 ghost use Rattle.bt_words.specs.Lines.{line_of, spaced_out, word_bytes};
 ghost use Rattle.bt_words.specs.Written.{Extends};
-ghost use Rattle.bt_forms.specs.Forms.{Part, part_of, parts_of};
-ghost use Rattle.bt_forms.specs.Filled.{filled, form_line, words_from};
+ghost use Rattle.bt_forms.specs.Forms.{part_of};
+ghost use Rattle.bt_forms.specs.Filled.{filled, form_line};
 
 use crate::form::Form;
 use crate::token::{Token, tokens_of};
@@ -12,7 +12,8 @@ use bt_frame::OutOfMemory;
 use bt_words::{Word, add_word};
 use std::alloc::Global;
 
-/// Appends the line of this form, with these words at its places that have no fixed word, in order.
+/// Appends the line of this form, with these words at its places that have no fixed word, in order. The line ends in front of a
+/// place for which no word is left, and words beyond the places are not printed. Where memory runs out the text is as it was.
 pub fn print(
     alloc: Global,
     form: Form,
@@ -58,32 +59,46 @@ fn add_first(
     let Some((token, behind)) = tokens.split_first() else {
         return Ok(());
     };
-    let mut used = 0;
-    let Some(word) = word_at(*token, words, &mut used) else {
-        return Ok(());
-    };
-    add_word(alloc, &word, out)?;
-    add_further(alloc, behind, words, used, out)
+    match *token {
+        Token::Text(text) => {
+            out.extend_from_slice(text.as_bytes())?;
+            add_further(alloc, behind, words, out)
+        }
+        _ => {
+            let Some((word, rest)) = words.split_first() else {
+                return Ok(());
+            };
+            add_word(alloc, word, out)?;
+            add_further(alloc, behind, rest, out)
+        }
+    }
 }
 
-/// Appends the words of these places, where so many words were used in front, a space before each of them. Want of memory leaves a
-/// first part of them.
+/// Appends the words of these places, a space before each of them. Want of memory leaves a first part of them.
 fn add_further(
     alloc: Global,
     tokens: &[Token],
     words: &[Word<'_>],
-    used: usize,
     out: &mut Vec<u8>,
 ) -> Result<(), OutOfMemory>
-    ensures added { OnOk result (out.new.items ≡ out.old.items ++ spaced_out (filled (map part_of tokens.now) (words_from words.now used))) }
+    ensures added { OnOk result (out.new.items ≡ out.old.items ++ spaced_out (filled (map part_of tokens.now) (map word_bytes words.now))) }
     ensures kept { Extends out.old.items out.new.items }
 {
-    let mut at = used;
+    let mut at = 0;
     for token in tokens {
-        let Some(word) = word_at(*token, words, &mut at) else {
-            return Ok(());
-        };
-        add_next(alloc, &word, out)?;
+        match *token {
+            Token::Text(text) => {
+                out.push(b' ')?;
+                out.extend_from_slice(text.as_bytes())?;
+            }
+            _ => {
+                let Some(word) = words.get(at) else {
+                    return Ok(());
+                };
+                add_next(alloc, word, out)?;
+                at += 1;
+            }
+        }
     }
     Ok(())
 }
@@ -95,21 +110,4 @@ fn add_next(alloc: Global, word: &Word<'_>, out: &mut Vec<u8>) -> Result<(), Out
 {
     out.push(b' ')?;
     add_word(alloc, word, out)
-}
-
-/// The word at a place, where so many words were used in front of it, and with it one more where the place has no fixed word;
-/// None where none is left.
-fn word_at<'a>(token: Token, words: &[Word<'a>], used: &mut usize) -> Option<Word<'a>>
-    ensures word { IfSome result (λ word. (places : List Part)
-        → filled (part_of token ∷ places) (words_from words.now used.old) ≡ word_bytes word ∷ filled places (words_from words.now used.new)) }
-    ensures none { IsNone result → (places : List Part) → filled (part_of token ∷ places) (words_from words.now used.old) ≡ [] }
-{
-    match token {
-        Token::Text(text) => Some(Word::Text(text)),
-        _ => {
-            let word = *words.get(*used)?;
-            *used += 1;
-            Some(word)
-        }
-    }
 }

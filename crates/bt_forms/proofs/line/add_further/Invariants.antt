@@ -1,14 +1,14 @@
 -- what was added so far, and the words of the places that are left behind it
 use Rattle.std.proofs.Common.{◌≡◌, ◌++◌, map}
-use Rattle.bt_words.specs.Lines.{spaced_out}
+use Rattle.bt_words.specs.Lines.{spaced_out, word_bytes}
 use Rattle.bt_words.specs.Written.{Extends}
-use Rattle.bt_forms.specs.Filled.{filled, words_from}
+use Rattle.bt_forms.specs.Filled.{filled}
 use Rattle.bt_forms.specs.Forms.{part_of}
 use Rattle.bt_forms.proofs.Places.{left_at}
 use Rattle.bt_forms.proofs.line.add_further.Given as goal
 
 abbrev pub invariant-loop-token : goal.invariant-loop-token
 invariant-loop-token l = record {
-  so_far : l.out.items ++ spaced_out (left_at l.tokens l.token-index l.words l.at) ≡ l.fn.out.items ++ spaced_out (filled (map part_of l.tokens) (words_from l.words l.used));
+  so_far : l.out.items ++ spaced_out (left_at l.tokens l.token-index l.words l.at) ≡ l.fn.out.items ++ spaced_out (filled (map part_of l.tokens) (map word_bytes l.words));
   kept : Extends l.fn.out.items l.out.items;
 }
