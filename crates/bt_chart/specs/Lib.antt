@@ -1,3 +1,4 @@
+pub mod Range
 pub mod Request
 pub mod CommandLine
 pub mod Choosing

@@ -1,5 +1,5 @@
--- `run NET OUTPUT [NAME ..]`: the network is loaded, the names are looked up in it, then the output is loaded, and a picture of it is
--- printed.
+-- `run` and `ladder NET OUTPUT [all] [FIRST-LAST] [NAME ..]`: the network is loaded, the names are looked up in it, then the output is loaded, and a
+-- picture of it is printed.
 use Rattle.std.specs.Prelude.{◌≡◌, ℕ, List, Bool, true, false, is_some}
 use Rattle.std.specs.List.{list_all}
 use Rattle.bt_net.specs.Network.{Net}

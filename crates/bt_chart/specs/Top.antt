@@ -7,7 +7,7 @@ use Rattle.bt_report.specs.Output.{Output}
 use Rattle.bt_load.specs.Choice.{AnyGood, AreAlike, Choice, Exactly}
 use Rattle.bt_load.specs.Loaders.{Loader, Loads, nothing}
 use Rattle.bt_chart.specs.Plans.{DrawsPlan, plan_files}
-use Rattle.bt_chart.specs.Request.{Request, Faulty, ChartPlan, ChartRun}
+use Rattle.bt_chart.specs.Request.{Request, Faulty, ChartPlan, ChartRun, ChartLadder}
 use Rattle.bt_chart.specs.Runs.{DrawsRun, output_files}
 
 -- A command: the value that it loads, its loads, the outcomes that it then has, and which of these may stand for one another.
@@ -21,7 +21,8 @@ command {Value} loads after choice = Draws Value loads after choice
 abbrev pub command_of : Request → Command
 command_of Faulty = command nothing (λ none. SaysFaultyWords) Exactly
 command_of (ChartPlan net plan words) = command (plan_files net plan words) (λ both. DrawsPlan words both.0 both.1) Exactly
-command_of (ChartRun net output names) = command (output_files net output names) (λ both. DrawsRun) AnyGood
+command_of (ChartRun net output view names) = command (output_files net output names) (λ both. DrawsRun) AnyGood
+command_of (ChartLadder net output view names) = command (output_files net output names) (λ both. DrawsRun) AnyGood
 
 -- the outcomes of a command: its loads stop with them, or it has them with the value that they give
 abbrev pub ChartsBy : Command → (List ℕ → Option (List ℕ)) → Type 0 → Outcome → Type 0

@@ -1,8 +1,11 @@
 // What the words after the program's name ask for.
 ghost use Rattle.std.specs.Prelude.{◌≡◌, map};
 ghost use Rattle.std.specs.String.{string_bytes};
-ghost use Rattle.bt_chart.specs.CommandLine.{asked};
-ghost use Rattle.bt_chart.specs.Request.{asked_with, chart_request_of, plan_request, run_request};
+ghost use Rattle.bt_chart.specs.CommandLine.{asked, chosen};
+ghost use Rattle.bt_chart.specs.Request.{asked_with, chart_request_of, chosen_of, ladder_request, plan_request, range_and_names, run_request};
+
+use crate::range::superframes_in;
+use bt_run_chart::View;
 
 /// A command line: a command with its words.
 #[derive(Clone, Copy)]
@@ -15,12 +18,27 @@ pub enum CommandLine<'a> {
         plan: &'a str,
         words: &'a [String],
     },
-    /// `run NET OUTPUT [NAME ..]`.
+    /// `run NET OUTPUT [all] [FIRST-LAST] [NAME ..]`.
     ChartRun {
         net: &'a str,
         output: &'a str,
+        view: View,
         names: &'a [String],
     },
+    /// `ladder NET OUTPUT [all] [FIRST-LAST] [NAME ..]`.
+    ChartLadder {
+        net: &'a str,
+        output: &'a str,
+        view: View,
+        names: &'a [String],
+    },
+}
+
+/// What is asked of a run's superframes, and the names behind that.
+#[derive(Clone, Copy)]
+pub struct Chosen<'a> {
+    view: View,
+    names: &'a [String],
 }
 
 /// The command line that the words are.
@@ -28,7 +46,7 @@ pub fn command_line_of(words: &[String]) -> CommandLine<'_>
     ensures asked { asked result ≡ chart_request_of (map string_bytes words.now) }
 {
     match words {
-        [command, net, file, names @ ..] => with_files(command, net, file, names),
+        [command, net, file, words @ ..] => with_files(command, net, file, words),
         _ => CommandLine::Faulty,
     }
 }
@@ -38,14 +56,16 @@ fn with_files<'a>(
     command: &str,
     net: &'a str,
     file: &'a str,
-    names: &'a [String],
+    words: &'a [String],
 ) -> CommandLine<'a>
-    ensures { asked result ≡ asked_with command.now net.now file.now (map string_bytes names.now) }
+    ensures { asked result ≡ asked_with command.now net.now file.now (map string_bytes words.now) }
 {
     if command == "plan" {
-        plan_of(net, file, names)
+        plan_of(net, file, words)
     } else if command == "run" {
-        run_of(net, file, names)
+        run_of(net, file, words)
+    } else if command == "ladder" {
+        ladder_of(net, file, words)
     } else {
         CommandLine::Faulty
     }
@@ -61,12 +81,59 @@ fn plan_of<'a>(net: &'a str, plan: &'a str, words: &'a [String]) -> CommandLine<
     }
 }
 
-fn run_of<'a>(net: &'a str, output: &'a str, names: &'a [String]) -> CommandLine<'a>
-    ensures { asked result ≡ run_request net.now output.now (map string_bytes names.now) }
+fn run_of<'a>(net: &'a str, output: &'a str, words: &'a [String]) -> CommandLine<'a>
+    ensures { asked result ≡ run_request net.now output.now (map string_bytes words.now) }
 {
     if net.is_empty() || output.is_empty() {
-        CommandLine::Faulty
-    } else {
-        CommandLine::ChartRun { net, output, names }
+        return CommandLine::Faulty;
     }
+    let Chosen { view, names } = chosen_of(words);
+    CommandLine::ChartRun {
+        net,
+        output,
+        view,
+        names,
+    }
+}
+
+fn ladder_of<'a>(net: &'a str, output: &'a str, words: &'a [String]) -> CommandLine<'a>
+    ensures { asked result ≡ ladder_request net.now output.now (map string_bytes words.now) }
+{
+    if net.is_empty() || output.is_empty() {
+        return CommandLine::Faulty;
+    }
+    let Chosen { view, names } = chosen_of(words);
+    CommandLine::ChartLadder {
+        net,
+        output,
+        view,
+        names,
+    }
+}
+
+/// What the words behind the files choose.
+fn chosen_of(words: &[String]) -> Chosen<'_>
+    ensures { chosen result ≡ chosen_of (map string_bytes words.now) }
+{
+    match words {
+        [word, rest @ ..] if word.as_str() == "all" => range_and_names(false, rest),
+        _ => range_and_names(true, words),
+    }
+}
+
+/// The superframes that the first word names, and the names behind it.
+fn range_and_names(folds: bool, words: &[String]) -> Chosen<'_>
+    ensures { chosen result ≡ range_and_names folds (map string_bytes words.now) }
+{
+    if let [word, names @ ..] = words {
+        if let Some(range) = superframes_in(word.as_bytes()) {
+            let view = View {
+                folds,
+                range: Some(range),
+            };
+            return Chosen { view, names };
+        }
+    }
+    let view = View { folds, range: None };
+    Chosen { view, names: words }
 }

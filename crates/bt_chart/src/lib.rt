@@ -3,7 +3,8 @@
 //! It stands on the loader of files (`bt_load`) and on what a report is (`bt_report`), and on the pictures of a plan
 //! (`bt_plan_chart`) and of a run (`bt_run_chart`).
 //! Promises: `specs/Top.antt` has the table of the commands, and says what is drawn and how the program ends; `specs/Request.antt`
-//! says which words are a command, `specs/Choosing.antt` what the words behind a plan choose of it, `specs/Plans.antt` and `specs/Runs.antt` what is loaded for a plan and for a run, in the words
+//! says which words are a command, `specs/Choosing.antt` what the words behind a plan choose of it, `specs/Range.antt` which superframes a
+//! word names, `specs/Plans.antt` and `specs/Runs.antt` what is loaded for a plan and for a run, in the words
 //! of `bt_load`'s `specs/Loaders.antt`, and what is drawn. For bodies alone: `CommandLine`.
 #![tactic(auto)]
 
@@ -11,6 +12,7 @@ mod choosing;
 mod command_line;
 mod laws;
 mod plan;
+mod range;
 mod run;
 mod top;
 

@@ -1,4 +1,4 @@
-// `run NET OUTPUT [NAME ..]`.
+// `run` and `ladder NET OUTPUT [all] [FIRST-LAST] [NAME ..]`.
 ghost use Rattle.std.specs.Prelude.{◌≡◌, All, IfOk, map};
 ghost use Rattle.std.specs.List.{list_all};
 ghost use Rattle.std.specs.String.{string_bytes};
@@ -14,15 +14,27 @@ use bt_load::{load_network, load_output};
 use bt_net::Network;
 use bt_outside::Files;
 use bt_report::{DONE, Report, Stop, faulty_words};
-use bt_run_chart::run_picture;
+use bt_run_chart::{Asked, View, ladder_picture, run_picture};
 use std::alloc::Global;
 
-/// The picture of what a run printed, for the network in another file and with lanes for the terminals of these names.
+/// How a run is drawn.
+#[derive(Clone, Copy)]
+pub enum Drawing {
+    /// From left to right.
+    Rows,
+    /// From top to bottom.
+    Ladder,
+}
+
+/// The picture of what a run printed, for the network in another file: of the superframes that are asked for, with lanes for the
+/// terminals of these names.
 pub fn chart_run<F: Files>(
     alloc: Global,
     files: &mut F,
+    drawing: Drawing,
     net: &str,
     output: &str,
+    view: View,
     names: &[String],
 ) -> Result<Report, Stop>
     ensures { CameTo (Loads (output_files net.now output.now (map string_bytes names.now)) (λ both. DrawsRun) (F.told files.old) (Rose (F.fault_count files.old) (F.fault_count files.new))) result }
@@ -31,7 +43,7 @@ pub fn chart_run<F: Files>(
     if !are_terminals(&net, names) {
         return Ok(faulty_words(alloc)?);
     }
-    chart_output(alloc, files, &net, output, names)
+    chart_output(alloc, files, drawing, &net, output, view, names)
 }
 
 /// Whether each word is the name of a terminal.
@@ -68,8 +80,10 @@ fn terminals_named(
 fn chart_output<F: Files>(
     alloc: Global,
     files: &mut F,
+    drawing: Drawing,
     net: &Network,
     output: &str,
+    view: View,
     names: &[String],
 ) -> Result<Report, Stop>
     ensures { CameTo (Loads (file (output_file net.now) output.now) (λ printed. DrawsRun) (F.told files.old) (Rose (F.fault_count files.old) (F.fault_count files.new))) result }
@@ -77,7 +91,14 @@ fn chart_output<F: Files>(
     let chosen = terminals_named(alloc, net, names)?;
     let text = load_output(alloc, files, output, net)?;
     let mut picture = Vec::new(alloc);
-    run_picture(alloc, net, &text, &chosen, &mut picture)?;
+    let asked = Asked {
+        chosen: &chosen,
+        view,
+    };
+    match drawing {
+        Drawing::Rows => run_picture(alloc, net, &text, asked, &mut picture)?,
+        Drawing::Ladder => ladder_picture(alloc, net, &text, asked, &mut picture)?,
+    }
     Ok(Report {
         text: picture,
         status: DONE,

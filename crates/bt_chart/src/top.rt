@@ -8,7 +8,7 @@ ghost use Rattle.bt_chart.specs.Top.{Charted, Charts};
 
 use crate::command_line::{CommandLine, command_line_of};
 use crate::plan::chart_plan;
-use crate::run::chart_run;
+use crate::run::{Drawing, chart_run};
 use bt_outside::{Files, Sink};
 use bt_report::{Report, Stop, faulty_words, print};
 use std::alloc::Global;
@@ -38,8 +38,17 @@ fn chart_words<F: Files>(alloc: Global, words: &[String], files: &mut F) -> Resu
         CommandLine::ChartPlan { net, plan, words } => {
             chart_plan(alloc, files, net, plan, words)
         }
-        CommandLine::ChartRun { net, output, names } => {
-            chart_run(alloc, files, net, output, names)
-        }
+        CommandLine::ChartRun {
+            net,
+            output,
+            view,
+            names,
+        } => chart_run(alloc, files, Drawing::Rows, net, output, view, names),
+        CommandLine::ChartLadder {
+            net,
+            output,
+            view,
+            names,
+        } => chart_run(alloc, files, Drawing::Ladder, net, output, view, names),
     }
 }

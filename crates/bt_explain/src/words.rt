@@ -150,16 +150,39 @@ fn add_counts(usage: &str, page: &mut Page) {
 /// Says which NAME is that of no terminal.
 fn say_stranger(alloc: Global, behind: &[String], net: Option<&Network>, page: &mut Page) {
     page.add("a NAME is that of no terminal");
-    let (Some(net), [_, _, names @ ..]) = (net, behind) else {
+    let (Some(net), [_, _, words @ ..]) = (net, behind) else {
         return;
     };
-    for name in names {
+    for name in names_of(words) {
         if net.terminal_named(name.as_bytes()).is_none() {
             page.add(": '");
             page.add_name(name);
             page.add("'");
             return ask_stranger(alloc, net, name, page);
         }
+    }
+}
+
+/// The names behind the words that choose superframes, `all` and FIRST-LAST.
+fn names_of(words: &[String]) -> &[String] {
+    let behind = match words {
+        [word, rest @ ..] if word.as_str() == "all" => rest,
+        _ => words,
+    };
+    match behind {
+        [word, names @ ..] if is_range(word) => names,
+        _ => behind,
+    }
+}
+
+/// Whether a word is two numbers with a hyphen between them, the first at most the last.
+fn is_range(word: &str) -> bool {
+    let Some((first, last)) = word.split_once('-') else {
+        return false;
+    };
+    match (number(first.as_bytes()), number(last.as_bytes())) {
+        (Some(first), Some(last)) => first <= last && last <= u64::from(u32::MAX),
+        _ => false,
     }
 }
 

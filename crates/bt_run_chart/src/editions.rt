@@ -16,3 +16,12 @@ pub fn name_of(net: &Network, terminal: TermNo) -> &str {
         ""
     }
 }
+
+/// The beam of a terminal, and the first where the network has no such terminal.
+pub fn beam_of(net: &Network, terminal: TermNo) -> u8 {
+    if u32::from(terminal.0) < net.terminal_count() {
+        net.beam_of(terminal).0
+    } else {
+        0
+    }
+}

@@ -1,6 +1,5 @@
 // Whose bursts of which edition the terminals hold, as far as the printed lines tell: these have neither the Load of a
 // PlanFor nor what a reference burst announces.
-use crate::ladder::Ladder;
 use crate::step::{Delivery, Said, SentMessage, Station};
 use bt_frame::TermNo;
 use bt_picture::Drawn;
@@ -73,11 +72,17 @@ fn is_of(bank: Option<Bank>, edition: u64) -> bool {
     bank.is_some_and(|bank| bank.edition == edition)
 }
 
-/// What all terminals hold, and the last Load of each edition.
+// The most editions whose last Load is known.
+const MOST_LOADS: usize = 64;
+
+/// What all terminals hold, the last Loads, an edition each, and what was sent.
 #[derive(Drop)]
 pub struct Holdings {
     held: Vec<Holding>,
     loads: Vec<Bank>,
+    // Where the next Load is put once there are the most.
+    next: usize,
+    sent: Vec<Said>,
 }
 
 impl Holdings {
@@ -86,6 +91,8 @@ impl Holdings {
         Holdings {
             held: Vec::new(alloc),
             loads: Vec::new(alloc),
+            next: 0,
+            sent: Vec::new(alloc),
         }
     }
 
@@ -96,29 +103,44 @@ impl Holdings {
 
     /// A message is sent: a Load of an edition is the last one of it.
     pub fn send(&mut self, message: SentMessage) -> Drawn {
-        let Said::Load { command, edition } = message.said else {
-            return Ok(());
-        };
-        let load = command;
+        self.sent.push(message.said)?;
+        match message.said {
+            Said::Load { command, edition } => self.load(Bank {
+                edition,
+                load: command,
+            }),
+            _ => Ok(()),
+        }
+    }
+
+    // Remembers the last Load of an edition, in the place of an old one where there are many.
+    fn load(&mut self, loaded: Bank) -> Drawn {
         for bank in self.loads.iter_mut() {
-            if bank.edition == edition {
-                bank.load = load;
+            if bank.edition == loaded.edition {
+                bank.load = loaded.load;
                 return Ok(());
             }
         }
-        self.loads.push(Bank { edition, load })?;
+        if self.loads.len() < MOST_LOADS {
+            self.loads.push(loaded)?;
+            return Ok(());
+        }
+        if let Some(bank) = self.loads.get_mut(self.next) {
+            *bank = loaded;
+        }
+        self.next = self.next.saturating_add(1) % MOST_LOADS;
         Ok(())
     }
 
     /// A terminal takes a message: its bursts, or a reference burst.
-    pub fn take(&mut self, ladder: &Ladder<'_>, delivery: Delivery) -> Drawn {
-        let (Some(posted), Station::Terminal(terminal)) = (
-            ladder.posted_as(delivery.place),
+    pub fn take(&mut self, delivery: Delivery) -> Drawn {
+        let (Some(said), Station::Terminal(terminal)) = (
+            self.sent.get(delivery.place).copied(),
             delivery.hearer,
         ) else {
             return Ok(());
         };
-        match posted.message.said {
+        match said {
             Said::Bursts { edition, .. } if !delivery.refused => self.store(terminal, edition),
             Said::Reference { edition, .. } if !delivery.refused => self.name(terminal, edition),
             _ => Ok(()),

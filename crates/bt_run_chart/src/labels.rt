@@ -1,5 +1,5 @@
 // What is written beside messages and stations, in rows above and below the lanes, upon plates that lie upon all ways.
-use crate::ladder::{LEFT, Ladder, Placed, RIGHT};
+use crate::layout::{LEFT, Layout, Placed, RIGHT};
 use crate::step::{Said, Step};
 use crate::titles::{happening_label, label_of, width_of};
 use bt_frame::OutOfMemory;
@@ -42,11 +42,11 @@ struct Label<'a> {
 
 /// Writes the labels of messages, of what happens to stations, and of hearers that refuse, where there is room: the titles
 /// have them too.
-pub fn write_labels<'a>(alloc: Global, ladder: &Ladder<'a>, pen: &mut Pen<'a>) -> Drawn {
-    let mut shelves = empty_shelves(alloc, ladder)?;
-    for placed in &ladder.placed {
+pub fn write_labels<'a>(alloc: Global, layout: &Layout<'a>, pen: &mut Pen<'a>) -> Drawn {
+    let mut shelves = empty_shelves(alloc, layout)?;
+    for placed in &layout.placed {
         if let Some(label) = label_beside(placed, pen)? {
-            write_beside(ladder, placed, label, shelves.as_mut_slice(), pen)?;
+            write_beside(layout, placed, label, shelves.as_mut_slice(), pen)?;
         }
     }
     Ok(())
@@ -59,6 +59,7 @@ fn label_beside<'a>(placed: &Placed, pen: &Pen<'a>) -> Result<Option<Label<'a>>,
             label_of(message.said, pen)?,
             is_labelled_above(message.said),
         ),
+        Step::Others(_) => (pen.phrase("bursts", &[])?, true),
         Step::Happened(_, happening) => (happening_label(happening, pen)?, true),
         Step::Got(delivery) if delivery.refused => {
             (pen.phrase("#", &[Text(delivery.answer)])?, false)
@@ -70,13 +71,13 @@ fn label_beside<'a>(placed: &Placed, pen: &Pen<'a>) -> Result<Option<Label<'a>>,
 
 // Writes a label in a row of its lane, where one is free.
 fn write_beside<'a>(
-    ladder: &Ladder<'a>,
+    layout: &Layout<'a>,
     placed: &Placed,
     label: Label<'a>,
     shelves: &mut [Shelf],
     pen: &mut Pen<'a>,
 ) -> Drawn {
-    let Some((lane, at)) = ladder.lane_of(placed) else {
+    let Some((lane, at)) = layout.lane_of(placed) else {
         return Ok(());
     };
     let Some(shelf) = shelves.get_mut(lane) else {
@@ -102,8 +103,8 @@ fn left_of(x: u64, width: u64) -> u64 {
     x.saturating_sub(width / 2).min(last).max(FIRST)
 }
 
-// Writes words upon a plate of that width, from its left edge and the foot of the letters.
-fn write_upon_plate<'a>(
+/// Writes words upon a plate of that width, from its left edge and the foot of the letters.
+pub fn write_upon_plate<'a>(
     from: u64,
     y: u64,
     width: u64,
@@ -170,9 +171,9 @@ fn empty_shelf(stave: usize) -> Shelf {
 }
 
 // A shelf for each lane, with nothing on it.
-fn empty_shelves(alloc: Global, ladder: &Ladder<'_>) -> Result<Vec<Shelf>, OutOfMemory> {
+fn empty_shelves(alloc: Global, layout: &Layout<'_>) -> Result<Vec<Shelf>, OutOfMemory> {
     let mut shelves = Vec::new(alloc);
-    for _ in &ladder.lanes.stations {
+    for _ in &layout.lanes.stations {
         shelves.push(empty_shelf(0))?;
     }
     Ok(shelves)

@@ -1,295 +1,86 @@
-// Where each step stands: columns go from left to right, and what does not fit goes on in a further stave below.
+// The picture of a run as a ladder.
+ghost use Rattle.std.specs.Prelude.{All, OnOk};
+ghost use Rattle.bt_net.specs.Terminals.{IsTerminal};
+ghost use Rattle.bt_picture.specs.Drawn.{IsPictureBehind};
+
+use crate::folding::folded;
+use crate::ladder_marks::{draw_notes, draw_rules, write_names};
+use crate::ladder_ways::{draw_departures, draw_ladder_ways};
 use crate::lanes::Lanes;
-use crate::step::{Delivery, SentMessage, Step};
+use crate::rungs::Ladder;
+use crate::step::Step;
+use crate::view::Asked;
+use crate::whole::{asked_steps, write_heading};
 use bt_frame::OutOfMemory;
 use bt_net::Network;
-use bt_picture::{Drawn, Point, place};
+use bt_picture::{Drawn, Pen, Style, write_picture};
 use std::alloc::Global;
 
-/// Twips from the left to the first column.
-pub const LEFT: u64 = 2200;
+// The lines above the ladder, with how far from the top they stand.
+const HEADING: [(u64, Style, &str); 3] = [
+    (
+        480,
+        Style::Title,
+        "What the run printed, from top to bottom",
+    ),
+    (
+        820,
+        Style::Text,
+        "An arrow: a message with its number, from its sender to one that heard it; aslant where that heard it later. A grey one: its hearer refused it.",
+    ),
+    (
+        1120,
+        Style::Text,
+        "A cross: nobody heard it. A box: what happened or was told. In a frame: the bursts of each sender; a ring: a terminal with bursts is silent.",
+    ),
+];
 
-/// Twips of a column.
-pub const COLUMN: u64 = 540;
-
-/// Columns of a stave.
-pub const COLUMNS: u64 = 32;
-
-/// Columns of a frame that is shown.
-pub const FRAME_COLUMNS: u64 = 4;
-
-/// Twips from the left to behind the last column.
-pub const RIGHT: u64 = LEFT + COLUMNS * COLUMN;
-
-/// Twips above the first stave.
-pub const TOP: u64 = 1500;
-
-// Twips from a lane to the next: two rows of labels below the one and two above the other stand there.
-const APART: u64 = 1000;
-
-// Twips from the top of a stave to its first lane: the superframes and two rows of labels stand there.
-const ABOVE_LANES: u64 = 920;
-
-// Twips below the last lane: two rows of labels stand there.
-const BELOW_LANES: u64 = 560;
-
-// Twips of the band of the edition in front, with what separates it from the rows of the air.
-const FRONT: u64 = 420;
-
-// Twips between two staves.
-const BETWEEN: u64 = 500;
-
-/// A step at its place: the middle of its column; the left edge of a superframe and of a frame that is shown.
-#[derive(Clone, Copy)]
-pub struct Placed {
-    pub step: Step,
-    pub stave: usize,
-    pub x: u64,
+/// Appends the picture of what a run printed as a ladder, as SVG: time runs down, and each station has a lane.
+///
+/// `text` is the run's output; lines that no run prints are passed over. Want of memory leaves `out` with a first part of
+/// the picture.
+pub fn ladder_picture(
+    alloc: Global,
+    net: &Network,
+    text: &[u8],
+    asked: Asked<'_>,
+    out: &mut Vec<u8>,
+) -> Result<(), OutOfMemory>
+    requires chosen { All (IsTerminal net.now) asked.chosen.now }
+    ensures picture { OnOk result (IsPictureBehind out.old.items out.new.items) }
+{
+    let steps = asked_steps(alloc, net, text, asked.view)?;
+    if !asked.view.folds {
+        return write_ladder(alloc, net, steps.as_slice(), asked, out);
+    }
+    let folded = folded(alloc, net, steps.as_slice())?;
+    write_ladder(alloc, net, folded.as_slice(), asked, out)
 }
 
-/// A message at its place, where its sender has a lane.
-#[derive(Clone, Copy)]
-pub struct Posted {
-    pub message: SentMessage,
-    pub lane: Option<usize>,
-    pub stave: usize,
-    pub x: u64,
-    pub is_heard: bool,
+// Appends the picture of steps.
+fn write_ladder(
+    alloc: Global,
+    net: &Network,
+    steps: &[Step],
+    asked: Asked<'_>,
+    out: &mut Vec<u8>,
+) -> Result<(), OutOfMemory>
+    ensures { OnOk result (IsPictureBehind out.old.items out.new.items) }
+{
+    let lanes = Lanes::of(alloc, steps, asked.chosen)?;
+    let ladder = Ladder::of(alloc, net, lanes, steps)?;
+    let mut pen = Pen::new(alloc);
+    draw_ladder(&ladder, &mut pen)?;
+    let height = ladder.bottom().saturating_add(300);
+    write_picture(alloc, ladder.width(), height, &pen, out)
 }
 
-/// A row of columns with its lanes.
-#[derive(Clone, Copy)]
-pub struct Stave {
-    pub top: u64,
-    pub has_frames: bool,
-}
-
-/// How high the parts of a stave are, by the number of its lanes and of the network's beams.
-#[derive(Clone, Copy)]
-pub struct Heights {
-    lanes: u64,
-    beams: u64,
-}
-
-impl Heights {
-    /// Where a lane of a stave runs.
-    pub fn lane_y(self, stave: &Stave, lane: usize) -> u64 {
-        let below = (lane as u64).saturating_mul(APART);
-        stave.top.saturating_add(ABOVE_LANES).saturating_add(below)
-    }
-
-    /// Where the band of the edition in front begins.
-    pub fn front_y(self, stave: &Stave) -> u64 {
-        let last = self.lanes.saturating_sub(1);
-        self.lane_y(stave, last as usize)
-            .saturating_add(BELOW_LANES)
-    }
-
-    /// How high a row of the air is: lower where there are many beams.
-    pub fn row(self) -> u64 {
-        match self.beams {
-            0..=8 => 280,
-            9..=16 => 220,
-            _ => 180,
-        }
-    }
-
-    /// Where a row of the air begins.
-    pub fn row_y(self, stave: &Stave, row: u64) -> u64 {
-        let below = row.saturating_mul(self.row());
-        self.front_y(stave)
-            .saturating_add(FRONT)
-            .saturating_add(below)
-    }
-
-    /// Where a stave ends: with the rows of the air and the names of frames below them, where it has some.
-    pub fn bottom(self, stave: &Stave) -> u64 {
-        if stave.has_frames {
-            self.row_y(stave, self.beams).saturating_add(280)
-        } else {
-            self.row_y(stave, 0)
-        }
-    }
-}
-
-/// A run in columns and lanes.
-#[derive(Drop)]
-pub struct Ladder<'a> {
-    pub net: &'a Network,
-    pub lanes: Lanes,
-    pub heights: Heights,
-    pub placed: Vec<Placed>,
-    posted: Vec<Posted>,
-    pub staves: Vec<Stave>,
-    // The next column of the last stave, the place of the step before it, and the message that came there.
-    column: u64,
-    x: u64,
-    heard: Option<usize>,
-}
-
-impl<'a> Ladder<'a> {
-    /// The steps at their places.
-    pub fn of(
-        alloc: Global,
-        net: &'a Network,
-        lanes: Lanes,
-        steps: &[Step],
-    ) -> Result<Ladder<'a>, OutOfMemory> {
-        let mut ladder = Ladder::empty(alloc, net, lanes);
-        ladder.begin_stave()?;
-        for step in steps {
-            ladder.add(*step)?;
-        }
-        ladder.stack();
-        Ok(ladder)
-    }
-
-    // No steps and no stave.
-    fn empty(alloc: Global, net: &'a Network, lanes: Lanes) -> Ladder<'a> {
-        let heights = Heights {
-            lanes: lanes.stations.len() as u64,
-            beams: u64::from(net.beam_count()),
-        };
-        Ladder {
-            net,
-            lanes,
-            heights,
-            placed: Vec::new(alloc),
-            posted: Vec::new(alloc),
-            staves: Vec::new(alloc),
-            column: 0,
-            x: LEFT,
-            heard: None,
-        }
-    }
-
-    // Goes on in a stave below.
-    fn begin_stave(&mut self) -> Drawn {
-        let stave = Stave {
-            top: 0,
-            has_frames: false,
-        };
-        self.staves.push(stave)?;
-        self.column = 0;
-        Ok(())
-    }
-
-    // Puts a step behind the others, unless it is of a station without a lane.
-    fn add(&mut self, step: Step) -> Drawn {
-        let columns = self.columns_of(step);
-        if let Some(columns) = columns {
-            self.put(step, columns)?;
-        }
-        match step {
-            Step::Sent(message) => self.post(message),
-            Step::Got(delivery) => {
-                self.hear(delivery);
-                Ok(())
-            }
-            _ => Ok(()),
-        }
-    }
-
-    // How many columns a step takes; None where it is of a station without a lane.
-    fn columns_of(&self, step: Step) -> Option<u64> {
-        match step {
-            Step::Begin(_) | Step::Burst(_) => Some(0),
-            Step::Shown(_) => Some(FRAME_COLUMNS),
-            Step::Sent(message) => self.lanes.find(message.sender).map(|_| 1),
-            Step::Happened(station, _) => self.lanes.find(station).map(|_| 1),
-            Step::Got(delivery) => self.columns_of_delivery(delivery),
-        }
-    }
-
-    // Who hears the message that was heard last hears it in the same column.
-    fn columns_of_delivery(&self, delivery: Delivery) -> Option<u64> {
-        self.lanes.find(delivery.hearer)?;
-        self.posted_as(delivery.place)?.lane?;
-        let is_same = self.heard == Some(delivery.place);
-        Some(if is_same { 0 } else { 1 })
-    }
-
-    // Puts a step at the next place.
-    fn put(&mut self, step: Step, columns: u64) -> Drawn {
-        if self.column.saturating_add(columns) > COLUMNS {
-            self.begin_stave()?;
-        }
-        let edge = LEFT.saturating_add(self.column.saturating_mul(COLUMN));
-        let x = match step {
-            Step::Begin(_) | Step::Shown(_) => edge,
-            _ if columns == 0 => self.x,
-            _ => edge.saturating_add(COLUMN / 2),
-        };
-        self.column = self.column.saturating_add(columns);
-        self.keep(step, x);
-        let stave = self.staves.len().saturating_sub(1);
-        self.placed.push(Placed { step, stave, x })?;
-        Ok(())
-    }
-
-    // Remembers what the next step may go on from.
-    fn keep(&mut self, step: Step, x: u64) {
-        self.heard = None;
-        match step {
-            Step::Begin(_) => return,
-            Step::Got(delivery) => self.heard = Some(delivery.place),
-            Step::Shown(_) => {
-                if let Some(stave) = self.staves.last_mut() {
-                    stave.has_frames = true;
-                }
-            }
-            _ => (),
-        }
-        self.x = x;
-    }
-
-    // Remembers where a message was sent, behind those before it.
-    fn post(&mut self, message: SentMessage) -> Drawn {
-        let (lane, x) = (self.lanes.find(message.sender), self.x);
-        let stave = self.staves.len().saturating_sub(1);
-        let is_heard = false;
-        self.posted.push(Posted {
-            message,
-            lane,
-            stave,
-            x,
-            is_heard,
-        })?;
-        Ok(())
-    }
-
-    // Remembers that a message was heard.
-    fn hear(&mut self, delivery: Delivery) {
-        if let Some(posted) = self.posted.get_mut(delivery.place) {
-            posted.is_heard = true;
-        }
-    }
-
-    // Puts the staves below each other.
-    fn stack(&mut self) {
-        let heights = self.heights;
-        let mut top = TOP;
-        for stave in self.staves.iter_mut() {
-            stave.top = top;
-            top = heights.bottom(stave).saturating_add(BETWEEN);
-        }
-    }
-
-    /// The stave of a step.
-    pub fn stave(&self, number: usize) -> Option<Stave> {
-        self.staves.get(number).copied()
-    }
-
-    /// The lane of the station that sends, hears or is struck, where it has one, and the place of the step on it.
-    pub fn lane_of(&self, placed: &Placed) -> Option<(usize, Point)> {
-        let stave = self.stave(placed.stave)?;
-        let lane = self.lanes.find(placed.step.station()?)?;
-        let y = self.heights.lane_y(&stave, lane);
-        Some((lane, place(placed.x, y)))
-    }
-
-    /// The message of that place among those of the text, where it was sent.
-    pub fn posted_as(&self, place: usize) -> Option<Posted> {
-        self.posted.get(place).copied()
-    }
+// Draws a ladder: what is drawn later lies upon the rest.
+fn draw_ladder<'a>(ladder: &Ladder<'a>, pen: &mut Pen<'a>) -> Drawn {
+    write_heading(&HEADING, pen)?;
+    draw_rules(ladder, pen)?;
+    draw_ladder_ways(ladder, pen)?;
+    write_names(ladder, pen)?;
+    draw_notes(ladder, pen)?;
+    draw_departures(ladder, pen)
 }

@@ -1,7 +1,7 @@
 // The lanes: who has one, in which order, and how they are drawn.
 use crate::editions::name_of;
-use crate::ladder::{LEFT, Ladder, RIGHT, Stave};
-use crate::step::{Station, Step};
+use crate::layout::{LEFT, Layout, RIGHT, Stave};
+use crate::step::{Said, SentMessage, Station, Step};
 use bt_frame::{BeamNo, OutOfMemory, TermNo};
 use bt_net::Network;
 use bt_picture::{Anchor, Drawn, Pen, Shape, Style, place};
@@ -15,6 +15,8 @@ pub const MOST_LANES: usize = 12;
 #[derive(Drop)]
 pub struct Lanes {
     pub stations: Vec<Station>,
+    /// The terminals were chosen.
+    pub are_chosen: bool,
 }
 
 impl Lanes {
@@ -22,7 +24,11 @@ impl Lanes {
     /// where none are, the first that send or hear.
     pub fn of(alloc: Global, steps: &[Step], chosen: &[TermNo]) -> Result<Lanes, OutOfMemory> {
         let stations = Vec::new(alloc);
-        let mut lanes = Lanes { stations };
+        let are_chosen = !chosen.is_empty();
+        let mut lanes = Lanes {
+            stations,
+            are_chosen,
+        };
         lanes.add(Station::Centre)?;
         if steps
             .iter()
@@ -31,10 +37,10 @@ impl Lanes {
             lanes.add(Station::Standby)?;
         }
         lanes.add(Station::Satellite)?;
-        if chosen.is_empty() {
-            lanes.add_terminals(heard_terminals(alloc, steps)?.as_slice())?;
-        } else {
+        if are_chosen {
             lanes.add_terminals(chosen)?;
+        } else {
+            lanes.add_terminals(heard_terminals(alloc, steps)?.as_slice())?;
         }
         Ok(lanes)
     }
@@ -54,18 +60,28 @@ impl Lanes {
         Ok(())
     }
 
+    /// A message is for a terminal that has no lane.
+    pub fn passes(&self, message: SentMessage) -> bool {
+        match message.said {
+            Said::Bursts { to, .. } => self.find(Station::Terminal(to)).is_none(),
+            _ => false,
+        }
+    }
+
     /// The lane of a station, from 0 at the top.
     pub fn find(&self, station: Station) -> Option<usize> {
         self.stations.iter().position(|other| *other == station)
     }
 }
 
-// The first terminals that send or hear, in the network's order.
+// The first terminals that send or hear in what is asked for, in the network's order.
 fn heard_terminals(alloc: Global, steps: &[Step]) -> Result<Vec<TermNo>, OutOfMemory> {
     let mut terminals: Vec<TermNo> = Vec::new(alloc);
+    let mut is_hidden = false;
     for step in steps {
+        is_hidden = step.hides(is_hidden);
         if let Some(Station::Terminal(terminal)) = step.station() {
-            let is_new = !terminals.iter().any(|other| *other == terminal);
+            let is_new = !is_hidden && !terminals.iter().any(|other| *other == terminal);
             if is_new && terminals.len() < MOST_LANES {
                 terminals.push(terminal)?;
             }
@@ -76,30 +92,30 @@ fn heard_terminals(alloc: Global, steps: &[Step]) -> Result<Vec<TermNo>, OutOfMe
 }
 
 /// Draws the lanes of each stave with their names.
-pub fn draw_lanes<'a>(ladder: &Ladder<'a>, pen: &mut Pen<'a>) -> Drawn {
-    for stave in &ladder.staves {
-        draw_stave(ladder, stave, pen)?;
+pub fn draw_lanes<'a>(layout: &Layout<'a>, pen: &mut Pen<'a>) -> Drawn {
+    for stave in &layout.staves {
+        draw_stave(layout, stave, pen)?;
         if stave.has_frames {
-            name_rows(ladder, stave, pen)?;
+            name_rows(layout, stave, pen)?;
         }
     }
     Ok(())
 }
 
 // Draws the lanes of a stave.
-fn draw_stave<'a>(ladder: &Ladder<'a>, stave: &Stave, pen: &mut Pen<'a>) -> Drawn {
-    for (lane, station) in ladder.lanes.stations.iter().enumerate() {
-        let y = ladder.heights.lane_y(stave, lane);
+fn draw_stave<'a>(layout: &Layout<'a>, stave: &Stave, pen: &mut Pen<'a>) -> Drawn {
+    for (lane, station) in layout.lanes.stations.iter().enumerate() {
+        let y = layout.heights.lane_y(stave, lane);
         pen.shape(Shape::Line(place(LEFT, y), place(RIGHT, y), Style::Thin))?;
-        let name = station_name(ladder.net, *station);
+        let name = station_name(layout.net, *station);
         write_name(pen, y.saturating_add(75), letters_of(name), name)?;
     }
-    let y = ladder.heights.front_y(stave);
+    let y = layout.heights.front_y(stave);
     write_name(pen, y.saturating_add(210), Style::Text, "in front")
 }
 
-// The letters of a name: small ones where it is long.
-fn letters_of(name: &str) -> Style {
+/// The letters of a name: small ones where it is long.
+pub fn letters_of(name: &str) -> Style {
     if name.len() > 11 {
         Style::Small
     } else {
@@ -114,10 +130,10 @@ fn write_name<'a>(pen: &mut Pen<'a>, y: u64, style: Style, name: &'a str) -> Dra
 }
 
 // Writes the names of the beams before the rows of the air.
-fn name_rows<'a>(ladder: &Ladder<'a>, stave: &Stave, pen: &mut Pen<'a>) -> Drawn {
-    for beam in 0..ladder.net.beam_count() {
-        let y = ladder.heights.row_y(stave, u64::from(beam));
-        let name = ladder.net.beam_name(BeamNo(beam as u8));
+fn name_rows<'a>(layout: &Layout<'a>, stave: &Stave, pen: &mut Pen<'a>) -> Drawn {
+    for beam in 0..layout.net.beam_count() {
+        let y = layout.heights.row_y(stave, u64::from(beam));
+        let name = layout.net.beam_name(BeamNo(beam as u8));
         write_name(pen, y.saturating_add(150), Style::Small, name)?;
     }
     Ok(())

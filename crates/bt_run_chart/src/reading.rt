@@ -1,7 +1,8 @@
 // The steps of a run, from its printed lines.
 use crate::numbering::Numbering;
 use crate::step::{
-    ArmedChange, Delivery, Frame, Happening, OnAir, Said, SentMessage, ShownStatus, Station, Step,
+    ArmedChange, Delivery, Frame, Happening, Note, OnAir, Said, SentMessage, ShownStatus, Station,
+    Step,
 };
 use bt_air::{Heard, Taken};
 use bt_frame::{OutOfMemory, TermNo};
@@ -53,7 +54,7 @@ impl Context {
             return Ok(0);
         };
         if let Some(step) = self.step_of(&printed) {
-            steps.push(step)?;
+            add_step(step, steps)?;
         }
         self.before = Some(printed.form);
         Ok(told_behind(line))
@@ -109,6 +110,38 @@ impl Context {
             answer,
             refused,
         })
+    }
+}
+
+// Adds a step; edits one behind the other are one.
+fn add_step(step: Step, steps: &mut Vec<Step>) -> Result<(), OutOfMemory> {
+    if let Step::Noted(Note::Edited { edition, .. }) = step {
+        if let Some(last) = steps.last_mut() {
+            if joins(last, edition) {
+                return Ok(());
+            }
+        }
+    }
+    steps.push(step)?;
+    Ok(())
+}
+
+// Adds an edit to a step, where that is of edits.
+fn joins(step: &mut Step, newest: u64) -> bool {
+    match step {
+        Step::Noted(note) => joins_edits(note, newest),
+        _ => false,
+    }
+}
+
+fn joins_edits(note: &mut Note, newest: u64) -> bool {
+    match note {
+        Note::Edited { count, edition } => {
+            *count = count.saturating_add(1);
+            *edition = newest.max(*edition);
+            true
+        }
+        _ => false,
     }
 }
 
@@ -204,7 +237,22 @@ fn happening_of(line: &Printed) -> Option<Step> {
         (Form::Back, [Value::Number(edition)]) => Some(Step::Happened(Station::Centre, Happening::Back(*edition))),
         (Form::Ahead, []) => Some(Step::Happened(Station::Centre, Happening::Ahead)),
         (Form::Frame, [Value::Frame(mark, number), Value::Number(fore)]) => Some(Step::Shown(Frame { mark: *mark, number: *number, fore: *fore })),
+        (Form::Lost, [Value::Number(count)]) if *count > 0 => Some(Step::Noted(Note::Lost(*count))),
+        (Form::Planned, [Value::Number(edition), ..]) => Some(Step::Noted(Note::Planned(*edition))),
+        (Form::DeskDone, [_, Value::Number(edition), _]) => Some(Step::Noted(Note::Edited { count: 1, edition: *edition })),
         (Form::Air, [Value::Number(start), Value::Number(length), Value::Terminal(from), Value::Terminal(to)]) => Some(Step::Burst(OnAir { start: *start, length: *length, from: *from, to: *to })),
-        _ => None,
+        _ => Some(Step::Noted(Note::Refused(refused_text(line.form)?))),
     }
+}
+
+// What was not taken; None where the line tells of no such thing.
+#[rattlefmt::skip]
+fn refused_text(form: Form) -> Option<&'static str> {
+    Some(match form {
+        Form::DeskSameTerminal | Form::DeskNotThere | Form::DeskRowFull | Form::DeskColumnFull | Form::DeskBookFull => "edit refused",
+        Form::PlanBookFull => "plan refused",
+        Form::OrderBookFull | Form::OrderOutOfTurn | Form::OrderNotInstalled => "order refused",
+        Form::DeskStoreFault | Form::PlanStoreFault | Form::OrderStoreFault | Form::StoreFault => "store fault",
+        _ => return None,
+    })
 }

@@ -1,6 +1,6 @@
 // What lasts over columns: superframes, and the edition in front.
 use crate::editions::tint_of;
-use crate::ladder::{COLUMN, LEFT, Ladder, Placed, RIGHT, Stave};
+use crate::layout::{COLUMN, FOLD_COLUMNS, LEFT, Layout, Placed, RIGHT, Stave};
 use crate::step::{Said, Step};
 use bt_frame::OutOfMemory;
 use bt_picture::{Anchor, Drawn, Pen, Shape, Style, place, rectangle};
@@ -14,10 +14,11 @@ enum Lasting {
     InFront,
 }
 
-// Its number, and where it lasts in a stave.
+// Its number, that of the last superframe of several, and where it lasts in a stave.
 #[derive(Clone, Copy)]
 struct Span {
     number: u64,
+    last: u64,
     stave: usize,
     from: u64,
     to: u64,
@@ -34,10 +35,10 @@ impl Span {
 }
 
 /// Draws the superframes, each over its columns, every second one upon a shade.
-pub fn draw_superframes<'a>(alloc: Global, ladder: &Ladder<'a>, pen: &mut Pen<'a>) -> Drawn {
-    for span in &spans_of(alloc, ladder, Lasting::Superframe)? {
-        if let Some(stave) = ladder.stave(span.stave) {
-            let height = ladder.heights.bottom(&stave).saturating_sub(stave.top);
+pub fn draw_superframes<'a>(alloc: Global, layout: &Layout<'a>, pen: &mut Pen<'a>) -> Drawn {
+    for span in &spans_of(alloc, layout, Lasting::Superframe)? {
+        if let Some(stave) = layout.stave(span.stave) {
+            let height = layout.heights.bottom(&stave).saturating_sub(stave.top);
             draw_superframe(&stave, *span, height, pen)?;
         }
     }
@@ -46,23 +47,29 @@ pub fn draw_superframes<'a>(alloc: Global, ladder: &Ladder<'a>, pen: &mut Pen<'a
 
 fn draw_superframe(stave: &Stave, span: Span, height: u64, pen: &mut Pen<'_>) -> Drawn {
     let edge = place(span.from, stave.top);
-    if span.number % 2 == 1 {
+    let is_one = span.number == span.last;
+    if is_one && span.number % 2 == 1 {
         pen.shape(rectangle(edge, span.width(), height, Style::Shade))?;
     }
     let foot = place(span.from, stave.top.saturating_add(height));
     pen.shape(Shape::Line(edge, foot, Style::Thin))?;
+    let y = stave.top.saturating_add(260);
+    if !is_one {
+        let words = pen.phrase("# to #", &[Number(span.number), Number(span.last)])?;
+        let at = place(span.from.saturating_add(FOLD_COLUMNS * COLUMN / 2), y);
+        return pen.label(at, Anchor::Middle, Style::Small, words);
+    }
     let is_wide = span.width() >= 4 * COLUMN;
     let text = if is_wide { "superframe #" } else { "#" };
     let words = pen.phrase(text, &[Number(span.number)])?;
-    let at = place(span.middle(), stave.top.saturating_add(260));
-    pen.label(at, Anchor::Middle, Style::Text, words)
+    pen.label(place(span.middle(), y), Anchor::Middle, Style::Text, words)
 }
 
 /// Draws the edition in front in the band below the lanes.
-pub fn draw_fronts<'a>(alloc: Global, ladder: &Ladder<'a>, pen: &mut Pen<'a>) -> Drawn {
-    for span in &spans_of(alloc, ladder, Lasting::InFront)? {
-        if let Some(stave) = ladder.stave(span.stave) {
-            draw_front(ladder.heights.front_y(&stave), *span, pen)?;
+pub fn draw_fronts<'a>(alloc: Global, layout: &Layout<'a>, pen: &mut Pen<'a>) -> Drawn {
+    for span in &spans_of(alloc, layout, Lasting::InFront)? {
+        if let Some(stave) = layout.stave(span.stave) {
+            draw_front(layout.heights.front_y(&stave), *span, pen)?;
         }
     }
     Ok(())
@@ -78,17 +85,19 @@ fn draw_front(y: u64, span: Span, pen: &mut Pen<'_>) -> Drawn {
     pen.marked(band, at, Style::Text, words, title)
 }
 
-// What a step tells of what lasts.
-fn told(step: &Step, lasting: Lasting) -> Option<u64> {
-    match (step, lasting) {
-        (Step::Begin(mark), Lasting::Superframe) => Some(*mark),
-        (Step::Shown(frame), Lasting::InFront) => Some(frame.fore),
+// What a step tells of what lasts: its number, and that of the last superframe of several.
+fn told(step: &Step, lasting: Lasting) -> Option<(u64, u64)> {
+    let number = match (step, lasting) {
+        (Step::Folded(folded), Lasting::Superframe) => return Some((folded.first, folded.last)),
+        (Step::Begin(mark), Lasting::Superframe) => *mark,
+        (Step::Shown(frame), Lasting::InFront) => frame.fore,
         (Step::Sent(message), Lasting::InFront) => match message.said {
-            Said::Status(status) => Some(status.fore),
-            _ => None,
+            Said::Status(status) => status.fore,
+            _ => return None,
         },
-        _ => None,
-    }
+        _ => return None,
+    };
+    Some((number, number))
 }
 
 // The left edge of the columns of a step.
@@ -102,15 +111,15 @@ fn edge_of(placed: &Placed) -> u64 {
 // Where it lasts, from left to right and stave by stave.
 fn spans_of(
     alloc: Global,
-    ladder: &Ladder<'_>,
+    layout: &Layout<'_>,
     lasting: Lasting,
 ) -> Result<Vec<Span>, OutOfMemory> {
     let mut spans = Vec::new(alloc);
     let mut open: Option<Span> = None;
-    for placed in &ladder.placed {
+    for placed in &layout.placed {
         open = carried(open, placed.stave, &mut spans)?;
-        if let Some(number) = told(&placed.step, lasting) {
-            open = changed(open, number, placed, &mut spans)?;
+        if let Some(numbers) = told(&placed.step, lasting) {
+            open = changed(open, numbers, placed, &mut spans)?;
         }
     }
     close(open, RIGHT, &mut spans)?;
@@ -130,29 +139,30 @@ fn carried(
         return Ok(open);
     }
     close(open, RIGHT, spans)?;
-    Ok(Some(begun(span.number, stave, LEFT)))
+    Ok(Some(begun((span.number, span.last), stave, LEFT)))
 }
 
 // Something else begins to last here, unless it is the same.
 fn changed(
     open: Option<Span>,
-    number: u64,
+    numbers: (u64, u64),
     placed: &Placed,
     spans: &mut Vec<Span>,
 ) -> Result<Option<Span>, OutOfMemory> {
-    if open.is_some_and(|span| span.number == number) {
+    if open.is_some_and(|span| (span.number, span.last) == numbers) {
         return Ok(open);
     }
     let edge = edge_of(placed);
     close(open, edge, spans)?;
-    Ok(Some(begun(number, placed.stave, edge)))
+    Ok(Some(begun(numbers, placed.stave, edge)))
 }
 
 // What begins to last at an edge.
-fn begun(number: u64, stave: usize, from: u64) -> Span {
+fn begun((number, last): (u64, u64), stave: usize, from: u64) -> Span {
     let to = from;
     Span {
         number,
+        last,
         stave,
         from,
         to,

@@ -11,7 +11,7 @@ pub enum Station {
 }
 
 /// A change for which the satellite is armed.
-#[derive(Clone, Copy)]
+#[derive(Clone, Copy, PartialEq, Eq)]
 pub struct ArmedChange {
     pub edition: u64,
     pub due: u64,
@@ -76,7 +76,7 @@ pub struct Frame {
 }
 
 /// A burst on the air in the frame shown last.
-#[derive(Clone, Copy)]
+#[derive(Clone, Copy, PartialEq, Eq)]
 pub struct OnAir {
     pub start: u64,
     pub length: u64,
@@ -84,16 +84,52 @@ pub struct OnAir {
     pub to: TermNo,
 }
 
+/// That a terminal holds its bursts of the edition in front and is silent in a frame.
+#[derive(Clone, Copy)]
+pub struct Silence {
+    pub terminal: TermNo,
+    pub frame: Frame,
+}
+
+/// What is told beside the air.
+#[derive(Clone, Copy)]
+pub enum Note {
+    /// So many deliveries that waited are lost.
+    Lost(u64),
+    /// The planner's plan is installed for this edition.
+    Planned(u64),
+    /// So many edits were taken, of which the last is this edition.
+    Edited { count: u64, edition: u64 },
+    /// An edit, a plan or an order was not taken.
+    Refused(&'static str),
+}
+
+/// Superframes one behind the other of which nothing but routine is told.
+#[derive(Clone, Copy)]
+pub struct Folded {
+    pub first: u64,
+    pub last: u64,
+    pub count: u64,
+}
+
 /// One step of a run.
 #[derive(Clone, Copy)]
 pub enum Step {
     /// This superframe begins.
     Begin(u64),
+    /// These superframes begin, and what is told of them is not drawn.
+    Folded(Folded),
+    /// Superframes begin that are not asked for: nothing of them is drawn.
+    Hidden,
     Sent(SentMessage),
+    /// The centre sends so many messages to terminals that have no lane.
+    Others(u64),
     Got(Delivery),
     Happened(Station, Happening),
     Shown(Frame),
     Burst(OnAir),
+    Silent(Silence),
+    Noted(Note),
 }
 
 impl Step {
@@ -103,7 +139,27 @@ impl Step {
             Step::Sent(message) => Some(message.sender),
             Step::Got(delivery) => Some(delivery.hearer),
             Step::Happened(station, _) => Some(*station),
+            Step::Silent(silence) => Some(Station::Terminal(silence.terminal)),
+            Step::Others(_) => Some(Station::Centre),
             _ => None,
+        }
+    }
+
+    /// Whether the steps behind this one are not asked for, where it says so, and else as it was before.
+    pub fn hides(&self, before: bool) -> bool {
+        match self {
+            Step::Hidden => true,
+            Step::Begin(_) | Step::Folded(_) => false,
+            _ => before,
+        }
+    }
+
+    /// Whether the steps behind this one are drawn, where it says so, and else as it was before.
+    pub fn draws(&self, before: bool) -> bool {
+        match self {
+            Step::Begin(_) => true,
+            Step::Folded(_) | Step::Hidden => false,
+            _ => before,
         }
     }
 }

@@ -1,6 +1,8 @@
 // What is written at a message: short above its circle, in whole words beside the mouse.
 use crate::editions::name_of;
-use crate::step::{Delivery, Happening, Said, SentMessage, ShownStatus, Station};
+use crate::step::{
+    Delivery, Frame, Happening, Note, OnAir, Said, SentMessage, ShownStatus, Station,
+};
 use bt_frame::OutOfMemory;
 use bt_net::Network;
 use bt_picture::Pen;
@@ -96,6 +98,59 @@ fn reference_title<'a>(
     }
 }
 
+/// What stands at a message in a ladder: its number and what it says.
+pub fn numbered_label<'a>(
+    message: SentMessage,
+    pen: &Pen<'a>,
+) -> Result<Vec<Word<'a>>, OutOfMemory> {
+    let mut words = pen.phrase("# ", &[Number(message.number)])?;
+    for word in &label_of(message.said, pen)? {
+        words.push(*word)?;
+    }
+    Ok(words)
+}
+
+/// What is told beside the air, in a box.
+#[rattlefmt::skip]
+pub fn note_label<'a>(note: Note, pen: &Pen<'a>) -> Result<Vec<Word<'a>>, OutOfMemory> {
+    match note {
+        Note::Lost(1)                      => pen.phrase("1 delivery lost", &[]),
+        Note::Lost(count)                  => pen.phrase("# deliveries lost", &[Number(count)]),
+        Note::Planned(edition)             => pen.phrase("plan of edition #", &[Number(edition)]),
+        Note::Edited { count: 1, edition } => pen.phrase("edit: edition #", &[Number(edition)]),
+        Note::Edited { count, edition }    => pen.phrase("# edits: edition #", &[Number(count), Number(edition)]),
+        Note::Refused(text)                => pen.phrase("#", &[Text(text)]),
+    }
+}
+
+/// Who sends a burst to whom in which slots, in words.
+pub fn burst_title<'a>(
+    net: &'a Network,
+    burst: OnAir,
+    pen: &Pen<'a>,
+) -> Result<Vec<Word<'a>>, OutOfMemory> {
+    let (from, to) = (Text(name_of(net, burst.from)), Text(name_of(net, burst.to)));
+    let first = Number(burst.start);
+    let last = burst.start.saturating_add(burst.length).saturating_sub(1);
+    if last <= burst.start {
+        return pen.phrase("# to #, slot #", &[from, to, first]);
+    }
+    pen.phrase("# to #, slots # to #", &[from, to, first, Number(last)])
+}
+
+/// That a terminal is silent in a frame, in words.
+pub fn silence_title<'a>(
+    name: &'a str,
+    frame: Frame,
+    pen: &Pen<'a>,
+) -> Result<Vec<Word<'a>>, OutOfMemory> {
+    let shown = Word::Frame(frame.mark, frame.number);
+    pen.phrase(
+        "# is silent in frame #: it holds its bursts of edition #",
+        &[Text(name), shown, Number(frame.fore)],
+    )
+}
+
 /// What came to a station, in words.
 pub fn delivery_title<'a>(
     name: &'a str,
@@ -117,13 +172,28 @@ pub fn width_of(words: &[Word<'_>]) -> u64 {
     letters.saturating_mul(92)
 }
 
+/// About how many twips wide a number in small letters is.
+pub fn width_of_number(number: u64) -> u64 {
+    digits_of(number).saturating_add(1).saturating_mul(92)
+}
+
 // About how many letters a word has.
 fn letters_of(word: &Word<'_>) -> u64 {
     match word {
         Text(text) => text.len() as u64,
-        Number(number) if *number < 10 => 1,
-        Number(number) if *number < 100 => 2,
-        Number(number) if *number < 1000 => 3,
+        Number(number) => digits_of(*number),
+        _ => 7,
+    }
+}
+
+// How many digits a number has; at most seven.
+fn digits_of(number: u64) -> u64 {
+    match number {
+        0..=9 => 1,
+        10..=99 => 2,
+        100..=999 => 3,
+        1000..=9999 => 4,
+        10_000..=99_999 => 5,
         _ => 7,
     }
 }

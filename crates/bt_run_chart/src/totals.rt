@@ -59,11 +59,13 @@ struct Tally {
     totals: Vec<Total>,
     rows: Vec<usize>,
     begun: usize,
+    draws: bool,
 }
 
 impl Tally {
     // Counts a step; so many superframes share a total.
     fn add(&mut self, step: &Step, shared: usize) -> Drawn {
+        self.draws = step.draws(self.draws);
         if let Step::Begin(mark) = step {
             self.begin(*mark, shared)?;
         }
@@ -74,6 +76,9 @@ impl Tally {
             Step::Got(delivery) => self.rows.get(delivery.place).copied(),
             _ => None,
         };
+        if !self.draws {
+            return Ok(());
+        }
         let made = made_row(step);
         if let Some(total) = self.totals.last_mut() {
             total.fore = fore_after(step, total.fore);
@@ -175,6 +180,7 @@ fn tally_of(alloc: Global, steps: &[Step]) -> Result<Tally, OutOfMemory> {
         totals,
         rows,
         begun: 0,
+        draws: true,
     };
     for step in steps {
         tally.add(step, shared)?;

@@ -4,21 +4,26 @@ ghost use Rattle.bt_net.specs.Terminals.{IsTerminal};
 ghost use Rattle.bt_picture.specs.Drawn.{IsPictureBehind};
 
 use crate::air::{draw_air, draw_silences};
+use crate::folding::folded;
+use crate::folds::draw_folds;
 use crate::labels::write_labels;
-use crate::ladder::{Ladder, TOP};
 use crate::lanes::{Lanes, draw_lanes};
-use crate::messages::{draw_deliveries, draw_senders};
+use crate::layout::{Layout, TOP};
+use crate::messages::{draw_deliveries, draw_edges, draw_senders};
+use crate::range::within;
 use crate::reading::read_steps;
+use crate::silences::with_silences;
 use crate::spans::{draw_fronts, draw_superframes};
 use crate::step::Step;
 use crate::totals::draw_totals;
+use crate::view::{Asked, View};
 use bt_frame::{OutOfMemory, TermNo};
 use bt_net::Network;
 use bt_picture::{Anchor, Drawn, Pen, Style, place, write_picture};
 use std::alloc::Global;
 
-// The lines above a ladder, and those above totals, with how far from the top they stand.
-const LADDER_HEADING: [(u64, Style, &str); 3] = [
+// The lines above lanes, and those above totals, with how far from the top they stand.
+const ROWS_HEADING: [(u64, Style, &str); 3] = [
     (480, Style::Title, "What the run printed"),
     (
         820,
@@ -28,7 +33,7 @@ const LADDER_HEADING: [(u64, Style, &str); 3] = [
     (
         1120,
         Style::Text,
-        "Below the lanes: the edition in front on board, and the bursts on the air by uplink beam. A ring: the terminal holds its bursts and is silent.",
+        "A box: superframes of nothing but routine. Below the lanes: the edition in front, and the bursts on the air by uplink beam. A ring: a terminal with bursts is silent.",
     ),
 ];
 
@@ -52,22 +57,21 @@ const MOST_STEPS: usize = 40_000;
 
 /// Appends the picture of what a run printed, as SVG.
 ///
-/// `text` is the run's output; lines that no run prints are passed over. `chosen` are the terminals that have lanes; where
-/// none are chosen, the first twelve that send or hear have some. Want of memory leaves `out` with a first part of the
-/// picture.
+/// `text` is the run's output; lines that no run prints are passed over. Want of memory leaves `out` with a first part of
+/// the picture.
 pub fn run_picture(
     alloc: Global,
     net: &Network,
     text: &[u8],
-    chosen: &[TermNo],
+    asked: Asked<'_>,
     out: &mut Vec<u8>,
 ) -> Result<(), OutOfMemory>
-    requires chosen { All (IsTerminal net.now) chosen.now }
+    requires chosen { All (IsTerminal net.now) asked.chosen.now }
     ensures picture { OnOk result (IsPictureBehind out.old.items out.new.items) }
 {
-    let steps = read_steps(alloc, net, text)?;
+    let steps = asked_steps(alloc, net, text, asked.view)?;
     let mut pen = Pen::new(alloc);
-    let height = draw_run(alloc, net, steps.as_slice(), chosen, &mut pen)?;
+    let height = draw_run(alloc, net, steps.as_slice(), asked, &mut pen)?;
     write_picture(alloc, WIDTH, height, &pen, out)
 }
 
@@ -76,72 +80,137 @@ fn draw_run<'a>(
     alloc: Global,
     net: &'a Network,
     steps: &[Step],
+    asked: Asked<'_>,
+    pen: &mut Pen<'a>,
+) -> Result<u64, OutOfMemory> {
+    if !asked.view.folds {
+        return draw_steps(alloc, net, steps, steps, asked.chosen, pen);
+    }
+    let folded = folded(alloc, net, steps)?;
+    draw_steps(alloc, net, folded.as_slice(), steps, asked.chosen, pen)
+}
+
+// Draws steps, and where they are too many, counts the whole ones.
+fn draw_steps<'a>(
+    alloc: Global,
+    net: &'a Network,
+    steps: &[Step],
+    whole: &[Step],
     chosen: &[TermNo],
     pen: &mut Pen<'a>,
 ) -> Result<u64, OutOfMemory> {
     if is_long(steps) {
         write_heading(&TOTALS_HEADING, pen)?;
-        return draw_totals(alloc, steps, pen);
+        return draw_totals(alloc, whole, pen);
     }
-    write_heading(&LADDER_HEADING, pen)?;
+    write_heading(&ROWS_HEADING, pen)?;
     let lanes = Lanes::of(alloc, steps, chosen)?;
-    let ladder = Ladder::of(alloc, net, lanes, steps)?;
-    draw_ladder(alloc, &ladder, pen)?;
+    let layout = Layout::of(alloc, net, lanes, steps)?;
+    draw_lanes_and_ways(alloc, &layout, pen)?;
     if is_silent(steps) {
-        write_silence(&ladder, pen)?;
+        write_silence(&layout, pen)?;
     }
-    Ok(match ladder.staves.last() {
-        Some(stave) => ladder.heights.bottom(stave).saturating_add(300),
+    Ok(match layout.staves.last() {
+        Some(stave) => layout.heights.bottom(stave).saturating_add(300),
         None => TOP,
     })
 }
 
 // Whether a run is too long to be drawn step by step.
 fn is_long(steps: &[Step]) -> bool {
-    steps.len() > MOST_STEPS || count_messages(steps) > MOST_MESSAGES
+    let drawn = count_drawn(steps);
+    drawn.steps > MOST_STEPS || drawn.messages > MOST_MESSAGES
 }
 
-fn count_messages(steps: &[Step]) -> usize {
-    steps
-        .iter()
-        .filter(|step| matches!(step, Step::Sent(_)))
-        .count()
+// How many steps are drawn, how many messages are among them, and how many are messages or frames.
+#[derive(Clone, Copy)]
+struct DrawnCount {
+    steps: usize,
+    messages: usize,
+    shown: usize,
+}
+
+fn count_drawn(steps: &[Step]) -> DrawnCount {
+    let mut drawn = DrawnCount {
+        steps: 0,
+        messages: 0,
+        shown: 0,
+    };
+    let mut draws = true;
+    for step in steps {
+        draws = step.draws(draws);
+        let counts = usize::from(draws);
+        let of_message = if matches!(step, Step::Sent(_)) {
+            counts
+        } else {
+            0
+        };
+        let of_frame = if matches!(step, Step::Shown(_)) {
+            counts
+        } else {
+            0
+        };
+        let of_fold = usize::from(matches!(step, Step::Folded(_)));
+        drawn.steps = drawn.steps.saturating_add(counts);
+        drawn.messages = drawn.messages.saturating_add(of_message);
+        drawn.shown = drawn
+            .shown
+            .saturating_add(of_message)
+            .saturating_add(of_frame)
+            .saturating_add(of_fold);
+    }
+    drawn
 }
 
 // Draws a run from lane to lane: what is drawn later lies upon the rest.
-fn draw_ladder<'a>(alloc: Global, ladder: &Ladder<'a>, pen: &mut Pen<'a>) -> Drawn {
-    draw_superframes(alloc, ladder, pen)?;
-    draw_fronts(alloc, ladder, pen)?;
-    draw_lanes(ladder, pen)?;
-    draw_air(ladder, pen)?;
-    draw_deliveries(ladder, pen)?;
-    draw_silences(alloc, ladder, pen)?;
-    draw_senders(ladder, pen)?;
-    write_labels(alloc, ladder, pen)
+fn draw_lanes_and_ways<'a>(alloc: Global, layout: &Layout<'a>, pen: &mut Pen<'a>) -> Drawn {
+    draw_superframes(alloc, layout, pen)?;
+    draw_fronts(alloc, layout, pen)?;
+    draw_lanes(layout, pen)?;
+    draw_folds(layout, pen)?;
+    draw_air(layout, pen)?;
+    draw_deliveries(layout, pen)?;
+    draw_edges(layout, pen)?;
+    draw_silences(layout, pen)?;
+    draw_senders(layout, pen)?;
+    write_labels(alloc, layout, pen)
 }
 
 // Says in the midst of the lanes that nothing was on the air.
-fn write_silence(ladder: &Ladder<'_>, pen: &mut Pen<'_>) -> Drawn {
-    let Some(stave) = ladder.stave(0) else {
+fn write_silence(layout: &Layout<'_>, pen: &mut Pen<'_>) -> Drawn {
+    let Some(stave) = layout.stave(0) else {
         return Ok(());
     };
     let words = pen.phrase(
         "Nothing was on the air: no message was sent, and no frame was shown.",
         &[],
     )?;
-    let y = ladder.heights.lane_y(&stave, 0).saturating_add(580);
+    let y = layout.heights.lane_y(&stave, 0).saturating_add(580);
     pen.label(place(WIDTH / 2, y), Anchor::Middle, Style::Head, words)
 }
 
-// Whether no message was sent and no frame was shown.
+// Whether no message and no frame is drawn, and nothing is folded.
 fn is_silent(steps: &[Step]) -> bool {
-    !steps
-        .iter()
-        .any(|step| matches!(step, Step::Sent(_) | Step::Shown(_)))
+    count_drawn(steps).shown == 0
 }
 
-// Says how the picture is read.
-fn write_heading(lines: &[(u64, Style, &'static str)], pen: &mut Pen<'_>) -> Drawn {
+/// The steps of a run that are asked for.
+pub fn asked_steps(
+    alloc: Global,
+    net: &Network,
+    text: &[u8],
+    view: View,
+) -> Result<Vec<Step>, OutOfMemory> {
+    let read = read_steps(alloc, net, text)?;
+    let steps = with_silences(alloc, read.as_slice())?;
+    match view.range {
+        Some(range) => within(alloc, range, steps.as_slice()),
+        None => Ok(steps),
+    }
+}
+
+/// Says how the picture is read.
+pub fn write_heading(lines: &[(u64, Style, &'static str)], pen: &mut Pen<'_>) -> Drawn {
     for (y, style, text) in lines {
         let words = pen.phrase(text, &[])?;
         pen.label(place(320, *y), Anchor::Start, *style, words)?;

@@ -10,6 +10,14 @@ chart, pictures of the plans and the runs of a satellite-switched TDMA system
 usage: chart COMMAND WORDS..
 
 commands
+  ladder NET OUTPUT [all] [FIRST-LAST] [NAME ..]
+      Draws what `chart run` draws as a ladder: time runs down, each station has a
+      lane, and each message is an arrow with its number and name from its sender's
+      lane to those that heard it. The words mean what they mean there. A whole run
+      is drawn, however long it is.
+      example: nozgurt run examples/four-terminals.net examples/lossy-day.script
+               lossy.journal | chart ladder examples/four-terminals.net -
+
   plan NET PLAN
       Draws the burst time plan in the file PLAN for the network in the file NET.
       The frame goes from left to right, with the modes of the switch above. Each
@@ -17,12 +25,14 @@ commands
       whether it is good or not; `nozgurt check` says what is wrong with one.
       example: chart plan examples/six-beams.net examples/six-beams.plan
 
-  run NET OUTPUT [NAME ..]
+  run NET OUTPUT [all] [FIRST-LAST] [NAME ..]
       Draws what `nozgurt run` or `nozgurt live` printed, which stands in the file
       OUTPUT, for the network in the file NET: who sent which message and who heard
       it, the edition in front, and the bursts on the air.
-      Each NAME is a terminal that has a lane;
-      with none, the first twelve that send or hear have some.
+      Superframes one behind the other of which nothing but routine is told share a
+      narrow column; with the word `all` each is drawn. FIRST-LAST, as in 3-7, draws
+      these superframes alone, both included. Each NAME is a terminal that has a
+      lane; with none, the first twelve that send or hear have some.
       example: nozgurt run examples/two-beams.net examples/calm-change.script
                calm.journal | chart run examples/two-beams.net -
 
@@ -42,7 +52,11 @@ const LETTERS: &str = "  The letter of a CODE names the file that is at fault: N
 ";
 
 /// The forms of the commands: of each its word, and the names of the words behind it.
-pub const FORMS: [&str; 2] = ["plan NET PLAN", "run NET OUTPUT [NAME ..]"];
+pub const FORMS: [&str; 3] = [
+    "ladder NET OUTPUT [all] [FIRST-LAST] [NAME ..]",
+    "plan NET PLAN",
+    "run NET OUTPUT [all] [FIRST-LAST] [NAME ..]",
+];
 
 /// What `--version` prints.
 const VERSION: &str = "chart 0.3.0\n";
