@@ -1,6 +1,9 @@
 // What holds of the program's reports, whatever it does.
-ghost use Rattle.std.specs.Prelude.{ℕ, List, Option};
+ghost use Rattle.std.specs.Prelude.{◌≡◌, ℕ, List, [], Option};
+ghost use Rattle.bt_net.specs.Network.{Net};
+ghost use Rattle.bt_plan_chart.specs.Scale.{whole};
 ghost use Rattle.bt_report.specs.Outcome.{Outcome};
+ghost use Rattle.bt_chart.specs.Choosing.{choice_of};
 ghost use Rattle.bt_chart.specs.Request.{Request};
 ghost use Rattle.bt_chart.specs.Top.{AreTold, Charts, IsOneChart};
 
@@ -9,4 +12,9 @@ ghost use Rattle.bt_chart.specs.Top.{AreTold, Charts, IsOneChart};
 pub fn one_chart()
     ensures same { (told : List ℕ → Option (List ℕ)) (request : Request) → AreTold told request
         → (a b : Outcome) → Charts told ⊥ request a → Charts told ⊥ request b → IsOneChart request a b }
+{}
+
+/// Where no word stands behind a plan, all of it is drawn.
+pub fn no_words_choose_the_whole()
+    ensures whole { (net : Net) → choice_of net [] ≡ whole }
 {}

@@ -16,5 +16,5 @@ mod range;
 mod run;
 mod top;
 
-pub use laws::one_chart;
+pub use laws::{no_words_choose_the_whole, one_chart};
 pub use top::chart_main;

@@ -1,6 +1,6 @@
 // The name that may have been meant.
 use crate::page::Page;
-use bt_frame::TermNo;
+use bt_frame::{BeamNo, TermNo};
 use bt_net::Network;
 use std::alloc::Global;
 use strsim::levenshtein;
@@ -8,7 +8,7 @@ use strsim::levenshtein;
 /// How many letters a name may be away, at most, to be taken for the one that was meant.
 const MOST_EDITS: usize = 2;
 
-/// The most terminals of a network that are named one by one.
+/// The most terminals or beams of a network that are named one by one.
 const MOST_NAMED: u32 = 8;
 
 /// A word that is none of those that may stand there, and the nearest one of these so far.
@@ -52,6 +52,13 @@ impl<'a> Near<'a> {
         }
     }
 
+    /// Looks at the names of a network's beams.
+    pub fn look_at_beams(&mut self, alloc: Global, net: &'a Network) {
+        for number in 0..net.beam_count() {
+            self.look(alloc, net.beam_name(BeamNo(number as u8)));
+        }
+    }
+
     /// Whether one is near.
     pub fn is_found(&self) -> bool {
         self.nearest.is_some()
@@ -84,6 +91,27 @@ pub fn name_terminals(net: &Network, page: &mut Page) {
         for number in 0..net.terminal_count() {
             page.add(" ");
             page.add(net.name_of(TermNo(number as u8)));
+        }
+    }
+}
+
+/// Asks for the beam whose name is near to a word, or names them all where they are few.
+pub fn ask_beam(alloc: Global, net: &Network, word: &[u8], page: &mut Page) {
+    let mut near = Near::to(word);
+    near.look_at_beams(alloc, net);
+    near.ask(page);
+    if !near.is_found() {
+        name_beams(net, page);
+    }
+}
+
+/// Names the beams of a network, where they are few.
+fn name_beams(net: &Network, page: &mut Page) {
+    if net.beam_count() <= MOST_NAMED {
+        page.add("the beams of the network are");
+        for number in 0..net.beam_count() {
+            page.add(" ");
+            page.add(net.beam_name(BeamNo(number as u8)));
         }
     }
 }

@@ -1,10 +1,10 @@
 // Words that are none of a command: which of them, and what is wanted.
 use crate::bytes::word_of;
 use crate::lines::Words;
-use crate::near::{Near, ask_terminal};
+use crate::near::{Near, ask_beam, ask_terminal};
 use crate::page::Page;
 use crate::telling::{Done, add_program, name_of};
-use bt_frame::{LAST_EDITION, MOST_NUMBERED_BEAMS};
+use bt_frame::{BeamNo, LAST_EDITION, MOST_NUMBERED_BEAMS};
 use bt_net::Network;
 use bt_report::Program;
 use bt_text::{is_word, number};
@@ -65,6 +65,8 @@ fn say_behind(
         say_counts(done.forms, command, behind.len(), page);
     } else if has_empty {
         page.add("one of the words is empty");
+    } else if done.program == Program::Chart && command == "plan" {
+        say_part(alloc, behind, net, page);
     } else if done.program == Program::Chart {
         say_stranger(alloc, behind, net, page);
     } else if command == "demand" {
@@ -189,10 +191,49 @@ fn is_range(word: &str) -> bool {
 fn ask_stranger(alloc: Global, net: &Network, name: &str, page: &mut Page) {
     let mut hint = Page::new(alloc);
     ask_terminal(alloc, net, name.as_bytes(), &mut hint);
+    add_hint(&hint, page);
+}
+
+/// Appends a hint, where there is one.
+fn add_hint(hint: &Page, page: &mut Page) {
     if !hint.is_empty() {
         page.add("; ");
-        page.add_page(&hint);
+        page.add_page(hint);
     }
+}
+
+/// Says which word behind a plan is no beam, and no slots that may stand there.
+fn say_part(alloc: Global, behind: &[String], net: Option<&Network>, page: &mut Page) {
+    page.add(
+        "a word behind PLAN is neither a beam nor, as the last, slots FIRST-LAST of the frame",
+    );
+    let (Some(net), [_, _, words @ ..]) = (net, behind) else {
+        return;
+    };
+    for word in words {
+        if !is_beam(net, word) {
+            page.add(": '");
+            page.add_name(word);
+            page.add("'");
+            return ask_part(alloc, net, word, page);
+        }
+    }
+}
+
+fn is_beam(net: &Network, word: &str) -> bool {
+    (0..net.beam_count()).any(|beam| net.beam_name(BeamNo(beam as u8)) == word)
+}
+
+/// Names the slots of the frame for a word that has a `-`, and asks for a beam for another.
+fn ask_part(alloc: Global, net: &Network, word: &str, page: &mut Page) {
+    if word.contains('-') {
+        page.add("; slots are 0 to ");
+        page.add_number(u64::from(net.slots().saturating_sub(1)));
+        return;
+    }
+    let mut hint = Page::new(alloc);
+    ask_beam(alloc, net, word.as_bytes(), &mut hint);
+    add_hint(&hint, page);
 }
 
 /// Says which word is no number, or out of its range: those of `make` and of `trans` are the only ones.

@@ -18,12 +18,15 @@ commands
       example: nozgurt run examples/four-terminals.net examples/lossy-day.script
                lossy.journal | chart ladder examples/four-terminals.net -
 
-  plan NET PLAN
+  plan NET PLAN [BEAM ..] [FIRST-LAST]
       Draws the burst time plan in the file PLAN for the network in the file NET.
       The frame goes from left to right, with the modes of the switch above. Each
       uplink and each downlink beam has a lane with the bursts in it. A plan is drawn
       whether it is good or not; `nozgurt check` says what is wrong with one.
-      example: chart plan examples/six-beams.net examples/six-beams.plan
+      Each BEAM has lanes; with none, all beams have some.
+      FIRST-LAST are the slots that are shown, as 0-199;
+      without them, all slots are.
+      example: chart plan examples/six-beams.net examples/six-beams.plan b0 b1 0-199
 
   run NET OUTPUT [all] [FIRST-LAST] [NAME ..]
       Draws what `nozgurt run` or `nozgurt live` printed, which stands in the file
@@ -54,7 +57,7 @@ const LETTERS: &str = "  The letter of a CODE names the file that is at fault: N
 /// The forms of the commands: of each its word, and the names of the words behind it.
 pub const FORMS: [&str; 3] = [
     "ladder NET OUTPUT [all] [FIRST-LAST] [NAME ..]",
-    "plan NET PLAN",
+    "plan NET PLAN [BEAM ..] [FIRST-LAST]",
     "run NET OUTPUT [all] [FIRST-LAST] [NAME ..]",
 ];
 
