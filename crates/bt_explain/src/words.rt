@@ -188,7 +188,12 @@ fn is_range(word: &str) -> bool {
     }
 }
 
+/// Says where superframes stand for a word that has a `-`, and asks for a terminal for another.
 fn ask_stranger(alloc: Global, net: &Network, name: &str, page: &mut Page) {
+    if name.contains('-') {
+        page.add("; superframes FIRST-LAST stand in front of the names, FIRST at most LAST");
+        return;
+    }
     let mut hint = Page::new(alloc);
     ask_terminal(alloc, net, name.as_bytes(), &mut hint);
     add_hint(&hint, page);
