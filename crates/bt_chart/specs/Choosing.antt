@@ -1,5 +1,5 @@
 -- What the words behind the file of a plan choose of it: beams by their names, and slots as FIRST-LAST.
-use Rattle.std.specs.Prelude.{ℕ, ◌+◌, ◌==◌, ◌&&◌, Bool, true, nat_lt, nat_le, if◌then◌else◌, List, [], ◌∷◌, length, map, replicate, take, drop, Option, Some, None, is_some, option_and_then}
+use Rattle.std.specs.Prelude.{ℕ, ◌+◌, ◌==◌, ◌&&◌, Bool, true, nat_lt, nat_le, if◌then◌else◌, List, [], ◌∷◌, length, map, replicate, take, drop, position, Option, Some, None, is_some, option_and_then}
 use Rattle.std.specs.List.{list_any, range_with_len}
 use Rattle.std.specs.Str.{bytes_eq}
 use Rattle.bt_frame.specs.declared.limits.TheConstants.{MOST_BEAMS}
@@ -29,14 +29,9 @@ forth from to = if nat_le from to then Some (record { first = from; last = to })
 abbrev pub range_between : ℕ → List ℕ → List ℕ → Option SlotRange
 range_between slots first last = option_and_then (λ from. option_and_then (λ to. forth from to) (slot_of slots last)) (slot_of slots first)
 
--- how many bytes of a word stand before its first `-`
-abbrev pub before_dash : List ℕ → ℕ
-before_dash [] = 0
-before_dash (byte ∷ rest) = if byte == 45 then 0 else before_dash rest + 1
-
--- the slots FIRST-LAST that a word is
+-- the slots FIRST-LAST that a word names, on both sides of its first hyphen
 abbrev pub range_of : ℕ → List ℕ → Option SlotRange
-range_of slots word = if nat_lt (before_dash word) (length word) then range_between slots (take (before_dash word) word) (drop (before_dash word + 1) word) else None
+range_of slots word = option_and_then (λ hyphen. range_between slots (take hyphen word) (drop (hyphen + 1) word)) (position (λ byte. byte == 45) word)
 
 -- whether the words choose a part: each is the name of a beam, but the last may be slots
 abbrev pub are_parts : Net → List (List ℕ) → Bool

@@ -1,12 +1,13 @@
 // What the words behind the file of a plan choose of it.
-ghost use Rattle.std.specs.Prelude.{◌≡◌, ◌≤◌, length, map};
+ghost use Rattle.std.specs.Prelude.{◌≡◌, map};
 ghost use Rattle.std.specs.List.{list_any};
 ghost use Rattle.std.specs.Str.{bytes_eq};
 ghost use Rattle.std.specs.String.{string_bytes};
 ghost use Rattle.bt_frame.specs.declared.limits.TheConstants.{MOST_BEAMS};
 ghost use Rattle.bt_plan_chart.specs.Chart.{name_of_beam};
-ghost use Rattle.bt_chart.specs.Choosing.{are_parts, beams_in, before_dash, choice_of, is_beam, is_named, named_beams, range_between, range_of, slot_of, slots_in};
+ghost use Rattle.bt_chart.specs.Choosing.{are_parts, beams_in, choice_of, is_beam, is_named, named_beams, range_between, range_of, slot_of, slots_in};
 
+use crate::range::hyphen_in;
 use bt_frame::{BeamNo, MOST_BEAMS};
 use bt_net::Network;
 use bt_plan_chart::{Choice, SlotRange};
@@ -127,29 +128,8 @@ fn slots_in(slots: u32, words: &[String]) -> Option<SlotRange>
 fn range_of(slots: u32, word: &[u8]) -> Option<SlotRange>
     ensures { result ≡ range_of slots word.now }
 {
-    let dash = before_dash(word);
-    if dash < word.len() {
-        range_between(slots, &word[..dash], &word[dash + 1..])
-    } else {
-        None
-    }
-}
-
-/// How many bytes of a word stand before its first `-`.
-fn before_dash(word: &[u8]) -> usize
-    ensures same { result ≡ before_dash word.now }
-    ensures within { result ≤ length word.now }
-{
-    let mut before = 0;
-    let mut rest = word;
-    while let [byte, after @ ..] = rest {
-        if *byte == b'-' {
-            return before;
-        }
-        before += 1;
-        rest = after;
-    }
-    before
+    let hyphen = hyphen_in(word)?;
+    range_between(slots, &word[..hyphen], &word[hyphen + 1..])
 }
 
 /// The slots from the slot that one word is to that which another is.

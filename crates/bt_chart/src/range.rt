@@ -31,8 +31,8 @@ fn superframe_in(word: &[u8]) -> Option<u64>
     }
 }
 
-// Where the first hyphen of a word stands.
-fn hyphen_in(word: &[u8]) -> Option<usize>
+/// Where the first hyphen of a word stands.
+pub(crate) fn hyphen_in(word: &[u8]) -> Option<usize>
     ensures at { result ≡ position (λ byte. byte == 45) word.now }
     ensures within { IfSome result (λ at. at < length word.now) }
 {
