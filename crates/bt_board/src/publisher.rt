@@ -8,6 +8,7 @@ ghost use Rattle.bt_board.specs.Rule.{saw};
 ghost use Rattle.bt_board.specs.Posted.{posted};
 
 use crate::plan_log::{Add, Nothing, PlanLog};
+use crate::posted_plan::PostedPlan;
 use crate::reader::Reader;
 use crate::rule::{OneList, Posts};
 use crate::shown::ShownPlan;
@@ -147,14 +148,14 @@ impl Publisher {
         ensures posted { MatchResult result (λ _. self.new.plans ≡ self.old.plans ++ plan ∷ []) (λ _. self.new ≡ self.old) }
         ensures shown { MatchResult result (λ _. self.new.shown ≡ Some plan) (λ _. self.new.shown ≡ self.old.shown) }
     {
-        let Ok(plan) = Arc::new(alloc, plan) else {
+        let Ok(plan) = Arc::new(alloc, PostedPlan::of(alloc, plan)?) else {
             return Err(OutOfMemory);
         };
         let Some(writer) = self.writer.take() else {
             unreachable!()
         };
-        let last = writer.published().plan.edition.0;
-        add(rt, &self.head, &mut self.seen, last as u64 + 1, &*plan);
+        let last = writer.published().plan.plan().edition.0;
+        add(rt, &self.head, &mut self.seen, last as u64 + 1, plan.plan());
         let shown = ShownPlan {
             plan,
             seen: self.seen.again(),
@@ -173,7 +174,7 @@ impl Publisher {
         ensures ascends { Ascends self.now.plans }
     {
         match &self.writer {
-            Some(writer) => &writer.published().plan,
+            Some(writer) => writer.published().plan.plan(),
             None => unreachable!(),
         }
     }

@@ -2,6 +2,7 @@
 ghost use Rattle.std.specs.Prelude.{◌≡◌, ◌⊎◌, ◌+◌, ◌<◌, ◌≤◌, Some, IfOk, IfErr, IfSome, MatchResult, MatchBool};
 ghost use Rattle.left_right.specs.Sides.{view};
 ghost use mathlib.Core.List.{IsPrefix};
+ghost use Rattle.bt_demand.specs.Apart.{bursts_from};
 ghost use Rattle.bt_board.specs.Plans.{last_of, next_edition, Ascends};
 ghost use Rattle.bt_board.specs.Rule.{HasSeen};
 ghost use Rattle.bt_board.specs.Posted.{posted};
@@ -9,8 +10,8 @@ ghost use Rattle.bt_board.specs.Posted.{posted};
 use crate::rule::{OneList, Reads};
 use crate::shown::ShownPlan;
 use crate::view::SeenPlans;
-use bt_demand::Plan;
-use bt_frame::OutOfMemory;
+use bt_demand::{Burst, Plan};
+use bt_frame::{OutOfMemory, TermNo};
 use std::marker::Model;
 
 /// A reader's place at the board.
@@ -33,8 +34,8 @@ fn visit(
     match seat.enter_as::<Reads>() {
         Ok(reading) => {
             let shown = reading.get();
-            let edition = shown.plan.edition.0;
-            let takes = kept.plan.edition.0 < edition && wanted.is_none_or(|e| e == edition);
+            let edition = shown.plan.plan().edition.0;
+            let takes = kept.plan.plan().edition.0 < edition && wanted.is_none_or(|e| e == edition);
             if !takes {
                 return (reading.leave(), Ok(None));
             }
@@ -82,7 +83,7 @@ impl Reader {
     pub(crate) fn edition(&self) -> u32
         ensures { next_edition self.now.plans ≡ result + 1 }
     {
-        self.kept.plan.edition.0
+        self.kept.plan.plan().edition.0
     }
 
     /// Takes what is shown, where it is newer and is the edition that is wanted, if one is. Says whether it did.
@@ -114,7 +115,14 @@ impl Reader {
         ensures last { last_of self.now.plans ≡ Some result.now }
         ensures ascends { Ascends self.now.plans }
     {
-        &self.kept.plan
+        self.kept.plan.plan()
+    }
+
+    /// The bursts that a terminal sends in that plan, in the order of the plan. It looks at no other burst.
+    pub fn sent_by(&self, terminal: TermNo) -> &[Burst]
+        ensures sent { IfSome (last_of self.now.plans) (λ plan. result.now ≡ bursts_from terminal plan.bursts) }
+    {
+        self.kept.plan.sent_by(terminal)
     }
 
     /// Of the lists of two readers of one board, the one whose last edition is lower begins the other. It does nothing when

@@ -19,7 +19,7 @@ pub record KeepsAll (kept : Kept) : Type 0 where
 
 -- there is room for what is kept of the change
 abbrev pub HasRoomFor : Kept → Change → Type 0
-HasRoomFor kept (change.Edit edit) = HasRoom kept.occupancy × (vec_len kept.past < vec_capacity kept.past)
+HasRoomFor kept (change.Edit edit) = HasRoom kept.occupancy edit × (vec_len kept.past < vec_capacity kept.past)
 HasRoomFor kept (change.Install plan) = vec_len kept.plans < vec_capacity kept.plans
 HasRoomFor kept (change.Order order) = vec_len kept.orders < vec_capacity kept.orders
 

@@ -39,8 +39,9 @@ impl Machine {
         // This is there for what holds of each network: its frame has at most `MOST_SLOTS` slots.
         let _slots = self.kept.occupancy.slots();
         for place in 0..number {
-            occupancy.reserve(alloc)?;
-            occupancy.edit(&self.kept.past[place as usize]);
+            let edit = &self.kept.past[place as usize];
+            occupancy.reserve(alloc, edit)?;
+            occupancy.edit(edit);
         }
         Ok(())
     }

@@ -39,9 +39,9 @@ impl Kept {
         ensures room { OnOk result (HasRoomFor self.new change.now) }
     {
         match change {
-            Change::Edit(_) => {
+            Change::Edit(edit) => {
                 self.past.reserve(1)?;
-                self.occupancy.reserve(alloc)
+                self.occupancy.reserve(alloc, edit)
             }
             Change::Install(_) => Ok(self.plans.reserve(1)?),
             Change::Order(_) => Ok(self.orders.reserve(1)?),

@@ -6,11 +6,12 @@ ghost use Rattle.bt_history.specs.Machine.{bytes_of, line_behind, running};
 ghost use Rattle.bt_history.specs.Records.{CanJoin, IsLineFault, IsTextFault, TakesLine, TakesText};
 ghost use Rattle.bt_history.specs.Recovery.{IsNext, IsNoChange, IsNumbered};
 ghost use Rattle.bt_journal.specs.Mark.{mark_of};
+ghost use Rattle.bt_text.specs.Text.{lines};
 
 use crate::RecoverFault;
 use crate::machine::Machine;
 use bt_frame::{EditionNo, OutOfMemory};
-use bt_journal::{Change, JournalLineFault, read_change, read_mark};
+use bt_journal::{Change, JournalLineFault, read_change_of, read_mark};
 use bt_text::first_line;
 use std::alloc::Global;
 
@@ -38,7 +39,7 @@ impl Machine {
         let mut marked = false;
         while let Some((line, after)) = first_line(rest) {
             number += 1;
-            marked = self.take_line(alloc, &rest[..line.len() + 1], number, marked)?;
+            marked = self.take_line(alloc, &rest[..line.len() + 1], line, number, marked)?;
             rest = after;
         }
         Ok(Taken {
@@ -48,23 +49,25 @@ impl Machine {
     }
 
     /// Makes the change of the next line again, or passes the mark, and answers whether the mark stands now. The line has its
-    /// newline, and is the one of that number.
+    /// newline behind its text, and is the one of that number.
     fn take_line(
         &mut self,
         alloc: Global,
         line: &[u8],
+        text: &[u8],
         number: u32,
         marked: bool,
     ) -> Result<bool, RecoverFault>
         requires state { self.old.state ≡ running self.old.state.changes }
         requires history { self.old.history ≡ [] }
+        requires text { lines line.now ≡ text.now ∷ [] ∷ [] }
         requires short { bytes_of self.old.net self.old.state.changes + length line.now ≤ MOST_JOURNAL_BYTES }
         ensures taken { IfOk result (λ stands. TakesLine self.old.net self.old.state marked line.now self.new.state stands) }
         ensures net { self.new.net ≡ self.old.net }
         ensures history { self.new.history ≡ [] }
         ensures fault { IfErr result (IsLineFault self.old.net self.old.state.changes marked number line.now) }
     {
-        match read_change(alloc, self.network(), line) {
+        match read_change_of(alloc, self.network(), line, text) {
             Ok((edition, change)) => {
                 if !self.is_next(alloc, edition, &change)? {
                     return Err(RecoverFault::J2 { line: number });

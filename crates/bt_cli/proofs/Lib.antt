@@ -20,3 +20,4 @@ pub mod PrintedPlans
 pub mod Complete
 pub mod Sessions
 pub mod ByCommand
+pub mod RowsCounted

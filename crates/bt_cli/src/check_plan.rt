@@ -60,7 +60,7 @@ fn judge_plan(alloc: Global, net: &Network, demand: &Demand, plan: &Plan) -> Res
     ensures { CameTo (JudgesPlan net.now demand.now plan.now) result }
 {
     // This is there for what holds of each demand: its links are in order.
-    let _links = demand.as_slice();
+    let _rows = demand.rows();
     let verdict = verdict_on(net, demand, plan);
     let mut text = Vec::new(alloc);
     verdict_text(alloc, Some(net), &verdict, &mut text)?;

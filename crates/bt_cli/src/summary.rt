@@ -1,11 +1,12 @@
 // What a drawn demand and its plan come to.
 ghost use Rattle.std.specs.Prelude.{◌≡◌, ◌++◌, ◌≤◌, All, IfOk, OnOk, length};
 ghost use Rattle.bt_frame.specs.declared.limits.TheConstants.{MOST_SUM};
+ghost use Rattle.bt_demand.specs.Rows.{all_links};
 ghost use Rattle.bt_demand.specs.Traffic.{AreOfNetwork};
 ghost use Rattle.bt_words.specs.Lines.{line_of};
 ghost use Rattle.bt_cli.specs.Make.{length_words, summary, units_in_all};
 
-use bt_demand::{Demand, Link, Plan};
+use bt_demand::{Demand, LinkRow, Plan};
 use bt_frame::{Critical, OutOfMemory};
 use bt_net::Network;
 use bt_words::{Word, add_line};
@@ -23,7 +24,7 @@ pub fn summary_text(
     requires terminals { AreOfNetwork net.now demand.now }
     ensures spelled { IfOk result (λ text. text.items ≡ summary (length net.now.beams) seed demand.now plan.now) }
 {
-    let links = demand.as_slice();
+    let rows = demand.rows();
     let schedule = &plan.schedule;
     let mut text = Vec::new(alloc);
     let asked = [
@@ -34,9 +35,9 @@ pub fn summary_text(
     add_line(alloc, &asked, &mut text)?;
     let drawn = [
         Word::Text("links"),
-        Word::Number(links.len() as u64),
+        Word::Number(link_count(rows)),
         Word::Text("units"),
-        Word::Number(units_in_all(links)),
+        Word::Number(units_in_all(rows)),
     ];
     add_line(alloc, &drawn, &mut text)?;
     add_length(alloc, schedule.length, schedule.critical, &mut text)?;
@@ -73,15 +74,29 @@ fn add_length(
     add_line(alloc, &words, text)
 }
 
+/// How many links there are.
+fn link_count(rows: &[LinkRow]) -> u64
+    requires few { length (all_links rows.now) ≤ 4096 }
+    ensures { result ≡ length (all_links rows.now) }
+{
+    let mut count = 0;
+    for row in rows {
+        count += row.as_slice().len() as u64;
+    }
+    count
+}
+
 /// The slots that all links ask for together.
-fn units_in_all(links: &[Link]) -> u64
-    requires few { length links.now ≤ 4096 }
-    requires small { All (λ link. link.units ≤ MOST_SUM) links.now }
-    ensures { result ≡ units_in_all links.now }
+fn units_in_all(rows: &[LinkRow]) -> u64
+    requires few { length (all_links rows.now) ≤ 4096 }
+    requires small { All (λ link. link.units ≤ MOST_SUM) (all_links rows.now) }
+    ensures { result ≡ units_in_all (all_links rows.now) }
 {
     let mut units = 0;
-    for link in links {
-        units += u64::from(link.units);
+    for row in rows {
+        for link in row.as_slice() {
+            units += u64::from(link.units);
+        }
     }
     units
 }

@@ -92,7 +92,7 @@ fn test_good(alloc: Global, net: &Network, demand: &Demand, plan: &Plan) -> Resu
     ensures stops { IfErr result (StopIs (NamesVerdict net.now demand.now plan.now)) }
 {
     // This is there for what holds of each demand: its links are in order.
-    let _links = demand.as_slice();
+    let _rows = demand.rows();
     match verdict_on(net, demand, plan) {
         Verdict::Good => Ok(()),
         verdict => Err(verdict_stop(alloc, net, &verdict)),

@@ -33,9 +33,11 @@ pub(crate) fn bursts_of(
 {
     let mut connections = connections_of(alloc, net.beam_count(), modes)?;
     let mut bursts = Vec::new(alloc);
-    for link in demand.as_slice() {
-        let place = place_of(net.beam_of(link.from), net.beam_of(link.to));
-        connections[place].serve(*link, &mut bursts)?;
+    for row in demand.rows() {
+        for link in row.as_slice() {
+            let place = place_of(net.beam_of(link.from), net.beam_of(link.to));
+            connections[place].serve(*link, &mut bursts)?;
+        }
     }
     Ok(bursts)
 }

@@ -1,5 +1,5 @@
 -- The traffic matrix of a demand: of no link, after a link gained, and as a walk along the links makes it.
-use Rattle.std.proofs.Common.{◌≡◌, ℕ, ◌+◌, ◌<◌, ◌≤◌, ◌&&◌, if◌then◌else◌, List, [], Some, length, map, replicate, take, get_or, slice_get, option_map, sym, ap, ◌∙◌, arith}
+use Rattle.std.proofs.Common.{◌≡◌, ℕ, ◌+◌, ◌<◌, ◌≤◌, ◌&&◌, if◌then◌else◌, List, [], Some, length, map, replicate, take, get_or, slice_get, option_map, sym, subst, ap, ◌∙◌, arith}
 use Rattle.std.proofs.lemmas.List.Sums.{sum_by-take-le, sum_by_more}
 use Rattle.bt_frame.proofs.Images.{numbers_below, images-replicate}
 use Rattle.bt_frame.specs.declared.limits.TheConstants.{MOST_SUM}
@@ -13,6 +13,7 @@ use Rattle.bt_demand.specs.declared.demand.Link.{Link}
 use Rattle.bt_demand.specs.Demand.{Gains}
 use Rattle.bt_demand.specs.Traffic.{units_between, matrix_of, HasSumsTo}
 pub use Rattle.bt_demand.proofs.Tables.{row_sum-gained, column_sum-gained}
+use Rattle.bt_demand.proofs.FlatPlaces.{flat_place, IsFlat}
 use Rattle.bt_demand.proofs.Tables.{length-table, length-row-table, table-Exceeds, row_sum-le, column_sum-le}
 
 -- a row for each beam
@@ -67,6 +68,19 @@ step net links k d up down sums within up_is down_is in_rows in_columns =
       column = omega (arith, column, ap (λ (m : List (List ℕ)). column_sum m down.0) next, column_sum-le n f g down.0 in_columns le, sums (Column down) (omega (arith, whole)));
       next = next;
     }
+
+-- The same for the link of a row, whose place among all links is behind those of the rows before it.
+pub step_in_row : (net : Net) (rows : List (List Link)) (links : List Link) (i j : ℕ) (row : List Link) (d : Link) (up down : BeamNo) → IsFlat rows links i j row
+    → HasSumsTo MOST_SUM (matrix_of net links)
+    → option_map (λ t. t.1) (slice_get net.terminals (get_or row j d).from.0) ≡ Some up
+    → option_map (λ t. t.1) (slice_get net.terminals (get_or row j d).to.0) ≡ Some down
+    → up.0 < length net.beams → down.0 < length net.beams → IsStep net links (flat_place rows i j) up.0 down.0 (get_or row j d).units
+step_in_row net rows links i j row d up down flat sums up_is down_is in_rows in_columns =
+    let same = flat.link d in
+    subst (λ (l : Link). IsStep net links (flat_place rows i j) up.0 down.0 l.units) same
+    (step net links (flat_place rows i j) d up down sums flat.within
+    (subst (λ (l : Link). option_map (λ t. t.1) (slice_get net.terminals l.from.0) ≡ Some up) (sym same) up_is)
+    (subst (λ (l : Link). option_map (λ t. t.1) (slice_get net.terminals l.to.0) ≡ Some down) (sym same) down_is) in_rows in_columns)
 
 -- a matrix to which the link was added is the next one
 pub added : (matrix new before after : List (List ℕ)) (up down units : ℕ) → matrix ≡ before

@@ -1,4 +1,5 @@
 pub mod Demand
+pub mod Rows
 pub mod Traffic
 pub mod Burst
 pub mod Plan

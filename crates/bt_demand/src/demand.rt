@@ -1,8 +1,9 @@
 // The demand: how many slots per frame each link between two terminals asks for.
-ghost use Rattle.std.specs.Prelude.{◌≡◌, ◌≢◌, ◌+◌, ◌<◌, ◌≤◌, [], length, IfOk, IfErr, OnOk, OnErr, vec_capacity};
-ghost use Rattle.std.specs.List.{insert};
-ghost use Rattle.bt_demand.specs.Demand.{units_of, Gains, IsAt, IsDemand, IsGapFor};
+ghost use Rattle.std.specs.Prelude.{◌≡◌, ◌≢◌, ◌+◌, ◌<◌, ◌≤◌, [], length, IfOk, OnOk, OnErr, IsOk, vec_capacity};
+ghost use Rattle.bt_demand.specs.Demand.{units_of, Gains, IsDemand};
+ghost use Rattle.bt_demand.specs.Rows.{all_links, sent_by, KeepLinks};
 
+use crate::{LinkRoom, LinkRow};
 use bt_frame::{MOST_SUM, OutOfMemory, TermNo};
 use std::alloc::Global;
 use std::marker::Model;
@@ -21,10 +22,11 @@ pub struct Link {
 
 /// The links that ask for slots, in order of the terminal that sends and then of the one that receives.
 ///
-/// Each link stands once, its ends differ, and it asks for 1 to `MOST_SUM` slots.
+/// Each link stands once, its ends differ, and it asks for 1 to `MOST_SUM` slots. The links of each terminal that sends stand in
+/// a row of their own, so that an edit moves no link of another sender.
 #[derive(Drop)]
 pub struct Demand {
-    links: Vec<Link>,
+    rows: Vec<LinkRow>,
 }
 
 impl Model for Demand {
@@ -33,62 +35,71 @@ impl Model for Demand {
 
     ghost Value = { List Link };
 
-    ghost use Rattle.bt_demand.specs.Demand.{IsDemand};
+    ghost use Rattle.bt_demand.specs.Rows.{all_links, AreRows};
 
-    ghost view = { λ a. a.links.items };
+    ghost view = { λ a. all_links a.rows.items };
 
-    ghost invariant = { λ a. IsDemand a.links.items };
+    ghost invariant = { λ a. AreRows a.rows.items };
 }
 
 impl Demand {
     /// The demand that asks for nothing.
+    #[tactic(auto, using(crate::proofs::BySender::no_rows))]
     pub fn empty(alloc: Global) -> Demand
         ensures empty { result ≡ [] }
     {
         Demand {
-            links: Vec::new(alloc),
+            rows: Vec::new(alloc),
         }
     }
 
     /// The demand of these links, which stand in order, each once.
-    pub fn of(links: Vec<Link>) -> Demand
-        requires demand { IsDemand links.items }
-        ensures same { result ≡ links.items }
+    pub fn of(alloc: Global, links: &[Link]) -> Result<Demand, OutOfMemory>
+        requires demand { IsDemand links.now }
+        ensures same { IfOk result (λ demand. demand ≡ links.now) }
     {
-        Demand { links }
+        let mut demand = Demand::empty(alloc);
+        for link in links {
+            demand.add(alloc, link.from, link.to, link.units)?;
+        }
+        Ok(demand)
     }
 
-    /// The links in order.
-    pub fn as_slice(&self) -> &[Link]
-        ensures same { result.now ≡ self.now }
+    /// The links, a row for each terminal that sends. One row behind the other they stand in order.
+    pub fn rows(&self) -> &[LinkRow]
+        ensures links { all_links result.now ≡ self.now }
         ensures demand { IsDemand self.now }
     {
-        self.links.as_slice()
+        self.rows.as_slice()
     }
 
     /// An equal demand.
     pub fn copy(&self, alloc: Global) -> Result<Demand, OutOfMemory>
         ensures same { IfOk result (λ copy. copy ≡ self.now) }
     {
-        Ok(Demand {
-            links: Vec::from_slice(alloc, self.links.as_slice())?,
-        })
+        let mut rows = Vec::with_capacity(alloc, self.rows.len())?;
+        for row in &self.rows {
+            rows.push(row.copy(alloc)?)?;
+        }
+        Ok(Demand { rows })
     }
 
     /// The slots of a link, 0 where it is not in the demand.
     pub fn units(&self, from: TermNo, to: TermNo) -> u32
         ensures units { result ≡ units_of self.now from to }
     {
-        match self.find(from, to) {
-            Ok(place) => self.links[place].units,
-            Err(_) => 0,
+        let place = usize::from(from.0);
+        if place < self.rows.len() {
+            self.rows[place].units(from, to)
+        } else {
+            0
         }
     }
 
     /// The link asks for so many slots more. It takes memory where the link was not in the demand.
     pub fn add(
         &mut self,
-        _: Global,
+        alloc: Global,
         from: TermNo,
         to: TermNo,
         units: u32,
@@ -100,40 +111,51 @@ impl Demand {
         ensures err { OnErr result (self.new ≡ self.old) }
         ensures demand { IsDemand self.new }
     {
-        match self.find(from, to) {
-            Ok(place) => {
-                self.links[place].units += units;
-                Ok(())
-            }
-            Err(place) => Ok(self.links.insert(place, Link { from, to, units })?),
+        let place = usize::from(from.0);
+        add_rows(alloc, &mut self.rows, place + 1)?;
+        let row = &mut self.rows[place];
+        row.add(alloc, from, to, units)?;
+        Ok(())
+    }
+
+    /// Takes room for the links of a terminal that sends and one more, and for rows up to its own, so that `add_reserved` takes no
+    /// memory for a link of that terminal.
+    pub fn reserve(&self, from: TermNo, room: &mut LinkRoom) -> Result<(), OutOfMemory>
+        requires no_links { room.old.links.items ≡ [] }
+        requires no_rows { room.old.rows.items ≡ [] }
+        ensures links { OnOk result (length (sent_by from self.now) < vec_capacity room.new.links) }
+        ensures rows { OnOk result (from.0 < vec_capacity room.new.rows) }
+        ensures no_links { room.new.links.items ≡ [] }
+        ensures no_rows { room.new.rows.items ≡ [] }
+    {
+        let place = usize::from(from.0);
+        room.rows.reserve(place + 1)?;
+        if place < self.rows.len() {
+            self.rows[place].reserve(&mut room.links)
+        } else {
+            Ok(room.links.reserve(1)?)
         }
     }
 
-    /// Takes room for the links and one more, in a list that has none, so that `add_reserved` takes no memory.
-    pub fn reserve(&self, room: &mut Vec<Link>) -> Result<(), OutOfMemory>
-        requires none { room.old.items ≡ [] }
-        ensures room { OnOk result (length self.now < vec_capacity room.new) }
-        ensures none { room.new.items ≡ [] }
-    {
-        Ok(room.reserve(self.links.len() + 1)?)
-    }
-
-    /// The link asks for so many slots more. Where the links fill their own memory they move into the room, and leave theirs
-    /// as room.
-    pub fn add_reserved(&mut self, room: &mut Vec<Link>, from: TermNo, to: TermNo, units: u32)
-        requires none { room.old.items ≡ [] }
-        requires room { length self.old < vec_capacity room.old }
+    /// The link asks for so many slots more. Where the links of its sender fill their own memory they move into the room, and
+    /// leave theirs as room; and so do the rows where the sender has none yet.
+    pub fn add_reserved(&mut self, room: &mut LinkRoom, from: TermNo, to: TermNo, units: u32)
+        requires no_links { room.old.links.items ≡ [] }
+        requires no_rows { room.old.rows.items ≡ [] }
+        requires links { length (sent_by from self.old) < vec_capacity room.old.links }
+        requires rows { from.0 < vec_capacity room.old.rows }
         requires differ { from.0 ≢ to.0 }
         requires positive { 0 < units }
         requires fits { units_of self.old from to + units ≤ MOST_SUM }
         ensures gains { Gains self.old self.new from to units }
         ensures demand { IsDemand self.new }
-        ensures left { room.new.items ≡ [] }
+        ensures no_links { room.new.links.items ≡ [] }
+        ensures no_rows { room.new.rows.items ≡ [] }
     {
-        match self.find(from, to) {
-            Ok(place) => self.links[place].units += units,
-            Err(place) => insert_within(&mut self.links, room, place, Link { from, to, units }),
-        }
+        let place = usize::from(from.0);
+        add_rows_within(room.alloc, &mut self.rows, &mut room.rows, place + 1);
+        let row = &mut self.rows[place];
+        row.add_reserved(&mut room.links, from, to, units);
     }
 
     /// The link asks for so many slots less. It leaves the demand where none are left.
@@ -143,42 +165,38 @@ impl Demand {
         ensures loses { Gains self.new self.old from to units }
         ensures demand { IsDemand self.new }
     {
-        let Ok(place) = self.find(from, to) else {
-            unreachable!();
-        };
-        let held = self.links[place].units;
-        if held == units {
-            self.links.remove(place);
-        } else {
-            self.links[place].units = held - units;
-        }
-    }
-
-    /// The place of a link, or the place where it would stand.
-    fn find(&self, from: TermNo, to: TermNo) -> Result<usize, usize>
-        ensures found { IfOk result (IsAt self.now (from, to)) }
-        ensures absent { IfErr result (IsGapFor self.now (from, to)) }
-    {
-        self.links
-            .binary_search_by_key(&(from, to), |link| (link.from, link.to))
+        let row = &mut self.rows[usize::from(from.0)];
+        row.take(from, to, units);
     }
 }
 
-/// Puts a link at a place, in the memory of the links or, where they fill it, in the room.
-fn insert_within(links: &mut Vec<Link>, room: &mut Vec<Link>, place: usize, link: Link)
-    requires place { place ≤ length links.old.items }
+/// Puts rows without links behind these, until there are so many.
+fn add_rows(alloc: Global, rows: &mut Vec<LinkRow>, count: usize) -> Result<(), OutOfMemory>
+    ensures keep { KeepLinks rows.old.items rows.new.items }
+    ensures count { OnOk result (count ≤ length rows.new.items) }
+    ensures succeeds { count ≤ vec_capacity rows.old → IsOk result }
+{
+    for _ in rows.len()..count {
+        rows.push(LinkRow::empty(alloc))?;
+    }
+    Ok(())
+}
+
+/// Puts rows without links behind these, until there are so many, in their memory or in the room.
+fn add_rows_within(alloc: Global, rows: &mut Vec<LinkRow>, room: &mut Vec<LinkRow>, count: usize)
     requires none { room.old.items ≡ [] }
-    requires room { length links.old.items < vec_capacity room.old }
-    ensures items { links.new.items ≡ insert links.old.items place link }
+    requires room { count ≤ vec_capacity room.old }
+    ensures keep { KeepLinks rows.old.items rows.new.items }
+    ensures count { count ≤ length rows.new.items }
     ensures none { room.new.items ≡ [] }
 {
-    if links.len() == links.capacity() {
-        let Ok(()) = room.append(links) else {
+    if rows.capacity() < count {
+        let Ok(()) = room.append(rows) else {
             unreachable!();
         };
-        mem::swap(links, room);
+        mem::swap(rows, room);
     }
-    let Ok(()) = links.insert(place, link) else {
+    let Ok(()) = add_rows(alloc, rows, count) else {
         unreachable!();
     };
 }

@@ -1,10 +1,10 @@
 //! The demand of the terminals and the burst time plan that serves it, as values.
 //!
 //! It stands on the network's terminals (`bt_net`) and on matrices (`bt_matrix`). All of specs/ is promise:
-//! `specs/Demand.antt` says what a demand is, `specs/Traffic.antt` what its traffic matrix is, `specs/Burst.antt` and
-//! `specs/Plan.antt` what bursts and a plan are and when no plan is shorter, `specs/Apart.antt` which bursts meet,
-//! `specs/Flyable.antt` which plans can be flown. `demand_laws.rt` and `plan_laws.rt` have what holds of every demand and
-//! plan.
+//! `specs/Demand.antt` says what a demand is, `specs/Rows.antt` what the rows of its senders are, `specs/Traffic.antt` what its
+//! traffic matrix is, `specs/Burst.antt` and `specs/Plan.antt` what bursts and a plan are and when no plan is shorter,
+//! `specs/Apart.antt` which bursts meet, `specs/Flyable.antt` which plans can be flown. `demand_laws.rt` and `plan_laws.rt` have
+//! what holds of every demand and plan.
 #![tactic(auto)]
 
 mod burst;
@@ -12,6 +12,8 @@ mod demand;
 mod demand_laws;
 mod plan;
 mod plan_laws;
+mod room;
+mod row;
 mod traffic;
 
 pub use burst::{Burst, Bursts, MOST_BURSTS};
@@ -21,4 +23,6 @@ pub use plan::{Plan, empty_plan};
 pub use plan_laws::{
     apart_bursts_spell_apart_triples, flyable_plans_are_small, good_plans_are_flyable,
 };
+pub use room::LinkRoom;
+pub use row::LinkRow;
 pub use traffic::traffic_of;

@@ -17,8 +17,10 @@ pub fn traffic_of(alloc: Global, net: &Network, demand: &Demand) -> Result<Dense
     ensures matrix { IfOk result (λ matrix. matrix ≡ matrix_of net.now demand.now) }
 {
     let mut matrix = Dense::new(alloc, net.beam_count())?;
-    for link in demand.as_slice() {
-        matrix.add(net.beam_of(link.from), net.beam_of(link.to), link.units);
+    for row in demand.rows() {
+        for link in row.as_slice() {
+            matrix.add(net.beam_of(link.from), net.beam_of(link.to), link.units);
+        }
     }
     Ok(matrix)
 }

@@ -111,8 +111,29 @@ parts_of form.LineFaultS3 = Text (codes "fault") ∷ Text (codes "S3") ∷ Count
 parts_of form.LineFaultS4 = Text (codes "fault") ∷ Text (codes "S4") ∷ Count ∷ []
 parts_of form.LineFaultS5 = Text (codes "fault") ∷ Text (codes "S5") ∷ Count ∷ []
 parts_of form.InputFault = Text (codes "fault") ∷ Text (codes "input") ∷ []
+parts_of form.PlanDone = Text (codes "plan") ∷ Text (codes "done") ∷ Number ∷ Number ∷ []
+parts_of form.PlanSameTerminal = Text (codes "plan") ∷ Text (codes "refused") ∷ Text (codes "E1") ∷ []
+parts_of form.PlanNotThere = Text (codes "plan") ∷ Text (codes "refused") ∷ Text (codes "E2") ∷ Number ∷ []
+parts_of form.PlanRowFull = Text (codes "plan") ∷ Text (codes "refused") ∷ Text (codes "E3") ∷ Beam ∷ Number ∷ []
+parts_of form.PlanColumnFull = Text (codes "plan") ∷ Text (codes "refused") ∷ Text (codes "E4") ∷ Beam ∷ Number ∷ []
+parts_of form.PlanNotNewer = Text (codes "plan") ∷ Text (codes "refused") ∷ Text (codes "E6") ∷ Number ∷ []
+parts_of form.PlanNoSuchEdition = Text (codes "plan") ∷ Text (codes "refused") ∷ Text (codes "E7") ∷ Number ∷ []
+parts_of form.PlanNotGood = Text (codes "plan") ∷ Text (codes "refused") ∷ Text (codes "E8") ∷ []
 
--- the forms whose first word is this one
+-- a run or a session prints lines of this form: of the others are answers to the planner that no run lets it be given, and none of
+-- these is read back
+abbrev pub is_of_a_run : Form → Bool
+is_of_a_run form.PlanDone = false
+is_of_a_run form.PlanSameTerminal = false
+is_of_a_run form.PlanNotThere = false
+is_of_a_run form.PlanRowFull = false
+is_of_a_run form.PlanColumnFull = false
+is_of_a_run form.PlanNotNewer = false
+is_of_a_run form.PlanNoSuchEdition = false
+is_of_a_run form.PlanNotGood = false
+is_of_a_run _ = true
+
+-- the forms of a run whose first word is this one
 abbrev pub forms_from : List ℕ → List Form
 forms_from head =
     if is_word (codes "sent") head then form.SentLoad ∷ form.SentArm ∷ form.SentStatus ∷ form.SentArmedStatus ∷ form.SentPlan ∷ form.SentConfirm ∷ form.SentReference ∷ form.SentNoReference ∷ form.SentLost ∷ [] else

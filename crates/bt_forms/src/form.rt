@@ -1,4 +1,4 @@
-// The forms of the lines that a run and a session print.
+// The forms of the lines that a run and a session print, and of those that only a call of the book would be answered with.
 
 /// The form of a printed line. `specs/Forms.antt` has the words of each.
 #[derive(Clone, Copy, PartialEq, Eq)]
@@ -72,4 +72,12 @@ pub enum Form {
     LineFaultS4,
     LineFaultS5,
     InputFault,
+    PlanDone,
+    PlanSameTerminal,
+    PlanNotThere,
+    PlanRowFull,
+    PlanColumnFull,
+    PlanNotNewer,
+    PlanNoSuchEdition,
+    PlanNotGood,
 }

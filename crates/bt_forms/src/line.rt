@@ -4,7 +4,7 @@ ghost use Rattle.bt_text.specs.Text.{spaced};
 ghost use Rattle.bt_words.specs.Lines.{line_of, spaced_out, word_bytes};
 ghost use Rattle.bt_words.specs.Written.{Extends};
 ghost use Rattle.bt_forms.specs.Forms.{part_of};
-ghost use Rattle.bt_forms.specs.Filled.{filled, form_line};
+ghost use Rattle.bt_forms.specs.Filled.{filled, form_front, form_line};
 
 use crate::form::Form;
 use crate::token::{Token, tokens_of};
@@ -29,6 +29,22 @@ pub fn print(
         out.truncate(before);
     }
     added
+}
+
+/// Appends the front of a line that others go on with: the words of this form in the same way, and a space. Want of memory leaves
+/// a first part of it.
+pub fn print_front(
+    alloc: Global,
+    form: Form,
+    words: &[Word<'_>],
+    out: &mut Vec<u8>,
+) -> Result<(), OutOfMemory>
+    ensures added { OnOk result (out.new.items ≡ out.old.items ++ form_front form (map word_bytes words.now)) }
+    ensures kept { Extends out.old.items out.new.items }
+{
+    add_first(alloc, tokens_of(form), words, out)?;
+    out.push(b' ')?;
+    Ok(())
 }
 
 /// Appends the line of these places. Want of memory leaves a first part of it.

@@ -109,10 +109,18 @@ pub fn tokens_of(form: Form) -> &'static [Token]
         Form::LineFaultS4       => &[Text("fault"), Text("S4"), Count],
         Form::LineFaultS5       => &[Text("fault"), Text("S5"), Count],
         Form::InputFault        => &[Text("fault"), Text("input")],
+        Form::PlanDone          => &[Text("plan"), Text("done"), Number, Number],
+        Form::PlanSameTerminal  => &[Text("plan"), Text("refused"), Text("E1")],
+        Form::PlanNotThere      => &[Text("plan"), Text("refused"), Text("E2"), Number],
+        Form::PlanRowFull       => &[Text("plan"), Text("refused"), Text("E3"), Beam, Number],
+        Form::PlanColumnFull    => &[Text("plan"), Text("refused"), Text("E4"), Beam, Number],
+        Form::PlanNotNewer      => &[Text("plan"), Text("refused"), Text("E6"), Number],
+        Form::PlanNoSuchEdition => &[Text("plan"), Text("refused"), Text("E7"), Number],
+        Form::PlanNotGood       => &[Text("plan"), Text("refused"), Text("E8")],
     }
 }
 
-/// The forms whose first word is this one.
+/// The forms of a run whose first word is this one.
 pub fn forms_from(head: &[u8]) -> &'static [Form]
     ensures forms { result.now ≡ forms_from head.now }
 {

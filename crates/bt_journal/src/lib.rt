@@ -20,6 +20,6 @@ pub use entry::{Entries, Entry};
 pub use laws::{lines_end_once, lines_tell_changes, marks_tell_sizes};
 pub use line_fault::JournalLineFault;
 pub use mark::{mark_text, read_mark};
-pub use reader::read_change;
+pub use reader::{read_change, read_change_of};
 pub use reply::Reply;
 pub use writer::{change_text, write_change};

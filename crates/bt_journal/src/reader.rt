@@ -37,6 +37,26 @@ pub fn read_change(
     let Some(text) = text_of(line) else {
         return Err(JournalLineFault::Bad);
     };
+    read_change_of(alloc, net, line, text)
+}
+
+/// The same where the text of the line, its newline left out, is known.
+pub fn read_change_of(
+    alloc: Global,
+    net: &Network,
+    line: &[u8],
+    text: &[u8],
+) -> Result<(EditionNo, Change), JournalLineFault>
+    requires text { lines line.now ≡ text.now ∷ [] ∷ [] }
+    requires short { length line.now ≤ MOST_TEXT_BYTES }
+    ensures line { IfOk result (λ read. line.now ≡ change_line net.now read.0.0 read.1) }
+    ensures range { IfOk result (λ read. IsChangeInRange net.now read.0.0 read.1) }
+    ensures edition { IfOk result (λ read. read.0 ≡ edition_said read.0.0 read.1) }
+    ensures bad { IsErrOf result JournalLineFault.Bad → (number : ℕ) → (change : Change)
+        → IsChangeInRange net.now number change → line.now ≡ change_line net.now number change → ⊥ }
+{
+    // This is there for what holds of each network: it is sound.
+    let _beams = net.beam_count();
     said_in(alloc, net, text)
 }
 

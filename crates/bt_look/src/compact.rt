@@ -2,6 +2,7 @@
 ghost use Rattle.std.specs.Prelude.{◌≡◌, ◌≤◌, ◌++◌, All, IfErr, IfOk, OnOk, length};
 ghost use Rattle.bt_frame.specs.declared.limits.TheConstants.{LAST_EDITION};
 ghost use Rattle.bt_frame.specs.Range.{IsWithin};
+ghost use Rattle.bt_demand.specs.Rows.{all_links};
 ghost use Rattle.bt_demand.specs.Traffic.{matrix_of, AreOfNetwork, HasSumsTo};
 ghost use Rattle.bt_plan.specs.TrafficText.{IsSpelled};
 ghost use Rattle.bt_journal.specs.JournalLines.{change_line, journal_lines};
@@ -10,7 +11,7 @@ ghost use Rattle.bt_look.specs.Look.{IsLookFault, TellsCompact};
 
 use crate::look::look;
 use bt_book::{RecoverFault, demands_fit_the_frame};
-use bt_demand::{Demand, Link};
+use bt_demand::{Demand, Link, LinkRow};
 use bt_frame::{EditionNo, OutOfMemory, Units};
 use bt_journal::{Change, Edit, mark_text, write_change};
 use bt_net::Network;
@@ -43,25 +44,27 @@ pub fn compact_text(alloc: Global, net: &Network, demand: &Demand) -> Result<Vec
     let _slots = net.slots();
     let _terminals = net.terminal_count();
     let mut text = mark_text(alloc, net)?;
-    add_links(alloc, net, demand.as_slice(), &mut text)?;
+    add_rows(alloc, net, demand.rows(), &mut text)?;
     Ok(text)
 }
 
-/// Appends the lines of adds of all that these links have, numbered from 1.
-fn add_links(
+/// Appends the lines of adds of all that the links of these rows have, numbered from 1.
+fn add_rows(
     alloc: Global,
     net: &Network,
-    links: &[Link],
+    rows: &[LinkRow],
     text: &mut Vec<u8>,
 ) -> Result<(), OutOfMemory>
-    requires spelled { All (IsSpelled net.now) links.now }
-    requires few { length links.now ≤ 4096 }
-    ensures { OnOk result (text.new.items ≡ text.old.items ++ journal_lines net.now (adds_of links.now)) }
+    requires spelled { All (IsSpelled net.now) (all_links rows.now) }
+    requires few { length (all_links rows.now) ≤ 4096 }
+    ensures { OnOk result (text.new.items ≡ text.old.items ++ journal_lines net.now (adds_of (all_links rows.now))) }
 {
     let mut edition = 0;
-    for link in links {
-        edition += 1;
-        add_link(alloc, net, EditionNo(edition), *link, text)?;
+    for row in rows {
+        for link in row.as_slice() {
+            edition += 1;
+            add_link(alloc, net, EditionNo(edition), *link, text)?;
+        }
     }
     Ok(())
 }

@@ -1,5 +1,6 @@
 // The demand of an edition, as the text of its links.
 ghost use Rattle.std.specs.Prelude.{◌≡◌, ◌++◌, ◌<◌, IfErr, IfNone, IfOk, IfSome, IsSomeAnd, None, OnOk, option_map};
+ghost use Rattle.bt_demand.specs.Rows.{all_links};
 ghost use Rattle.bt_demand.specs.Traffic.{AreOfNetwork};
 ghost use Rattle.bt_net.specs.Terminals.{IsTerminal};
 ghost use Rattle.bt_history.specs.Causes.{Follows};
@@ -9,7 +10,7 @@ ghost use Rattle.bt_look.specs.Look.{IsDemandOf, IsDemandText, IsLinksText, IsLo
 
 use crate::look::look;
 use bt_book::{Book, RecoverFault};
-use bt_demand::{Demand, Link};
+use bt_demand::{Demand, Link, LinkRow};
 use bt_frame::{EditionNo, OutOfMemory};
 use bt_net::Network;
 use bt_outside::Keeper;
@@ -90,8 +91,24 @@ pub fn demand_text(alloc: Global, net: &Network, demand: &Demand) -> Result<Vec<
     ensures text { IfOk result (λ text. text.items ≡ link_lines net.now demand.now) }
 {
     let mut text = Vec::new(alloc);
-    add_links(alloc, net, demand.as_slice(), &mut text)?;
+    add_rows(alloc, net, demand.rows(), &mut text)?;
     Ok(text)
+}
+
+/// Appends the lines of the links of rows.
+fn add_rows(
+    alloc: Global,
+    net: &Network,
+    rows: &[LinkRow],
+    text: &mut Vec<u8>,
+) -> Result<(), OutOfMemory>
+    requires { AreOfNetwork net.now (all_links rows.now) }
+    ensures { OnOk result (text.new.items ≡ text.old.items ++ link_lines net.now (all_links rows.now)) }
+{
+    for row in rows {
+        add_links(alloc, net, row.as_slice(), text)?;
+    }
+    Ok(())
 }
 
 /// Appends the lines of links.

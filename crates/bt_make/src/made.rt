@@ -49,7 +49,7 @@ pub fn make_demand(alloc: Global, net: &Network, number: u64) -> Result<Made, Ou
         try_link(alloc, net, &mut made, link)?;
     }
     // This is there for what holds of each demand: its links are in order.
-    let _links = made.demand.as_slice();
+    let _rows = made.demand.rows();
     Ok(made)
 }
 

@@ -131,8 +131,10 @@ impl Network {
         ensures terminal { result ≡ terminal_of self.now word.now }
         ensures in_range { IfSome result (IsTerminal self.now) }
     {
+        if let Some(number) = self.terminals.found(word) {
+            return Some(TermNo(number as u8));
+        }
         // No terminal has another word as its name.
-        let _terminals = &self.terminals;
         if !is_name(word) {
             return None;
         }

@@ -72,18 +72,29 @@ impl Terminals {
         requires { AllPairs (λ a b. a ≢ b) (names_of self.now) }
         ensures { result ≡ position (bytes_eq name.now) (names_of self.now) }
     {
-        match self.with_ending(name) {
+        match self.found(name.as_bytes()) {
             Some(number) => Some(number),
             None => self.find(name),
         }
     }
 
-    /// The number of the last terminal whose name ends so, if it has this name.
-    fn with_ending(&self, name: &str) -> Option<usize>
-        ensures { IfSome result (λ number. option_map (λ t. t.0) (slice_get self.now number) ≡ Some name.now) }
+    /// The number of the terminal whose name a word is, where its ending says it.
+    pub(crate) fn found(&self, word: &[u8]) -> Option<usize>
+        requires { AllPairs (λ a b. a ≢ b) (names_of self.now) }
+        ensures { IfSome result (λ number. position (bytes_eq word.now) (names_of self.now) ≡ Some number) }
     {
-        let number = self.by_ending[ending_of(name.as_bytes()) as usize] as usize;
-        if number < self.len() && self.at(number).0 == name {
+        match self.with_ending(word) {
+            Some(number) => Some(number),
+            None => None,
+        }
+    }
+
+    /// The number of the last terminal whose name ends so, if this word is its name.
+    fn with_ending(&self, word: &[u8]) -> Option<usize>
+        ensures { IfSome result (λ number. option_map (λ t. t.0) (slice_get self.now number) ≡ Some word.now) }
+    {
+        let number = self.by_ending[ending_of(word) as usize] as usize;
+        if number < self.len() && self.at(number).0.as_bytes() == word {
             Some(number)
         } else {
             None

@@ -1,22 +1,33 @@
 -- What contracts see of an occupancy, what an edit asks of the links of its demand, and what it makes of them.
 use Rattle.std.specs.Prelude.{◌≡◌, ◌⊎◌, ℕ, ◌<◌, ◌≤◌, List, length}
+use Rattle.bt_frame.specs.declared.numbers.TermNo.{TermNo}
 use Rattle.bt_net.specs.Network.{Net}
 use Rattle.bt_demand.specs.declared.demand.Link.{Link}
 use Rattle.bt_demand.specs.Demand.{units_of, Gains}
+use Rattle.bt_demand.specs.Rows.{sent_by}
 use Rattle.bt_journal.specs.declared.call.Edit.{Edit}
 use Rattle.bt_journal.specs.declared.call.Edit.TheVariants.{Add, Drop, Move}
 
--- a network, the links of the demand on it, for how many links there is room, and for how many more entries of the matrix
+-- a network, the links of the demand on it, for how many links of one sender and for how many senders there is room, and for how many
+-- more entries of the matrix
 pub record Occupied : Type 0 where
   pub net : Net
   pub links : List Link
   pub link_room : ℕ
+  pub row_room : ℕ
   pub entry_room : ℕ
 
--- there is room for one link more, and for its entry
-pub record HasRoom (occupied : Occupied) : Type 0 where
-  pub link : length occupied.links < occupied.link_room
+-- there is room for one link more that the terminal sends on, for a row of its own, and for the link's entry
+pub record HasRoomFrom (occupied : Occupied) (sender : TermNo) : Type 0 where
+  pub link : length (sent_by sender occupied.links) < occupied.link_room
+  pub row : sender.0 < occupied.row_room
   pub entry : 0 < occupied.entry_room
+
+-- there is room for the edit: for the link that gains, and none is asked for one that loses
+abbrev pub HasRoom : Occupied → Edit → Type 0
+HasRoom occupied (Add from _ _) = HasRoomFrom occupied from
+HasRoom occupied (Drop _ _ _) = Unit {0}
+HasRoom occupied (Move _ _ new_from _ _) = HasRoomFrom occupied new_from
 
 -- the edit names a link from a terminal to itself
 abbrev pub HasEqualEnds : Edit → Type 0

@@ -7,9 +7,9 @@ ghost use Rattle.bt_demand.specs.Traffic.{matrix_of, HasSumsTo};
 ghost use Rattle.bt_net.specs.Terminals.{IsInBeam, IsTerminal};
 ghost use Rattle.bt_net.specs.Network.{IsSound};
 ghost use Rattle.bt_journal.specs.Journal.{NamesTerminals};
-ghost use Rattle.bt_occupancy.specs.Occupancy.{HasEnds, EditsLinks, HasRoom, HoldsTaken};
+ghost use Rattle.bt_occupancy.specs.Occupancy.{HasEnds, EditsLinks, HasRoom, HasRoomFrom, HoldsTaken};
 
-use bt_demand::{Demand, Link};
+use bt_demand::{Demand, LinkRoom};
 use bt_frame::{BeamNo, MOST_SLOTS, OutOfMemory, TermNo, Units};
 use bt_journal::Edit;
 use bt_links::Crosslinked;
@@ -23,8 +23,8 @@ use std::marker::Model;
 pub struct Occupancy {
     net: Network,
     demand: Demand,
-    // a list without links, into which those of the demand move where they fill their own memory
-    room: Vec<Link>,
+    // memory for one link more: the links of its sender move there where they fill their own, and so do the rows
+    room: LinkRoom,
     matrix: Crosslinked,
 }
 
@@ -39,11 +39,12 @@ impl Model for Occupancy {
     ghost view = { λ a. record {
       net = a.net;
       links = a.demand;
-      link_room = vec_capacity a.room;
+      link_room = vec_capacity a.room.links;
+      row_room = vec_capacity a.room.rows;
       entry_room = a.matrix.room;
     } };
 
-    ghost invariant = { λ a. (a.matrix.rows ≡ matrix_of a.net a.demand) × (a.room.items ≡ []) };
+    ghost invariant = { λ a. (a.matrix.rows ≡ matrix_of a.net a.demand) × (a.room.links.items ≡ []) × (a.room.rows.items ≡ []) };
 }
 
 impl Occupancy {
@@ -55,7 +56,7 @@ impl Occupancy {
         Ok(Occupancy {
             net: net.copy(alloc)?,
             demand: Demand::empty(alloc),
-            room: Vec::new(alloc),
+            room: LinkRoom::new(alloc),
             matrix: Crosslinked::new(alloc, net.beam_count())?,
         })
     }
@@ -66,7 +67,7 @@ impl Occupancy {
         ensures demand { IsDemand self.now.links }
     {
         // This is there for what holds of each demand.
-        let _links = self.demand.as_slice();
+        let _rows = self.demand.rows();
         &self.demand
     }
 
@@ -86,7 +87,7 @@ impl Occupancy {
         ensures demand { IsDemand self.links }
     {
         // This is there for what holds of each demand.
-        let _links = self.demand.as_slice();
+        let _rows = self.demand.rows();
         self.demand
     }
 
@@ -143,19 +144,32 @@ impl Occupancy {
         self.matrix.heaviest().1
     }
 
-    /// Takes room for an edit, so that it takes no memory.
-    pub fn reserve(&mut self, alloc: Global) -> Result<(), OutOfMemory>
-        ensures room { OnOk result (HasRoom self.new) }
+    /// Takes room for an edit, so that it takes no memory. One that only takes slots from a link needs none.
+    pub fn reserve(&mut self, alloc: Global, edit: &Edit) -> Result<(), OutOfMemory>
+        ensures room { OnOk result (HasRoom self.new edit.now) }
         ensures net { self.new.net ≡ self.old.net }
         ensures links { self.new.links ≡ self.old.links }
     {
-        self.demand.reserve(&mut self.room)?;
+        match *edit {
+            Edit::Add { from, .. } => self.reserve_from(alloc, from),
+            Edit::Drop { .. } => Ok(()),
+            Edit::Move { new_from, .. } => self.reserve_from(alloc, new_from),
+        }
+    }
+
+    /// Takes room for one link more that a terminal sends on.
+    fn reserve_from(&mut self, alloc: Global, from: TermNo) -> Result<(), OutOfMemory>
+        ensures room { OnOk result (HasRoomFrom self.new from) }
+        ensures net { self.new.net ≡ self.old.net }
+        ensures links { self.new.links ≡ self.old.links }
+    {
+        self.demand.reserve(from, &mut self.room)?;
         self.matrix.reserve(alloc, 1)
     }
 
     /// Makes an edit, for which there is room.
     pub fn edit(&mut self, edit: &Edit)
-        requires room { HasRoom self.old }
+        requires room { HasRoom self.old edit.now }
         requires terminals { NamesTerminals self.old.net edit.now }
         requires ends { HasEnds edit.now }
         requires held { HoldsTaken self.old.links edit.now }
@@ -181,7 +195,7 @@ impl Occupancy {
 
     /// A link asks for so many slots more, for which there is room.
     fn gain(&mut self, from: TermNo, to: TermNo, units: Units)
-        requires room { HasRoom self.old }
+        requires room { HasRoomFrom self.old from }
         requires sends { IsTerminal self.old.net from }
         requires receives { IsTerminal self.old.net to }
         requires differ { from.0 ≢ to.0 }

@@ -72,7 +72,7 @@ impl LinkTable {
                 links.push(link_at(place, units))?;
             }
         }
-        Ok(Demand::of(links))
+        Demand::of(alloc, links.as_slice())
     }
 }
 

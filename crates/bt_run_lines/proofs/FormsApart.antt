@@ -16,7 +16,7 @@ use Rattle.bt_forms.specs.declared.form.Form.TheVariants as form
 use Rattle.bt_run_lines.specs.declared.printed.Value.{Value}
 use Rattle.bt_run_lines.specs.declared.printed.Value.TheVariants as value
 use Rattle.bt_forms.specs.Forms as part
-use Rattle.bt_forms.specs.Forms.{Part, parts_of, forms_from}
+use Rattle.bt_forms.specs.Forms.{Part, parts_of, is_of_a_run, forms_from}
 use Rattle.bt_run_lines.specs.Words.{taken_of, heard_of, said_by}
 use Rattle.bt_run_lines.specs.Lines.{followed, values_in}
 use Rattle.bt_run_lines.specs.Spelled.{word_of, words_of, SuitsPlace, SuitPlaces}
@@ -140,7 +140,15 @@ pub record IsReached (one : Form) : Type 0 where
   pub stands : forms_of one ≡ take (place_of one) (forms_of one) ++ one ∷ drop (place_of one + 1) (forms_of one)
   pub differs : list_all (λ other. clash (parts_of other) (parts_of one)) (take (place_of one) (forms_of one)) ≡ true
 
--- each by computation: one form is named, so that the second clause is one for each of the others
-pub reached : (one : Form) → IsReached one
-reached form.SentLoad = record { begins = refl; spaceless = refl; stands = refl; differs = refl }
-reached one = record { begins = refl; spaceless = refl; stands = refl; differs = refl }
+-- each by computation: one form is named, and those that no run prints, so that the last clause is one for each of the others
+pub reached : (one : Form) → is_of_a_run one ≡ true → IsReached one
+reached form.SentLoad of_a_run = record { begins = refl; spaceless = refl; stands = refl; differs = refl }
+reached form.PlanDone of_a_run = absurd cc
+reached form.PlanSameTerminal of_a_run = absurd cc
+reached form.PlanNotThere of_a_run = absurd cc
+reached form.PlanRowFull of_a_run = absurd cc
+reached form.PlanColumnFull of_a_run = absurd cc
+reached form.PlanNotNewer of_a_run = absurd cc
+reached form.PlanNoSuchEdition of_a_run = absurd cc
+reached form.PlanNotGood of_a_run = absurd cc
+reached one of_a_run = record { begins = refl; spaceless = refl; stands = refl; differs = refl }

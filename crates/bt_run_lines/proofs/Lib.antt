@@ -7,3 +7,4 @@ pub mod WordsRead
 pub mod FormsApart
 pub mod ReadBack
 pub mod PassedOver
+pub mod OfARun

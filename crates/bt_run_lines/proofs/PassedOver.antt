@@ -92,7 +92,7 @@ pub told_passed : (net : Net) (at : ℕ) (told : List (List ℕ)) (more : List �
 told_passed net at told more sound none few =
     let one = heading (length told) in
     let own = spelled net one in
-    let reads : numbered_line net at own ≡ Ok one = ap (or_fault (O1, at)) (spelled_read net sound one (few, tt)) in
+    let reads : numbered_line net at own ≡ Ok one = ap (or_fault (O1, at)) (spelled_read net sound one (refl, (few, tt))) in
     ap (lines_from net at 0) (told_lines net told more none (lacks_end net (length told) few))
     ∙ (read_first net at own (told ++ lines more) (behind-HasFirst told more)
     ∙ (ap (λ (r : LineReading OutputCode Printed). then_lines r (lines_from net (at + 1) (told_behind own) (told ++ lines more))) reads

@@ -10,7 +10,7 @@ use Rattle.bt_forms.specs.declared.form.Form.{Form}
 use Rattle.bt_run_lines.specs.declared.printed.Printed.{Printed}
 use Rattle.bt_run_lines.specs.declared.printed.Value.{Value}
 use Rattle.bt_forms.specs.Forms as part
-use Rattle.bt_forms.specs.Forms.{Part, parts_of, forms_from}
+use Rattle.bt_forms.specs.Forms.{Part, parts_of}
 use Rattle.bt_run_lines.specs.Lines.{values_in, or_else, first_of_forms, printed_in, line_in}
 use Rattle.bt_run_lines.specs.Spelled.{words_of, spelled, SuitPlaces, Suits}
 use Rattle.bt_run_lines.specs.Printers.{line}
@@ -65,7 +65,7 @@ module _ (net : Net) (sound : IsSound net) where
 
   pub spelled_read : (printed : Printed) → Suits net printed → line_in net (spelled net printed) ≡ Some printed
   spelled_read printed suits =
-      let reach = reached printed.form in
+      let reach = reached printed.form suits.0 in
       let places = parts_of printed.form in
-      ap (printed_in net) (words-spaced (words_of net places printed.said) (some_word printed.form printed.said reach) (words_lack places printed.said suits reach.spaceless))
-      ∙ read_by printed.form printed.said reach suits
+      ap (printed_in net) (words-spaced (words_of net places printed.said) (some_word printed.form printed.said reach) (words_lack places printed.said suits.1 reach.spaceless))
+      ∙ read_by printed.form printed.said reach suits.1

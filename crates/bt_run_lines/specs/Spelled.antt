@@ -1,5 +1,5 @@
 -- How a printed line is spelled, and which values suit its form.
-use Rattle.std.specs.Prelude.{◌≢◌, ℕ, ◌<◌, ◌^◌, List, [], ◌∷◌, decimal, map}
+use Rattle.std.specs.Prelude.{◌≢◌, ℕ, ◌<◌, ◌^◌, List, [], ◌∷◌, decimal, map, IsTrue}
 use Rattle.bt_frame.specs.declared.limits.TheConstants.{MOST_DESKS}
 use Rattle.bt_frame.specs.Range.{IsWithin}
 use Rattle.bt_text.specs.Text.{spaced}
@@ -15,7 +15,7 @@ use Rattle.bt_run_lines.specs.declared.printed.Value.{Value}
 use Rattle.bt_run_lines.specs.declared.printed.Value.TheVariants as value
 use Rattle.bt_forms.specs.Filled.{filled}
 use Rattle.bt_forms.specs.Forms as part
-use Rattle.bt_forms.specs.Forms.{Part, parts_of}
+use Rattle.bt_forms.specs.Forms.{Part, is_of_a_run, parts_of}
 
 -- the word of a value
 abbrev pub word_of : Net → Value → List ℕ
@@ -54,6 +54,6 @@ SuitPlaces net (part.Text text ∷ places) values = SuitPlaces net places values
 SuitPlaces net (place ∷ places) [] = ⊥
 SuitPlaces net (place ∷ places) (first ∷ values) = SuitsPlace net place first × SuitPlaces net places values
 
--- the values of the line suit its form
+-- the form of the line is one of a run, and the values suit it
 abbrev pub Suits : Net → Printed → Type 0
-Suits net printed = SuitPlaces net (parts_of printed.form) printed.said
+Suits net printed = IsTrue (is_of_a_run printed.form) × SuitPlaces net (parts_of printed.form) printed.said

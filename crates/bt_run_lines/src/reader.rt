@@ -1,5 +1,5 @@
 // A printed line from its bytes.
-ghost use Rattle.std.specs.Prelude.{◌≡◌, ◌≤◌, All, IfSome, length, map, option_map};
+ghost use Rattle.std.specs.Prelude.{◌≡◌, ◌≤◌, All, IfSome, map};
 ghost use Rattle.bt_text.specs.Text.{words};
 ghost use Rattle.bt_forms.specs.declared.token.TheConstants.{MOST_VALUES};
 ghost use Rattle.bt_forms.specs.Forms.{part_of, open_places};

@@ -3,7 +3,7 @@ ghost use Rattle.std.specs.Prelude.{◌≡◌, ◌<◌, ◌==◌, ◌++◌, Some
 ghost use Rattle.bt_text.specs.WordReader.{number_to};
 ghost use Rattle.bt_forms.specs.declared.token.TheConstants.{MOST_VALUES};
 ghost use Rattle.bt_forms.specs.Forms.{part_of, is_fixed};
-ghost use Rattle.bt_run_lines.specs.Words.{small_number, desk_number, frame_in, beam_of, taken_of, heard_of, value_of, said_by};
+ghost use Rattle.bt_run_lines.specs.Words.{desk_number, frame_in, beam_of, taken_of, heard_of, value_of, said_by};
 
 use crate::printed::{Value, Values};
 use bt_air::{Heard, Taken};

@@ -262,9 +262,11 @@ fn put_rows(matrix: &Dense, out: &mut String) -> Result<()> {
 
 /// Appends each link with its slots, its ends by number.
 pub fn put_links(demand: &Demand, out: &mut String) -> Result<()> {
-    for link in demand.as_slice() {
-        let (TermNo(from), TermNo(to), units) = (link.from, link.to, link.units);
-        write!(out, ">{from} {to} {units}\n")?;
+    for row in demand.rows() {
+        for link in row.as_slice() {
+            let (TermNo(from), TermNo(to), units) = (link.from, link.to, link.units);
+            write!(out, ">{from} {to} {units}\n")?;
+        }
     }
     Ok(())
 }

@@ -1,1 +1,2 @@
 pub mod SentLines
+pub mod RowLines

@@ -1,5 +1,5 @@
--- The lines that a run prints of its rounds, each by its form, or as its words where it has none.
-use Rattle.std.specs.Prelude.{◌≡◌, ℕ, ◌++◌, ◌<◌, List, [], ◌∷◌, length, codes, decimal, flat_map, Option, Some, None}
+-- The lines that a run prints of its rounds, each by its form.
+use Rattle.std.specs.Prelude.{◌≡◌, ℕ, ◌++◌, ◌<◌, List, [], ◌∷◌, length, decimal, flat_map, Option, Some, None}
 use Rattle.std.specs.List.{slice_index_or}
 use Rattle.bt_frame.specs.declared.numbers.BeamNo.{BeamNo}
 use Rattle.bt_frame.specs.declared.numbers.EditionNo.{EditionNo}
@@ -14,10 +14,9 @@ use Rattle.bt_journal.specs.declared.entry.Entry.{Entry}
 use Rattle.bt_journal.specs.declared.reply.Reply.{Reply}
 use Rattle.bt_journal.specs.declared.reply.Reply.TheVariants.{Done, SameTerminal, NotThere, RowFull, ColumnFull, BookFull, NotNewer, NoSuchEdition, NotGood, Demand, Installed, StoreFault, Stopped}
 use Rattle.bt_verdict.specs.declared.verdict.Verdict.{Verdict}
-use Rattle.bt_words.specs.Lines.{line_of, desk_name}
 use Rattle.bt_forms.specs.declared.form.Form.{Form}
 use Rattle.bt_forms.specs.declared.form.Form.TheVariants as form
-use Rattle.bt_forms.specs.Filled.{form_line}
+use Rattle.bt_forms.specs.Filled.{form_front, form_line}
 use Rattle.bt_timeline.specs.Verdicts.{CanName, verdict_line}
 
 -- the beam is one of the network's
@@ -68,35 +67,6 @@ IsPrinted net desk entry = HasLine net desk entry.call entry.reply
 abbrev pub name_of_beam : Net → BeamNo → List ℕ
 name_of_beam net beam = slice_index_or net.beams beam.0 []
 
--- who called: a desk, or the planner where there is none
-abbrev pub caller_name : Option ℕ → List ℕ
-caller_name (Some desk) = desk_name desk
-caller_name None = codes "plan"
-
--- a reply to an edit or an install that names no beam, no terminal and no plan
-abbrev pub HasWords : Reply → Type 0
-HasWords (Done _ _) = Unit {0}
-HasWords SameTerminal = Unit {0}
-HasWords (NotThere _) = Unit {0}
-HasWords (BookFull _) = Unit {0}
-HasWords (NotNewer _) = Unit {0}
-HasWords (NoSuchEdition _) = Unit {0}
-HasWords StoreFault = Unit {0}
-HasWords Stopped = Unit {0}
-HasWords _ = ⊥
-
--- the words of such a reply, behind the name of who called
-abbrev pub reply_words : Reply → List (List ℕ)
-reply_words (Done edition length) = codes "done" ∷ decimal edition.0 ∷ decimal length ∷ []
-reply_words SameTerminal = codes "refused" ∷ codes "E1" ∷ []
-reply_words (NotThere held) = codes "refused" ∷ codes "E2" ∷ decimal held ∷ []
-reply_words (BookFull length) = codes "refused" ∷ codes "E5" ∷ decimal length ∷ []
-reply_words (NotNewer newest) = codes "refused" ∷ codes "E6" ∷ decimal newest.0 ∷ []
-reply_words (NoSuchEdition last) = codes "refused" ∷ codes "E7" ∷ decimal last.0 ∷ []
-reply_words StoreFault = codes "store" ∷ codes "fault" ∷ []
-reply_words Stopped = codes "stopped" ∷ []
-reply_words _ = []
-
 -- the call asks for an install
 abbrev pub IsInstall : Call → Type 0
 IsInstall (call.Install _) = Unit {0}
@@ -108,21 +78,46 @@ installed_line (call.Install plan) edition = form_line form.Planned (decimal edi
 installed_line _ edition = []
 
 -- the line of a plan that was not good: the refusal, and the line of its verdict
-abbrev pub not_good_line : Net → List ℕ → Verdict → List ℕ
-not_good_line net caller verdict = caller ++ codes " refused E8 " ++ verdict_line (Some net) verdict
+abbrev pub not_good_line : Net → Verdict → List ℕ
+not_good_line net verdict = form_front form.PlanNotGood [] ++ verdict_line (Some net) verdict
 
--- The line of a reply to a call, behind the name of who called. A plan is installed, and nothing is new, for the planner alone.
-abbrev pub answer_line : Net → List ℕ → Call → Reply → List ℕ
-answer_line net caller asked (RowFull beam sum) = line_of (caller ∷ codes "refused" ∷ codes "E3" ∷ name_of_beam net beam ∷ decimal sum ∷ [])
-answer_line net caller asked (ColumnFull beam sum) = line_of (caller ∷ codes "refused" ∷ codes "E4" ∷ name_of_beam net beam ∷ decimal sum ∷ [])
-answer_line net caller asked (NotGood verdict) = not_good_line net caller verdict
-answer_line net caller asked (Installed edition) = installed_line asked edition
-answer_line net caller asked (Demand _ _ _) = form_line form.NothingNew []
-answer_line net caller asked reply = line_of (caller ∷ reply_words reply)
+-- the line of the reply to an edit of a desk
+abbrev pub desk_reply_line : Net → ℕ → Reply → List ℕ
+desk_reply_line net desk (Done edition length) = form_line form.DeskDone (decimal desk ∷ decimal edition.0 ∷ decimal length ∷ [])
+desk_reply_line net desk SameTerminal = form_line form.DeskSameTerminal (decimal desk ∷ [])
+desk_reply_line net desk (NotThere held) = form_line form.DeskNotThere (decimal desk ∷ decimal held ∷ [])
+desk_reply_line net desk (RowFull beam sum) = form_line form.DeskRowFull (decimal desk ∷ name_of_beam net beam ∷ decimal sum ∷ [])
+desk_reply_line net desk (ColumnFull beam sum) = form_line form.DeskColumnFull (decimal desk ∷ name_of_beam net beam ∷ decimal sum ∷ [])
+desk_reply_line net desk (BookFull length) = form_line form.DeskBookFull (decimal desk ∷ decimal length ∷ [])
+desk_reply_line net desk StoreFault = form_line form.DeskStoreFault (decimal desk ∷ [])
+desk_reply_line net desk Stopped = form_line form.DeskStopped (decimal desk ∷ [])
+desk_reply_line net desk _ = []
+
+-- the line of the reply to a call of the planner
+abbrev pub plan_reply_line : Net → Call → Reply → List ℕ
+plan_reply_line net asked (Done edition length) = form_line form.PlanDone (decimal edition.0 ∷ decimal length ∷ [])
+plan_reply_line net asked SameTerminal = form_line form.PlanSameTerminal []
+plan_reply_line net asked (NotThere held) = form_line form.PlanNotThere (decimal held ∷ [])
+plan_reply_line net asked (RowFull beam sum) = form_line form.PlanRowFull (name_of_beam net beam ∷ decimal sum ∷ [])
+plan_reply_line net asked (ColumnFull beam sum) = form_line form.PlanColumnFull (name_of_beam net beam ∷ decimal sum ∷ [])
+plan_reply_line net asked (BookFull length) = form_line form.PlanBookFull (decimal length ∷ [])
+plan_reply_line net asked (NotNewer newest) = form_line form.PlanNotNewer (decimal newest.0 ∷ [])
+plan_reply_line net asked (NoSuchEdition last) = form_line form.PlanNoSuchEdition (decimal last.0 ∷ [])
+plan_reply_line net asked (NotGood verdict) = not_good_line net verdict
+plan_reply_line net asked (Demand _ _ _) = form_line form.NothingNew []
+plan_reply_line net asked (Installed edition) = installed_line asked edition
+plan_reply_line net asked StoreFault = form_line form.PlanStoreFault []
+plan_reply_line net asked Stopped = form_line form.PlanStopped []
+plan_reply_line net asked _ = []
+
+-- the line of the reply to a call of a desk, or of the planner where there is none
+abbrev pub answer_line : Net → Option ℕ → Call → Reply → List ℕ
+answer_line net (Some desk) asked reply = desk_reply_line net desk reply
+answer_line net None asked reply = plan_reply_line net asked reply
 
 -- the line of an entry: who called, and what was answered
 abbrev pub entry_line : Net → Option ℕ → Entry → List ℕ
-entry_line net desk entry = answer_line net (caller_name desk) entry.call entry.reply
+entry_line net desk entry = answer_line net desk entry.call entry.reply
 
 -- the line of a burst, on the air or of a plan by its form: its first slot, its slots, and the terminals that send and receive
 abbrev pub burst_line : Net → Form → Burst → List ℕ

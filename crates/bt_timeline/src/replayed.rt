@@ -1,11 +1,12 @@
 // What a journal comes to.
 ghost use Rattle.std.specs.Prelude.{◌≡◌, ◌++◌, OnOk, OnErr};
 ghost use Rattle.bt_net.specs.Terminals.{IsTerminal};
+ghost use Rattle.bt_demand.specs.Rows.{all_links};
 ghost use Rattle.bt_demand.specs.Traffic.{AreOfNetwork};
 ghost use Rattle.bt_timeline.specs.Replayed.{link_line, link_lines, replay_lines, state_lines};
 ghost use Rattle.bt_words.specs.Written.{Extends};
 
-use bt_demand::{Demand, Link, Plan};
+use bt_demand::{Demand, Link, LinkRow, Plan};
 use bt_frame::{EditionNo, OutOfMemory};
 use bt_net::Network;
 use bt_words::{Word, add_line};
@@ -49,7 +50,7 @@ fn add_replay(
     ensures kept { Extends out.old.items out.new.items }
 {
     add_state(alloc, edition, newest, orders, out)?;
-    add_links(alloc, net, demand.as_slice(), out)?;
+    add_rows(alloc, net, demand.rows(), out)?;
     add_line(alloc, &[Word::Text("end")], out)
 }
 
@@ -78,6 +79,23 @@ fn add_state(
     ];
     add_line(alloc, &words, out)?;
     add_line(alloc, &[Word::Text("orders"), Word::number(orders)], out)
+}
+
+/// Appends the lines of the links of rows. Want of memory leaves the first of them.
+fn add_rows(
+    alloc: Global,
+    net: &Network,
+    rows: &[LinkRow],
+    out: &mut Vec<u8>,
+) -> Result<(), OutOfMemory>
+    requires { AreOfNetwork net.now (all_links rows.now) }
+    ensures added { OnOk result (out.new.items ≡ out.old.items ++ link_lines net.now (all_links rows.now)) }
+    ensures kept { Extends out.old.items out.new.items }
+{
+    for row in rows {
+        add_links(alloc, net, row.as_slice(), out)?;
+    }
+    Ok(())
 }
 
 /// Appends the lines of links. Want of memory leaves the first of them.

@@ -1,63 +1,68 @@
-// The lines of replies that name no beam, no terminal and no plan.
-ghost use Rattle.std.specs.Prelude.{◌≡◌, ◌++◌, ◌∷◌, [], codes, decimal, OnOk, OnErr};
-ghost use Rattle.bt_words.specs.Lines.{line_of, word_bytes};
-ghost use Rattle.bt_timeline.specs.Timeline.{HasWords, reply_words};
+// The lines of replies, to a desk and to the planner.
+ghost use Rattle.std.specs.Prelude.{◌≡◌, ◌++◌, None, OnOk, OnErr};
+ghost use Rattle.bt_timeline.specs.Timeline.{AnswersEdit, IsPrinted, desk_reply_line, plan_reply_line};
 
+use crate::install::{installed_text, not_good_text};
+use bt_forms::{Form, print};
 use bt_frame::OutOfMemory;
-use bt_journal::Reply;
-use bt_words::{Word, add_line};
+use bt_journal::{Entry, Reply};
+use bt_net::Network;
+use bt_words::Word;
 use std::alloc::Global;
 
-/// Appends the line of a reply that has words of its own, behind the name of who called.
-pub(crate) fn reply_text(
+/// Appends the line of the reply to an edit of a desk.
+#[rattlefmt::skip]
+pub(crate) fn desk_reply_text(
     alloc: Global,
-    caller: Word<'_>,
+    net: &Network,
+    desk: u8,
     reply: &Reply,
     out: &mut Vec<u8>,
 ) -> Result<(), OutOfMemory>
-    requires { HasWords reply.now }
-    ensures added { OnOk result (out.new.items ≡ out.old.items ++ line_of (word_bytes caller.entry ∷ reply_words reply.now)) }
+    requires { AnswersEdit net.now reply.now }
+    ensures added { OnOk result (out.new.items ≡ out.old.items ++ desk_reply_line net.now desk reply.now) }
     ensures unchanged { OnErr result (out.new.items ≡ out.old.items) }
 {
+    let desk = Word::Number(u64::from(desk));
     match reply {
-        Reply::Done { edition, length } => {
-            let edition = Word::number(edition.0);
-            let length = Word::number(*length);
-            add_line(alloc, &[caller, Word::Text("done"), edition, length], out)
-        }
-        Reply::SameTerminal => {
-            let words = [caller, Word::Text("refused"), Word::Text("E1")];
-            add_line(alloc, &words, out)
-        }
-        Reply::NotThere { held } => refused_text(alloc, caller, "E2", *held, out),
-        Reply::BookFull { length } => refused_text(alloc, caller, "E5", *length, out),
-        Reply::NotNewer { newest } => refused_text(alloc, caller, "E6", newest.0, out),
-        Reply::NoSuchEdition { last } => refused_text(alloc, caller, "E7", last.0, out),
-        Reply::StoreFault => {
-            let words = [caller, Word::Text("store"), Word::Text("fault")];
-            add_line(alloc, &words, out)
-        }
-        Reply::Stopped => add_line(alloc, &[caller, Word::Text("stopped")], out),
-        _ => unreachable!(),
+        Reply::Done { edition, length } => print(alloc, Form::DeskDone, &[desk, Word::number(edition.0), Word::number(*length)], out),
+        Reply::SameTerminal             => print(alloc, Form::DeskSameTerminal, &[desk], out),
+        Reply::NotThere { held }        => print(alloc, Form::DeskNotThere, &[desk, Word::number(*held)], out),
+        Reply::RowFull { beam, sum }    => print(alloc, Form::DeskRowFull, &[desk, Word::Text(net.beam_name(*beam)), Word::number(*sum)], out),
+        Reply::ColumnFull { beam, sum } => print(alloc, Form::DeskColumnFull, &[desk, Word::Text(net.beam_name(*beam)), Word::number(*sum)], out),
+        Reply::BookFull { length }      => print(alloc, Form::DeskBookFull, &[desk, Word::number(*length)], out),
+        Reply::StoreFault               => print(alloc, Form::DeskStoreFault, &[desk], out),
+        Reply::Stopped                  => print(alloc, Form::DeskStopped, &[desk], out),
+        _                               => unreachable!(),
     }
 }
 
-/// Appends the line of a refusal: its code and its number.
-fn refused_text<'a>(
+/// Appends the line of the reply to a call of the planner.
+#[rattlefmt::skip]
+pub(crate) fn plan_reply_text(
     alloc: Global,
-    caller: Word<'a>,
-    code: &'a str,
-    number: u32,
+    net: &Network,
+    entry: &Entry,
     out: &mut Vec<u8>,
 ) -> Result<(), OutOfMemory>
-    ensures added { OnOk result (out.new.items ≡ out.old.items ++ line_of (word_bytes caller.entry ∷ codes "refused" ∷ code.now ∷ decimal number ∷ [])) }
+    requires { IsPrinted net.now None entry.now }
+    ensures added { OnOk result (out.new.items ≡ out.old.items ++ plan_reply_line net.now entry.now.call entry.now.reply) }
     ensures unchanged { OnErr result (out.new.items ≡ out.old.items) }
 {
-    let words = [
-        caller,
-        Word::Text("refused"),
-        Word::Text(code),
-        Word::number(number),
-    ];
-    add_line(alloc, &words, out)
+    match &entry.reply {
+        Reply::Done { edition, length } => print(alloc, Form::PlanDone, &[Word::number(edition.0), Word::number(*length)], out),
+        Reply::SameTerminal             => print(alloc, Form::PlanSameTerminal, &[], out),
+        Reply::NotThere { held }        => print(alloc, Form::PlanNotThere, &[Word::number(*held)], out),
+        Reply::RowFull { beam, sum }    => print(alloc, Form::PlanRowFull, &[Word::Text(net.beam_name(*beam)), Word::number(*sum)], out),
+        Reply::ColumnFull { beam, sum } => print(alloc, Form::PlanColumnFull, &[Word::Text(net.beam_name(*beam)), Word::number(*sum)], out),
+        Reply::BookFull { length }      => print(alloc, Form::PlanBookFull, &[Word::number(*length)], out),
+        Reply::NotNewer { newest }      => print(alloc, Form::PlanNotNewer, &[Word::number(newest.0)], out),
+        Reply::NoSuchEdition { last }   => print(alloc, Form::PlanNoSuchEdition, &[Word::number(last.0)], out),
+        Reply::NotGood { verdict }      => not_good_text(alloc, net, verdict, out),
+        Reply::Demand { .. }            => print(alloc, Form::NothingNew, &[], out),
+        Reply::Installed { edition }    => installed_text(alloc, &entry.call, *edition, out),
+        Reply::StoreFault               => print(alloc, Form::PlanStoreFault, &[], out),
+        Reply::Stopped                  => print(alloc, Form::PlanStopped, &[], out),
+        _                               => unreachable!(),
+    }
 }

@@ -139,6 +139,20 @@ one_added from to amount items k d table units within before from_small to_small
           omega (arith, one, few);
     }
 
+-- the same for an item that was read at another place
+pub one_in_row : {X : Type 0} (from to amount : X → ℕ) (items : List X) (k : ℕ) (d item : X) (table : List (List ℕ)) (units : ℕ) → get_or items k d ≡ item → k < length items
+    → AreAdded from to amount items k table → from item < 64 → to item < 64 → units ≡ amount item → units ≤ 4294967295
+    → AreAdded from to amount items (k + 1) (with_entry table (from item) (to item) (entry table (from item) (to item) + units))
+one_in_row {X} from to amount items k d item table units same within before from_small to_small is few =
+    subst (λ (x : X). AreAdded from to amount items (k + 1) (with_entry table (from x) (to x) (entry table (from x) (to x) + units))) same
+    (one_added from to amount items k d table units within before (subst (λ (x : X). from x < 64) (sym same) from_small) (subst (λ (x : X). to x < 64) (sym same) to_small)
+    (subst (λ (x : X). units ≡ amount x) (sym same) is) few)
+
+-- the slots at a place that is counted otherwise
+pub AreAdded-at : {X : Type 0} (from to amount : X → ℕ) (items : List X) (k n : ℕ) (table : List (List ℕ)) → k ≡ n → AreAdded from to amount items k table
+    → AreAdded from to amount items n table
+AreAdded-at from to amount items k n table same before = subst (λ (m : ℕ). AreAdded from to amount items m table) same before
+
 -- nothing is asked of terminals that the network has not, nor sent
 pub outside : (net : Net) (links : List Link) (bursts : List Burst) (from to : TermNo) → AreOfNetwork net links → AreBetweenTerminals net bursts
     → length net.terminals ≤ to.0 → IsServed links bursts from to

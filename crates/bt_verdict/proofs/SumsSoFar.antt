@@ -1,5 +1,5 @@
 -- The sums of the lines of a demand's matrix, as a walk along its links keeps them.
-use Rattle.std.proofs.Common.{◌≡◌, ◌≢◌, ◌⊎◌, ℕ, ◌+◌, ◌<◌, ◌≤◌, List, [], length, replicate, take, slice_index, slice_set, inl, inr, sym, ◌∙◌, arith, length-set}
+use Rattle.std.proofs.Common.{◌≡◌, ◌≢◌, ◌⊎◌, ℕ, ◌+◌, ◌<◌, ◌≤◌, List, [], length, replicate, take, slice_index, slice_set, inl, inr, sym, ◌∙◌, arith, length-set, subst}
 use Rattle.std.proofs.lemmas.List.{length-replicate, get_or-replicate, length-take, get_or-take}
 use Rattle.std.proofs.lemmas.List.Folds.{sum_by-replicate}
 use Rattle.bt_frame.specs.declared.schedule.Critical.{Critical}
@@ -112,3 +112,8 @@ not_least rows schedule line most heaviest other least =
     let low : line_sum rows schedule.critical ≤ most = heaviest.greatest schedule.critical least.on_matrix in
     let high : line_sum rows line ≤ schedule.length = least.greatest line heaviest.on_matrix in
     elim other [ inl length_is ↦ length_is (omega (arith, heaviest.reached, least.reached)) | inr sum_is ↦ sum_is (omega (arith, heaviest.reached, least.reached)) ]
+
+-- the sums at a place that is counted otherwise
+pub HasSums-at : (net : Net) (links : List Link) (k n : ℕ) (row_sums column_sums : List ℕ) → k ≡ n → HasSums (matrix_of net (take k links)) row_sums column_sums
+    → HasSums (matrix_of net (take n links)) row_sums column_sums
+HasSums-at net links k n row_sums column_sums same sums = subst (λ (m : ℕ). HasSums (matrix_of net (take m links)) row_sums column_sums) same sums

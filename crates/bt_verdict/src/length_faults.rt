@@ -7,9 +7,10 @@ ghost use Rattle.bt_matrix.specs.Good.{IsLeast};
 ghost use Rattle.bt_matrix.specs.Traffic.{line_sum, IsLine, IsHeaviest};
 ghost use Rattle.bt_frame.specs.Range.{IsWithin};
 ghost use Rattle.bt_frame.specs.Critical.{IsOfBeams};
+ghost use Rattle.bt_demand.specs.Rows.{all_links};
 ghost use Rattle.bt_demand.specs.Traffic.{matrix_of, AreOfNetwork, HasSumsTo};
 
-use bt_demand::Link;
+use bt_demand::LinkRow;
 use bt_frame::{Critical, MOST_BEAMS, MOST_SUM, Schedule};
 use bt_matrix::{Traffic, heaviest_line};
 use bt_net::Network;
@@ -56,19 +57,19 @@ struct LineSums {
 /// It looks once at each link.
 pub(crate) fn heavier_in_demand(
     net: &Network,
-    links: &[Link],
+    rows: &[LinkRow],
     schedule: &Schedule,
 ) -> Option<(Critical, u32)>
-    requires of_network { AreOfNetwork net.now links.now }
-    requires sums { HasSumsTo MOST_SUM (matrix_of net.now links.now) }
+    requires of_network { AreOfNetwork net.now (all_links rows.now) }
+    requires sums { HasSumsTo MOST_SUM (matrix_of net.now (all_links rows.now)) }
     requires critical { IsOfBeams (length net.now.beams) schedule.now.critical }
     ensures { MatchOption result
-        (IsLeast (matrix_of net.now links.now) schedule.now)
-        (λ heaviest. ¬ (IsLeast (matrix_of net.now links.now) schedule.now)
-        × IsHeaviest (matrix_of net.now links.now) heaviest.0 heaviest.1) }
+        (IsLeast (matrix_of net.now (all_links rows.now)) schedule.now)
+        (λ heaviest. ¬ (IsLeast (matrix_of net.now (all_links rows.now)) schedule.now)
+        × IsHeaviest (matrix_of net.now (all_links rows.now)) heaviest.0 heaviest.1) }
 {
     let beams = net.beam_count() as usize;
-    let sums = line_sums(net, links);
+    let sums = line_sums(net, rows);
     let (line, most) = heaviest_line(&sums.rows[..beams], &sums.columns[..beams]);
     let reached = kept_sum_of(&sums, schedule.critical);
     if schedule.length == most && reached == most {
@@ -79,19 +80,21 @@ pub(crate) fn heavier_in_demand(
 }
 
 /// The slots that each line asks for.
-fn line_sums(net: &Network, links: &[Link]) -> LineSums
+fn line_sums(net: &Network, demand: &[LinkRow]) -> LineSums
     requires beams { IsWithin 1 MOST_BEAMS (length net.now.beams) }
-    requires of_network { AreOfNetwork net.now links.now }
-    requires sums { HasSumsTo MOST_SUM (matrix_of net.now links.now) }
-    ensures { KeepsSums (matrix_of net.now links.now) result.rows result.columns }
+    requires of_network { AreOfNetwork net.now (all_links demand.now) }
+    requires sums { HasSumsTo MOST_SUM (matrix_of net.now (all_links demand.now)) }
+    ensures { KeepsSums (matrix_of net.now (all_links demand.now)) result.rows result.columns }
 {
     let mut rows = [0; MOST_BEAMS];
     let mut columns = [0; MOST_BEAMS];
-    for link in links {
-        let up = net.beam_of(link.from);
-        let down = net.beam_of(link.to);
-        rows[up.0 as usize] += link.units;
-        columns[down.0 as usize] += link.units;
+    for sent in demand {
+        for link in sent.as_slice() {
+            let up = net.beam_of(link.from);
+            let down = net.beam_of(link.to);
+            rows[up.0 as usize] += link.units;
+            columns[down.0 as usize] += link.units;
+        }
     }
     LineSums { rows, columns }
 }

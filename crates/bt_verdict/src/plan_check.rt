@@ -2,6 +2,7 @@
 ghost use Rattle.std.specs.Prelude.{length, MatchOption};
 ghost use Rattle.bt_frame.specs.Critical.{IsOfBeams};
 ghost use Rattle.bt_demand.specs.Demand.{IsDemand};
+ghost use Rattle.bt_demand.specs.Rows.{all_links};
 ghost use Rattle.bt_demand.specs.Apart.{AreBetweenTerminals};
 ghost use Rattle.bt_verdict.specs.PlanVerdict.{HasGoodModes, IsPlanVerdict};
 ghost use Rattle.bt_demand.specs.Traffic.{matrix_of, AreOfNetwork, HasSumsTo};
@@ -13,7 +14,7 @@ use crate::meetings::first_meeting;
 use crate::mode_faults::{duration_sum, first_bad, first_empty};
 use crate::plan_laws::plans_are_good_by_their_parts;
 use crate::serving::first_unserved;
-use bt_demand::{Demand, Link, Plan};
+use bt_demand::{Demand, LinkRow, Plan};
 use bt_frame::MOST_SUM;
 use bt_net::Network;
 
@@ -30,21 +31,21 @@ pub fn check(net: &Network, demand: &Demand, plan: &Plan) -> Verdict
     requires sums { HasSumsTo MOST_SUM (matrix_of net.now demand.now) }
     ensures verdict { IsPlanVerdict net.now demand.now plan.now result }
 {
-    let links = demand.as_slice();
-    match modes_fault(net, links, plan) {
+    let rows = demand.rows();
+    match modes_fault(net, rows, plan) {
         Some(fault) => fault,
-        None => bursts_verdict(net, links, plan),
+        None => bursts_verdict(net, rows, plan),
     }
 }
 
 /// What is wrong first with the modes of a plan.
-fn modes_fault(net: &Network, links: &[Link], plan: &Plan) -> Option<Verdict>
-    requires links { AreOfNetwork net.now links.now }
+fn modes_fault(net: &Network, rows: &[LinkRow], plan: &Plan) -> Option<Verdict>
+    requires links { AreOfNetwork net.now (all_links rows.now) }
     requires critical { IsOfBeams (length net.now.beams) plan.now.schedule.critical }
-    requires sums { HasSumsTo MOST_SUM (matrix_of net.now links.now) }
+    requires sums { HasSumsTo MOST_SUM (matrix_of net.now (all_links rows.now)) }
     ensures { MatchOption result
-        (HasGoodModes net.now links.now plan.now.schedule)
-        (IsPlanVerdict net.now links.now plan.now) }
+        (HasGoodModes net.now (all_links rows.now) plan.now.schedule)
+        (IsPlanVerdict net.now (all_links rows.now) plan.now) }
 {
     let schedule = &plan.schedule;
     if let Some(mode) = first_bad(&schedule.modes, net.beam_count()) {
@@ -58,18 +59,18 @@ fn modes_fault(net: &Network, links: &[Link], plan: &Plan) -> Option<Verdict>
     if sum != u64::from(length) {
         return Some(Verdict::V3 { sum, length });
     }
-    let (critical, sum) = heavier_in_demand(net, links, schedule)?;
+    let (critical, sum) = heavier_in_demand(net, rows, schedule)?;
     let sum = u64::from(sum);
     Some(Verdict::V4 { critical, sum })
 }
 
 /// The verdict on a plan whose modes are good.
-fn bursts_verdict(net: &Network, links: &[Link], plan: &Plan) -> Verdict
-    requires links { AreOfNetwork net.now links.now }
-    requires demand { IsDemand links.now }
+fn bursts_verdict(net: &Network, rows: &[LinkRow], plan: &Plan) -> Verdict
+    requires links { AreOfNetwork net.now (all_links rows.now) }
+    requires demand { IsDemand (all_links rows.now) }
     requires bursts { AreBetweenTerminals net.now plan.now.bursts }
-    requires modes { HasGoodModes net.now links.now plan.now.schedule }
-    ensures { IsPlanVerdict net.now links.now plan.now result }
+    requires modes { HasGoodModes net.now (all_links rows.now) plan.now.schedule }
+    ensures { IsPlanVerdict net.now (all_links rows.now) plan.now result }
 {
     let bursts = plan.bursts.as_slice();
     if let Some((first, second)) = first_meeting(net, bursts) {
@@ -78,7 +79,7 @@ fn bursts_verdict(net: &Network, links: &[Link], plan: &Plan) -> Verdict
     if let Some(burst) = first_unheld(net, plan.schedule.modes.as_slice(), bursts) {
         return Verdict::V6 { burst };
     }
-    match first_unserved(net, links, bursts) {
+    match first_unserved(net, rows, bursts) {
         Some(unserved) => unserved.verdict(),
         None => {
             plans_are_good_by_their_parts();

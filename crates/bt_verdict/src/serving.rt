@@ -5,10 +5,11 @@ ghost use Rattle.bt_demand.specs.Apart.{AreBetweenTerminals};
 ghost use Rattle.bt_verdict.specs.PlanVerdict.{IsFirstUnserved};
 ghost use Rattle.bt_demand.specs.Traffic.{AreOfNetwork};
 ghost use Rattle.bt_demand.specs.Demand.{IsDemand};
+ghost use Rattle.bt_demand.specs.Rows.{all_links};
 ghost use Rattle.bt_verdict.specs.Unserved.{AreSlotsSent, AreUnitsAsked, AreServed};
 
 use crate::Verdict;
-use bt_demand::{Burst, Link, MOST_BURSTS};
+use bt_demand::{Burst, LinkRow, MOST_BURSTS};
 use bt_frame::{MOST_TERMINALS, TermNo};
 use bt_net::Network;
 
@@ -39,17 +40,17 @@ impl Unserved {
 /// slots than it asks for.
 ///
 /// It looks once at each burst, at each link and at each two terminals.
-pub(crate) fn first_unserved(net: &Network, links: &[Link], bursts: &[Burst]) -> Option<Unserved>
-    requires demand { IsDemand links.now }
-    requires of_network { AreOfNetwork net.now links.now }
+pub(crate) fn first_unserved(net: &Network, rows: &[LinkRow], bursts: &[Burst]) -> Option<Unserved>
+    requires demand { IsDemand (all_links rows.now) }
+    requires of_network { AreOfNetwork net.now (all_links rows.now) }
     requires between { AreBetweenTerminals net.now bursts.now }
     requires few { length bursts.now ≤ MOST_BURSTS }
     ensures { MatchOption result
-        (AreServed net.now links.now bursts.now)
-        (λ u. IsFirstUnserved net.now links.now bursts.now u.from u.to u.want u.have) }
+        (AreServed net.now (all_links rows.now) bursts.now)
+        (λ u. IsFirstUnserved net.now (all_links rows.now) bursts.now u.from u.to u.want u.have) }
 {
     let count = net.terminal_count() as u8;
-    let asked = units_by_link(links);
+    let asked = units_by_link(rows);
     let sent = slots_by_link(bursts);
     for from in 0..count {
         for to in 0..count {
@@ -69,14 +70,16 @@ pub(crate) fn first_unserved(net: &Network, links: &[Link], bursts: &[Burst]) ->
 }
 
 /// The slots that each link asks for, a row for each terminal that sends.
-fn units_by_link(links: &[Link]) -> [[u64; MOST_TERMINALS]; MOST_TERMINALS]
-    requires few { length links.now ≤ MOST_TERMINALS * MOST_TERMINALS }
-    requires between { All (λ l. (l.from.0 < MOST_TERMINALS) × (l.to.0 < MOST_TERMINALS)) links.now }
-    ensures { AreUnitsAsked links.now result }
+fn units_by_link(rows: &[LinkRow]) -> [[u64; MOST_TERMINALS]; MOST_TERMINALS]
+    requires few { length (all_links rows.now) ≤ MOST_TERMINALS * MOST_TERMINALS }
+    requires between { All (λ l. (l.from.0 < MOST_TERMINALS) × (l.to.0 < MOST_TERMINALS)) (all_links rows.now) }
+    ensures { AreUnitsAsked (all_links rows.now) result }
 {
     let mut units = [[0; MOST_TERMINALS]; MOST_TERMINALS];
-    for link in links {
-        units[link.from.0 as usize][link.to.0 as usize] += u64::from(link.units);
+    for row in rows {
+        for link in row.as_slice() {
+            units[link.from.0 as usize][link.to.0 as usize] += u64::from(link.units);
+        }
     }
     units
 }

@@ -1,6 +1,5 @@
 -- Printed lines as their words.
-use Rattle.std.specs.Prelude.{ℕ, ◌++◌, List, [], ◌∷◌, codes, decimal, flat_map}
-use Rattle.bt_frame.specs.declared.numbers.EditionNo.{EditionNo}
+use Rattle.std.specs.Prelude.{ℕ, ◌++◌, List, [], ◌∷◌, decimal, flat_map}
 use Rattle.bt_frame.specs.declared.numbers.Mark.{Mark}
 use Rattle.bt_words.specs.declared.line.Word.{Word}
 use Rattle.bt_words.specs.declared.line.Word.TheVariants as word
@@ -14,22 +13,12 @@ abbrev pub line_of : List (List ℕ) → List ℕ
 line_of [] = 10 ∷ []
 line_of (first ∷ rest) = first ++ spaced_out rest ++ 10 ∷ []
 
--- the desk of that number
-abbrev pub desk_name : ℕ → List ℕ
-desk_name desk = codes "desk" ++ 32 ∷ decimal desk
-
 -- the frame of that number, from 0, of a superframe
 abbrev pub frame_name : Mark → ℕ → List ℕ
 frame_name mark number = decimal mark.0 ++ 46 ∷ decimal number
-
--- the change for which the satellite is armed: the edition that is to come to the front, and when
-abbrev pub armed_name : EditionNo → Mark → List ℕ
-armed_name edition due = codes "armed " ++ decimal edition.0 ++ codes " due " ++ decimal due.0
 
 -- what a word of the code spells
 abbrev pub word_bytes : Word → List ℕ
 word_bytes (word.Text text) = text.now
 word_bytes (word.Number number) = decimal number
-word_bytes (word.Desk desk) = desk_name desk
 word_bytes (word.Frame mark number) = frame_name mark number
-word_bytes (word.Armed edition due) = armed_name edition due

@@ -1,4 +1,4 @@
-//! A printed line as its words: texts, numbers, desks, frames, and the change that a satellite is armed for.
+//! A printed line as its words: texts, numbers and frames.
 //!
 //! A call appends a line to a text, its newline included, and leaves the text as it was where memory runs out. It stands on
 //! printed numbers. `specs/Lines.antt` is promise, what a line and its words spell; `specs/Written.antt` says of a text that it

@@ -1,9 +1,9 @@
 // One line, word by word.
 ghost use Rattle.std.specs.Prelude.{◌≡◌, ◌++◌, ◌∷◌, decimal, map, OnOk, OnErr};
-ghost use Rattle.bt_words.specs.Lines.{armed_name, frame_name, line_of, spaced_out, word_bytes};
+ghost use Rattle.bt_words.specs.Lines.{frame_name, line_of, spaced_out, word_bytes};
 ghost use Rattle.bt_words.specs.Written.{Extends};
 
-use bt_frame::{EditionNo, Mark, OutOfMemory};
+use bt_frame::{Mark, OutOfMemory};
 use bt_text::number_text;
 use std::alloc::Global;
 
@@ -14,12 +14,8 @@ pub enum Word<'a> {
     Text(&'a str),
     /// A number in decimal digits.
     Number(u64),
-    /// `desk` and the number of a desk.
-    Desk(u8),
     /// A superframe and the number of a frame of it, from 0, with a point between them.
     Frame(Mark, u32),
-    /// `armed`, the edition that is to come to the front, `due` and the superframe with which it does.
-    Armed(EditionNo, Mark),
 }
 
 impl Word<'_> {
@@ -85,12 +81,7 @@ pub fn add_word(alloc: Global, word: &Word<'_>, out: &mut Vec<u8>) -> Result<(),
     match *word {
         Word::Text(text) => Ok(out.extend_from_slice(text.as_bytes())?),
         Word::Number(number) => number_text(alloc, number, out),
-        Word::Desk(desk) => {
-            out.extend_from_slice(b"desk ")?;
-            number_text(alloc, u64::from(desk), out)
-        }
         Word::Frame(mark, number) => add_frame(alloc, mark, number, out),
-        Word::Armed(edition, due) => add_armed(alloc, edition, due, out),
     }
 }
 
@@ -103,21 +94,4 @@ fn add_frame(alloc: Global, mark: Mark, number: u32, out: &mut Vec<u8>) -> Resul
     number_text(alloc, u64::from(mark.0), out)?;
     out.push(b'.')?;
     number_text(alloc, u64::from(number), out)
-}
-
-/// Appends a change that is to come. Want of memory leaves a first part of it.
-#[tactic(auto, using(crate::proofs::Extending::extends_on))]
-fn add_armed(
-    alloc: Global,
-    edition: EditionNo,
-    due: Mark,
-    out: &mut Vec<u8>,
-) -> Result<(), OutOfMemory>
-    ensures added { OnOk result (out.new.items ≡ out.old.items ++ armed_name edition due) }
-    ensures kept { Extends out.old.items out.new.items }
-{
-    out.extend_from_slice(b"armed ")?;
-    number_text(alloc, u64::from(edition.0), out)?;
-    out.extend_from_slice(b" due ")?;
-    number_text(alloc, u64::from(due.0), out)
 }

@@ -1,5 +1,6 @@
 // A desk in a round: its edits are asked, and its shows are shown.
 ghost use Rattle.std.specs.Prelude.{◌≡◌, ◌+◌, ◌++◌, ◌∷◌, [], All, OnOk, OnErr};
+ghost use Rattle.bt_demand.specs.Apart.{bursts_from};
 ghost use Rattle.bt_script.specs.Named.{IsLineFor};
 ghost use Rattle.bt_workers.specs.Callers.{IsSameCaller, caller_number, own_of};
 ghost use Rattle.bt_workers.specs.Desks.{plan_shown};
@@ -9,7 +10,7 @@ use crate::caller::Caller;
 use crate::gate::Gate;
 use bt_board::Reader;
 use bt_book::replies_name_beams_of_the_network;
-use bt_demand::Plan;
+use bt_demand::{Burst, Plan};
 use bt_frame::{OutOfMemory, TermNo};
 use bt_journal::Call;
 use bt_net::Network;
@@ -72,26 +73,28 @@ fn run_line<R: Wait, G: Gate, K: Keeper>(
         }
         DeskLine::Show(terminal) => {
             reader.look()?;
-            show_plan(alloc, net, desk, *terminal, reader.newest(), text)
+            let sent = reader.sent_by(*terminal);
+            show_plan(alloc, net, desk, *terminal, reader.newest(), sent, text)
         }
     }
 }
 
-/// Appends what a desk is shown of a plan, of the bursts of a terminal.
+/// Appends what a desk is shown of a plan, of the bursts of a terminal, which are given.
 fn show_plan(
     alloc: Global,
     net: &Network,
     desk: u8,
     terminal: TermNo,
     plan: &Plan,
+    sent: &[Burst],
     text: &mut Vec<u8>,
 ) -> Result<(), OutOfMemory>
+    requires sent { sent.now ≡ bursts_from terminal plan.now.bursts }
     ensures added { OnOk result (text.new.items ≡ text.old.items ++ plan_shown net.now desk plan.now terminal) }
     ensures unchanged { OnErr result (text.new.items ≡ text.old.items) }
 {
     let modes = plan.schedule.modes.as_slice().len() as u32;
     let length = plan.schedule.length;
-    let bursts = plan.bursts.as_slice();
     show_text(
         alloc,
         net,
@@ -100,7 +103,7 @@ fn show_plan(
         plan.edition,
         length,
         modes,
-        bursts,
+        sent,
         text,
     )
 }

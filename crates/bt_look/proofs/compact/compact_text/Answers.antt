@@ -5,13 +5,13 @@ use Rattle.bt_plan.specs.TrafficText.{IsSpelled}
 use Rattle.bt_look.proofs.Adds.{links_spelled}
 use Rattle.bt_look.proofs.compact.compact_text.Goals as goal
 
-pub add_links-requires-clause-spelled : goal.add_links-requires-clause-spelled
-add_links-requires-clause-spelled c =
+pub add_rows-requires-clause-spelled : goal.add_rows-requires-clause-spelled
+add_rows-requires-clause-spelled c =
     let net = c.args.net.now in
-    subst (λ (links : List Link). All (IsSpelled net) links) (sym c.as_slice.ensures.same)
-    (links_spelled net c.args.demand.now c.terminal_count-terminals.ensures.sound c.as_slice.ensures.demand c.requires.terminals c.requires.fits)
+    subst (λ (links : List Link). All (IsSpelled net) links) (sym c.rows.ensures.links)
+    (links_spelled net c.args.demand.now c.terminal_count-terminals.ensures.sound c.rows.ensures.demand c.requires.terminals c.requires.fits)
 
-pub add_links-requires-clause-few : goal.add_links-requires-clause-few
-add_links-requires-clause-few c =
+pub add_rows-requires-clause-few : goal.add_rows-requires-clause-few
+add_rows-requires-clause-few c =
     let sound = c.terminal_count-terminals.ensures.sound in
-    omega (arith, ap length c.as_slice.ensures.same, few_links c.args.net.now c.args.demand.now c.as_slice.ensures.demand c.requires.terminals (sound.terminals.count).1)
+    omega (arith, ap length c.rows.ensures.links, few_links c.args.net.now c.args.demand.now c.rows.ensures.demand c.requires.terminals (sound.terminals.count).1)

@@ -25,3 +25,7 @@ returns-in_ok-look-in-Show-clause-done g c =
     (on_ok c.show_plan.result c.show_plan.ensures.added (λ added.
     desk_shown c.args.net.now c.args.desk c.in-Show.terminal c.newest.result.now seen over (own_of c.args.caller.now) _ _
     (record { begins = c.look.ensures.begins; rises = c.look.ensures.rises }) c.newest.ensures.last added))
+
+-- what the reader lends of the plan is of the plan that it lends
+pub show_plan-requires : goal.show_plan-requires
+show_plan-requires g c = record { sent = rw c.newest.ensures.last at c.sent_by-sent.ensures.sent }

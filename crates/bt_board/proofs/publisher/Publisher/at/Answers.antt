@@ -1,4 +1,4 @@
-use Rattle.std.proofs.Common.{refl, sym, ap, ◌∙◌}
+use Rattle.std.proofs.Common.{sym, ap, ◌∙◌}
 use Rattle.bt_board.specs.Plans.{last_of}
 use Rattle.bt_board.proofs.publisher.Publisher.at.Goals as goal
 

@@ -1,7 +1,10 @@
-use Rattle.std.proofs.Common.{◌+◌, length, take, refl, arith}
+use Rattle.std.proofs.Common.{◌+◌, [], ◌∷◌, ◌++◌, length, take, refl, sym, ap, ◌∙◌, arith}
+use Rattle.std.proofs.lemmas.List.{append-nil}
 use Rattle.std.proofs.lemmas.Result.{err_from_is_err_and}
+use Rattle.bt_text.specs.Text.{lines}
+use Rattle.bt_text.proofs.TextLines.{first_line_lacks, lines-ended}
 use Rattle.bt_history.proofs.Marked.{Stands-end}
-use Rattle.bt_history.proofs.Replayed.{Stands-line, Stands-fault, Stands-start, few_lines, short_so_far, length-line_read}
+use Rattle.bt_history.proofs.Replayed.{Stands-line, Stands-fault, Stands-start, few_lines, short_so_far, line_read, length-line_read}
 use Rattle.bt_book.proofs.machine.Machine.take_lines.Goals as goal
 
 -- no line was taken yet
@@ -16,6 +19,13 @@ overflow_add-number c =
 -- the line is read with its newline
 pub slice_bounds-take_line-end : goal.slice_bounds-take_line-end
 slice_bounds-take_line-end c = length-line_read c.loop-line.rest.now c.in-Some.line.now c.in-Some.after.now c.in-Some.ensures.line
+
+-- its text is all of it but the newline
+pub take_line-requires-clause-text : goal.take_line-requires-clause-text
+take_line-requires-clause-text c =
+    let line = c.in-Some.line.now in
+    rw (line_read c.loop-line.rest.now line c.in-Some.after.now c.in-Some.ensures.line)
+    (ap lines (sym (append-nil (line ++ 10 ∷ []))) ∙ lines-ended (line ∷ []) (rw (first_line_lacks c.loop-line.rest.now line _ c.in-Some.ensures.line) refl))
 
 -- and is not too long behind those before it
 pub take_line-requires-clause-short : goal.take_line-requires-clause-short

@@ -1,11 +1,15 @@
-use Rattle.std.proofs.Common.{sym}
-use Rattle.bt_demand.proofs.Links.{units_read, units_of_gap}
+use Rattle.std.proofs.Common.{◌∙◌, sym, arith}
+use Rattle.bt_demand.proofs.BySender.{units_past, units_read_in}
 use Rattle.bt_demand.proofs.demand.Demand.units.Goals as goal
 
--- the link was read at its place
-pub returns-in-Ok : goal.returns-in-Ok
-returns-in-Ok c =
-    record { units = rw (← c.self.view_is) (sym (units_read c.self.inside.links.items c.args.from c.args.to c.in-Ok.place c.index.result.now c.self.invariant (rw c.self.view_is c.in-Ok.ensures.found) c.index.ensures)) }
+-- by the row of the sender
+pub returns-then-place-len : goal.returns-then-place-len
+returns-then-place-len c =
+    let read = units_read_in c.self.inside.rows.items c.args.self.now c.from-place.result c.args.from c.args.to c.index.result.now c.self.view_is c.self.invariant
+    (record { place_is = c.from-place.ensures; within = omega arith; row_is = c.index.ensures }) in
+    record { units = c.units.ensures.units ∙ read }
 
-pub returns-in-Err : goal.returns-in-Err
-returns-in-Err c = record { units = sym (units_of_gap _ _ _ _ c.in-Err.ensures.absent) }
+-- a terminal without a row sends nothing
+pub returns-else-place-len : goal.returns-else-place-len
+returns-else-place-len c =
+    record { units = sym (units_past c.self.inside.rows.items c.args.self.now c.args.from c.args.to c.self.view_is c.self.invariant (omega (arith, c.from-place.ensures))) }

@@ -27,5 +27,6 @@ pub invariant_of-self : goal.invariant_of-self
 invariant_of-self c = (
   matrix-more c.self.inside.net c.self.inside.demand c.add_reserved.new.self c.self.inside.matrix.rows c.add.new.self.rows c.args.from c.args.to c.get-slots.result c.beam_of-up.result c.beam_of-down.result
       c.self.invariant.0 c.add_reserved.ensures.gains c.beam_of-up.ensures.beam c.beam_of-down.ensures.beam c.beam_of-up.ensures.in_range c.beam_of-down.ensures.in_range c.add.ensures.rows,
-  c.add_reserved.ensures.left,
+  c.add_reserved.ensures.no_links,
+  c.add_reserved.ensures.no_rows,
 )

@@ -1,6 +1,7 @@
 -- the links of one place more
 use Rattle.std.proofs.Common.{ℕ, ◌≡◌, ◌<◌, ◌≤◌, List, get_or, take, sym, subst, ap, ◌∙◌, arith}
 use Rattle.std.proofs.lemmas.List.{get_or_read, take_all}
+use Rattle.std.proofs.lemmas.Result.{IfOk-weaker}
 use Rattle.bt_demand.specs.declared.demand.Link.{Link}
 use Rattle.bt_demand.specs.Demand.{IsDemand}
 use Rattle.bt_plan.specs.LinkTable.{links_from, IsTable}
@@ -31,8 +32,8 @@ loop-place-preserved c =
 pub of-requires : goal.of-requires
 of-requires c =
     let places = c.self.inside.places.items in
-    record { demand = subst IsDemand (sym (all places c.loop-place.place c.loop-place.links.items c.self.invariant c.loop-place-test.false c.loop-place.invariant)) (places-IsDemand 0 places c.self.invariant.each) }
+    record { demand = subst IsDemand (sym (c.as_slice.ensures.value ∙ all places c.loop-place.place c.loop-place.links.items c.self.invariant c.loop-place-test.false c.loop-place.invariant)) (places-IsDemand 0 places c.self.invariant.each) }
 
 pub returns : goal.returns
 returns c =
-    c.of.ensures.same ∙ all c.self.inside.places.items c.loop-place.place c.loop-place.links.items c.self.invariant c.loop-place-test.false c.loop-place.invariant ∙ c.self.view_is
+    IfOk-weaker c.of.result (λ (demand : List Link). demand ≡ c.as_slice.result.now) (λ (demand : List Link). demand ≡ c.args.self.now) (λ demand is. is ∙ c.as_slice.ensures.value ∙ all c.self.inside.places.items c.loop-place.place c.loop-place.links.items c.self.invariant c.loop-place-test.false c.loop-place.invariant ∙ c.self.view_is) c.of.ensures.same
