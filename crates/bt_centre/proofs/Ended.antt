@@ -19,7 +19,6 @@ use Rattle.bt_history.specs.Changes.{installs}
 use Rattle.bt_history.specs.Recovery.{MaybeRecovered}
 use Rattle.bt_history.specs.Store.{IsKept, lost_of}
 use Rattle.bt_events.specs.Event.{Opening}
-use Rattle.bt_events.specs.Fits.{IsWorld}
 use Rattle.bt_script.specs.declared.script.Item.{Item}
 use Rattle.bt_script.specs.declared.script.Item.TheVariants as item
 use Rattle.bt_timeline.specs.Timeline.{restart_line}
@@ -34,6 +33,7 @@ use Rattle.bt_centre.proofs.Going.{breaks_off, left_early, legal_times}
 use Rattle.bt_centre.proofs.Restarts.{left_at_fault}
 use Rattle.bt_centre.proofs.Played.{changes_are, gained-append, item_goes_on, items_begin, next_parts, same_histories, start_is}
 use Rattle.bt_centre.proofs.Times.{rose_still}
+use Rattle.bt_centre.specs.World.{IsSpelledWorld}
 
 -- a first part of what comes behind a text
 pub prefix_behind : (told between after : Option (List ℕ)) (text more : List ℕ) → between ≡ gained told text → GainsPrefix between more after → GainsPrefix told (text ++ more) after
@@ -78,9 +78,9 @@ left_of net begun items hand lines told faults histories so told_is faults_are a
 }
 
 -- the world in which a run stops
-pub world_of : (net : Net) (begun : Books) (opening : List Change) (hand : Hand) (events : List Event) → IsLegalHand net begun opening hand → IsWorld hand.air.life.opening (reverse events)
-    → IsWorld (opening_on net begun.state.changes) (reverse events)
-world_of net begun opening hand events so world = subst (λ (o : Opening). IsWorld o (reverse events)) so.world world
+pub world_of : (net : Net) (begun : Books) (opening : List Change) (hand : Hand) (events : List Event) → IsLegalHand net begun opening hand → IsSpelledWorld hand.air.life.opening (reverse events)
+    → IsSpelledWorld (opening_on net begun.state.changes) (reverse events)
+world_of net begun opening hand events so world = subst (λ (o : Opening). IsSpelledWorld o (reverse events)) so.world world
 
 -- memory ran out
 ended_early : (net : Net) (items : List Item) (output : Output) (begun : Books) (opening : List Change) (old : Hand) (left : Left) (status : ℕ)

@@ -124,9 +124,9 @@ pub runs_from : AreFlown → AreSafe → (net : Net) (script : Script) (output :
     → PartsEnded net script.items output hand.book left status → RunsFrom net script output (stored_from given left.told faults left.faults) status left.histories left.events
 runs_from flown safe net script output given faults hand left status begun told changes readable later ended = record {
   opening = hand.book.state.changes;
-  opens = record { told = changes; readable = readable; follow = begun.follow };
+  opens = record { told = changes; readable = readable; follow = begun.follow; few = begun.few };
   world = ended.world;
-  safe = frames_safe flown safe (opening_on net hand.book.state.changes) (reverse left.events) ended.world;
+  safe = frames_safe flown safe (opening_on net hand.book.state.changes) (reverse left.events) ended.world.world;
   ends = ends_from net script.items output hand.book.told given left.told faults hand.book.faults left.faults hand.book.state.changes status left.histories left.events
       (ap is_some told ∙ tells_marked net given) later ended.ends;
 }

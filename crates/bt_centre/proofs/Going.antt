@@ -15,10 +15,10 @@ use Rattle.bt_workers.specs.AirLines.{AirState}
 use Rattle.bt_round.specs.Rounds.{BookRan}
 use Rattle.bt_round.proofs.Closing.{ran_nothing}
 use Rattle.bt_events.specs.Event.{Opening}
-use Rattle.bt_events.specs.Fits.{IsWorld}
 use Rattle.bt_centre.specs.Progress.{GoesOn, Hand, IsBegun, IsLeftEarly, IsLeftOf, IsLegalHand, Left, RestartPlayed, histories_in, history_in}
 use Rattle.bt_centre.specs.Run.{AreLegalTimes, AreTimes, BreaksOff, IsLegalHistory, lost_in}
 use Rattle.bt_centre.proofs.Times.{lost_count, lost_more, next_time, rose_on, rose_still, times_more}
+use Rattle.bt_centre.specs.World.{IsSpelledWorld}
 
 -- a book that was asked nothing
 pub ran_none : (net : Net) (book : Books) → book.net ≡ net → Follows net book.state.changes → BookRan book book
@@ -45,7 +45,7 @@ left_on old hand left goes is = record {
   kept = is.kept;
   cut = inl (inl is.told);
   later = omega (arith, is.faults);
-  world = subst (λ (o : Opening). IsWorld o (reverse left.events)) goes.world is.world;
+  world = subst (λ (o : Opening). IsSpelledWorld o (reverse left.events)) goes.world is.world;
 }
 
 -- a run at its start

@@ -55,8 +55,8 @@ joins_wanted_if before after true joins is = inl (joins, joined_one before after
 joins_wanted_if before after false joins is = inr (joins, joined_none before after is)
 
 -- what a restart says of the order that joins
-pub joins_wanted_at : (tells : Bool) (before after : Stand) (text : List ℕ) → PlaysRestart tells before text after → JoinsWanted before after
-joins_wanted_at tells before after text played = joins_wanted_if before after played.kept played.joins played.air
+pub joins_wanted_at : (net : Net) (tells : Bool) (before after : Stand) (text : List ℕ) → PlaysRestart net tells before text after → JoinsWanted before after
+joins_wanted_at net tells before after text played = joins_wanted_if before after played.kept played.joins played.air
 
 -- A run stands here: the world has just the orders of the changes, and an order that the store lost in the present time is wanted.
 pub record IsHeld (stand : Stand) : Type 0 where
@@ -186,8 +186,8 @@ restart_by before after none (inl same) held joins = restart_none before after n
 restart_by before after none (inr (one, lost, next)) held joins = restart_lost before after one (order_in one) refl lost none next held joins
 
 -- a restart more, over a store that tells its bytes
-restart_held : (before after : Stand) (text : List ℕ) → PlaysRestart true before text after → IsHeld before → IsJoined before after
-restart_held before after text played held = restart_by before after played.none played.next held (joins_wanted_at true before after text played)
+restart_held : (net : Net) (before after : Stand) (text : List ℕ) → PlaysRestart net true before text after → IsHeld before → IsJoined before after
+restart_held net before after text played held = restart_by before after played.none played.next held (joins_wanted_at net true before after text played)
 
 -- the histories are orderly
 abbrev AreAllOrderly : List History → Type 0
@@ -242,7 +242,7 @@ part_goes : (net : Net) (before : Stand) (one : Item) (text : List ℕ) (after :
 part_goes net before (item.Round round) text after played so held =
     record { held = round_held net before round text after played (AreAllOrderly-second after.over _ so).0 held; joins = tt }
 part_goes net before item.Restart text after played so held =
-    let joined = restart_held before after text played held in
+    let joined = restart_held net before after text played held in
     record { held = joined.held; joins = joined.joined }
 
 parts_join : (net : Net) (before : Stand) (items : List Item) (text : List ℕ) (after : Stand) (played : PlaysItems net true before items text after)

@@ -410,9 +410,9 @@ pub session_runs_from : AreFlown → AreSafe → (net : Net) (talk : Talked) (gi
     → SessionEnded net talk hand.book left status → SessionFrom net talk (stored_from given left.told faults left.faults) status left.histories left.events
 session_runs_from flown safe net talk given faults hand left status begun told changes readable later ended = record {
   opening = hand.book.state.changes;
-  opens = record { told = changes; readable = readable; follow = begun.follow };
+  opens = record { told = changes; readable = readable; follow = begun.follow; few = begun.few };
   world = ended.world;
-  safe = frames_safe flown safe (opening_on net hand.book.state.changes) (reverse left.events) ended.world;
+  safe = frames_safe flown safe (opening_on net hand.book.state.changes) (reverse left.events) ended.world.world;
   ends = session_ends_from net talk hand.book.told given left.told faults hand.book.faults left.faults hand.book.state.changes status left.histories left.events
       (ap is_some told ∙ tells_marked net given) later ended.ends;
 }

@@ -75,7 +75,7 @@ restart_newest air true = ap (newest_past air) (past-having air.life (RestartCen
 restart_newest air false = ap (newest_past air) (past-having air.life (RestartCentre false))
 
 -- a restart more, over a store that tells its bytes
-restart_no_newer : (net : Net) (before : Stand) (text : List ℕ) (after : Stand) → PlaysRestart true before text after → Follows net after.opening
+restart_no_newer : (net : Net) (before : Stand) (text : List ℕ) (after : Stand) → PlaysRestart net true before text after → Follows net after.opening
     → IsNoNewer (changes_at before) before.air → IsNoNewer (changes_at after) after.air
 restart_no_newer net before text after played follow so =
     let next = next_more (changes_at before) (lost_of before.history) after.opening played.next in

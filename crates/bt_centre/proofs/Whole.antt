@@ -113,6 +113,7 @@ restart_whole net times front old new text live played = record {
   none = played.none;
   runs = played.runs;
   follow = played.follow;
+  few = played.few;
   next = subst (λ (l : List Change). IfSome old.book.told (λ _. IsNextOpening old.book.state.changes l new.book.state.changes)) (sym (lost_front front old.book.history live.sound)) played.next;
   tells = played.tells;
   later = played.later;

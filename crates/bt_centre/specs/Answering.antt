@@ -6,7 +6,6 @@ use Rattle.bt_input.specs.Input.{given_by}
 use Rattle.bt_input.specs.Talk.{Turn, took}
 use Rattle.bt_net.specs.Network.{Net}
 use Rattle.bt_script.specs.declared.script.Item.{Item}
-use Rattle.bt_events.specs.Fits.{IsWorld}
 use Rattle.bt_history.specs.Book.{Books}
 use Rattle.bt_history.specs.declared.fault.RecoverFault.{RecoverFault}
 use Rattle.bt_history.specs.declared.fault.RecoverFault.TheVariants.{OutOfMemory}
@@ -23,6 +22,7 @@ use Rattle.bt_centre.specs.Run.{at_start, opening_on}
 use Rattle.bt_centre.specs.Session.{Exchange, PlaysLines, SessionEndsFrom, StopsHearing, heard_in, session_turns}
 use Rattle.bt_centre.specs.Talked.{Says, Talked, spoken}
 use Rattle.bt_centre.specs.Told.{IsTold}
+use Rattle.bt_centre.specs.World.{IsSpelledWorld}
 
 -- memory ran out, or the line of a recovery's fault, which has one, was said behind this text
 abbrev pub SaysNamed : Talked → List ℕ → RecoverFault → ℕ → Type 0
@@ -83,5 +83,5 @@ pub record SessionHeard (net : Net) (begun : Books) (talk : Talked) (hand : Hand
 
 -- how a session ended, from a book on, and the world in which it did
 pub record SessionEnded (net : Net) (talk : Talked) (begun : Books) (left : Left) (status : ℕ) : Type 0 where
-  pub world : IsWorld (opening_on net begun.state.changes) (reverse left.events)
+  pub world : IsSpelledWorld (opening_on net begun.state.changes) (reverse left.events)
   pub ends : SessionEndsFrom net talk (record { before = begun.told; after = left.told; faults_before = begun.faults; faults_after = left.faults }) begun.state.changes status left.histories left.events

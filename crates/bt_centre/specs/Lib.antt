@@ -11,3 +11,4 @@ pub mod Talked
 pub mod Told
 pub mod Turns
 pub mod Whole
+pub mod World

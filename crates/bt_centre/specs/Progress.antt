@@ -15,7 +15,6 @@ use Rattle.bt_history.specs.Changes.{edition, newest, orders}
 use Rattle.bt_history.specs.Machine.{Legal, running, state_after}
 use Rattle.bt_history.specs.Recovery.{IsRecoverFault, MaybeRecovered}
 use Rattle.bt_history.specs.Store.{IsKept, IsNextOpening, RoseBy, lost_of}
-use Rattle.bt_events.specs.Fits.{IsWorld}
 use Rattle.bt_script.specs.declared.script.Item.{Item}
 use Rattle.bt_script.specs.declared.script.Item.TheVariants as item
 use Rattle.bt_script.specs.declared.script.Round.{Round}
@@ -25,7 +24,8 @@ use Rattle.bt_workers.specs.AirLines.{AirState, mark_of, restarting}
 use Rattle.bt_workers.specs.Desks.{IsNotOlder, Sight}
 use Rattle.bt_round.specs.Rounds.{BookRan, RoundDone, newest_at}
 use Rattle.bt_report.specs.Output.{Output}
-use Rattle.bt_centre.specs.Run.{AreTimes, EndsFrom, JoinsOrder, PlaysItems, Stand, at_start, first_line, lost_in, opening_on}
+use Rattle.bt_centre.specs.Run.{AreFew, AreTimes, EndsFrom, JoinsOrder, PlaysItems, Stand, at_start, first_line, lost_in, opening_on}
+use Rattle.bt_centre.specs.World.{IsSpelledWorld}
 
 -- What a run has in hand: the histories of the times that are over, how many changes the book had when the present time began, the
 -- book, the air, and the rounds so far.
@@ -56,6 +56,7 @@ pub record IsBegun (net : Net) (hand : Hand) : Type 0 where
   pub none : hand.book.history ≡ []
   pub runs : hand.book.state ≡ running hand.book.state.changes
   pub follow : Follows net hand.book.state.changes
+  pub few : AreFew net hand.book.state.changes
   pub air : hand.air ≡ (at_start net hand.book.state.changes).air
   pub rounds : hand.rounds ≡ 0
 
@@ -130,6 +131,7 @@ pub record BeganAgain (book : Books) (air : AirState) (over : List History) (rou
   pub over_is : new.over ≡ over
   pub before : new.before ≡ length book.state.changes
   pub book_is : new.book ≡ book
+  pub few : AreFew book.net book.state.changes
   pub rounds_are : new.rounds ≡ rounds
   pub centre : CentreBegan book.state.changes air new.air text
 
@@ -141,6 +143,7 @@ pub record RestartPlayed (net : Net) (old new : Hand) (text : List ℕ) : Type 0
   pub none : new.book.history ≡ []
   pub runs : new.book.state ≡ running new.book.state.changes
   pub follow : Follows net new.book.state.changes
+  pub few : AreFew net new.book.state.changes
   pub next : IfSome old.book.told (λ _. IsNextOpening old.book.state.changes (lost_of old.book.history) new.book.state.changes)
   pub tells : is_some new.book.told ≡ is_some old.book.told
   pub later : old.book.faults ≤ new.book.faults
@@ -165,7 +168,7 @@ pub record IsLeftOf (hand : Hand) (left : Left) : Type 0 where
   pub faults : left.faults ≡ hand.book.faults
   pub histories : left.histories ≡ histories_in hand
   pub events : left.events ≡ hand.air.life.events
-  pub world : IsWorld hand.air.life.opening (reverse left.events)
+  pub world : IsSpelledWorld hand.air.life.opening (reverse left.events)
   pub kept : IsKept hand.book.net hand.book.told hand.book.state.changes (lost_of hand.book.history)
 
 -- what is left where memory ran out over a restart, once the book was recovered
@@ -173,7 +176,7 @@ pub record IsLeftBehind (book : Books) (air : AirState) (over : List History) (l
   pub told : left.told ≡ book.told
   pub faults : left.faults ≡ book.faults
   pub histories : left.histories ≡ over
-  pub world : IsWorld air.life.opening (reverse left.events)
+  pub world : IsSpelledWorld air.life.opening (reverse left.events)
 
 -- what is left where memory ran out over a part: the histories, with what was asked and answered meanwhile, the store that keeps that,
 -- and the events of a world
@@ -184,7 +187,7 @@ pub record IsLeftEarly (old : Hand) (left : Left) : Type 0 where
   pub kept : IsKept hand.book.net hand.book.told hand.book.state.changes (lost_of hand.book.history)
   pub cut : MaybeRecovered hand.book.net hand.book.told left.told hand.book.faults left.faults
   pub later : hand.book.faults ≤ left.faults
-  pub world : IsWorld old.air.life.opening (reverse left.events)
+  pub world : IsSpelledWorld old.air.life.opening (reverse left.events)
 
 -- the recovery at a restart failed: the run stopped before it, and the store is left as the fault says. A store that tells its bytes
 -- can only have failed.
@@ -195,7 +198,7 @@ pub record IsLeftAtRestart (net : Net) (old : Hand) (left : Left) (fault : Recov
   pub only : IfSome old.book.told (λ _. fault ≡ StoreFault)
   pub histories : left.histories ≡ histories_in old
   pub events : left.events ≡ old.air.life.events
-  pub world : IsWorld old.air.life.opening (reverse left.events)
+  pub world : IsSpelledWorld old.air.life.opening (reverse left.events)
   pub kept : IsKept old.book.net old.book.told old.book.state.changes (lost_of old.book.history)
 
 -- a part could not be played: memory ran out, or it was a restart, and the recovery failed
@@ -204,5 +207,5 @@ ItemFailed net one old left fault = ((fault ≡ OutOfMemory) × IsLeftEarly old 
 
 -- how the parts of a script ended, from a book on, and the world in which they did
 pub record PartsEnded (net : Net) (items : List Item) (output : Output) (begun : Books) (left : Left) (status : ℕ) : Type 0 where
-  pub world : IsWorld (opening_on net begun.state.changes) (reverse left.events)
+  pub world : IsSpelledWorld (opening_on net begun.state.changes) (reverse left.events)
   pub ends : EndsFrom net items output (record { before = begun.told; after = left.told; faults_before = begun.faults; faults_after = left.faults }) begun.state.changes status left.histories left.events

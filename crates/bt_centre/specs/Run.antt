@@ -1,6 +1,6 @@
 -- The run of a script: what the desks, the planner and the centre's worker ask, what happens on the air, what the store keeps, and
 -- what is printed.
-use Rattle.std.specs.Prelude.{◌≡◌, ◌≢◌, ◌⊎◌, ℕ, ◌+◌, ◌<◌, ◌≤◌, ◌++◌, if◌then◌else◌, Bool, true, false, List, [], ◌∷◌, length, map, reverse, All, AllPairs, Contains, Option, Some, None, IfSome}
+use Rattle.std.specs.Prelude.{◌≡◌, ◌≢◌, ◌⊎◌, ℕ, ◌+◌, ◌<◌, ◌≤◌, ◌^◌, ◌++◌, if◌then◌else◌, Bool, true, false, List, [], ◌∷◌, length, map, reverse, All, AllPairs, Contains, Option, Some, None, IfSome}
 use Rattle.std.specs.List.{HoldsAt, flat_map, list_any}
 use Rattle.std.specs.Option.{is_some}
 use Rattle.bt_outside.specs.Told.{GainsPrefix, gained}
@@ -10,7 +10,6 @@ use Rattle.bt_air.specs.declared.order.Order.{Order}
 use Rattle.bt_demand.specs.declared.burst.Burst.{Burst}
 use Rattle.bt_events.specs.Air.{IsAir, IsSafe, modes_in_front}
 use Rattle.bt_events.specs.Event.{Frame, Opening}
-use Rattle.bt_events.specs.Fits.{IsWorld}
 use Rattle.bt_world.specs.Life.{opening_of}
 use Rattle.bt_events.specs.World.{log, wanted}
 use Rattle.bt_journal.specs.declared.call.Change.{Change}
@@ -20,7 +19,7 @@ use Rattle.bt_history.specs.declared.fault.RecoverFault.{RecoverFault}
 use Rattle.bt_history.specs.declared.fault.RecoverFault.TheVariants.{OutOfMemory, StoreFault}
 use Rattle.bt_history.specs.Causes.{Follows, IsGoodForItsEdition}
 use Rattle.bt_history.specs.Changes.{edition, installs, newest, orders, plans}
-use Rattle.bt_history.specs.Machine.{Legal}
+use Rattle.bt_history.specs.Machine.{Legal, bytes_of}
 use Rattle.bt_history.specs.Recovery.{IsReadable, IsRecoverFault, MaybeRecovered, Recovered}
 use Rattle.bt_history.specs.Store.{IsKept, IsNextOpening, RoseBy, is_lost, lost_of}
 use Rattle.bt_script.specs.declared.script.Item.{Item}
@@ -37,6 +36,7 @@ use Rattle.bt_report.specs.declared.status.TheConstants.{DONE, STORE_FAILED, WRI
 use Rattle.bt_report.specs.Output.{Output, HasFailed}
 use Rattle.bt_centre.specs.RecoverFaults.{PrintsFault}
 use Rattle.bt_report.specs.Stored.{Stored}
+use Rattle.bt_centre.specs.World.{IsSpelledWorld}
 
 -- How far a run has come. A time of a run is what lies between two starts of the centre: the histories of the times that are over,
 -- the changes with which the present one began, the entries of its calls, the air, the rounds so far, and what the desks were shown
@@ -104,14 +104,20 @@ pub record PlaysRound (net : Net) (before : Stand) (round : Round) (text : List 
   pub ascend : AllPairs IsNotOlder after.sights
   pub printed : text ≡ round_line after.rounds ++ (desks_text net round.desks entries sights ++ planner_text net (calls_of entries 1) ++ air_text)
 
+-- the changes are few: four bytes hold the edition that they make, and count the bytes of their lines
+pub record AreFew (net : Net) (changes : List Change) : Type 0 where
+  pub edition : edition changes < 2 ^ 32
+  pub bytes : bytes_of net changes < 2 ^ 32
+
 -- The centre restarts with the changes that its store tells: those made so far, or these and the one that the store lost. It forgets
 -- what it heard, and the edition to which it went back; the order that it wanted joins the others where the store tells it, and is
 -- forgotten else. What is on its way stays on its way, the standby keeps what it keeps, and the desks' shows begin anew.
-pub record PlaysRestart (tells : Bool) (before : Stand) (text : List ℕ) (after : Stand) : Type 0 where
+pub record PlaysRestart (net : Net) (tells : Bool) (before : Stand) (text : List ℕ) (after : Stand) : Type 0 where
   pub kept : Bool
   pub joins : JoinsOrder before.air after.opening kept
   pub air : after.air ≡ restarting before.air kept
   pub next : IsNextTime tells before.opening before.history after.opening
+  pub few : AreFew net after.opening
   pub over : after.over ≡ histories_at before
   pub none : after.history ≡ []
   pub counted : after.rounds ≡ before.rounds
@@ -121,7 +127,7 @@ pub record PlaysRestart (tells : Bool) (before : Stand) (text : List ℕ) (after
 -- a part of a script, over a store that tells its bytes or does not
 abbrev pub PlaysItem : Net → (tells : Bool) → Stand → Item → List ℕ → Stand → Type 0
 PlaysItem net tells before (item.Round round) text after = PlaysRound net before round text after
-PlaysItem net tells before item.Restart text after = PlaysRestart tells before text after
+PlaysItem net tells before item.Restart text after = PlaysRestart net tells before text after
 
 -- parts of a script one after the other
 abbrev pub PlaysItems : Net → (tells : Bool) → Stand → List Item → List ℕ → Stand → Type 0
@@ -220,6 +226,7 @@ pub record IsOpening (net : Net) (stored : Stored) (opening : List Change) : Typ
   pub told : IfSome stored.before (λ bytes. Recovered net bytes opening)
   pub readable : IsReadable stored.before
   pub follow : Follows net opening
+  pub few : AreFew net opening
 
 -- nothing was run
 pub record RunsNone (stored : Stored) (histories : List History) (events : List Event) : Type 0 where
@@ -317,7 +324,7 @@ EndsFrom net items output stored opening status histories events =
 pub record RunsFrom (net : Net) (script : Script) (output : Output) (stored : Stored) (status : ℕ) (histories : List History) (events : List Event) : Type 0 where
   pub opening : List Change
   pub opens : IsOpening net stored opening
-  pub world : IsWorld (opening_on net opening) (reverse events)
+  pub world : IsSpelledWorld (opening_on net opening) (reverse events)
   pub safe : FramesAreSafe (opening_on net opening) (reverse events)
   pub ends : EndsFrom net script.items output stored opening status histories events
 

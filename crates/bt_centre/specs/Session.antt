@@ -6,7 +6,6 @@ use Rattle.bt_input.specs.Input.{given_by}
 use Rattle.bt_input.specs.Talk.{Turn, Heard, Said}
 use Rattle.bt_net.specs.Network.{Net}
 use Rattle.bt_air.specs.declared.event.Event.{Event}
-use Rattle.bt_events.specs.Fits.{IsWorld}
 use Rattle.bt_journal.specs.declared.call.Change.{Change}
 use Rattle.bt_history.specs.declared.fault.RecoverFault.{RecoverFault}
 use Rattle.bt_history.specs.declared.fault.RecoverFault.TheVariants.{OutOfMemory, StoreFault}
@@ -30,6 +29,7 @@ use Rattle.bt_centre.specs.RecoverFaults.{recover_line, recover_status}
 use Rattle.bt_centre.specs.Run.{BreaksEarly, BreaksOff, FramesAreSafe, IsOpening, IsRun, LeavesStore, PlaysItem, RunsNone, Stand, at_start, changes_at, entries_of, first_line, has_lost, opening_on}
 use Rattle.bt_centre.specs.Talked.{Says, SaysPart, Talked, behind}
 use Rattle.bt_centre.specs.Told.{IsTold}
+use Rattle.bt_centre.specs.World.{IsSpelledWorld}
 
 -- a line that was heard, or None where what came is no line, and the piece that was said to it
 pub record Exchange : Type 0 where
@@ -163,7 +163,7 @@ SessionEndsFrom net talk stored opening status histories events =
 pub record SessionFrom (net : Net) (talk : Talked) (stored : Stored) (status : ℕ) (histories : List History) (events : List Event) : Type 0 where
   pub opening : List Change
   pub opens : IsOpening net stored opening
-  pub world : IsWorld (opening_on net opening) (reverse events)
+  pub world : IsSpelledWorld (opening_on net opening) (reverse events)
   pub safe : FramesAreSafe (opening_on net opening) (reverse events)
   pub ends : SessionEndsFrom net talk stored opening status histories events
 

@@ -17,7 +17,7 @@ ghost use Rattle.bt_script.specs.declared.script.Script.{Script};
 /// where the changes then have more orders than the world, and it is the last of them; and before and behind each part
 /// that was run the world has just the orders of the changes. Of a run that want of memory ended no part is told.
 pub fn orders_join_as_told()
-    ensures joined { (tells : Bool) (before after : Stand) (text : List ℕ) → PlaysRestart tells before text after
+    ensures joined { (net : Net) (tells : Bool) (before after : Stand) (text : List ℕ) → PlaysRestart net tells before text after
         → JoinsWanted before after }
     ensures runs { (net : Net) (script : Script) (output : Output) (stored : Stored) (status : ℕ) (histories : List History)
         (events : List Event) → is_some stored.before ≡ true

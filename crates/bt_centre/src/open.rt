@@ -64,6 +64,9 @@ fn begin<R: Threads + Wait + Sync, K: Keeper, E: Events>(
     ensures told { IfErr result (λ store. K.told store ≡ book.told) }
     ensures faults { IfErr result (λ store. K.fault_count store ≡ book.faults) }
 {
+    // These are there for what holds of each book: its changes are few.
+    let _edition = book.edition();
+    let _bytes = book.line_bytes();
     let before = book.change_count();
     let Ok(over) = Vec::with_capacity(alloc, 1) else {
         return Err(book.into_parts().0);

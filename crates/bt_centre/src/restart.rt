@@ -110,6 +110,9 @@ fn begin_again<R: Threads + Wait + Sync, K: Keeper, E: Events>(
         over,
         rounds,
     } = time;
+    // These are there for what holds of each book: its changes are few.
+    let _edition = book.edition();
+    let _bytes = book.line_bytes();
     let before = book.change_count();
     let Ok(text) = restart_centre(alloc, net, &book, &mut centre) else {
         return Err(remains_of(book, centre, over));

@@ -1,7 +1,8 @@
 // The centre's worker: the world is its own, and all events happen through it.
 ghost use Rattle.std.specs.Prelude.{◌≡◌, ◌≤◌, ◌++◌, [], drop, length, reverse, All, IfOk, None, OnOk};
 ghost use Rattle.bt_events.specs.Event as event;
-ghost use Rattle.bt_events.specs.Fits.{IsWorld, Meets};
+ghost use Rattle.bt_frame.specs.declared.limits.TheConstants.{LAST_MESSAGE};
+ghost use Rattle.bt_events.specs.Fits.{AreStored, IsWorld, Meets};
 ghost use Rattle.bt_world.specs.Life.{past_of};
 ghost use Rattle.bt_world.specs.Shown.{IsShown};
 ghost use Rattle.bt_events.specs.World.{sent, wanted};
@@ -110,6 +111,8 @@ impl<E: Events> CentreWorker<E> {
     pub fn into_told(self) -> E
         ensures events { E.told result ≡ self.life.events }
         ensures world { IsWorld self.life.opening (reverse self.life.events) }
+        ensures stored { AreStored self.life.opening (past_of self.life) }
+        ensures few { length (sent self.life.opening (past_of self.life)) ≤ LAST_MESSAGE }
     {
         self.world.into_told()
     }

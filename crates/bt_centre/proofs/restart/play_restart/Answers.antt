@@ -74,4 +74,4 @@ returns-in-Err-clause-failed g c =
     (ap (λ (hand : Hand). hand.book.net) view ∙ c.requires.network) (subst (λ (hand : Hand). Follows net hand.book.state.changes) (sym view) c.requires.follow) c.into_parts-store.ensures.kept
     c.into_parts-store.ensures.told c.into_parts-store.ensures.faults c.in-Err.ensures.fault c.in-Err.ensures.fault_later c.in-Err.ensures.exact_changes all
     (c.into_told.ensures.events ∙ ap (λ (a : AirState). a.life.events) air_is)
-    (world_at c.book_and_centre-book.result.1 old.air (g.E.Events.told c.into_told.result) air_is c.into_told.ensures.events c.into_told.ensures.world)))
+    (world_at c.book_and_centre-book.result.1 old.air (g.E.Events.told c.into_told.result) air_is c.into_told.ensures.events (record { world = c.into_told.ensures.world; stored = c.into_told.ensures.stored; few = c.into_told.ensures.few }))))
