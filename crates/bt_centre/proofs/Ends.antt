@@ -19,7 +19,7 @@ use Rattle.bt_centre.specs.declared.history.History.{History}
 use Rattle.bt_report.specs.Output.{Output}
 use Rattle.bt_centre.specs.Progress.{Hand, IsBegun, IsOpenFault, Left, PartsEnded}
 use Rattle.bt_centre.specs.RecoverFaults.{PrintsNamed}
-use Rattle.bt_centre.specs.Run.{AreLegalTimes, EndsFrom, FramesAreSafe, IsRun, LeavesStore, PlaysItems, RunsFrom, RunsTo, Stand, at_start, lost_in, opening_on}
+use Rattle.bt_centre.specs.Run.{AreFew, AreLegalTimes, EndsFrom, FramesAreSafe, IsRun, LeavesStore, PlaysItems, RunsFrom, RunsTo, Stand, at_start, lost_in, opening_on}
 use Rattle.bt_report.specs.Stored.{Stored}
 use Rattle.bt_centre.proofs.Ended.{only_fault}
 use Rattle.bt_centre.proofs.Restarts.{left_unopened, named_fault, tells_marked}
@@ -124,7 +124,7 @@ pub runs_from : AreFlown → AreSafe → (net : Net) (script : Script) (output :
     → PartsEnded net script.items output hand.book left status → RunsFrom net script output (stored_from given left.told faults left.faults) status left.histories left.events
 runs_from flown safe net script output given faults hand left status begun told changes readable later ended = record {
   opening = hand.book.state.changes;
-  opens = record { told = changes; readable = readable; follow = begun.follow; few = begun.few };
+  opens = record { told = changes; readable = readable; follow = begun.follow; few = subst (λ (n : Net). AreFew n hand.book.state.changes) begun.network begun.few };
   world = ended.world;
   safe = frames_safe flown safe (opening_on net hand.book.state.changes) (reverse left.events) ended.world.world;
   ends = ends_from net script.items output hand.book.told given left.told faults hand.book.faults left.faults hand.book.state.changes status left.histories left.events

@@ -33,7 +33,7 @@ use Rattle.bt_centre.specs.declared.session.InputEnd.TheVariants as ending
 use Rattle.bt_centre.specs.Answering.{GaveSince, SaysNamed, SessionDone, SessionEnded, SessionGoing, SessionHeard, StepFailed, StepPlayed, Took}
 use Rattle.bt_centre.specs.Progress.{Hand, IsBegun, IsLeftAtRestart, IsLeftEarly, IsLeftOf, IsLegalHand, IsOpenFault, Left, start_of}
 use Rattle.bt_centre.specs.RecoverFaults.{recover_line, recover_status}
-use Rattle.bt_centre.specs.Run.{AreLegalTimes, at_start, lost_in, opening_on}
+use Rattle.bt_centre.specs.Run.{AreFew, AreLegalTimes, at_start, lost_in, opening_on}
 use Rattle.bt_centre.specs.Session.{AllGiven, Exchange, IsSession, PlaysLines, SessionEndsFrom, SessionFrom, SessionTo, StopsHearing, WereGiven, closing_text, heard_in, session_turns, status_behind}
 use Rattle.bt_centre.specs.Talked.{Says, SaysOrNot, SaysPart, Talked, behind}
 use Rattle.bt_round.proofs.Closing.{ran_nothing}
@@ -410,7 +410,7 @@ pub session_runs_from : AreFlown → AreSafe → (net : Net) (talk : Talked) (gi
     → SessionEnded net talk hand.book left status → SessionFrom net talk (stored_from given left.told faults left.faults) status left.histories left.events
 session_runs_from flown safe net talk given faults hand left status begun told changes readable later ended = record {
   opening = hand.book.state.changes;
-  opens = record { told = changes; readable = readable; follow = begun.follow; few = begun.few };
+  opens = record { told = changes; readable = readable; follow = begun.follow; few = subst (λ (n : Net). AreFew n hand.book.state.changes) begun.network begun.few };
   world = ended.world;
   safe = frames_safe flown safe (opening_on net hand.book.state.changes) (reverse left.events) ended.world.world;
   ends = session_ends_from net talk hand.book.told given left.told faults hand.book.faults left.faults hand.book.state.changes status left.histories left.events

@@ -56,7 +56,7 @@ pub record IsBegun (net : Net) (hand : Hand) : Type 0 where
   pub none : hand.book.history ≡ []
   pub runs : hand.book.state ≡ running hand.book.state.changes
   pub follow : Follows net hand.book.state.changes
-  pub few : AreFew net hand.book.state.changes
+  pub few : AreFew hand.book.net hand.book.state.changes
   pub air : hand.air ≡ (at_start net hand.book.state.changes).air
   pub rounds : hand.rounds ≡ 0
 

@@ -5,7 +5,7 @@ ghost use Rattle.bt_history.specs.Changes.{orders, plans};
 ghost use Rattle.bt_history.specs.Machine.{running};
 ghost use Rattle.bt_history.specs.Recovery.{IsReadable, Recovered, marked};
 ghost use Rattle.bt_centre.specs.Progress.{IsBegun, IsOpenFault};
-ghost use Rattle.bt_centre.specs.Run.{at_start, opening_on};
+ghost use Rattle.bt_centre.specs.Run.{AreFew, at_start, opening_on};
 ghost use Rattle.bt_round.specs.Boards.{IsPublished};
 
 use crate::playing::Playing;
@@ -64,9 +64,7 @@ fn begin<R: Threads + Wait + Sync, K: Keeper, E: Events>(
     ensures told { IfErr result (λ store. K.told store ≡ book.told) }
     ensures faults { IfErr result (λ store. K.fault_count store ≡ book.faults) }
 {
-    // These are there for what holds of each book: its changes are few.
-    let _edition = book.edition();
-    let _bytes = book.line_bytes();
+    changes_are_few(&book);
     let before = book.change_count();
     let Ok(over) = Vec::with_capacity(alloc, 1) else {
         return Err(book.into_parts().0);
@@ -80,6 +78,15 @@ fn begin<R: Threads + Wait + Sync, K: Keeper, E: Events>(
         }),
         Err(book) => Err(book.into_parts().0),
     }
+}
+
+/// Of each book, the changes are few.
+pub(crate) fn changes_are_few<K: Keeper>(book: &Book<K>)
+    ensures few { AreFew book.now.net book.now.state.changes }
+{
+    // These are there for what holds of each of their results: four bytes hold it.
+    let _edition = book.edition().0;
+    let _bytes = book.line_bytes();
 }
 
 /// The station of a book and of the world that opens with it. Where memory runs out, the book comes back.

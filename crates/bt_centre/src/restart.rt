@@ -8,6 +8,7 @@ ghost use Rattle.bt_centre.specs.Run.{JoinsOrder};
 ghost use Rattle.bt_script.specs.declared.script.Item.TheVariants as item;
 
 use crate::History;
+use crate::open::changes_are_few;
 use crate::playing::{Playing, Remains};
 use crate::station::{book_and_centre, station_of};
 use bt_air::Order;
@@ -110,9 +111,7 @@ fn begin_again<R: Threads + Wait + Sync, K: Keeper, E: Events>(
         over,
         rounds,
     } = time;
-    // These are there for what holds of each book: its changes are few.
-    let _edition = book.edition();
-    let _bytes = book.line_bytes();
+    changes_are_few(&book);
     let before = book.change_count();
     let Ok(text) = restart_centre(alloc, net, &book, &mut centre) else {
         return Err(remains_of(book, centre, over));
