@@ -7,5 +7,6 @@ pub mod FlatPlaces
 pub mod Flyable
 pub mod Links
 pub mod Matrices
+pub mod Pushed
 pub mod SameDemand
 pub mod Tables

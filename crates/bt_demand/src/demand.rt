@@ -1,5 +1,5 @@
 // The demand: how many slots per frame each link between two terminals asks for.
-ghost use Rattle.std.specs.Prelude.{◌≡◌, ◌≢◌, ◌+◌, ◌<◌, ◌≤◌, [], length, IfOk, OnOk, OnErr, IsOk, vec_capacity};
+ghost use Rattle.std.specs.Prelude.{◌≡◌, ◌≢◌, ◌+◌, ◌<◌, ◌≤◌, [], ◌∷◌, ◌++◌, length, IfOk, OnOk, OnErr, IsOk, vec_capacity};
 ghost use Rattle.bt_demand.specs.Demand.{units_of, Gains, IsDemand};
 ghost use Rattle.bt_demand.specs.Rows.{all_links, sent_by, KeepLinks};
 
@@ -60,9 +60,22 @@ impl Demand {
     {
         let mut demand = Demand::empty(alloc);
         for link in links {
-            demand.add(alloc, link.from, link.to, link.units)?;
+            demand.push(alloc, *link)?;
         }
         Ok(demand)
+    }
+
+    /// Puts a link behind all others. Nothing is searched for.
+    pub fn push(&mut self, alloc: Global, link: Link) -> Result<(), OutOfMemory>
+        requires demand { IsDemand (self.old ++ link ∷ []) }
+        ensures ok { OnOk result (self.new ≡ self.old ++ link ∷ []) }
+        ensures err { OnErr result (self.new ≡ self.old) }
+    {
+        let place = usize::from(link.from.0);
+        add_rows(alloc, &mut self.rows, place + 1)?;
+        let row = &mut self.rows[place];
+        row.push(link)?;
+        Ok(())
     }
 
     /// The links, a row for each terminal that sends. One row behind the other they stand in order.

@@ -1,5 +1,5 @@
 // A row of links: those on which one terminal sends.
-ghost use Rattle.std.specs.Prelude.{◌≡◌, ◌≢◌, ◌+◌, ◌<◌, ◌≤◌, [], length, IfOk, IfErr, OnOk, OnErr, vec_capacity};
+ghost use Rattle.std.specs.Prelude.{◌≡◌, ◌≢◌, ◌+◌, ◌<◌, ◌≤◌, [], ◌∷◌, ◌++◌, length, IfOk, IfErr, OnOk, OnErr, vec_capacity};
 ghost use Rattle.std.specs.List.{insert};
 ghost use Rattle.bt_demand.specs.Demand.{units_of, Gains, IsAt, IsDemand, IsGapFor};
 
@@ -55,6 +55,15 @@ impl LinkRow {
         Ok(LinkRow {
             links: Vec::from_slice(alloc, self.links.as_slice())?,
         })
+    }
+
+    /// Puts a link behind all others of the row.
+    pub(crate) fn push(&mut self, link: Link) -> Result<(), OutOfMemory>
+        requires demand { IsDemand (self.old ++ link ∷ []) }
+        ensures ok { OnOk result (self.new ≡ self.old ++ link ∷ []) }
+        ensures err { OnErr result (self.new ≡ self.old) }
+    {
+        Ok(self.links.push(link)?)
     }
 
     /// The slots of a link, 0 where it is not in the row.

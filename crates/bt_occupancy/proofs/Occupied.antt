@@ -19,15 +19,21 @@ use Rattle.bt_demand.proofs.Tables.{length-row-table, table-LinesExceed}
 use Rattle.bt_occupancy.proofs.Shares.{units_of-in-beams}
 
 -- a matrix of zeros is that of no link
-pub matrix_of-start : (net original : Net) (links : List Link) (matrix : List (List ℕ)) (size : ℕ) → net ≡ original → links ≡ []
-    → size ≡ length original.beams → matrix ≡ replicate size (replicate size 0) → matrix ≡ matrix_of net links
-matrix_of-start net original links matrix size copied no_link size_is matrix_is =
-    rw (no_link, matrix_of-none net, copied, ← size_is) matrix_is
+pub matrix_of-start : (net : Net) (links : List Link) (matrix : List (List ℕ)) (size : ℕ) → links ≡ []
+    → size ≡ length net.beams → matrix ≡ replicate size (replicate size 0) → matrix ≡ matrix_of net links
+matrix_of-start net links matrix size no_link size_is matrix_is =
+    rw (no_link, matrix_of-none net, ← size_is) matrix_is
 
 -- a beam of the network is one of the matrix
 pub in_matrix : (net : Net) (links : List Link) (matrix : List (List ℕ)) (beam : ℕ) → matrix ≡ matrix_of net links
     → beam < length net.beams → beam < length matrix
 in_matrix net links matrix beam is below = omega (arith, ap length is, length-matrix_of net links, below)
+
+-- and has a place in each row
+pub in_row_of : (net : Net) (links : List Link) (matrix : List (List ℕ)) (up down : ℕ) → matrix ≡ matrix_of net links
+    → up < length net.beams → down < length net.beams → down < length (row_of matrix up)
+in_row_of net links matrix up down is in_rows in_columns =
+    subst (λ (m : List (List ℕ)). down < length (row_of m up)) (sym is) (omega (arith, length-row-table (length net.beams) (units_between net links) up in_rows, in_columns))
 
 -- a write over a write
 set_again : {A : Type 0} (xs : List A) (i : ℕ) (x y : A) → slice_set (slice_set xs i x) i y ≡ slice_set xs i y

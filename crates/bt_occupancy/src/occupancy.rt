@@ -1,5 +1,5 @@
 // How the frame is occupied: the demand on a network, with its traffic matrix beside it.
-ghost use Rattle.std.specs.Prelude.{◌≡◌, ◌≢◌, ◌<◌, ◌≤◌, [], length, IfOk, OnOk};
+ghost use Rattle.std.specs.Prelude.{◌≡◌, ◌≢◌, ◌⊎◌, ◌<◌, ◌≤◌, [], length, IfOk, OnOk};
 ghost use Rattle.bt_frame.specs.declared.schedule.Critical.{Critical};
 ghost use Rattle.bt_matrix.specs.Traffic.{row_sum, column_sum, IsHeaviest};
 ghost use Rattle.bt_demand.specs.Demand.{units_of, Gains, IsDemand};
@@ -18,7 +18,7 @@ use bt_net::Network;
 use std::alloc::Global;
 use std::marker::Model;
 
-/// The demand on a network, room for more of its links, and its traffic matrix, which follows each change.
+/// The demand on a network, room for more of its links, and its traffic matrix with the greatest line sum, which follow each change.
 #[derive(Drop)]
 pub struct Occupancy {
     net: Network,
@@ -26,6 +26,8 @@ pub struct Occupancy {
     // memory for one link more: the links of its sender move there where they fill their own, and so do the rows
     room: LinkRoom,
     matrix: Crosslinked,
+    // the greatest line sum of the matrix
+    length: u32,
 }
 
 impl Model for Occupancy {
@@ -34,6 +36,8 @@ impl Model for Occupancy {
     ghost Value = { Occupied };
 
     ghost use Rattle.std.specs.Prelude.{◌≡◌, [], vec_capacity};
+    ghost use Rattle.bt_frame.specs.declared.schedule.Critical.{Critical};
+    ghost use Rattle.bt_matrix.specs.Traffic.{IsHeaviest};
     ghost use Rattle.bt_demand.specs.Traffic.{matrix_of};
 
     ghost view = { λ a. record {
@@ -44,7 +48,8 @@ impl Model for Occupancy {
       entry_room = a.matrix.room;
     } };
 
-    ghost invariant = { λ a. (a.matrix.rows ≡ matrix_of a.net a.demand) × (a.room.links.items ≡ []) × (a.room.rows.items ≡ []) };
+    ghost invariant = { λ a. (a.matrix.rows ≡ matrix_of a.net a.demand) × (a.room.links.items ≡ []) × (a.room.rows.items ≡ [])
+        × ((line : Critical) × IsHeaviest a.matrix.rows line a.length) };
 }
 
 impl Occupancy {
@@ -53,11 +58,15 @@ impl Occupancy {
         ensures net { IfOk result (λ made. made.net ≡ net.now) }
         ensures links { IfOk result (λ made. made.links ≡ []) }
     {
+        let net = net.copy(alloc)?;
+        let matrix = Crosslinked::new(alloc, net.beam_count())?;
+        let (_, length) = matrix.heaviest();
         Ok(Occupancy {
-            net: net.copy(alloc)?,
+            net,
             demand: Demand::empty(alloc),
             room: LinkRoom::new(alloc),
-            matrix: Crosslinked::new(alloc, net.beam_count())?,
+            matrix,
+            length,
         })
     }
 
@@ -141,7 +150,7 @@ impl Occupancy {
     pub fn length(&self) -> u32
         ensures heaviest { (line : Critical) × IsHeaviest (matrix_of self.now.net self.now.links) line result }
     {
-        self.matrix.heaviest().1
+        self.length
     }
 
     /// Takes room for an edit, so that it takes no memory. One that only takes slots from a link needs none.
@@ -207,6 +216,7 @@ impl Occupancy {
         let slots = units.get();
         self.demand.add_reserved(&mut self.room, from, to, slots);
         self.matrix.add(up, down, slots);
+        self.length = self.length.max(greater_sum(&self.matrix, up, down));
     }
 
     /// A link asks for so many slots less.
@@ -219,7 +229,22 @@ impl Occupancy {
     {
         let (up, down) = (self.net.beam_of(from), self.net.beam_of(to));
         let slots = units.get();
+        let was = greater_sum(&self.matrix, up, down);
         self.demand.take(from, to, slots);
         self.matrix.take(up, down, slots);
+        if was == self.length {
+            self.length = self.matrix.heaviest().1;
+        }
     }
+}
+
+/// The sum of a row or that of a column, whichever is greater.
+fn greater_sum(matrix: &Crosslinked, up: BeamNo, down: BeamNo) -> u32
+    requires up { up.0 < length matrix.now.rows }
+    requires down { down.0 < length matrix.now.rows }
+    ensures row { row_sum matrix.now.rows up.0 ≤ result }
+    ensures column { column_sum matrix.now.rows down.0 ≤ result }
+    ensures one { (result ≡ row_sum matrix.now.rows up.0) ⊎ (result ≡ column_sum matrix.now.rows down.0) }
+{
+    matrix.row_sum(up).max(matrix.column_sum(down))
 }

@@ -184,6 +184,19 @@ next_place places place (suc n) links table within some is so_far =
     ap (λ (before : List Link). before ++ link_at place (suc n) ∷ []) so_far
     ∙ sym (next places place (suc n) table within is ∙ push-link 0 place n (take place places) (omega arith))
 
+-- they are a demand: the first places of a table
+take-ArePlaces : (place n : ℕ) (us : List ℕ) → ArePlaces place us → ArePlaces place (take n us)
+unfolding ArePlaces
+take-ArePlaces place zero us are = tt
+take-ArePlaces place (suc n) [] are = tt
+take-ArePlaces place (suc n) (u ∷ us) are = (are.0, take-ArePlaces (place + 1) n us are.1)
+
+pub next_demand : (places : List ℕ) (place units : ℕ) (links : List Link) → IsTable places → place < 4096 → 0 < units → units ≡ get_or places place 0 → links ≡ links_to places place
+    → IsDemand (links ++ link_at place units ∷ [])
+next_demand places place units links table within some is so_far =
+    subst IsDemand (sym (next_place places place units links table within some is so_far))
+    (places-IsDemand 0 (take (place + 1) places) (take-ArePlaces 0 (place + 1) places table.each))
+
 -- and without one, where it asks for nothing
 pub same_place : (places : List ℕ) (place units : ℕ) (links : List Link) → IsTable places → place < 4096 → units ≡ get_or places place 0 → units ≡ 0 → links ≡ links_to places place → links ≡ links_to places (place + 1)
 same_place places place zero links table within is none so_far =

@@ -65,14 +65,14 @@ impl LinkTable {
     pub(crate) fn demand(&self, alloc: Global) -> Result<Demand, OutOfMemory>
         ensures { IfOk result (λ demand. demand ≡ self.now) }
     {
-        let mut links = Vec::new(alloc);
+        let mut demand = Demand::empty(alloc);
         for place in 0..PLACES {
             let units = self.places[place];
             if units > 0 {
-                links.push(link_at(place, units))?;
+                demand.push(alloc, link_at(place, units))?;
             }
         }
-        Demand::of(alloc, links.as_slice())
+        Ok(demand)
     }
 }
 

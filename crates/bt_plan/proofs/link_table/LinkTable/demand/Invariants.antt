@@ -4,4 +4,4 @@ use Rattle.bt_plan.specs.LinkTable.{links_from}
 use Rattle.bt_plan.proofs.link_table.LinkTable.demand.Given as goal
 
 abbrev pub invariant-loop-place : goal.invariant-loop-place
-invariant-loop-place l = l.links.items ≡ links_from 0 (take l.place l.self-inside.places.items)
+invariant-loop-place l = l.demand ≡ links_from 0 (take l.place l.self-inside.places.items)
