@@ -12,5 +12,5 @@ mod line;
 mod token;
 
 pub use form::Form;
-pub use line::{print, print_front};
+pub use line::{print, print_front, put};
 pub use token::{MOST_VALUES, Token, forms_from, tokens_of};

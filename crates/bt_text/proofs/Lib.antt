@@ -5,3 +5,4 @@ pub mod Front
 pub mod Fronts
 pub mod Faults
 pub mod Steps
+pub mod Places

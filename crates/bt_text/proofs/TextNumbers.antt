@@ -1,11 +1,11 @@
 -- Numbers: what words are, and how a number is spelled.
-use Rattle.std.proofs.Common.{zero, suc, ◌≡◌, ℕ, ◌-◌, ◌^◌, ◌<◌, ◌≤◌, ◌==◌, Bool, true, false, Option, Some, None, option_and_then, if◌then◌else◌, List, [], ◌∷◌, map, length, get_or, decimal, not, refl, sym, ap, ◌∙◌, arith, rules}
+use Rattle.std.proofs.Common.{zero, suc, ◌≡◌, ℕ, ◌+◌, ◌/◌, ◌%◌, ◌-◌, ◌^◌, ◌<◌, ◌≤◌, ◌==◌, Bool, true, false, Option, Some, None, option_and_then, if◌then◌else◌, List, [], ◌∷◌, map, length, get_or, decimal, not, length-append, refl, sym, ap, ◌∙◌, arith, rules}
 use Rattle.std.specs.Char.{is_ascii_digit}
 use Rattle.std.specs.List.{All, list_all}
 use Rattle.std.specs.Option.{option_map}
 use Rattle.std.specs.Str.Parse.{digits_value}
 use Rattle.std.proofs.lemmas.Bool.Decides.{nat_tests}
-use Rattle.std.proofs.lemmas.Fmt.{decimal_is_IsNumeral, decimal-digits_value, decimal_digit, first_decimal}
+use Rattle.std.proofs.lemmas.Fmt.{decimal_is_IsNumeral, decimal-digits_value, decimal_digit, decimal_step, first_decimal}
 use Rattle.std.proofs.lemmas.List.{length-map}
 use Rattle.std.proofs.lemmas.List.Elements.{All-head, All-same, All-tail}
 use Rattle.std.proofs.lemmas.Str.Parse.{digits_value_short, IsNumeralModel, numerals_by_value}
@@ -116,3 +116,20 @@ numbers_of-line ns filled small =
 
 pub line_from_numbers_of : (line : List ℕ) (ns : List ℕ) → All (λ n. n < 2 ^ 64) ns → numbers_of (words line) ≡ Some ns → line ≡ spaced (map decimal ns)
 line_from_numbers_of line ns small is = sym (spaced-words line) ∙ ap spaced (decimals_from_numbers_of (words line) ns small is)
+
+-- how many digits a number of at most four has
+pub length_one : (n : ℕ) → n < 10 → length (decimal n) ≡ 1
+length_one n small = ap length (decimal_digit n small)
+
+length_more : (n digits : ℕ) → 10 ≤ n → n < 2 ^ 64 → length (decimal (n / 10)) ≡ digits → length (decimal n) ≡ digits + 1
+length_more n digits large small behind =
+    ap length (decimal_step n large small) ∙ length-append (decimal (n / 10)) ((48 + n % 10) ∷ []) ∙ ap (λ k. k + 1) behind
+
+pub length_two : (n : ℕ) → 10 ≤ n → n < 100 → length (decimal n) ≡ 2
+length_two n large small = length_more n 1 large (omega arith) (length_one (n / 10) (omega arith))
+
+pub length_three : (n : ℕ) → 100 ≤ n → n < 1000 → length (decimal n) ≡ 3
+length_three n large small = length_more n 2 (omega arith) (omega arith) (length_two (n / 10) (omega arith) (omega arith))
+
+pub length_four : (n : ℕ) → 1000 ≤ n → n < 10000 → length (decimal n) ≡ 4
+length_four n large small = length_more n 3 (omega arith) (omega arith) (length_three (n / 10) (omega arith) (omega arith))

@@ -11,9 +11,10 @@ ghost use Rattle.bt_words.specs.Written.{Extends};
 
 use bt_air::AirFrame;
 use bt_demand::Burst;
-use bt_forms::{Form, print};
+use bt_forms::{Form, print, put};
 use bt_frame::{EditionNo, OutOfMemory, TermNo};
 use bt_net::Network;
+use bt_text::ShortText;
 use bt_words::Word;
 use std::alloc::Global;
 
@@ -76,25 +77,28 @@ fn add_sent(
     ensures added { OnOk result (out.new.items ≡ out.old.items ++ burst_lines net.now form.Burst (bursts_from terminal bursts.now)) }
     ensures kept { Extends out.old.items out.new.items }
 {
+    let mut lines = ShortText::new();
     for burst in bursts {
-        sent_text(alloc, net, terminal, *burst, out)?;
+        gather_sent(alloc, net, terminal, *burst, &mut lines, out)?;
     }
+    out.extend_from_slice(lines.as_slice())?;
     Ok(())
 }
 
-/// Appends the line of a burst where a terminal sends it.
-fn sent_text(
+/// Adds the line of a burst to the lines that are gathered, where a terminal sends it. Want of memory leaves a first part.
+fn gather_sent(
     alloc: Global,
     net: &Network,
     terminal: TermNo,
     burst: Burst,
+    lines: &mut ShortText,
     out: &mut Vec<u8>,
 ) -> Result<(), OutOfMemory>
-    ensures added { OnOk result (out.new.items ≡ out.old.items ++ (if burst.from.0 == terminal.0 then burst_line net.now form.Burst burst else [])) }
-    ensures unchanged { OnErr result (out.new.items ≡ out.old.items) }
+    ensures added { OnOk result (out.new.items ++ lines.new ≡ (out.old.items ++ lines.old) ++ (if burst.from.0 == terminal.0 then burst_line net.now form.Burst burst else [])) }
+    ensures kept { Extends out.old.items out.new.items }
 {
     if burst.from == terminal {
-        burst_text(alloc, net, Form::Burst, burst, out)
+        gather(alloc, net, Form::Burst, burst, lines, out)
     } else {
         Ok(())
     }
@@ -149,22 +153,26 @@ fn add_bursts(
     ensures added { OnOk result (out.new.items ≡ out.old.items ++ burst_lines net.now form bursts.now) }
     ensures kept { Extends out.old.items out.new.items }
 {
+    let mut lines = ShortText::new();
     for burst in bursts {
-        burst_text(alloc, net, form, *burst, out)?;
+        gather(alloc, net, form, *burst, &mut lines, out)?;
     }
+    out.extend_from_slice(lines.as_slice())?;
     Ok(())
 }
 
-/// Appends the line of a burst by its form.
-fn burst_text(
+/// Adds the line of a burst by its form to the lines that are gathered to be appended together; where there is no room left, those
+/// are appended, and it behind them. Want of memory leaves a first part.
+fn gather(
     alloc: Global,
     net: &Network,
     form: Form,
     burst: Burst,
+    lines: &mut ShortText,
     out: &mut Vec<u8>,
 ) -> Result<(), OutOfMemory>
-    ensures added { OnOk result (out.new.items ≡ out.old.items ++ burst_line net.now form burst) }
-    ensures unchanged { OnErr result (out.new.items ≡ out.old.items) }
+    ensures added { OnOk result (out.new.items ++ lines.new ≡ (out.old.items ++ lines.old) ++ burst_line net.now form burst) }
+    ensures kept { Extends out.old.items out.new.items }
 {
     let words = [
         Word::number(burst.start),
@@ -172,6 +180,11 @@ fn burst_text(
         Word::Text(name_at(net, burst.from)),
         Word::Text(name_at(net, burst.to)),
     ];
+    if put(form, &words, lines) {
+        return Ok(());
+    }
+    out.extend_from_slice(lines.as_slice())?;
+    lines.truncate(0);
     print(alloc, form, &words, out)
 }
 

@@ -49,3 +49,7 @@ none_of f (first ∷ rest) none = absurd (omega (arith, none))
 pub line_extends : {A B : Type 0} (result : Result A B) (before after line : List ℕ) → OnOk result (after ≡ before ++ line) → OnErr result (after ≡ before) → Extends before after
 line_extends (Ok _) before after line added same = (line, added)
 line_extends (Err _) before after line added same = ([], same ∙ sym (append-nil before))
+
+-- a text that grew twice
+pub extends_again : (before between after : List ℕ) → Extends before between → Extends between after → Extends before after
+extends_again before between after (first, is) (second, then) = (first ++ second, then ∙ ap (λ x. x ++ second) is ∙ append_assoc before first second)

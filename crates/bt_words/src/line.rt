@@ -1,10 +1,12 @@
 // One line, word by word.
 ghost use Rattle.std.specs.Prelude.{◌≡◌, ◌++◌, ◌∷◌, decimal, map, OnOk, OnErr};
+ghost use Rattle.std.specs.Bool.{OnTrue};
+ghost use Rattle.bt_text.specs.Short.{one_word};
 ghost use Rattle.bt_words.specs.Lines.{frame_name, line_of, spaced_out, word_bytes};
 ghost use Rattle.bt_words.specs.Written.{Extends};
 
 use bt_frame::{Mark, OutOfMemory};
-use bt_text::number_text;
+use bt_text::{ShortText, number_text};
 use std::alloc::Global;
 
 /// What a word of a line is.
@@ -94,4 +96,28 @@ fn add_frame(alloc: Global, mark: Mark, number: u32, out: &mut Vec<u8>) -> Resul
     number_text(alloc, u64::from(mark.0), out)?;
     out.push(b'.')?;
     number_text(alloc, u64::from(number), out)
+}
+
+/// Adds a word to a short text, a further one behind a space, where there is room for them. Else it leaves a first part of them.
+#[inline(always)]
+pub fn put_word(is_further: bool, word: &Word<'_>, text: &mut ShortText) -> bool
+    ensures added { OnTrue result (text.new ≡ text.old ++ one_word is_further (word_bytes word.now)) }
+    ensures kept { Extends text.old text.new }
+{
+    match *word {
+        Word::Text(word) => text.put_word(is_further, word.as_bytes()),
+        Word::Number(number) => text.put_number(is_further, number),
+        Word::Frame(mark, number) => put_frame(is_further, mark, number, text),
+    }
+}
+
+/// Adds the name of a frame in the same way.
+#[inline(never)]
+fn put_frame(is_further: bool, mark: Mark, number: u32, text: &mut ShortText) -> bool
+    ensures added { OnTrue result (text.new ≡ text.old ++ one_word is_further (frame_name mark number)) }
+    ensures kept { Extends text.old text.new }
+{
+    text.put_any_number(is_further, u64::from(mark.0))
+        && text.put_byte(b'.')
+        && text.put_any_number(false, u64::from(number))
 }
