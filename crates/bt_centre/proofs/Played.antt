@@ -14,7 +14,7 @@ use Rattle.bt_journal.specs.Journal.{changes_of}
 use Rattle.bt_history.specs.Book.{Books}
 use Rattle.bt_history.specs.Causes.{Follows}
 use Rattle.bt_history.specs.Changes.{edition, newest, plans}
-use Rattle.bt_history.specs.Machine.{State}
+use Rattle.bt_history.specs.Machine.{Legal, State}
 use Rattle.bt_script.specs.declared.script.Item.{Item}
 use Rattle.bt_script.specs.declared.script.Item.TheVariants as item
 use Rattle.bt_script.specs.declared.script.Round.{Round}
@@ -169,6 +169,8 @@ items_restart net begun items old new lines own so one =
       joins = centre.joins;
       air = centre.restarts;
       next = subst (λ (h : List Entry). IsNextTime tells before.opening h new.book.state.changes) (sym so.history_is) next;
+      legal = subst (Legal net before.opening) (sym so.history_is) was.legal;
+      follow = one.follow;
       few = one.few;
       over = one.over ∙ same_histories before old (sym so.over_is) was.before (sym so.history_is);
       none = refl;

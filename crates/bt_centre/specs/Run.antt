@@ -109,7 +109,8 @@ pub record AreFew (net : Net) (changes : List Change) : Type 0 where
   pub edition : edition changes < 2 ^ 32
   pub bytes : bytes_of net changes < 2 ^ 32
 
--- The centre restarts with the changes that its store tells: those made so far, or these and the one that the store lost. It forgets
+-- The centre restarts with the changes that its store tells: those made so far, or these and the one that the store lost. The history
+-- of the time that is over was legal, and the changes with which the next begins follow one another and are few. The centre forgets
 -- what it heard, and the edition to which it went back; the order that it wanted joins the others where the store tells it, and is
 -- forgotten else. What is on its way stays on its way, the standby keeps what it keeps, and the desks' shows begin anew.
 pub record PlaysRestart (net : Net) (tells : Bool) (before : Stand) (text : List ℕ) (after : Stand) : Type 0 where
@@ -117,6 +118,8 @@ pub record PlaysRestart (net : Net) (tells : Bool) (before : Stand) (text : List
   pub joins : JoinsOrder before.air after.opening kept
   pub air : after.air ≡ restarting before.air kept
   pub next : IsNextTime tells before.opening before.history after.opening
+  pub legal : Legal net before.opening before.history
+  pub follow : Follows net after.opening
   pub few : AreFew net after.opening
   pub over : after.over ≡ histories_at before
   pub none : after.history ≡ []
