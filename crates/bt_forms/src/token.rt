@@ -70,7 +70,7 @@ pub fn tokens_of(form: Form) -> &'static [Token]
         Form::NotSent           => &[Text("deliver"), Number, Text("not"), Text("sent")],
         Form::Start             => &[Text("start"), Text("edition"), Number, Text("plan"), Number, Text("mark"), Number],
         Form::Restart           => &[Text("restart")],
-        Form::Round             => &[Text("round"), Number],
+        Form::Round             => &[Text("round"), Count],
         Form::Total             => &[Text("total"), Text("done"), Count, Text("refused"), Count, Text("store"), Count],
         Form::DeskDone          => &[Text("desk"), Desk, Text("done"), Number, Number],
         Form::DeskSameTerminal  => &[Text("desk"), Desk, Text("refused"), Text("E1")],
