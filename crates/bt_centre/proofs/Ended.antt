@@ -60,6 +60,7 @@ run_of net begun items hand lines histories events good so all same = record {
   history = all ∙ same_histories so.end hand (sym so.over_is) so.so_far.before (sym so.history_is);
   legal = subst (AreLegalTimes net (is_some begun.told) begun.state.changes so.end.opening) (sym all) (legal_times net begun so.end.opening hand so.so_far);
   events_are = same ∙ ap (λ (a : _). a.life.events) (sym so.air_is);
+  opened = ap (λ (a : _). a.life.opening) so.air_is ∙ so.so_far.world;
   good = good (changes_at so.end) (subst (Follows net) (sym (changes_are net begun items hand lines so)) so.so_far.follow);
 }
 

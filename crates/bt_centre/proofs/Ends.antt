@@ -61,6 +61,7 @@ run_over net tells other opening items histories events lines same run = record 
   history = run.history;
   legal = subst (λ (b : Bool). AreLegalTimes net b opening run.end.opening histories) same run.legal;
   events_are = run.events_are;
+  opened = run.opened;
   good = run.good;
 }
 

@@ -42,7 +42,7 @@ same_first a b x y all long first second =
     sym (take-append_seam a x) ∙ ap (take (length a)) (sym first ∙ second) ∙ ap (λ (n : ℕ). take n (b ++ y)) long ∙ take-append_seam b y
 
 -- what stands last of two lists that are the same, and what stands before it
-same_last : (a b : List History) (x y : History) → a ++ x ∷ [] ≡ b ++ y ∷ [] → (a ≡ b) × (x ≡ y)
+pub same_last : (a b : List History) (x y : History) → a ++ x ∷ [] ≡ b ++ y ∷ [] → (a ≡ b) × (x ≡ y)
 same_last a b x y is =
     let long : length a ≡ length b = omega (arith, length-append a (x ∷ []), length-append b (y ∷ []), ap length is) in
     let before : a ≡ b = sym (take-append_seam a (x ∷ [])) ∙ ap (take (length a)) is ∙ ap (λ (n : ℕ). take n (b ++ y ∷ [])) long ∙ take-append_seam b (y ∷ []) in

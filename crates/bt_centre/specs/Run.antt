@@ -212,6 +212,7 @@ pub record IsRun (net : Net) (tells : Bool) (opening : List Change) (items : Lis
   pub history : histories ≡ histories_at end
   pub legal : AreLegalTimes net tells opening end.opening histories
   pub events_are : events ≡ end.air.life.events
+  pub opened : end.air.life.opening ≡ opening_on net opening
   pub good : PlansAreGood net (changes_at end)
 
 -- a run with all its lines: the first, those of its parts, and the last, which counts the edits of all times

@@ -12,6 +12,7 @@ pub mod Running
 pub mod Bridging
 pub mod Marks
 pub mod Flowing
+pub mod Unplaced
 pub mod Wanted
 pub mod Turning
 pub mod PlayedLines

@@ -7,18 +7,14 @@ use Rattle.bt_air.specs.declared.order.Order.TheVariants.{Load, Arm}
 use Rattle.bt_air.specs.declared.order.Status.{Status}
 use Rattle.bt_air.specs.declared.sent.Act.{Act}
 use Rattle.bt_air.specs.declared.sent.Act.TheVariants.{Quiet, RepeatLoad, RepeatArm, Want}
-use Rattle.bt_history.specs.Causes.{CanCome, IsCause}
-use Rattle.bt_history.specs.Machine.{ChangeStep, State, Step, Tells}
+use Rattle.bt_history.specs.Causes.{CanCome}
+use Rattle.bt_history.specs.Machine.{Step}
 use Rattle.bt_journal.specs.declared.call.Call.{Call}
 use Rattle.bt_journal.specs.declared.call.Call.TheVariants as call
-use Rattle.bt_journal.specs.declared.call.Change.{Change}
-use Rattle.bt_journal.specs.declared.call.Change.TheVariants as change
 use Rattle.bt_journal.specs.declared.entry.Entry.{Entry}
-use Rattle.bt_journal.specs.declared.reply.Reply.{Reply}
-use Rattle.bt_journal.specs.declared.reply.Reply.TheVariants as replies
-use Rattle.bt_timeline.specs.Air.{IsUnplaced}
 use Rattle.bt_workers.specs.Callers.{Calling, IsAnswered}
 use Rattle.bt_workers.specs.Worker.{AnswersOrder}
+use Rattle.bt_workers.proofs.Unplaced.{change-answers}
 use Rattle.std.proofs.lemmas.Bool.{leb-true}
 use Rattle.bt_frame.specs.declared.numbers.Command.{Command}
 use Rattle.bt_change.specs.declared.turn.Turn.{Turn as Sight}
@@ -81,22 +77,6 @@ wanted-can o (Install plan ∷ earlier) ahead = wanted-can o earlier ahead
 -- the order that is wanted can be asked to be placed
 pub order-can : (o : Opening) (events : List Event) (order : Order) → 1 ≤ o.net.lead → wanted (log o events) ≡ Some order → CanCome order
 order-can o events order ahead is = subst (λ (w : Option Order). IfSome w CanCome) is (wanted-can o events ahead)
-
-refused-unplaced : (net : Net) (changes : List Change) (order : Order) (reply : Reply) → IsCause net changes (change.Order order) reply → IsUnplaced reply
-refused-unplaced net changes order (replies.OutOfTurn last) cause = tt
-refused-unplaced net changes order (replies.NotInstalled newest) cause = tt
-refused-unplaced net changes order _ cause = absurd cause
-
-tells-placed : (net : Net) (changes : List Change) (order : Order) (reply : Reply) → Tells net changes (change.Order order) reply → reply ≡ replies.Placed
-tells-placed net changes order replies.Placed tells = refl
-tells-placed net changes order _ tells = absurd tells
-
-change-answers : (net : Net) (old new : State) (order : Order) (reply : Reply) → ChangeStep net old (change.Order order) reply new → AnswersOrder reply
-change-answers net old new order reply (inl halted) = inr (subst IsUnplaced (sym halted.told) tt)
-change-answers net old new order reply (inr (inl refused)) = inr (refused-unplaced net old.changes order reply refused.cause)
-change-answers net old new order reply (inr (inr (inl full))) = inr (subst IsUnplaced (sym full.told) tt)
-change-answers net old new order reply (inr (inr (inr (inl done)))) = inl (tells-placed net new.changes order reply done.told)
-change-answers net old new order reply (inr (inr (inr (inr lost)))) = inr (subst IsUnplaced (sym lost.told) tt)
 
 -- a reply to an order says that it is placed, or what keeps it from that
 pub order-answers : {caller : Calling} (net : Net) (entry : Entry) (order : Order) (so : IsAnswered net caller entry) → entry.call ≡ call.Place order → AnswersOrder entry.reply

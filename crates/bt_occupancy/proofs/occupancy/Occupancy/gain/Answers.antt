@@ -42,8 +42,7 @@ pub invariant_of-self : goal.invariant_of-self
 invariant_of-self c =
     let in_rows = in_matrix c.self.inside.net c.self.inside.demand c.self.inside.matrix.rows c.beam_of-up.result.0 c.self.invariant.0 c.beam_of-up.ensures.in_range in
     let in_columns = in_matrix c.self.inside.net c.self.inside.demand c.self.inside.matrix.rows c.beam_of-down.result.0 c.self.invariant.0 c.beam_of-down.ensures.in_range in
-    let in_row = in_row_of c.self.inside.net c.self.inside.demand c.self.inside.matrix.rows c.beam_of-up.result.0 c.beam_of-down.result.0 c.self.invariant.0 c.beam_of-up.ensures.in_range c.beam_of-down.ensures.in_range in
-    (
+    let in_row = in_row_of c.self.inside.net c.self.inside.demand c.self.inside.matrix.rows c.beam_of-up.result.0 c.beam_of-down.result.0 c.self.invariant.0 c.beam_of-up.ensures.in_range c.beam_of-down.ensures.in_range in (
       matrix-more c.self.inside.net c.self.inside.demand c.add_reserved.new.self c.self.inside.matrix.rows c.add.new.self.rows c.args.from c.args.to c.get-slots.result c.beam_of-up.result c.beam_of-down.result
           c.self.invariant.0 c.add_reserved.ensures.gains c.beam_of-up.ensures.beam c.beam_of-down.ensures.beam c.beam_of-up.ensures.in_range c.beam_of-down.ensures.in_range c.add.ensures.rows,
       c.add_reserved.ensures.no_links,

@@ -33,8 +33,7 @@ invariant_of-self-else-was-self c =
     let loses = matrix-Loses c.self.inside.net c.self.inside.demand c.take.new.self c.self.inside.matrix.rows c.args.from c.args.to c.get-slots.result c.beam_of-up.result c.beam_of-down.result c.self.invariant.0 c.take.ensures.loses c.beam_of-up.ensures.beam c.beam_of-down.ensures.beam c.beam_of-up.ensures.in_range c.beam_of-down.ensures.in_range in
     let in_rows = in_matrix c.self.inside.net c.self.inside.demand c.self.inside.matrix.rows c.beam_of-up.result.0 c.self.invariant.0 c.beam_of-up.ensures.in_range in
     let in_columns = in_matrix c.self.inside.net c.self.inside.demand c.self.inside.matrix.rows c.beam_of-down.result.0 c.self.invariant.0 c.beam_of-down.ensures.in_range in
-    let in_row = in_row_of c.self.inside.net c.self.inside.demand c.self.inside.matrix.rows c.beam_of-up.result.0 c.beam_of-down.result.0 c.self.invariant.0 c.beam_of-up.ensures.in_range c.beam_of-down.ensures.in_range in
-    (
+    let in_row = in_row_of c.self.inside.net c.self.inside.demand c.self.inside.matrix.rows c.beam_of-up.result.0 c.beam_of-down.result.0 c.self.invariant.0 c.beam_of-up.ensures.in_range c.beam_of-down.ensures.in_range in (
       matrix-less c.self.inside.matrix.rows c.take-2.new.self.rows (matrix_of c.self.inside.net c.take.new.self) c.beam_of-up.result.0 c.beam_of-down.result.0 c.get-slots.result loses c.take-2.ensures.rows,
       c.self.invariant.1,
       c.self.invariant.2,

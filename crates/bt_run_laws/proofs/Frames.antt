@@ -1,0 +1,87 @@
+-- The lines of frames on the air.
+use Rattle.std.proofs.Common.{◌<◌, List, [], ◌∷◌, All, Option, Some, None, IfSome, refl, sym, subst, arith}
+use Rattle.std.specs.List.{flat_map}
+use Rattle.std.proofs.lemmas.List.Elements.{All-append, All-head, All-nil, All-tail, All-weaker}
+use Rattle.std.proofs.lemmas.List.Sorted.{All-permutation}
+use Rattle.bt_frame.specs.declared.numbers.EditionNo.{EditionNo}
+use Rattle.bt_frame.specs.declared.numbers.TermNo.{TermNo}
+use Rattle.bt_net.specs.Network.{Net, IsSound}
+use Rattle.bt_net.specs.Terminals.{IsTerminal}
+use Rattle.bt_demand.specs.declared.burst.Burst.{Burst}
+use Rattle.bt_demand.specs.declared.plan.Plan.{Plan}
+use Rattle.bt_demand.specs.Apart.{bursts_from}
+use Rattle.bt_demand.specs.Flyable.{IsFlyable, IsSentBy}
+use Rattle.bt_demand.proofs.Flyable.{sent_by}
+use Rattle.bt_air.specs.declared.shown.AirFrame.{AirFrame}
+use Rattle.bt_events.specs.Air.{bursts_under, transmits, where_held}
+use Rattle.bt_events.specs.Event.{Opening, Event, Happening}
+use Rattle.bt_events.specs.World.{accepted, bursts_for, frames_shown, heard, held, log, mark, plan_of, plans, terminals}
+use Rattle.bt_events.proofs.Plans.{flies-each, plan-holds, plans-flyable}
+use Rattle.bt_events.proofs.Ranges.{front-fits, world-fits}
+use Rattle.bt_world.specs.Shown.{IsFrame}
+use Rattle.bt_forms.specs.declared.form.Form.TheVariants as form
+use Rattle.bt_timeline.specs.Air.{frame_lines}
+use Rattle.bt_timeline.specs.Timeline.{burst_line, burst_lines}
+use Rattle.bt_run_lines.specs.declared.printed.Value.TheVariants as value
+use Rattle.bt_run_lines.specs.Printers.{line, printed_line}
+use Rattle.bt_run_laws.specs.Readable.{AreLines}
+use Rattle.bt_run_laws.specs.Small.{IsSmall, IsSmallBurst}
+use Rattle.bt_workers.proofs.Marks.{mark-small}
+use Rattle.bt_workers.proofs.Sending.{terminals-own}
+use Rattle.bt_centre.specs.World.{IsSpelledWorld}
+use Rattle.bt_run_laws.proofs.Read.{more_lines, no_lines, one_line}
+use Rattle.bt_run_laws.proofs.Sent.{small_mark, small_word}
+use Rattle.bt_run_laws.proofs.OneLine.{line_printed}
+
+-- the bursts that a terminal sends in a plan that can be flown
+plan_small : (net : Net) (terminal : TermNo) (plan : Option Plan) → IsTerminal net terminal → IfSome plan (IsFlyable net) → All (IsSmallBurst net) (bursts_for terminal plan)
+plan_small net terminal None own flies = All-nil (IsSmallBurst net)
+plan_small net terminal (Some plan) own flies =
+    All-weaker (IsSentBy net terminal) (IsSmallBurst net)
+    (λ burst sent. record {
+      start = omega (arith, sent.start.1);
+      slots = omega (arith, sent.slots.1);
+      from = subst (IsTerminal net) (sym sent.sender) own;
+      to = sent.receiver;
+    })
+    (bursts_from terminal plan.bursts) (sent_by net plan terminal flies)
+
+-- and those of the plan of an edition, where one is named
+under_small : (net : Net) (all : List Plan) (terminal : TermNo) (edition : Option EditionNo) → IsTerminal net terminal → All (IsFlyable net) all
+    → All (IsSmallBurst net) (bursts_under all terminal edition)
+under_small net all terminal None own fly = All-nil (IsSmallBurst net)
+under_small net all terminal (Some edition) own fly = plan_small net terminal (plan_of all edition) own (plan-holds (IsFlyable net) all edition fly)
+
+-- what terminals transmit
+transmits_small : (o : Opening) (past : List Happening) (these : List TermNo) → All (IsTerminal o.net) these → All (IsFlyable o.net) (plans o past)
+    → All (IsSmallBurst o.net) (flat_map (transmits o past) these)
+transmits_small o past [] own fly = All-nil (IsSmallBurst o.net)
+transmits_small o past (terminal ∷ rest) own fly =
+    All-append (IsSmallBurst o.net) (transmits o past terminal) (flat_map (transmits o past) rest)
+    (under_small o.net (plans o past) terminal (where_held (held o past terminal) (heard o past terminal)) (All-head (IsTerminal o.net) terminal rest own) fly)
+    (transmits_small o past rest (All-tail (IsTerminal o.net) terminal rest own) fly)
+
+-- the lines of bursts on the air
+bursts_printed : (net : Net) (bursts : List Burst) → All (IsSmallBurst net) bursts → AreLines net (burst_lines net form.Air bursts)
+bursts_printed net [] small = no_lines net
+bursts_printed net (burst ∷ rest) small =
+    let one = All-head (IsSmallBurst net) burst rest small in
+    more_lines net (burst_line net form.Air burst) (burst_lines net form.Air rest)
+    (line_printed net form.Air (value.Number burst.start ∷ value.Number burst.length ∷ value.Terminal burst.from ∷ value.Terminal burst.to ∷ []) refl refl (one.start, (one.slots, (one.from, (one.to, tt)))))
+    (bursts_printed net rest (All-tail (IsSmallBurst net) burst rest small))
+
+-- the lines of a frame of a world
+pub frame_printed : (o : Opening) (events : List Event) (frame : AirFrame) → IsSound o.net → IsSpelledWorld o events → IsFrame o (log o events) frame → frames_shown (log o events) < o.net.frames
+    → AreLines o.net (frame_lines o.net frame)
+frame_printed o events frame sound so is left =
+    let past = log o events in
+    let begun : IsSmall frame.mark.0 = subst IsSmall (sym is.mark) (small_mark (mark o past) (mark-small o events so.world)) in
+    let number : IsSmall frame.number = omega (arith, is.number, left, sound.frames.1) in
+    let fore : IsSmall frame.fore.0 =
+    subst (λ (edition : EditionNo). IsSmall edition.0) (sym is.fore) (small_word _ (front-fits (accepted o past) (mark o past) (world-fits o events sound so.world so.stored).accepted)) in
+    let head = line form.Frame (value.Frame frame.mark frame.number ∷ value.Number frame.fore.0 ∷ []) in
+    more_lines o.net (printed_line o.net head) (burst_lines o.net form.Air frame.bursts)
+    (one_line o.net head (record { suits = (refl, ((begun, number), (fore, tt))); lone = refl }))
+    (bursts_printed o.net frame.bursts
+    (All-permutation (IsSmallBurst o.net) (flat_map (transmits o past) (terminals o)) frame.bursts is.air.of_all
+    (transmits_small o past (terminals o) (terminals-own o) (plans-flyable o events (flies-each o events so.world)))))
