@@ -14,6 +14,7 @@ use std::alloc::Global;
 
 impl Machine {
     /// The first cause of a refusal in a change.
+    #[inline(always)]
     pub(crate) fn cause_in(
         &self,
         alloc: Global,
@@ -30,6 +31,7 @@ impl Machine {
     }
 
     /// The first cause of a refusal in the edit itself.
+    #[inline(always)]
     fn cause_of(&self, edit: &Edit) -> Option<Reply>
         requires { NamesTerminals self.now.net edit.now }
         ensures { IsFirstEditCause self.now.net self.now.state.changes edit.now result }
@@ -47,6 +49,7 @@ impl Machine {
         }
     }
 
+    #[inline(always)]
     fn cause_of_add(&self, from: TermNo, to: TermNo, units: Units) -> Option<Reply>
         requires { NamesTerminals self.now.net (Edit.Add from to units) }
         ensures { IsFirstEditCause self.now.net self.now.state.changes (Edit.Add from to units) result }
@@ -61,6 +64,7 @@ impl Machine {
         }
     }
 
+    #[inline(always)]
     fn cause_of_drop(&self, from: TermNo, to: TermNo, units: Units) -> Option<Reply>
         requires { NamesTerminals self.now.net (Edit.Drop from to units) }
         ensures { IsFirstEditCause self.now.net self.now.state.changes (Edit.Drop from to units) result }
@@ -72,6 +76,7 @@ impl Machine {
         }
     }
 
+    #[inline(never)]
     fn cause_of_move(
         &self,
         from: TermNo,

@@ -161,6 +161,7 @@ impl Machine {
     }
 
     /// Answers a call without a change, and keeps its entry.
+    #[inline(never)]
     pub(crate) fn answer(
         &mut self,
         alloc: Global,

@@ -31,6 +31,7 @@ pub(crate) struct Kept {
 
 impl Kept {
     /// Takes all room that a change needs.
+    #[inline(always)]
     pub(crate) fn reserve(&mut self, alloc: Global, change: &Change) -> Result<(), OutOfMemory>
         requires keeps { KeepsAll self.old }
         ensures keeps { KeepsAll self.new }
@@ -49,6 +50,7 @@ impl Kept {
     }
 
     /// Makes a change, for which there is room. Its line has so many bytes.
+    #[inline(always)]
     pub(crate) fn apply(&mut self, change: Change, line: u32)
         requires keeps { KeepsAll self.old }
         requires on { IsChangeOn self.old.occupancy.net change }

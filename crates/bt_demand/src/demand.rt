@@ -53,18 +53,6 @@ impl Demand {
         }
     }
 
-    /// The demand of these links, which stand in order, each once.
-    pub fn of(alloc: Global, links: &[Link]) -> Result<Demand, OutOfMemory>
-        requires demand { IsDemand links.now }
-        ensures same { IfOk result (λ demand. demand ≡ links.now) }
-    {
-        let mut demand = Demand::empty(alloc);
-        for link in links {
-            demand.push(alloc, *link)?;
-        }
-        Ok(demand)
-    }
-
     /// Puts a link behind all others. Nothing is searched for.
     pub fn push(&mut self, alloc: Global, link: Link) -> Result<(), OutOfMemory>
         requires demand { IsDemand (self.old ++ link ∷ []) }

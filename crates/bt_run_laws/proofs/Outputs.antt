@@ -1,12 +1,10 @@
 -- The output of a whole run is read.
-use Rattle.std.proofs.Common.{◌≡◌, ℕ, ◌+◌, ◌<◌, ◌≤◌, ◌^◌, List, [], ◌∷◌, ◌++◌, length, reverse, Ok, refl, sym, ap, ◌∙◌, subst, arith}
+use Rattle.std.proofs.Common.{◌≡◌, ℕ, ◌+◌, ◌<◌, ◌≤◌, ◌^◌, List, [], ◌∷◌, ◌++◌, length, reverse, Ok, sym, ◌∙◌, subst, arith}
 use Rattle.bt_net.specs.Network.{IsSound, Net}
 use Rattle.bt_air.specs.declared.event.Event.{Event}
 use Rattle.bt_events.specs.Event.{Opening}
-use Rattle.bt_history.specs.Machine.{Legal}
 use Rattle.bt_journal.specs.declared.call.Change.{Change}
 use Rattle.bt_script.specs.declared.script.Item.{Item}
-use Rattle.bt_report.specs.Output.{Output}
 use Rattle.bt_report.specs.Stored.{Stored}
 use Rattle.bt_run_lines.specs.declared.printed.Printed.{Printed}
 use Rattle.bt_run_lines.specs.Lines.{output_of}

@@ -1,36 +1,32 @@
 -- The parts of a run are printed lines.
-use Rattle.std.proofs.Common.{◌≡◌, ℕ, ◌+◌, ◌<◌, ◌≤◌, ◌^◌, ◌==◌, Bool, List, [], ◌∷◌, ◌++◌, length, All, refl, sym, ap, ◌∙◌, subst, arith}
+use Rattle.std.proofs.Common.{◌≡◌, ℕ, ◌+◌, ◌<◌, ◌≤◌, ◌^◌, ◌==◌, Bool, List, [], ◌∷◌, ◌++◌, All, refl, sym, ap, ◌∙◌, subst, arith}
 use Rattle.std.proofs.lemmas.List.Elements.{All-contains, All-filter, All-head, All-tail}
 use Rattle.std.proofs.lemmas.List.Sums.{sum_by-cons}
 use Rattle.bt_net.specs.Network.{IsSound, Net}
-use Rattle.bt_demand.specs.declared.plan.Plan.{Plan}
 use Rattle.bt_forms.specs.declared.form.Form.TheVariants as form
-use Rattle.bt_journal.specs.declared.call.Call.{Call}
 use Rattle.bt_journal.specs.declared.call.Change.{Change}
 use Rattle.bt_journal.specs.declared.entry.Entry.{Entry}
-use Rattle.bt_journal.specs.declared.reply.Reply.{Reply}
-use Rattle.bt_journal.specs.Journal.{calls_of, changes_of}
+use Rattle.bt_journal.specs.Journal.{calls_of}
 use Rattle.bt_history.specs.Causes.{Follows}
 use Rattle.bt_history.specs.Changes.{edition, newest, plans}
-use Rattle.bt_history.specs.Machine.{AreSteps, Legal, NamesBeams, State, Step, running, state_from}
+use Rattle.bt_history.specs.Machine.{AreSteps, Legal, State, Step, running, state_from}
 use Rattle.bt_history.proofs.Histories.{Step-adds, state_from-first, state_from-none, steps_follow}
 use Rattle.bt_script.specs.declared.script.Item.{Item}
 use Rattle.bt_script.specs.declared.script.Item.TheVariants as item
 use Rattle.bt_script.specs.declared.script.Round.{Round}
 use Rattle.bt_script.specs.Length.{item_length, script_length}
-use Rattle.bt_script.specs.Named.{IsItemFor, IsRoundFor}
 use Rattle.bt_timeline.specs.Timeline.{restart_line, round_line, start_line, total_line}
-use Rattle.bt_workers.specs.AirLines.{AirState, mark_of, restarting}
+use Rattle.bt_workers.specs.AirLines.{AirState, mark_of}
 use Rattle.bt_workers.specs.Desks.{Sight, desks_text}
 use Rattle.bt_workers.specs.Planning.{planner_text}
-use Rattle.bt_run_lines.specs.Printers.{line, numbers}
-use Rattle.bt_centre.specs.Run.{AreFew, IsSeen, PlaysItem, PlaysItems, PlaysRestart, PlaysRound, Stand, changes_at}
+use Rattle.bt_run_lines.specs.Printers.{numbers}
+use Rattle.bt_centre.specs.Run.{AreFew, PlaysItem, PlaysItems, PlaysRestart, PlaysRound, Stand, changes_at}
 use Rattle.bt_centre.proofs.Lawful.{steps_first}
 use Rattle.bt_run_laws.specs.Readable.{AreLines}
 use Rattle.bt_run_laws.specs.Small.{IsAnswered, IsSmall, IsSmallItem, IsSmallPlan, IsSmallRound}
 use Rattle.bt_run_laws.proofs.Air.{air_lines}
 use Rattle.bt_run_laws.proofs.Asking.{round_installs}
-use Rattle.bt_run_laws.proofs.Bounds.{AreBounded, are_bounded}
+use Rattle.bt_run_laws.proofs.Bounds.{are_bounded}
 use Rattle.bt_run_laws.proofs.Desks.{desks_lines}
 use Rattle.bt_run_laws.proofs.Happens.{mark_small}
 use Rattle.bt_run_laws.proofs.OneLine.{line_printed}

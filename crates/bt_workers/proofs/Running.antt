@@ -14,7 +14,6 @@ use Rattle.bt_air.specs.declared.sent.Aired.{Aired}
 use Rattle.bt_air.specs.declared.sent.Aired.TheVariants as sends
 use Rattle.bt_air.specs.Sent.{sent_as}
 use Rattle.bt_frame.specs.declared.numbers.EditionNo.{EditionNo}
-use Rattle.bt_frame.specs.declared.numbers.Mark.{Mark}
 use Rattle.bt_events.specs.Event.{Opening, Event, Happening, Turn}
 use Rattle.bt_events.specs.Fits.{IsPlace, IsWorld, Meets, newest_of}
 use Rattle.bt_world.specs.Life.{Life, having_had, past_of}

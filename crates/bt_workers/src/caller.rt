@@ -72,6 +72,7 @@ impl<'a, G: Gate, K: Keeper> Caller<'a, G, K> {
 
     /// Makes a call on the book when its turn comes, and gives its entry. Others may have called meanwhile. Where memory
     /// runs out it has no entry.
+    #[inline(always)]
     pub(crate) fn ask<R: Wait>(
         &mut self,
         rt: &R,

@@ -1,5 +1,4 @@
 use Rattle.std.proofs.Common.{ℕ, ◌+◌, ◌*◌, ◌≤◌, length, subst}
-use Rattle.bt_matrix.specs.Walk.{positive_entries}
 use Rattle.bt_text_cases.proofs.crossed.small_modes.Goals as goal
 
 -- 2 * (2 + 2) looks
