@@ -126,8 +126,8 @@ impl ShortText {
 /// Writes a space, which counts only in front of a further word, and returns where it ends.
 #[inline(always)]
 fn place_space(bytes: &mut [u8], at: usize, is_further: bool) -> usize
-    requires room { at < length bytes.old }
-    ensures placed { Placed bytes.old bytes.new at (one_word is_further []) result }
+    requires { at < length bytes.old }
+    ensures { Placed bytes.old bytes.new at (one_word is_further []) result }
 {
     bytes[at] = b' ';
     if is_further { at + 1 } else { at }
@@ -136,8 +136,8 @@ fn place_space(bytes: &mut [u8], at: usize, is_further: bool) -> usize
 /// Writes a byte, and returns where it ends.
 #[inline(always)]
 fn place_byte(bytes: &mut [u8], at: usize, byte: u8) -> usize
-    requires room { at < length bytes.old }
-    ensures placed { Placed bytes.old bytes.new at (byte ∷ []) result }
+    requires { at < length bytes.old }
+    ensures { Placed bytes.old bytes.new at (byte ∷ []) result }
 {
     bytes[at] = byte;
     at + 1
@@ -146,8 +146,8 @@ fn place_byte(bytes: &mut [u8], at: usize, byte: u8) -> usize
 /// Writes a number of at most four digits, and returns where it ends.
 #[inline(always)]
 fn place_number(bytes: &mut [u8], at: usize, number: u64) -> usize
-    requires room { (number < 10000) × (at + 4 ≤ length bytes.old) }
-    ensures placed { Placed bytes.old bytes.new at (decimal number) result }
+    requires { (number < 10000) × (at + 4 ≤ length bytes.old) }
+    ensures { Placed bytes.old bytes.new at (decimal number) result }
 {
     // Most numbers that are printed have one digit.
     if number < 10 {
@@ -161,7 +161,7 @@ fn place_number(bytes: &mut [u8], at: usize, number: u64) -> usize
 /// How many digits a number of two to four has.
 #[inline(always)]
 fn digit_count(number: u64) -> usize
-    requires range { (10 ≤ number) × (number < 10000) }
+    requires { (10 ≤ number) × (number < 10000) }
     ensures digits { result ≡ length (decimal number) }
     ensures few { result ≤ 4 }
 {
@@ -178,8 +178,8 @@ fn digit_count(number: u64) -> usize
 /// fewer steps than a call that copies any number of bytes.
 #[inline(always)]
 fn place(bytes: &mut [u8], at: usize, piece: &[u8]) -> usize
-    requires room { at + length piece.now ≤ length bytes.old }
-    ensures placed { Placed bytes.old bytes.new at piece.now result }
+    requires { at + length piece.now ≤ length bytes.old }
+    ensures { Placed bytes.old bytes.new at piece.now result }
 {
     match piece.len() {
         1 => place_byte(bytes, at, piece[0]),
@@ -192,8 +192,8 @@ fn place(bytes: &mut [u8], at: usize, piece: &[u8]) -> usize
 /// Writes a piece, and returns where it ends.
 #[inline(never)]
 fn place_long(bytes: &mut [u8], at: usize, piece: &[u8]) -> usize
-    requires room { at + length piece.now ≤ length bytes.old }
-    ensures placed { Placed bytes.old bytes.new at piece.now result }
+    requires { at + length piece.now ≤ length bytes.old }
+    ensures { Placed bytes.old bytes.new at piece.now result }
 {
     match piece.len() {
         8..=16 => place_ends::<8>(bytes, at, piece),
@@ -204,8 +204,8 @@ fn place_long(bytes: &mut [u8], at: usize, piece: &[u8]) -> usize
 /// Writes a piece of any length, and returns where it ends.
 #[inline(never)]
 fn place_any(bytes: &mut [u8], at: usize, piece: &[u8]) -> usize
-    requires room { at + length piece.now ≤ length bytes.old }
-    ensures placed { Placed bytes.old bytes.new at piece.now result }
+    requires { at + length piece.now ≤ length bytes.old }
+    ensures { Placed bytes.old bytes.new at piece.now result }
 {
     let end = at + piece.len();
     bytes[at..end].copy_from_slice(piece);
@@ -215,9 +215,9 @@ fn place_any(bytes: &mut [u8], at: usize, piece: &[u8]) -> usize
 /// Writes the first and then the last bytes of a piece.
 #[inline(always)]
 fn place_ends<const N: usize>(bytes: &mut [u8], at: usize, piece: &[u8]) -> usize
-    requires room { at + length piece.now ≤ length bytes.old }
+    requires fits { at + length piece.now ≤ length bytes.old }
     requires covers { (N ≤ length piece.now) × (length piece.now ≤ N + N) }
-    ensures placed { Placed bytes.old bytes.new at piece.now result }
+    ensures { Placed bytes.old bytes.new at piece.now result }
 {
     let last = piece.len() - N;
     place_front::<N>(bytes, at, piece);
@@ -227,8 +227,8 @@ fn place_ends<const N: usize>(bytes: &mut [u8], at: usize, piece: &[u8]) -> usiz
 /// Writes the first bytes of a piece, and returns where they end.
 #[inline(always)]
 fn place_front<const N: usize>(bytes: &mut [u8], at: usize, piece: &[u8]) -> usize
-    requires room { (N ≤ length piece.now) × (at + N ≤ length bytes.old) }
-    ensures placed { Placed bytes.old bytes.new at (take N piece.now) result }
+    requires { (N ≤ length piece.now) × (at + N ≤ length bytes.old) }
+    ensures { Placed bytes.old bytes.new at (take N piece.now) result }
 {
     Simd::<u8, N>::from_slice(piece).copy_to_slice(&mut bytes[at..]);
     at + N
