@@ -104,6 +104,7 @@ fn said_small(net: &Network, kind: &[u8], words: WordReader<'_>) -> Option<(Edit
 }
 
 // What the words behind `edit` say.
+#[inline(always)]
 fn said_edit(net: &Network, mut words: WordReader<'_>) -> Option<(EditionNo, Change)>
     ensures { result ≡ said_edit net.now words.entry }
 {
@@ -121,6 +122,7 @@ fn edit_in(net: &Network, mut words: WordReader<'_>) -> Option<Edit>
 }
 
 // What is edited, by the word that says it and the words behind.
+#[inline(always)]
 fn edit_of(net: &Network, kind: &[u8], words: WordReader<'_>) -> Option<Edit>
     ensures { result ≡ edit_of net.now kind.now words.entry }
 {
@@ -187,6 +189,7 @@ fn ends_in(net: &Network, words: &mut WordReader<'_>) -> Option<(TermNo, TermNo)
 }
 
 // The terminal in front, which it passes.
+#[inline(always)]
 fn terminal_in(net: &Network, words: &mut WordReader<'_>) -> Option<TermNo>
     ensures terminal { result ≡ terminal_in net.now words.old }
     ensures rest { words.new ≡ drop 1 words.old }
@@ -196,6 +199,7 @@ fn terminal_in(net: &Network, words: &mut WordReader<'_>) -> Option<TermNo>
 }
 
 // The number in front, which it passes; None where it is not from `least` to `most`.
+#[inline(always)]
 pub(crate) fn number_from(least: u32, most: u32, words: &mut WordReader<'_>) -> Option<u32>
     ensures number { result ≡ number_from least most words.old }
     ensures rest { IfSome result (λ _. words.new ≡ drop 1 words.old) }

@@ -79,6 +79,7 @@ impl Terminals {
     }
 
     /// The number of the terminal whose name a word is, where its ending says it.
+    #[inline(always)]
     pub(crate) fn found(&self, word: &[u8]) -> Option<usize>
         requires { AllPairs (λ a b. a ≢ b) (names_of self.now) }
         ensures { IfSome result (λ number. position (bytes_eq word.now) (names_of self.now) ≡ Some number) }
@@ -90,6 +91,7 @@ impl Terminals {
     }
 
     /// The number of the last terminal whose name ends so, if this word is its name.
+    #[inline(always)]
     fn with_ending(&self, word: &[u8]) -> Option<usize>
         ensures { IfSome result (λ number. option_map (λ t. t.0) (slice_get self.now number) ≡ Some word.now) }
     {
