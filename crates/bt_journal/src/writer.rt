@@ -6,7 +6,8 @@
 //     plan EDITION length LENGTH .. end                   the text of the plan, a space in the place of each newline in it
 //     load COMMAND EDITION
 //     arm COMMAND EDITION DUE                             the superframe of the change
-ghost use Rattle.std.specs.Prelude.{◌≡◌, ◌++◌, ◌∷◌, IfOk, OnOk, decimal, map};
+ghost use Rattle.std.specs.Prelude.{◌≡◌, ◌++◌, ◌∷◌, IfOk, OnOk, codes, decimal, map};
+ghost use Rattle.std.specs.Bool.{OnTrue};
 ghost use Rattle.bt_text.specs.Text.{spaced};
 ghost use Rattle.bt_net.specs.Terminals.{name_at, IsBetweenTerminals};
 ghost use Rattle.bt_plan.specs.PlanSpelling.{plan_lines, IsPlanInRange};
@@ -20,7 +21,7 @@ use bt_demand::Plan;
 use bt_frame::{EditionNo, OutOfMemory, TermNo};
 use bt_net::Network;
 use bt_plan::plan_text;
-use bt_text::number_text;
+use bt_text::{ShortText, number_text};
 use std::alloc::Global;
 
 /// The bytes for which there is room when the text of a line is begun. Most lines of edits are no longer.
@@ -70,11 +71,7 @@ fn write_words(
     ensures { OnOk result (text.new.items ≡ text.old.items ++ spaced (change_parts net.now edition.0 change.now)) }
 {
     match change {
-        Change::Edit(edit) => {
-            text.extend_from_slice(b"edit")?;
-            write_number(alloc, edition.0, text)?;
-            write_edit(alloc, net, *edit, text)
-        }
+        Change::Edit(edit) => write_edit(net, edition, *edit, text),
         Change::Install(plan) => {
             let line = install_text(alloc, net, plan)?;
             text.extend_from_slice(line.as_slice())?;
@@ -84,26 +81,44 @@ fn write_words(
     }
 }
 
-// Appends an edit, behind a space.
+// Appends the words of an edit. They are put together in room of a fixed size, and appended at once: they have 93 bytes at most,
+// so that they always have room there.
 fn write_edit(
-    alloc: Global,
     net: &Network,
+    edition: EditionNo,
     edit: Edit,
     text: &mut Vec<u8>,
 ) -> Result<(), OutOfMemory>
     requires { NamesTerminals net.now edit }
-    ensures { OnOk result (text.new.items ≡ text.old.items ++ 32 ∷ spaced (edit_words net.now edit)) }
+    ensures { OnOk result (text.new.items
+        ≡ text.old.items ++ spaced (codes "edit" ∷ decimal edition.0 ∷ edit_words net.now edit)) }
 {
+    let mut line = ShortText::new();
+    if !put_edit(net, edition, edit, &mut line) {
+        return Err(OutOfMemory);
+    }
+    text.extend_from_slice(line.as_slice())?;
+    Ok(())
+}
+
+// Adds the words of an edit to a short text, with a space between each two, where there is room for them.
+fn put_edit(net: &Network, edition: EditionNo, edit: Edit, line: &mut ShortText) -> bool
+    requires { NamesTerminals net.now edit }
+    ensures { OnTrue result (line.new ≡ line.old ++ spaced (codes "edit" ∷ decimal edition.0 ∷ edit_words net.now edit)) }
+{
+    if !line.put_word(false, b"edit") || !line.put_number(true, u64::from(edition.0)) {
+        return false;
+    }
     match edit {
         Edit::Add { from, to, units } => {
-            text.extend_from_slice(b" add")?;
-            write_link(net, from, to, text)?;
-            write_number(alloc, units.get(), text)
+            line.put_word(true, b"add")
+                && put_link(net, from, to, line)
+                && line.put_number(true, u64::from(units.get()))
         }
         Edit::Drop { from, to, units } => {
-            text.extend_from_slice(b" drop")?;
-            write_link(net, from, to, text)?;
-            write_number(alloc, units.get(), text)
+            line.put_word(true, b"drop")
+                && put_link(net, from, to, line)
+                && line.put_number(true, u64::from(units.get()))
         }
         Edit::Move {
             from,
@@ -112,30 +127,21 @@ fn write_edit(
             new_to,
             units,
         } => {
-            text.extend_from_slice(b" move")?;
-            write_link(net, from, to, text)?;
-            write_link(net, new_from, new_to, text)?;
-            write_number(alloc, units.get(), text)
+            line.put_word(true, b"move")
+                && put_link(net, from, to, line)
+                && put_link(net, new_from, new_to, line)
+                && line.put_number(true, u64::from(units.get()))
         }
     }
 }
 
-// Appends the names of a link's ends, each behind a space.
-fn write_link(
-    net: &Network,
-    from: TermNo,
-    to: TermNo,
-    text: &mut Vec<u8>,
-) -> Result<(), OutOfMemory>
+// Adds the names of a link's ends, each behind a space, where there is room for them.
+fn put_link(net: &Network, from: TermNo, to: TermNo, line: &mut ShortText) -> bool
     requires { IsBetweenTerminals net.now from to }
-    ensures { OnOk result (text.new.items
-        ≡ text.old.items ++ 32 ∷ (name_at net.now from ++ 32 ∷ name_at net.now to)) }
+    ensures { OnTrue result (line.new ≡ line.old ++ 32 ∷ (name_at net.now from ++ 32 ∷ name_at net.now to)) }
 {
-    text.push(b' ')?;
-    text.extend_from_slice(net.name_of(from).as_bytes())?;
-    text.push(b' ')?;
-    text.extend_from_slice(net.name_of(to).as_bytes())?;
-    Ok(())
+    line.put_word(true, net.name_of(from).as_bytes())
+        && line.put_word(true, net.name_of(to).as_bytes())
 }
 
 // Appends a number, behind a space.
