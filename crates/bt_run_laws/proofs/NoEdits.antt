@@ -1,20 +1,18 @@
 -- In a round neither the planner nor the centre's worker asks for an edit.
-use Rattle.std.proofs.Common.{◌≡◌, ℕ, false, Option, Some, None, List, [], ◌∷◌, ◌++◌, All, refl, sym, ap, subst, ◌∙◌}
+use Rattle.std.proofs.Common.{◌≡◌, ℕ, false, List, [], ◌∷◌, ◌++◌, All, refl, sym, ap, subst, ◌∙◌}
 use Rattle.std.specs.Prelude.{flat_map}
 use Rattle.std.proofs.lemmas.List.Elements.{All-append, All-nil, All-cons, All-head, All-tail}
 use Rattle.bt_frame.specs.declared.numbers.EditionNo.{EditionNo}
 use Rattle.bt_net.specs.Network.{Net}
 use Rattle.bt_demand.specs.declared.demand.Link.{Link}
-use Rattle.bt_air.specs.declared.order.Order.{Order}
-use Rattle.bt_events.specs.World.{wanted}
 use Rattle.bt_journal.specs.declared.call.Call.{Call}
 use Rattle.bt_journal.specs.declared.call.Call.TheVariants as call
 use Rattle.bt_journal.specs.declared.entry.Entry.{Entry}
 use Rattle.bt_journal.specs.Journal.{asks_edit}
 use Rattle.bt_script.specs.declared.script.AirLine.{AirLine}
-use Rattle.bt_script.specs.declared.script.AirLine.TheVariants as air_line
-use Rattle.bt_workers.specs.AirLines.{AirState, PlaysAirLine, PlaysAirLines, PlaysOrder, PlaysTurn, happened, having, installing, newest_in, turning}
+use Rattle.bt_workers.specs.AirLines.{AirState, PlaysAirLines}
 use Rattle.bt_workers.specs.Planning.{PlansEdition, PlansOnce, PlaysPlans}
+use Rattle.bt_run_laws.proofs.Asking.{centre_asks}
 
 -- none of the entries asks for an edit
 abbrev pub AskNoEdit : List Entry → Type 0
@@ -45,28 +43,5 @@ pub planner_asks_none : (net : Net) (count : ℕ) (entries : List Entry) → Pla
 planner_asks_none net count entries is = subst AskNoEdit (sym is.whole) (plans_ask net is.parts is.each)
 
 -- nor does the centre's worker
-order_asks : (net : Net) (air : AirState) (order : Option Order) (entries : List Entry) (text : List ℕ) (after : AirState) → PlaysOrder net air order entries text after → AskNoEdit entries
-order_asks net air None [] text after is = All-nil (λ (e : Entry). asks_edit e.call ≡ false)
-order_asks net air (Some order) (entry ∷ []) text after is = alone entry (call.Place order) is.0 refl
-order_asks net air None (entry ∷ more) text after is = absurd is
-order_asks net air (Some order) [] text after is = absurd is
-order_asks net air (Some order) (entry ∷ other ∷ more) text after is = absurd is
-
-turn_asks : (net : Net) (air : AirState) (entries : List Entry) (text : List ℕ) (after : AirState) → PlaysTurn net air entries text after → AskNoEdit entries
-turn_asks net air entries text after is =
-    let turned = having (installing air is.newer) (turning (installing air is.newer)) in
-    subst AskNoEdit (sym is.all) (both (is.asked ∷ []) is.others (alone is.asked (call.Newest (newest_in air)) is.call refl)
-    (order_asks net turned (wanted (happened turned)) is.others is.turned.rest after is.turned.placed))
-
-none_asked : (entries : List Entry) → entries ≡ [] → AskNoEdit entries
-none_asked entries is = subst AskNoEdit (sym is) (All-nil (λ (e : Entry). asks_edit e.call ≡ false))
-
-line_asks : (net : Net) (air : AirState) (one : AirLine) (entries : List Entry) (text : List ℕ) (after : AirState) → PlaysAirLine net air one entries text after → AskNoEdit entries
-line_asks net air air_line.Turn entries text after is = turn_asks net air entries text after is
-line_asks net air air_line.Tick entries text after is = none_asked entries is.0
-line_asks net air one entries text after is = none_asked entries is.0
-
 pub centre_asks_none : (net : Net) (air : AirState) (lines : List AirLine) (entries : List Entry) (text : List ℕ) (after : AirState) → PlaysAirLines net air lines entries text after → AskNoEdit entries
-centre_asks_none net air [] entries text after is = none_asked entries is.0
-centre_asks_none net air (first ∷ lines) entries text after (between, own, others, begun, rest, here, later, all, whole) =
-    subst AskNoEdit (sym all) (both own others (line_asks net air first own begun between here) (centre_asks_none net between lines others rest after later))
+centre_asks_none net air lines entries text after = centre_asks (λ (asked : Call). asks_edit asked ≡ false) (λ _. refl) (λ _. refl) net air lines entries text after
