@@ -46,7 +46,7 @@ lost_front front more none =
     filter_map-append (λ (e : Entry). change_lost e.call e.reply) front more ∙ ap (λ (l : List Change). l ++ lost_of more) (none_lost front none)
 
 -- a last part of the steps, from the state after those before it
-steps_later : (net : Net) (old : State) (a b : List Entry) → AreSteps net old (a ++ b) → AreSteps net (state_from old a) b
+pub steps_later : (net : Net) (old : State) (a b : List Entry) → AreSteps net old (a ++ b) → AreSteps net (state_from old a) b
 steps_later net old [] b steps = subst (λ (s : State). AreSteps net s b) (sym (state_from-none old)) steps
 steps_later net old (first ∷ rest) b (between, step, steps) =
     let is : between ≡ after_call old first.call first.reply = Step-adds net old first.call first.reply between step in
