@@ -53,6 +53,14 @@ module _ (P : Call → Type 0) (newest : (after : EditionNo) → P (call.Newest 
       subst (All (λ (entry : Entry). P entry.call)) (sym all)
       (All-append (λ (entry : Entry). P entry.call) own others (line_asks net air first own begun between here) (centre_asks net between lines others rest after later))
 
+-- what holds of all calls holds of the call of each entry
+module _ (P : Call → Type 0) where
+  pub of_calls : (entries : List Entry) → All P (map (λ (entry : Entry). entry.call) entries) → All (λ entry. P entry.call) entries
+  of_calls [] all = All-nil (λ (entry : Entry). P entry.call)
+  of_calls (first ∷ rest) all =
+      let calls = map (λ (entry : Entry). entry.call) rest in
+      All-cons (λ (entry : Entry). P entry.call) first rest (All-head P first.call calls all) (of_calls rest (All-tail P first.call calls all))
+
 -- what a desk asks is of any kind that asking for an edit is
 module _ (P : Call → Type 0) (edit : (one : Edit) → P (call.Edit one)) where
   lines_ask : (lines : List DeskLine) → All P (flat_map asked_by_line lines)
@@ -70,14 +78,8 @@ module _ (P : Call → Type 0) (edit : (one : Edit) → P (call.Edit one)) where
       let own = flat_map asked_by_line desk.1 in
       All-append P (if desk.0 + 1 == caller then own else []) (asked_by caller desks) (if_own (desk.0 + 1 == caller) own (lines_ask desk.1)) (desks_ask caller desks)
 
-  of_calls : (entries : List Entry) → All P (map (λ (entry : Entry). entry.call) entries) → All (λ entry. P entry.call) entries
-  of_calls [] all = All-nil (λ (entry : Entry). P entry.call)
-  of_calls (first ∷ rest) all =
-      let calls = map (λ (entry : Entry). entry.call) rest in
-      All-cons (λ (entry : Entry). P entry.call) first rest (All-head P first.call calls all) (of_calls rest (All-tail P first.call calls all))
-
   pub desk_asks : (caller : ℕ) (desks : List (ℕ × List DeskLine)) (entries : List Entry) → map (λ entry. entry.call) entries ≡ asked_by caller desks → All (λ entry. P entry.call) entries
-  desk_asks caller desks entries is = of_calls entries (subst (All P) (sym is) (desks_ask caller desks))
+  desk_asks caller desks entries is = of_calls P entries (subst (All P) (sym is) (desks_ask caller desks))
 
 -- what holds of the entries of each caller but one holds of all entries that are not of that one
 module _ (P : Entry → Type 0) where

@@ -17,6 +17,7 @@ use Rattle.bt_frame.specs.declared.numbers.TermNo.{TermNo}
 use Rattle.bt_frame.specs.declared.schedule.Critical.TheVariants.{Row, Column}
 use Rattle.bt_frame.proofs.Counts.{sum_by-map, sum_by-same, sum_by-zeros}
 use Rattle.bt_frame.proofs.Images.{image_at, numbers_below}
+use Rattle.bt_frame.proofs.OneNumber.{same_beam}
 use Rattle.bt_net.specs.Network.{Net}
 use Rattle.bt_net.specs.Terminals.{is_in_beam, IsInBeam}
 use Rattle.bt_matrix.specs.Traffic.{column_sum, row_sum}
@@ -128,9 +129,6 @@ column-more net changes one down much below gives =
       column_sum-table n new down below,
       below-le n (λ up. new up down) (λ up. old up down) much (λ up. omega (arith, slots-more (between net up down) changes one, gives up)),
     )
-
-same_beam : (a b : BeamNo) → a.0 ≡ b.0 → a ≡ b
-same_beam a b is = ap (λ n. let t : BeamNo = record { 0 = n } in t) is
 
 other_beam : (found : Option (List ℕ × BeamNo)) (beam : BeamNo)
     → (option_map (λ t. t.1) found ≡ Some beam) ⊎ (unwrap_or (option_map (λ t. t.1.0 == beam.0) found) false ≡ false)

@@ -1,4 +1,4 @@
--- In a round no more edits are asked for than its desks have lines: the entries of each caller are all entries.
+-- In a round no more edits are asked for than its desks have lines: counted caller by caller.
 use Rattle.std.proofs.Common.{◌≡◌, ◌≢◌, ℕ, zero, suc, ◌+◌, ◌<◌, ◌≤◌, ◌==◌, nat_le, Bool, true, false, cond, List, [], ◌∷◌, ◌++◌, length, length-append, map, refl, sym, ap, subst, ◌∙◌, arith, eq-eqb}
 use Rattle.std.specs.Prelude.{count_by, flat_map}
 use Rattle.std.proofs.lemmas.Bool.{eqb-true, eqb-false, ne_eqb, leb-true, leb-false}
@@ -93,7 +93,7 @@ by_other first rest caller other =
     let own = calls_of rest caller in
     ap (λ (b : Bool). edits (cond b (first ∷ own) own)) (ne_eqb first.caller caller (λ same. other (sym same)))
 
--- the entries of each caller are all entries
+-- counted caller by caller, no entry that asks for an edit is left out
 by_caller : (entries : List Entry) (n : ℕ) → above_callers entries ≤ n → edits entries ≤ total (edits_by entries) n
 by_caller [] n below = omega arith
 by_caller (first ∷ rest) n below =

@@ -1,4 +1,4 @@
--- How many edits a run asks for, and how many rounds it has: no more than its script has lines.
+-- How many edits a run asks for: no more than its script has lines.
 use Rattle.std.proofs.Common.{◌≡◌, ℕ, ◌+◌, ◌≤◌, ◌&&◌, Bool, true, false, cond, List, [], ◌∷◌, ◌++◌, length, ap, ◌∙◌, arith, append-nil}
 use Rattle.std.specs.Prelude.{filter}
 use Rattle.std.proofs.lemmas.List.Concat.{flat_map-append}
@@ -28,7 +28,7 @@ by_time stand =
     ap edits (flat_map-append (λ (history : History). history.entries) stand.over (history_at stand ∷ []))
     ∙ edits-append (entries_of stand.over) (stand.history ++ []) ∙ ap (λ (own : List Entry). edits (entries_of stand.over) + edits own) (append-nil stand.history)
 
--- each part of a script adds no more edits, and no more rounds, than it has lines
+-- each part of a script adds no more edits than it has lines
 module _ (net : Net) (tells : Bool) where
   item_edits : (before : Stand) (one : Item) (text : List ℕ) (after : Stand) → PlaysItem net tells before one text after → edits_at after ≤ edits_at before + item_length one
   item_edits before (item.Round round) text after is =
@@ -38,19 +38,10 @@ module _ (net : Net) (tells : Bool) where
   item_edits before item.Restart text after is =
       omega (arith, by_time after, ap (λ (over : List History). edits (entries_of over)) is.over, ap edits is.none)
 
-  item_rounds : (before : Stand) (one : Item) (text : List ℕ) (after : Stand) → PlaysItem net tells before one text after → after.rounds ≤ before.rounds + item_length one
-  item_rounds before (item.Round round) text after is = omega (arith, is.counted)
-  item_rounds before item.Restart text after is = omega (arith, is.counted)
-
   pub edits_asked : (before : Stand) (items : List Item) (text : List ℕ) (after : Stand) → PlaysItems net tells before items text after → edits_at after ≤ edits_at before + script_length items
   edits_asked before [] text after is = omega (arith, ap edits_at is.1)
   edits_asked before (first ∷ items) text after (between, own, others, here, later, whole) =
       omega (arith, item_edits before first own between here, edits_asked between items others after later, sum_by-cons item_length first items)
-
-  pub rounds_counted : (before : Stand) (items : List Item) (text : List ℕ) (after : Stand) → PlaysItems net tells before items text after → after.rounds ≤ before.rounds + script_length items
-  rounds_counted before [] text after is = omega (arith, ap (λ (stand : Stand). stand.rounds) is.1)
-  rounds_counted before (first ∷ items) text after (between, own, others, here, later, whole) =
-      omega (arith, item_rounds before first own between here, rounds_counted between items others after later, sum_by-cons item_length first items)
 
 -- of the entries that ask for an edit, some pass another test too
 fewer : (test : Entry → Bool) (entries : List Entry) → length (filter (λ (entry : Entry). asks_edit entry.call && test entry) entries) ≤ edits entries
@@ -67,7 +58,7 @@ fewer test (first ∷ rest) = with_first (asks_edit first.call) (test first) (om
 
 -- In a run of a script the edits that were done, those that were refused and those that the store failed are no more than it has lines.
 pub totals_small : (net : Net) (tells : Bool) (opening : List Change) (items : List Item) (lines : List ℕ) (end : Stand)
-    → PlaysItems net tells (at_start net opening) items lines end → AreParts net items
+    → PlaysItems net tells (at_start net opening) items lines end → AreParts items
     → (length (done_of (entries_of (histories_at end))) ≤ MOST_LINES) × (length (refused_of (entries_of (histories_at end))) ≤ MOST_LINES) × (length (failed_of (entries_of (histories_at end))) ≤ MOST_LINES)
 totals_small net tells opening items lines end played parts =
     let entries = entries_of (histories_at end) in

@@ -1,6 +1,6 @@
 -- What is printed of the desks of a round is printed lines.
 use Rattle.std.proofs.Common.{◌≡◌, ℕ, ◌+◌, ◌<◌, ◌==◌, if◌then◌else◌, Bool, true, false, List, [], ◌∷◌, length, map, All, Some, refl, sym, subst, arith}
-use Rattle.std.specs.Prelude.{flat_map, IsTrue}
+use Rattle.std.specs.Prelude.{flat_map}
 use Rattle.std.proofs.lemmas.List.Elements.{All-nil, All-cons, All-head, All-tail, All-append, All-filter, All-weaker}
 use Rattle.bt_frame.specs.declared.limits.TheConstants.{MOST_DESKS}
 use Rattle.bt_frame.specs.declared.numbers.TermNo.{TermNo}
@@ -20,17 +20,14 @@ use Rattle.bt_script.specs.declared.script.DeskLine.{DeskLine}
 use Rattle.bt_script.specs.declared.script.DeskLine.TheVariants as desk_line
 use Rattle.bt_script.specs.declared.script.Round.{Round}
 use Rattle.bt_timeline.specs.Timeline.{burst_line, burst_lines, desk_reply_line, entry_line}
-use Rattle.bt_forms.specs.declared.form.Form.{Form}
 use Rattle.bt_forms.specs.declared.form.Form.TheVariants as form
-use Rattle.bt_forms.specs.Forms.{is_of_a_run, parts_of}
-use Rattle.bt_run_lines.specs.declared.printed.Value.{Value}
 use Rattle.bt_run_lines.specs.declared.printed.Value.TheVariants as value
 use Rattle.bt_run_lines.specs.Printers.{line, numbers, printed_line}
-use Rattle.bt_run_lines.specs.Spelled.{SuitPlaces}
 use Rattle.bt_workers.specs.Desks.{Sight, asked_by, asked_by_line, desk_text, desks_text, plan_shown, shown_to}
-use Rattle.bt_run_laws.specs.Readable.{AreLines, tells_lines}
+use Rattle.bt_run_laws.specs.Readable.{AreLines}
 use Rattle.bt_run_laws.specs.Small.{IsAnswered, IsSmallBurst, IsSmallCall, IsSmallDeskLine, IsSmallPlan, IsSmallReply, IsSmallRound}
-use Rattle.bt_run_laws.proofs.Read.{more_lines, no_lines, one_line}
+use Rattle.bt_run_laws.proofs.Asking.{of_calls}
+use Rattle.bt_run_laws.proofs.Read.{each_lines, line_printed, more_lines, no_lines}
 use Rattle.bt_run_laws.proofs.Replies.{reply_small}
 
 -- what holds of all that each part gives
@@ -45,21 +42,10 @@ where_so : {A : Type 0} (P : A → Type 0) (test : Bool) (all : List A) → All 
 where_so P true all each = each
 where_so P false all each = All-nil P
 
--- parts that are printed lines, one behind the other
-each_lines : {A : Type 0} (net : Net) (f : A → List ℕ) (parts : List A) → All (λ (part : A). AreLines net (f part)) parts → AreLines net (flat_map f parts)
-each_lines net f [] each = no_lines net
-each_lines {A} net f (part ∷ rest) each =
-    let Holds = λ (part : A). AreLines net (f part) in
-    more_lines net (f part) (flat_map f rest) (All-head Holds part rest each) (each_lines net f rest (All-tail Holds part rest each))
-
--- a line of a form, with values that suit it
-lone_line : (net : Net) (one : Form) (said : List Value) → IsTrue (is_of_a_run one) → tells_lines one ≡ false → SuitPlaces net (parts_of one) said → AreLines net (printed_line net (line one said))
-lone_line net one said of_a_run lone suits = one_line net (line one said) (record { suits = (of_a_run, suits); lone = lone })
-
 -- the line of a burst of a plan
 burst_printed : (net : Net) (burst : Burst) → IsSmallBurst net burst → AreLines net (burst_line net form.Burst burst)
 burst_printed net burst is =
-    lone_line net form.Burst (value.Number burst.start ∷ value.Number burst.length ∷ value.Terminal burst.from ∷ value.Terminal burst.to ∷ []) refl refl (is.start, (is.slots, (is.from, (is.to, tt))))
+    line_printed net form.Burst (value.Number burst.start ∷ value.Number burst.length ∷ value.Terminal burst.from ∷ value.Terminal burst.to ∷ []) refl refl (is.start, (is.slots, (is.from, (is.to, tt))))
 
 -- the entry is answered, and its call is small
 abbrev IsOwn : Net → Entry → Type 0
@@ -68,14 +54,14 @@ IsOwn net entry = IsAnswered net entry × IsSmallCall entry.call
 module _ (net : Net) (sound : IsSound net) (desk : ℕ) (numbered : IsWithin 1 MOST_DESKS desk) where
   -- the line of a reply; one that no edit has prints nothing
   reply_lines : (reply : Reply) → NamesBeams net reply → IsSmallReply reply → AreLines net (desk_reply_line net desk reply)
-  reply_lines (Done edition most) names small = lone_line net form.DeskDone (numbers (desk ∷ edition.0 ∷ most ∷ [])) refl refl (numbered, (small.0, (small.1, tt)))
-  reply_lines SameTerminal names small = lone_line net form.DeskSameTerminal (numbers (desk ∷ [])) refl refl (numbered, tt)
-  reply_lines (NotThere held) names small = lone_line net form.DeskNotThere (numbers (desk ∷ held ∷ [])) refl refl (numbered, (small, tt))
-  reply_lines (RowFull beam sum) names small = lone_line net form.DeskRowFull (value.Number desk ∷ value.Beam beam ∷ value.Number sum ∷ []) refl refl (numbered, (names, (small, tt)))
-  reply_lines (ColumnFull beam sum) names small = lone_line net form.DeskColumnFull (value.Number desk ∷ value.Beam beam ∷ value.Number sum ∷ []) refl refl (numbered, (names, (small, tt)))
-  reply_lines (BookFull bytes) names small = lone_line net form.DeskBookFull (numbers (desk ∷ bytes ∷ [])) refl refl (numbered, (small, tt))
-  reply_lines StoreFault names small = lone_line net form.DeskStoreFault (numbers (desk ∷ [])) refl refl (numbered, tt)
-  reply_lines Stopped names small = lone_line net form.DeskStopped (numbers (desk ∷ [])) refl refl (numbered, tt)
+  reply_lines (Done edition most) names small = line_printed net form.DeskDone (numbers (desk ∷ edition.0 ∷ most ∷ [])) refl refl (numbered, (small.0, (small.1, tt)))
+  reply_lines SameTerminal names small = line_printed net form.DeskSameTerminal (numbers (desk ∷ [])) refl refl (numbered, tt)
+  reply_lines (NotThere held) names small = line_printed net form.DeskNotThere (numbers (desk ∷ held ∷ [])) refl refl (numbered, (small, tt))
+  reply_lines (RowFull beam sum) names small = line_printed net form.DeskRowFull (value.Number desk ∷ value.Beam beam ∷ value.Number sum ∷ []) refl refl (numbered, (names, (small, tt)))
+  reply_lines (ColumnFull beam sum) names small = line_printed net form.DeskColumnFull (value.Number desk ∷ value.Beam beam ∷ value.Number sum ∷ []) refl refl (numbered, (names, (small, tt)))
+  reply_lines (BookFull bytes) names small = line_printed net form.DeskBookFull (numbers (desk ∷ bytes ∷ [])) refl refl (numbered, (small, tt))
+  reply_lines StoreFault names small = line_printed net form.DeskStoreFault (numbers (desk ∷ [])) refl refl (numbered, tt)
+  reply_lines Stopped names small = line_printed net form.DeskStopped (numbers (desk ∷ [])) refl refl (numbered, tt)
   reply_lines _ names small = no_lines net
 
   -- the line of an entry, by its step of the machine
@@ -91,7 +77,7 @@ module _ (net : Net) (sound : IsSound net) (desk : ℕ) (numbered : IsWithin 1 M
       let sent = bursts_from terminal plan.bursts in
       let each = All-filter (λ (burst : Burst). burst.from.0 == terminal.0) (IsSmallBurst net) plan.bursts small.each in
       more_lines net (printed_line net (line form.Shows head)) (burst_lines net form.Burst sent)
-      (lone_line net form.Shows head refl refl (numbered, (small.edition, (small.slots, (small.modes, tt)))))
+      (line_printed net form.Shows head refl refl (numbered, (small.edition, (small.slots, (small.modes, tt)))))
       (each_lines net (burst_line net form.Burst) sent (All-weaker (IsSmallBurst net) (λ (burst : Burst). AreLines net (burst_line net form.Burst burst)) (burst_printed net) sent each))
 
   -- the lines of the desk, as far as there are entries and plans for them
@@ -119,13 +105,6 @@ asked_small caller round small =
     (λ desk each. where_so IsSmallCall (desk.0 + 1 == caller) (flat_map asked_by_line desk.1)
     (each_part IsSmallCall asked_by_line desk.1 (All-weaker IsSmallDeskLine (λ (one : DeskLine). All IsSmallCall (asked_by_line one)) line_asks desk.1 each))) round.desks small.desks)
 
--- entries whose calls are small
-calls_small : (entries : List Entry) → All IsSmallCall (map (λ (entry : Entry). entry.call) entries) → All (λ (entry : Entry). IsSmallCall entry.call) entries
-calls_small [] small = All-nil (λ (entry : Entry). IsSmallCall entry.call)
-calls_small (entry ∷ rest) small =
-    let asked = map (λ (entry : Entry). entry.call) rest in
-    All-cons (λ (entry : Entry). IsSmallCall entry.call) entry rest (All-head IsSmallCall entry.call asked small) (calls_small rest (All-tail IsSmallCall entry.call asked small))
-
 -- the plans that a desk was shown are small, where all are
 shown_small : (net : Net) (desk : ℕ) (sights : List Sight) → All (λ (sight : Sight). IsSmallPlan net sight.plan) sights → All (IsSmallPlan net) (shown_to desk sights)
 shown_small net desk sights small =
@@ -150,5 +129,5 @@ desks_lines net sound round small entries answered sights seen asked =
     own : (caller : ℕ) → 1 < caller → All (IsOwn net) (calls_of entries caller)
     own caller above k d within = (
       All-filter (λ (entry : Entry). entry.caller == caller) (IsAnswered net) entries answered k d within,
-      calls_small (calls_of entries caller) (subst (All IsSmallCall) (sym (asked caller above)) (asked_small caller round small)) k d within,
+      of_calls IsSmallCall (calls_of entries caller) (subst (All IsSmallCall) (sym (asked caller above)) (asked_small caller round small)) k d within,
     )

@@ -29,9 +29,8 @@ use Rattle.bt_run_laws.specs.Small.{IsSmall, IsSmallBurst}
 use Rattle.bt_workers.proofs.Marks.{mark-small}
 use Rattle.bt_workers.proofs.Sending.{terminals-own}
 use Rattle.bt_centre.specs.World.{IsSpelledWorld}
-use Rattle.bt_run_laws.proofs.Read.{more_lines, no_lines, one_line}
-use Rattle.bt_run_laws.proofs.Sent.{small_mark, small_word}
-use Rattle.bt_run_laws.proofs.OneLine.{line_printed}
+use Rattle.bt_run_laws.proofs.Read.{each_lines, line_printed, more_lines}
+use Rattle.bt_run_laws.proofs.Sent.{small_superframe, small_word}
 
 -- the bursts that a terminal sends in a plan that can be flown
 plan_small : (net : Net) (terminal : TermNo) (plan : Option Plan) → IsTerminal net terminal → IfSome plan (IsFlyable net) → All (IsSmallBurst net) (bursts_for terminal plan)
@@ -61,27 +60,24 @@ transmits_small o past (terminal ∷ rest) own fly =
     (under_small o.net (plans o past) terminal (where_held (held o past terminal) (heard o past terminal)) (All-head (IsTerminal o.net) terminal rest own) fly)
     (transmits_small o past rest (All-tail (IsTerminal o.net) terminal rest own) fly)
 
--- the lines of bursts on the air
-bursts_printed : (net : Net) (bursts : List Burst) → All (IsSmallBurst net) bursts → AreLines net (burst_lines net form.Air bursts)
-bursts_printed net [] small = no_lines net
-bursts_printed net (burst ∷ rest) small =
-    let one = All-head (IsSmallBurst net) burst rest small in
-    more_lines net (burst_line net form.Air burst) (burst_lines net form.Air rest)
-    (line_printed net form.Air (value.Number burst.start ∷ value.Number burst.length ∷ value.Terminal burst.from ∷ value.Terminal burst.to ∷ []) refl refl (one.start, (one.slots, (one.from, (one.to, tt)))))
-    (bursts_printed net rest (All-tail (IsSmallBurst net) burst rest small))
+-- the line of a burst on the air
+burst_printed : (net : Net) (burst : Burst) → IsSmallBurst net burst → AreLines net (burst_line net form.Air burst)
+burst_printed net burst is =
+    line_printed net form.Air (value.Number burst.start ∷ value.Number burst.length ∷ value.Terminal burst.from ∷ value.Terminal burst.to ∷ []) refl refl (is.start, (is.slots, (is.from, (is.to, tt))))
 
 -- the lines of a frame of a world
 pub frame_printed : (o : Opening) (events : List Event) (frame : AirFrame) → IsSound o.net → IsSpelledWorld o events → IsFrame o (log o events) frame → frames_shown (log o events) < o.net.frames
     → AreLines o.net (frame_lines o.net frame)
 frame_printed o events frame sound so is left =
     let past = log o events in
-    let begun : IsSmall frame.mark.0 = subst IsSmall (sym is.mark) (small_mark (mark o past) (mark-small o events so.world)) in
+    let begun : IsSmall frame.mark.0 = subst IsSmall (sym is.mark) (small_superframe (mark o past) (mark-small o events so.world)) in
     let number : IsSmall frame.number = omega (arith, is.number, left, sound.frames.1) in
     let fore : IsSmall frame.fore.0 =
     subst (λ (edition : EditionNo). IsSmall edition.0) (sym is.fore) (small_word _ (front-fits (accepted o past) (mark o past) (world-fits o events sound so.world so.stored).accepted)) in
-    let head = line form.Frame (value.Frame frame.mark frame.number ∷ value.Number frame.fore.0 ∷ []) in
-    more_lines o.net (printed_line o.net head) (burst_lines o.net form.Air frame.bursts)
-    (one_line o.net head (record { suits = (refl, ((begun, number), (fore, tt))); lone = refl }))
-    (bursts_printed o.net frame.bursts
+    let head = value.Frame frame.mark frame.number ∷ value.Number frame.fore.0 ∷ [] in
+    more_lines o.net (printed_line o.net (line form.Frame head)) (burst_lines o.net form.Air frame.bursts)
+    (line_printed o.net form.Frame head refl refl ((begun, number), (fore, tt)))
+    (each_lines o.net (burst_line o.net form.Air) frame.bursts
+    (All-weaker (IsSmallBurst o.net) (λ (burst : Burst). AreLines o.net (burst_line o.net form.Air burst)) (burst_printed o.net) frame.bursts
     (All-permutation (IsSmallBurst o.net) (flat_map (transmits o past) (terminals o)) frame.bursts is.air.of_all
-    (transmits_small o past (terminals o) (terminals-own o) (plans-flyable o events (flies-each o events so.world)))))
+    (transmits_small o past (terminals o) (terminals-own o) (plans-flyable o events (flies-each o events so.world))))))

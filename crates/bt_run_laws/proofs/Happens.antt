@@ -12,7 +12,7 @@ use Rattle.bt_workers.proofs.Marks.{mark-small}
 use Rattle.bt_workers.proofs.Running.{count-having, sent-having}
 use Rattle.bt_workers.proofs.Sending.{all-name}
 use Rattle.bt_run_laws.proofs.Read.{more_lines}
-use Rattle.bt_run_laws.proofs.Sent.{sent_printed, small_mark}
+use Rattle.bt_run_laws.proofs.Sent.{sent_printed, small_superframe}
 use Rattle.bt_run_laws.proofs.Waiting.{IsAirOf, having_few}
 use Rattle.bt_run_laws.proofs.Worlds.{IsSpelled}
 
@@ -27,7 +27,7 @@ still net air after text own text_is same lines of = record { lines = subst (Are
 
 -- four bytes hold the number of the superframe
 pub mark_small : (air : AirState) → IsSpelled air → IsSmall (mark_of air).0
-mark_small air so = small_mark (mark_of air).0 (mark-small air.life.opening (reverse air.life.events) so.world)
+mark_small air so = small_superframe (mark_of air).0 (mark-small air.life.opening (reverse air.life.events) so.world)
 
 module _ (net : Net) (sound : IsSound net) where
   -- the network of the air is sound

@@ -24,7 +24,7 @@ use Rattle.bt_run_lines.specs.declared.printed.Value.TheVariants as value
 use Rattle.bt_run_lines.specs.Printers.{numbers}
 use Rattle.bt_run_laws.specs.Readable.{AreLines}
 use Rattle.bt_run_laws.specs.Small.{IsSmall}
-use Rattle.bt_run_laws.proofs.OneLine.{line_printed}
+use Rattle.bt_run_laws.proofs.Read.{line_printed}
 
 -- the satellite answers
 taken_printed : (net : Net) (number : ℕ) (one : Taken) → IsSmall number → AreLines net (got_line net number Satellite (answer.Taken one))
@@ -53,7 +53,7 @@ answer_printed o past number one Satellite small own = taken_printed o.net numbe
 answer_printed o past number one Centre small own = noted_printed o.net number one small
 answer_printed o past number one (Terminal to) small own = heard_printed o.net number to _ small own
 
--- what holds of the message of a number holds of one, where there is one
+-- where there is a message of that number, there is one of which that holds
 found_one : (P : Aired → Type 0) (all : List Aired) (number : ℕ) → number < length all → IfSome (slice_get all number) P → (one : Aired) × P one
 found_one P [] number within holds = absurd (omega (arith, within))
 found_one P (first ∷ rest) zero within holds = (first, holds)

@@ -1,14 +1,13 @@
 mod Read
 mod Scripts
-mod NoEdits
-mod ByCaller
-mod Counts
 mod Bounds
 mod Replies
 mod Plans
 mod Planner
 mod Asking
-mod OneLine
+mod NoEdits
+mod ByCaller
+mod Counts
 mod Sent
 mod Worlds
 mod Waiting

@@ -1,12 +1,11 @@
 -- The output of a whole run is read.
-use Rattle.std.proofs.Common.{◌≡◌, ℕ, ◌+◌, ◌<◌, ◌≤◌, ◌^◌, List, [], ◌∷◌, ◌++◌, length, reverse, Ok, sym, ◌∙◌, subst, arith}
+use Rattle.std.proofs.Common.{◌≡◌, ℕ, ◌≤◌, List, ◌++◌, length, reverse, Ok, sym, ◌∙◌, subst, arith}
 use Rattle.bt_net.specs.Network.{IsSound, Net}
 use Rattle.bt_air.specs.declared.event.Event.{Event}
 use Rattle.bt_events.specs.Event.{Opening}
 use Rattle.bt_journal.specs.declared.call.Change.{Change}
 use Rattle.bt_script.specs.declared.script.Item.{Item}
 use Rattle.bt_report.specs.Stored.{Stored}
-use Rattle.bt_run_lines.specs.declared.printed.Printed.{Printed}
 use Rattle.bt_run_lines.specs.Lines.{output_of}
 use Rattle.bt_centre.specs.declared.history.History.{History}
 use Rattle.bt_centre.specs.Lines.{done_of, total_of}
@@ -43,7 +42,7 @@ last_printed net end histories is (done, refused, failed) =
 
 -- all that a whole run prints is printed lines
 whole_printed : (net : Net) (tells : _) (opening : List Change) (items : List Item) (histories : List History) (events : List Event) (lines : List ℕ) (stored : Stored)
-    → IsSound net → AreParts net items → IsOpening net stored opening → IsSpelledWorld (opening_on net opening) (reverse events)
+    → IsSound net → AreParts items → IsOpening net stored opening → IsSpelledWorld (opening_on net opening) (reverse events)
     → IsRun net tells opening items histories events lines → AreLines net (whole_text net opening lines histories)
 whole_printed net tells opening items histories events lines stored sound parts opens world run =
     let start = at_start net opening in
@@ -57,7 +56,8 @@ whole_printed net tells opening items histories events lines stored sound parts 
 
 -- and so it is read
 pub whole_read : (net : Net) (tells : _) (opening : List Change) (items : List Item) (histories : List History) (events : List Event) (lines : List ℕ) (stored : Stored)
-    → IsSound net → AreParts net items → IsOpening net stored opening → IsSpelledWorld (opening_on net opening) (reverse events)
-    → IsRun net tells opening items histories events lines → (all : List Printed) × (output_of net (whole_text net opening lines histories) ≡ Ok all)
+    → IsSound net → AreParts items → IsOpening net stored opening → IsSpelledWorld (opening_on net opening) (reverse events)
+    → IsRun net tells opening items histories events lines → (are : AreLines net (whole_text net opening lines histories)) × (output_of net (whole_text net opening lines histories) ≡ Ok are.all)
 whole_read net tells opening items histories events lines stored sound parts opens world run =
-    lines_read net sound (whole_text net opening lines histories) (whole_printed net tells opening items histories events lines stored sound parts opens world run)
+    let are = whole_printed net tells opening items histories events lines stored sound parts opens world run in
+    (are, lines_read net sound (whole_text net opening lines histories) are)

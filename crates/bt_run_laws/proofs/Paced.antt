@@ -12,7 +12,7 @@ use Rattle.bt_air.specs.declared.order.Order.TheVariants.{Load, Arm}
 use Rattle.bt_air.specs.declared.order.Status.{Status}
 use Rattle.bt_air.specs.declared.sent.Act.TheVariants.{Quiet, RepeatLoad, RepeatArm, Want}
 use Rattle.bt_air.specs.declared.sent.Aired.{Aired}
-use Rattle.bt_change.specs.declared.turn.Turn.{Turn as Sight}
+use Rattle.bt_change.specs.declared.turn.Turn.{Turn as Seen}
 use Rattle.bt_change.specs.Last.{last_order}
 use Rattle.bt_change.specs.Turn.{act_of, arm_after, attempt, is_before, may_arm, wanted_by}
 use Rattle.bt_events.specs.Event.{Opening, Event, Tick, Turn, Second, Ordered, Deliver, Frame, ResetTerminal, RestartCentre, Install, Happening}
@@ -54,7 +54,7 @@ abbrev HasBegun : ℕ → Option Status → Type 0
 HasBegun now status = IfSome status (λ one. one.mark.0 ≤ now)
 
 -- what a turn wants behind these orders
-module _ (opened first : ℕ) (turn : Sight) (begun : first ≤ turn.mark.0) (least : 2 ≤ turn.lead) (most : turn.lead ≤ 32) where
+module _ (opened first : ℕ) (turn : Seen) (begun : first ≤ turn.mark.0) (least : 2 ≤ turn.lead) (most : turn.lead ≤ 32) where
   -- a new change, where the orders are no more than the superframes
   attempt_if : (placed : List Order) (last : ℕ) (test : Bool) → IsPaced opened first turn.mark.0 placed → length placed + first ≤ opened + turn.mark.0
       → IsPaced opened first turn.mark.0 (with_wanted (wanted_by (if test then Quiet else Want (Load (record { 0 = last + 1 }) turn.target))) placed)

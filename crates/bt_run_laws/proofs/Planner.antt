@@ -26,7 +26,7 @@ use Rattle.bt_history.proofs.Histories.{Step-adds, as_list}
 use Rattle.bt_history.proofs.Strays.{cause_strays}
 use Rattle.bt_timeline.specs.Timeline.{IsInstall, plan_reply_line}
 use Rattle.bt_forms.specs.declared.form.Form.TheVariants as form
-use Rattle.bt_run_lines.specs.Printers.{line, numbers}
+use Rattle.bt_run_lines.specs.Printers.{numbers}
 use Rattle.bt_workers.specs.Planning.{PlansEdition, PlansOnce, PlaysPlans, planner_line, planner_text}
 use Rattle.bt_workers.proofs.Installed.{newest-other}
 use Rattle.bt_centre.specs.Run.{AreFew}
@@ -34,7 +34,7 @@ use Rattle.bt_run_laws.specs.Readable.{AreLines}
 use Rattle.bt_run_laws.specs.Small.{IsSmallPlan}
 use Rattle.bt_run_laws.proofs.Bounds.{AreBounded, are_bounded}
 use Rattle.bt_run_laws.proofs.Plans.{flyable_small}
-use Rattle.bt_run_laws.proofs.Read.{more_lines, no_lines, one_line}
+use Rattle.bt_run_laws.proofs.Read.{line_printed, more_lines, no_lines}
 use Rattle.bt_run_laws.proofs.Replies.{few_stays, follow_stays}
 
 -- what is printed of a reply to the planner
@@ -48,23 +48,23 @@ maybe_printed net false text are = no_lines net
 -- that nothing is new is a printed line, if it is printed
 demand_lines : (net : Net) (asked : Call) (last newest : EditionNo) (links : List Link) → AreLines net (printed_of net asked (Demand last newest links))
 demand_lines net asked last newest links =
-    maybe_printed net (last.0 == newest.0) _ (one_line net (line form.NothingNew []) (record { suits = (refl, tt); lone = refl }))
+    maybe_printed net (last.0 == newest.0) _ (line_printed net form.NothingNew [] refl refl tt)
 
 stopped_lines : (net : Net) (asked : Call) → AreLines net (printed_of net asked Stopped)
-stopped_lines net asked = one_line net (line form.PlanStopped []) (record { suits = (refl, tt); lone = refl })
+stopped_lines net asked = line_printed net form.PlanStopped [] refl refl tt
 
 lost_lines : (net : Net) (asked : Call) → AreLines net (printed_of net asked StoreFault)
-lost_lines net asked = one_line net (line form.PlanStoreFault []) (record { suits = (refl, tt); lone = refl })
+lost_lines net asked = line_printed net form.PlanStoreFault [] refl refl tt
 
 full_lines : (net : Net) (asked : Call) (bytes : ℕ) → bytes < 2 ^ 32 → AreLines net (printed_of net asked (BookFull bytes))
-full_lines net asked bytes few = one_line net (line form.PlanBookFull (numbers (bytes ∷ []))) (record { suits = (refl, (few, tt)); lone = refl })
+full_lines net asked bytes few = line_printed net form.PlanBookFull (numbers (bytes ∷ [])) refl refl (few, tt)
 
 -- the line of an installed plan with small numbers
 installed_lines : (net : Net) (plan : Plan) (number : EditionNo) → number ≡ plan.edition → IsSmallPlan net plan → AreLines net (printed_of net (call.Install plan) (Installed number))
 installed_lines net plan number is small =
     let few : number.0 < 2 ^ 32 = omega (arith, ap (λ (e : EditionNo). e.0) is, small.edition) in
-    one_line net (line form.Planned (numbers (number.0 ∷ plan.schedule.length ∷ length plan.schedule.modes ∷ length plan.bursts ∷ [])))
-    (record { suits = (refl, (few, (small.slots, (small.modes, (small.bursts, tt))))); lone = refl })
+    line_printed net form.Planned (numbers (number.0 ∷ plan.schedule.length ∷ length plan.schedule.modes ∷ length plan.bursts ∷ [])) refl refl
+    (few, (small.slots, (small.modes, (small.bursts, tt))))
 
 told_lines : (net : Net) (changes : List Change) (plan : Plan) (reply : Reply) → IsSmallPlan net plan → Tells net changes (change.Install plan) reply → AreLines net (printed_of net (call.Install plan) reply)
 told_lines net changes plan (Installed number) small told = installed_lines net plan number told small

@@ -23,10 +23,9 @@ use Rattle.bt_workers.specs.AirLines.{AirState, PlaysAhead, PlaysBack, PlaysBurs
 use Rattle.bt_workers.specs.Waiting.{left_of, loses, lost_of}
 use Rattle.bt_run_laws.proofs.Frames.{frame_printed}
 use Rattle.bt_run_laws.proofs.Heard.{delivery_printed}
-use Rattle.bt_run_laws.proofs.Read.{more_lines, no_lines}
+use Rattle.bt_run_laws.proofs.Read.{line_printed, more_lines, no_lines}
 use Rattle.bt_run_laws.proofs.Waiting.{IsAirOf, awaiting_few, going_few, having_few}
 use Rattle.bt_run_laws.proofs.Worlds.{IsSpelled, before_deliveries, came_to}
-use Rattle.bt_run_laws.proofs.OneLine.{line_printed}
 use Rattle.bt_run_laws.proofs.Happens.{Goes, still, mark_small, sound_of, happens}
 
 module _ (net : Net) (sound : IsSound net) where

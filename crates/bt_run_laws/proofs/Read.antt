@@ -1,5 +1,6 @@
 -- A text that is printed lines is read as them.
 use Rattle.std.proofs.Common.{◌≡◌, ℕ, ◌+◌, ◌<◌, ◌==◌, ◌&&◌, Bool, true, false, List, [], ◌∷◌, ◌++◌, length, codes, decimal, drop, Ok, All, refl, sym, ap, ◌∙◌, append_assoc, append-nil, arith}
+use Rattle.std.specs.Prelude.{flat_map}
 use Rattle.std.specs.Char.{is_ascii_digit}
 use Rattle.std.specs.List.{list_all}
 use Rattle.std.proofs.lemmas.Bool.{and_parts}
@@ -22,14 +23,14 @@ use Rattle.bt_timeline.specs.Timeline.{name_of_beam}
 use Rattle.bt_forms.specs.declared.form.Form.{Form}
 use Rattle.bt_forms.specs.declared.form.Form.TheVariants as form
 use Rattle.bt_forms.specs.Forms as part
-use Rattle.bt_forms.specs.Forms.{Part, parts_of}
+use Rattle.bt_forms.specs.Forms.{Part, is_of_a_run, parts_of}
 use Rattle.bt_run_lines.specs.declared.output.OutputCode.{OutputCode}
 use Rattle.bt_run_lines.specs.declared.output.OutputCode.TheVariants.{O1}
 use Rattle.bt_run_lines.specs.declared.printed.Printed.{Printed}
 use Rattle.bt_run_lines.specs.declared.printed.Value.{Value}
 use Rattle.bt_run_lines.specs.declared.printed.Value.TheVariants as value
 use Rattle.bt_run_lines.specs.Lines.{lines_from, numbered_line, output_of, told_behind, told_in}
-use Rattle.bt_run_lines.specs.Printers.{printed_line}
+use Rattle.bt_run_lines.specs.Printers.{line, printed_line}
 use Rattle.bt_run_lines.specs.Spelled.{word_of, words_of, spelled, SuitsPlace, SuitPlaces}
 use Rattle.bt_run_lines.proofs.FormsApart.{head_of, reached}
 use Rattle.bt_run_lines.proofs.Outputs.{lines_from-line, then_lines}
@@ -48,12 +49,24 @@ more_lines net a b first second = record {
   text_is = ap (λ (t : List ℕ). t ++ b) first.text_is ∙ ap (λ (t : List ℕ). text_of net first.all ++ t) second.text_is ∙ sym (flat_map-append (printed_line net) first.all second.all);
 }
 
-pub one_line : (net : Net) (printed : Printed) → IsLone net printed → AreLines net (printed_line net printed)
+one_line : (net : Net) (printed : Printed) → IsLone net printed → AreLines net (printed_line net printed)
 one_line net printed is = record {
   all = printed ∷ [];
   each = All-cons (IsLone net) printed [] is (All-nil (IsLone net));
   text_is = sym (append-nil (printed_line net printed));
 }
+
+-- parts that are printed lines, one behind the other
+pub each_lines : {A : Type 0} (net : Net) (f : A → List ℕ) (parts : List A) → All (λ (part : A). AreLines net (f part)) parts → AreLines net (flat_map f parts)
+each_lines net f [] each = no_lines net
+each_lines {A} net f (part ∷ rest) each =
+    let Holds = λ (part : A). AreLines net (f part) in
+    more_lines net (f part) (flat_map f rest) (All-head Holds part rest each) (each_lines net f rest (All-tail Holds part rest each))
+
+-- a line of a form of a run, which tells of no others, with values that suit it
+pub line_printed : (net : Net) (one : Form) (said : List Value) → is_of_a_run one ≡ true → tells_lines one ≡ false → SuitPlaces net (parts_of one) said
+    → AreLines net (printed_line net (line one said))
+line_printed net one said of_a_run lone suits = one_line net (line one said) (record { suits = (of_a_run, suits); lone = lone })
 
 -- the fixed words of places are names
 abbrev texts_are_names : List Part → Bool
@@ -139,5 +152,5 @@ all_read net sound at (printed ∷ more) each =
     ∙ ap (then_lines (Ok printed)) (all_read net sound (at + 1) more (All-tail (IsLone net) printed more each))
 
 -- the output is read, and has no fault
-pub lines_read : (net : Net) → IsSound net → (text : List ℕ) → AreLines net text → (all : List Printed) × (output_of net text ≡ Ok all)
-lines_read net sound text are = (are.all, ap (output_of net) are.text_is ∙ all_read net sound 1 are.all are.each)
+pub lines_read : (net : Net) → IsSound net → (text : List ℕ) → (are : AreLines net text) → output_of net text ≡ Ok are.all
+lines_read net sound text are = ap (output_of net) are.text_is ∙ all_read net sound 1 are.all are.each

@@ -1,5 +1,5 @@
 -- The parts of a run are printed lines.
-use Rattle.std.proofs.Common.{◌≡◌, ℕ, ◌+◌, ◌<◌, ◌≤◌, ◌^◌, ◌==◌, Bool, List, [], ◌∷◌, ◌++◌, All, refl, sym, ap, ◌∙◌, subst, arith}
+use Rattle.std.proofs.Common.{ℕ, ◌+◌, ◌<◌, ◌≤◌, ◌^◌, ◌==◌, Bool, List, [], ◌∷◌, ◌++◌, All, refl, sym, subst, arith}
 use Rattle.std.proofs.lemmas.List.Elements.{All-contains, All-filter, All-head, All-tail}
 use Rattle.std.proofs.lemmas.List.Sums.{sum_by-cons}
 use Rattle.bt_net.specs.Network.{IsSound, Net}
@@ -9,8 +9,8 @@ use Rattle.bt_journal.specs.declared.entry.Entry.{Entry}
 use Rattle.bt_journal.specs.Journal.{calls_of}
 use Rattle.bt_history.specs.Causes.{Follows}
 use Rattle.bt_history.specs.Changes.{edition, newest, plans}
-use Rattle.bt_history.specs.Machine.{AreSteps, Legal, State, Step, running, state_from}
-use Rattle.bt_history.proofs.Histories.{Step-adds, state_from-first, state_from-none, steps_follow}
+use Rattle.bt_history.specs.Machine.{AreSteps, Legal, State, running, state_from}
+use Rattle.bt_history.proofs.Histories.{steps_follow}
 use Rattle.bt_script.specs.declared.script.Item.{Item}
 use Rattle.bt_script.specs.declared.script.Item.TheVariants as item
 use Rattle.bt_script.specs.declared.script.Round.{Round}
@@ -22,6 +22,7 @@ use Rattle.bt_workers.specs.Planning.{planner_text}
 use Rattle.bt_run_lines.specs.Printers.{numbers}
 use Rattle.bt_centre.specs.Run.{AreFew, PlaysItem, PlaysItems, PlaysRestart, PlaysRound, Stand, changes_at}
 use Rattle.bt_centre.proofs.Lawful.{steps_first}
+use Rattle.bt_centre.proofs.Whole.{steps_later}
 use Rattle.bt_run_laws.specs.Readable.{AreLines}
 use Rattle.bt_run_laws.specs.Small.{IsAnswered, IsSmall, IsSmallItem, IsSmallPlan, IsSmallRound}
 use Rattle.bt_run_laws.proofs.Air.{air_lines}
@@ -29,21 +30,12 @@ use Rattle.bt_run_laws.proofs.Asking.{round_installs}
 use Rattle.bt_run_laws.proofs.Bounds.{are_bounded}
 use Rattle.bt_run_laws.proofs.Desks.{desks_lines}
 use Rattle.bt_run_laws.proofs.Happens.{mark_small}
-use Rattle.bt_run_laws.proofs.OneLine.{line_printed}
 use Rattle.bt_run_laws.proofs.Planner.{planner_lines}
 use Rattle.bt_run_laws.proofs.Plans.{plans_small}
-use Rattle.bt_run_laws.proofs.Read.{more_lines, no_lines}
+use Rattle.bt_run_laws.proofs.Read.{line_printed, more_lines, no_lines}
 use Rattle.bt_run_laws.proofs.Replies.{all_answered, few_behind}
 use Rattle.bt_run_laws.proofs.Waiting.{IsAirOf, few_restarting}
 use Rattle.bt_run_laws.proofs.Worlds.{IsSpelled, world_before, world_before_restart}
-
--- the steps behind a first part of them
-steps_behind : (net : Net) (old : State) (a b : List Entry) → AreSteps net old (a ++ b) → AreSteps net (state_from old a) b
-steps_behind net old [] b steps = subst (λ (s : State). AreSteps net s b) (sym (state_from-none old)) steps
-steps_behind net old (first ∷ a) b (new, step, more) =
-    let same : state_from new a ≡ state_from old (first ∷ a) =
-    ap (λ (s : State). state_from s a) (Step-adds net old first.call first.reply new step) ∙ sym (state_from-first old first a) in
-    subst (λ (s : State). AreSteps net s b) same (steps_behind net new a b more)
 
 -- what holds where a part begins, from the parts before it: of the changes with which the present time began, and of the air
 pub record IsSet (net : Net) (stand : Stand) : Type 0 where
@@ -97,19 +89,20 @@ pub total_printed : (net : Net) (done refused failed : ℕ) → done < 10 ^ 19 �
 total_printed net done refused failed few less least = line_printed net form.Total (numbers (done ∷ refused ∷ failed ∷ [])) refl refl (few, (less, (least, tt)))
 
 module _ (net : Net) (sound : IsSound net) where
-  -- a round
-  record RoundGoes (text : List ℕ) (after : Stand) : Type 0 where
+  -- what was printed of a part is lines, and what holds where the next one begins
+  record PartGoes (text : List ℕ) (after : Stand) : Type 0 where
     pub lines : AreLines net text
     pub set : IsSet net after
 
+  -- a round
   round_goes : (before : Stand) (round : Round) (text : List ℕ) (after : Stand) → PlaysRound net before round text after → IsSmallRound round
-      → after.rounds < 10 ^ 19 → IsSet net before → IsTold net before → IsTold net after → RoundGoes text after
+      → after.rounds < 10 ^ 19 → IsSet net before → IsTold net before → IsTold net after → PartGoes text after
   round_goes before round text after played small few set told so =
       let entries = played.entries in
       let old : State = state_from (running before.opening) before.history in
       let whole : Legal net before.opening (before.history ++ entries) =
       subst (λ (o : List Change). Legal net o (before.history ++ entries)) played.opening (subst (Legal net after.opening) played.kept so.legal) in
-      let steps : AreSteps net old entries = steps_behind net (running before.opening) before.history entries whole in
+      let steps : AreSteps net old entries = steps_later net (running before.opening) before.history entries whole in
       let follow = changes_follow net before set told in
       let less = changes_few net before sound set told in
       let answered = all_answered net sound old entries steps follow less in
@@ -134,7 +127,7 @@ module _ (net : Net) (sound : IsSound net) where
       }
 
   -- a restart
-  restart_goes : (tells : Bool) (before : Stand) (text : List ℕ) (after : Stand) → PlaysRestart net tells before text after → IsSet net before → IsTold net before → RoundGoes text after
+  restart_goes : (tells : Bool) (before : Stand) (text : List ℕ) (after : Stand) → PlaysRestart net tells before text after → IsSet net before → IsTold net before → PartGoes text after
   restart_goes tells before text after played set told =
       let start = start_line (edition after.opening) (newest after.opening).edition.0 (mark_of before.air).0 in
       record {

@@ -35,8 +35,7 @@ use Rattle.bt_script.specs.Reading.{Reading}
 use Rattle.bt_script.specs.Stages.{with_terminals, desk_in_range, place_of, air_in_range, in_range, may_stand, line_in}
 use Rattle.bt_script.specs.ScriptText.{is_open_behind, limited_line, last_in, lines_in, ends_round, round_lines, own_lines, air_lines, entry_of, desks_of, round_of, items_at, items_of, script_of}
 use Rattle.bt_script.proofs.Counting.{items_short}
-use Rattle.bt_script.proofs.Naming.{items_named}
-use Rattle.bt_script.proofs.Order.{items_in_order, said_desks}
+use Rattle.bt_script.proofs.Order.{said_desks}
 use Rattle.bt_run_laws.specs.Small.{IsSmallDeskLine, IsSmallAirLine, IsSmallItem, IsSmallRound, AreParts}
 
 -- the numbers of a line of a script are in their ranges
@@ -209,15 +208,13 @@ items_small (first ∷ rest) each =
     All-append IsSmallItem (items_at first rest) (items_of rest) (items_at_small first rest more) (items_small rest more)
 
 -- what holds of the parts of a script that was read
-pub script_is : (net : Net) (text : List ℕ) (script : Script) → script_of net text ≡ Ok script → AreParts net script.items
+pub script_is : (net : Net) (text : List ℕ) (script : Script) → script_of net text ≡ Ok script → AreParts script.items
 script_is net text script is =
     let (said, read, made) = bind_ok (lines_in net 1 false (lines text)) (λ said. Ok (record { items = items_of said })) script is in
     let small = all_small net 1 false (lines text) said (omega arith) read in
     let whole : record { items = items_of said } ≡ script = cc in
-    let parts : AreParts net (items_of said) = record {
-      named = items_named net (lines text) said read;
-      ordered = items_in_order said;
+    let parts : AreParts (items_of said) = record {
       small = items_small said small.each;
       few = items_short said (omega (arith, small.few));
     } in
-    subst (λ (s : Script). AreParts net s.items) whole parts
+    subst (λ (s : Script). AreParts s.items) whole parts

@@ -20,33 +20,32 @@ use Rattle.bt_run_laws.specs.Readable.{AreLines}
 use Rattle.bt_run_laws.specs.Small.{IsSmall}
 use Rattle.bt_workers.specs.AirLines.{sent_lines}
 use Rattle.bt_workers.specs.Worker.{NamesOwn}
-use Rattle.bt_run_laws.proofs.Read.{more_lines, no_lines}
-use Rattle.bt_run_laws.proofs.OneLine.{line_printed}
+use Rattle.bt_run_laws.proofs.Read.{line_printed, more_lines, no_lines}
 
 -- four bytes hold what a field of four bytes has
 pub small_word : (n : ℕ) → IsWord n → IsSmall n
 small_word n word = omega (arith, word.1)
 
 -- four bytes hold the number of a superframe
-pub small_mark : (n : ℕ) → n ≤ LAST_MARK → IsSmall n
-small_mark n begun = omega (arith, begun)
+pub small_superframe : (n : ℕ) → n ≤ LAST_MARK → IsSmall n
+small_superframe n begun = omega (arith, begun)
 
 -- the line of what the satellite says of itself
 status_printed : (net : Net) (number : ℕ) (status : Status) (armed : Option Armed) → IsSmall number → IsStatus status → IfSome armed IsArmed
     → AreLines net (status_line number status armed)
 status_printed net number status None small fits none =
     line_printed net form.SentStatus (numbers (number ∷ status.mark.0 ∷ status.fore.0 ∷ status.back.0 ∷ status.last.0 ∷ [])) refl refl
-    (small, (small_mark status.mark.0 fits.mark.1, (small_word status.fore.0 fits.fore, (small_word status.back.0 fits.back, (small_word status.last.0 fits.last, tt)))))
+    (small, (small_superframe status.mark.0 fits.mark.1, (small_word status.fore.0 fits.fore, (small_word status.back.0 fits.back, (small_word status.last.0 fits.last, tt)))))
 status_printed net number status (Some change) small fits comes =
     line_printed net form.SentArmedStatus (numbers (number ∷ status.mark.0 ∷ status.fore.0 ∷ status.back.0 ∷ change.edition.0 ∷ change.due.0 ∷ status.last.0 ∷ [])) refl refl (
       small,
       (
-        small_mark status.mark.0 fits.mark.1,
+        small_superframe status.mark.0 fits.mark.1,
         (
           small_word status.fore.0 fits.fore,
           (
             small_word status.back.0 fits.back,
-            (small_word change.edition.0 comes.edition, (small_mark change.due.0 comes.due.1, (small_word status.last.0 fits.last, tt))),
+            (small_word change.edition.0 comes.edition, (small_superframe change.due.0 comes.due.1, (small_word status.last.0 fits.last, tt))),
           ),
         ),
       ),
@@ -65,14 +64,14 @@ one_sent : (net : Net) (number : ℕ) (one : Aired) → IsSmall number → Fits 
 one_sent net number (sends.Load command edition) small fits own =
     line_printed net form.SentLoad (numbers (number ∷ command.0 ∷ edition.0 ∷ [])) refl refl (small, (omega (arith, fits.0.1), (small_word edition.0 fits.1, tt)))
 one_sent net number (sends.Arm command edition due) small fits own =
-    line_printed net form.SentArm (numbers (number ∷ command.0 ∷ edition.0 ∷ due.0 ∷ [])) refl refl (small, (omega (arith, fits.0.1), (small_word edition.0 fits.1, (small_mark due.0 fits.2.1, tt))))
+    line_printed net form.SentArm (numbers (number ∷ command.0 ∷ edition.0 ∷ due.0 ∷ [])) refl refl (small, (omega (arith, fits.0.1), (small_word edition.0 fits.1, (small_superframe due.0 fits.2.1, tt))))
 one_sent net number (sends.Status status) small fits own = status_printed net number status status.armed small fits fits.armed
 one_sent net number (sends.PlanFor to load edition) small fits own =
     line_printed net form.SentPlan (value.Number number ∷ value.Number edition.0 ∷ value.Terminal to ∷ []) refl refl (small, (small_word edition.0 fits.2, (own, tt)))
 one_sent net number (sends.Confirm from load edition) small fits own =
     line_printed net form.SentConfirm (value.Number number ∷ value.Number edition.0 ∷ value.Terminal from ∷ []) refl refl (small, (small_word edition.0 fits.2, (own, tt)))
 one_sent net number (sends.Reference superframe in_force next) small fits own =
-    reference_printed net number superframe in_force small (small_mark superframe.0 fits.0.1) fits.1
+    reference_printed net number superframe in_force small (small_superframe superframe.0 fits.0.1) fits.1
 one_sent net number (sends.Lost from) small fits own =
     line_printed net form.SentLost (value.Number number ∷ value.Terminal from ∷ []) refl refl (small, (own, tt))
 

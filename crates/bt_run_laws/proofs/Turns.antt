@@ -1,5 +1,5 @@
 -- The lines of the centre's turns, of the orders that it wants, and of the replies to them.
-use Rattle.std.proofs.Common.{◌≡◌, List, [], ◌∷◌, length, All, Option, Some, None, IfSome, refl, subst, arith, inl, inr, ℕ, ◌++◌, reverse, sym}
+use Rattle.std.proofs.Common.{◌≡◌, List, [], ◌∷◌, All, Option, Some, None, IfSome, refl, subst, arith, inl, inr, ℕ, ◌++◌, reverse, sym}
 use Rattle.std.proofs.lemmas.List.Elements.{All-head, All-tail}
 use Rattle.bt_frame.specs.declared.numbers.EditionNo.{EditionNo}
 use Rattle.bt_frame.specs.declared.numbers.Mark.{Mark}
@@ -29,22 +29,21 @@ use Rattle.bt_workers.specs.Worker.{AnswersOrder}
 use Rattle.bt_workers.proofs.Unplaced.{change-answers}
 use Rattle.bt_centre.specs.World.{IsSpelledWorld}
 use Rattle.bt_run_laws.proofs.Paced.{orders_few}
-use Rattle.bt_run_laws.proofs.Sent.{small_mark, small_word}
-use Rattle.bt_run_laws.proofs.OneLine.{line_printed}
+use Rattle.bt_run_laws.proofs.Sent.{small_superframe, small_word}
 use Rattle.bt_run_laws.proofs.Replies.{reply_small}
-use Rattle.bt_run_laws.proofs.Read.{more_lines, no_lines}
+use Rattle.bt_run_laws.proofs.Read.{line_printed, more_lines, no_lines}
 use Rattle.bt_run_laws.proofs.Waiting.{IsAirOf, having_few}
 use Rattle.bt_run_laws.proofs.Worlds.{IsSpelled, came, turn_came}
 use Rattle.bt_run_laws.proofs.Happens.{Goes, still, mark_small, sound_of, sends_printed}
 
 -- the newest edition of stored plans
-newest_word : (all : List Plan) → All IsStored all → IsSmall (newest_of all).0
-newest_word [] stored = omega arith
-newest_word (plan ∷ earlier) stored = small_word plan.edition.0 (All-head IsStored plan earlier stored).edition
+newest_stored : (all : List Plan) → All IsStored all → IsSmall (newest_of all).0
+newest_stored [] stored = omega arith
+newest_stored (plan ∷ earlier) stored = small_word plan.edition.0 (All-head IsStored plan earlier stored).edition
 
 -- the newest edition of a world
 pub newest_small : (o : Opening) (events : List Event) → IsSpelledWorld o events → IsSmall (newest_of (plans o (log o events))).0
-newest_small o events so = newest_word (plans o (log o events)) so.stored.plans
+newest_small o events so = newest_stored (plans o (log o events)) so.stored.plans
 
 -- the line of a turn
 pub turn_printed : (net : Net) (mark : Mark) (back : Option EditionNo) (newest : EditionNo) → IsSmall mark.0 → IfSome back (λ edition. IsSmall edition.0) → IsSmall newest.0
@@ -65,11 +64,11 @@ pub order_printed : (net : Net) (order : Order) → Taken order → AreLines net
 order_printed net (Load command edition) fits =
     line_printed net form.OrderLoad (numbers (command.0 ∷ edition.0 ∷ [])) refl refl (omega (arith, fits.0.1), (small_word edition.0 fits.1, tt))
 order_printed net (Arm command edition due) fits =
-    line_printed net form.OrderArm (numbers (command.0 ∷ edition.0 ∷ due.0 ∷ [])) refl refl (omega (arith, fits.0.1), (small_word edition.0 fits.1, (small_mark due.0 fits.2.1, tt)))
+    line_printed net form.OrderArm (numbers (command.0 ∷ edition.0 ∷ due.0 ∷ [])) refl refl (omega (arith, fits.0.1), (small_word edition.0 fits.1, (small_superframe due.0 fits.2.1, tt)))
 
 -- the line of an order that was not placed
 pub unplaced_printed : (net : Net) (answer : Reply) → IsSmallReply answer → IsUnplaced answer → AreLines net (unplaced_line answer)
-unplaced_printed net (reply.BookFull length) small is = line_printed net form.OrderBookFull (numbers (length ∷ [])) refl refl (small, tt)
+unplaced_printed net (reply.BookFull bytes) small is = line_printed net form.OrderBookFull (numbers (bytes ∷ [])) refl refl (small, tt)
 unplaced_printed net (reply.OutOfTurn last) small is = line_printed net form.OrderOutOfTurn (numbers (last.0 ∷ [])) refl refl (small, tt)
 unplaced_printed net (reply.NotInstalled newest) small is = line_printed net form.OrderNotInstalled (numbers (newest.0 ∷ [])) refl refl (small, tt)
 unplaced_printed net reply.StoreFault small is = line_printed net form.OrderStoreFault [] refl refl tt

@@ -1,4 +1,4 @@
--- Numbers of four bytes, and what has such numbers alone.
+-- Which numbers four bytes hold or lie in their ranges, which entries are steps, and what holds of the parts of a script.
 use Rattle.std.specs.Prelude.{ℕ, ◌<◌, ◌≤◌, ◌^◌, List, length, All}
 use Rattle.bt_frame.specs.declared.limits.TheConstants.{MOST_DESKS, MOST_LINES, MOST_UNITS}
 use Rattle.bt_frame.specs.Range.{IsWithin}
@@ -22,20 +22,19 @@ use Rattle.bt_script.specs.declared.script.Item.{Item}
 use Rattle.bt_script.specs.declared.script.Item.TheVariants as item
 use Rattle.bt_script.specs.declared.script.Round.{Round}
 use Rattle.bt_script.specs.Length.{script_length}
-use Rattle.bt_script.specs.Named.{HasDesksInOrder, IsItemFor}
 use Rattle.bt_centre.specs.Run.{AreFew}
 
 -- four bytes hold the number
 abbrev pub IsSmall : ℕ → Type 0
 IsSmall number = number < 2 ^ 32
 
--- four bytes hold each number that the reply has
+-- four bytes hold each number of the reply to a change, beams and verdicts left out
 abbrev pub IsSmallReply : Reply → Type 0
-IsSmallReply (Done edition length) = IsSmall edition.0 × IsSmall length
+IsSmallReply (Done edition most) = IsSmall edition.0 × IsSmall most
 IsSmallReply (NotThere held) = IsSmall held
 IsSmallReply (RowFull beam sum) = IsSmall sum
 IsSmallReply (ColumnFull beam sum) = IsSmall sum
-IsSmallReply (BookFull length) = IsSmall length
+IsSmallReply (BookFull bytes) = IsSmall bytes
 IsSmallReply (NotNewer newest) = IsSmall newest.0
 IsSmallReply (NoSuchEdition last) = IsSmall last.0
 IsSmallReply (OutOfTurn last) = IsSmall last.0
@@ -43,7 +42,7 @@ IsSmallReply (NotInstalled newest) = IsSmall newest.0
 IsSmallReply (Installed edition) = IsSmall edition.0
 IsSmallReply _ = Unit {0}
 
--- the edit that the call asks for, if it does, has no more units than a line of a script may say
+-- where the call asks for an edit, it has no more units than a line of a script may say
 abbrev pub IsSmallCall : Call → Type 0
 IsSmallCall (call.Edit edit) = units_in edit ≤ MOST_UNITS
 IsSmallCall _ = Unit {0}
@@ -89,13 +88,12 @@ pub record IsSmallRound (round : Round) : Type 0 where
   pub desks : All (λ (desk : ℕ × List DeskLine). All IsSmallDeskLine desk.1) round.desks
   pub air : All IsSmallAirLine round.air
 
+-- and those of a part of a script; a restart has none
 abbrev pub IsSmallItem : Item → Type 0
 IsSmallItem (item.Round round) = IsSmallRound round
 IsSmallItem item.Restart = Unit {0}
 
--- the parts of a script as one can be read for the network
-pub record AreParts (net : Net) (items : List Item) : Type 0 where
-  pub named : All (IsItemFor net) items
-  pub ordered : All HasDesksInOrder items
+-- the parts of a script that was read: their numbers are in their ranges, and they have no more lines than a script may
+pub record AreParts (items : List Item) : Type 0 where
   pub small : All IsSmallItem items
   pub few : script_length items ≤ MOST_LINES

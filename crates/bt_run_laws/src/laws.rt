@@ -6,17 +6,18 @@ ghost use Rattle.bt_centre.specs.Run.{RunsFrom, RunsWhole, whole_text};
 ghost use Rattle.bt_net.specs.Network.{IsSound, Net};
 ghost use Rattle.bt_report.specs.Output.{Output};
 ghost use Rattle.bt_report.specs.Stored.{Stored};
-ghost use Rattle.bt_run_lines.specs.declared.printed.Printed.{Printed};
 ghost use Rattle.bt_run_lines.specs.Lines.{output_of};
+ghost use Rattle.bt_run_laws.specs.Readable.{AreLines};
 ghost use Rattle.bt_script.specs.declared.script.Script.{Script};
 ghost use Rattle.bt_script.specs.ScriptText.{script_of};
 
-/// What a run prints that came to the end of its script is read as printed lines, with no fault: the first line, those of its parts,
-/// and the last.
+/// What a run that came to the end of its script prints is printed lines, each with values that suit its form and none of which tells
+/// of others, and is read as just these, with no fault: the first line, those of its parts, and the last.
 pub fn a_runs_output_is_read()
     ensures read { (net : Net) (text : List ℕ) (script : Script) (output : Output) (stored : Stored) (status : ℕ)
         (histories : List History) (events : List Event) → IsSound net → script_of net text ≡ Ok script
         → (run : RunsFrom net script output stored status histories events)
         → (whole : RunsWhole net script.items output stored run.opening status histories events)
-        → (all : List Printed) × (output_of net (whole_text net run.opening whole.lines histories) ≡ Ok all) }
+        → (are : AreLines net (whole_text net run.opening whole.lines histories))
+        × (output_of net (whole_text net run.opening whole.lines histories) ≡ Ok are.all) }
 {}

@@ -1,8 +1,8 @@
 //! What a whole run prints is read as printed lines.
 //!
 //! A crate of a law alone, with no code that runs: it stands on the run of a script (`bt_centre`) and on the reader of printed lines
-//! (`bt_run_lines`). `laws.rt` is the promise. `specs/` is for the proof alone: `Readable.antt`, a text that is printed lines;
-//! `Small.antt`, what has numbers of four bytes alone.
+//! (`bt_run_lines`). `laws.rt` is the promise, with `specs/Readable.antt`, a text that is printed lines. `specs/Small.antt` is for the
+//! proof alone: which numbers are small enough to be read, and whose.
 #![tactic(auto)]
 
 mod laws;
