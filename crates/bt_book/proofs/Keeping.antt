@@ -15,7 +15,7 @@ use Rattle.bt_journal.specs.declared.call.Change.{Change}
 use Rattle.bt_journal.specs.declared.call.Change.TheVariants as change
 use Rattle.bt_journal.specs.declared.entry.Entry.{Entry}
 use Rattle.bt_journal.specs.Journal.{NamesTerminals, is_made}
-use Rattle.bt_occupancy.specs.Occupancy.{EditsLinks}
+use Rattle.bt_history.specs.Occupancy.{EditsLinks}
 use Rattle.bt_history.specs.Causes.{IsChangeOn}
 use Rattle.bt_history.specs.Changes.{edits_in, order_in, plan_in}
 use Rattle.bt_history.specs.Machine.{State, Tells, halted, line_behind, running}

@@ -9,7 +9,7 @@ use Rattle.bt_demand.specs.declared.demand.Link.{Link}
 use Rattle.bt_journal.specs.declared.call.Edit.{Edit}
 use Rattle.bt_journal.specs.declared.call.Change.{Change}
 use Rattle.bt_journal.specs.declared.call.Change.TheVariants as change
-use Rattle.bt_occupancy.specs.Occupancy.{EditsLinks}
+use Rattle.bt_history.specs.Occupancy.{EditsLinks}
 use Rattle.bt_history.specs.Causes.{Follows}
 use Rattle.bt_history.specs.Changes.{edition, edits_in}
 use Rattle.bt_history.specs.Records.{CanRedo, IsRedone, Records, Redoes}

@@ -8,7 +8,7 @@ ghost use Rattle.bt_history.specs.Records.{IsRedone};
 use crate::machine::Machine;
 use bt_demand::Demand;
 use bt_frame::{EditionNo, OutOfMemory};
-use bt_occupancy::Occupancy;
+use bt_history::Occupancy;
 use std::alloc::Global;
 
 impl Machine {

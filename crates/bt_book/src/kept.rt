@@ -10,8 +10,8 @@ use crate::changes::Changes;
 use bt_air::Order;
 use bt_demand::Plan;
 use bt_frame::OutOfMemory;
+use bt_history::Occupancy;
 use bt_journal::{Change, Edit};
-use bt_occupancy::Occupancy;
 use std::alloc::Global;
 
 /// The changes, and what is kept beside them so that an edit looks at no earlier one: the demand after them with its traffic,

@@ -6,8 +6,8 @@ ghost use Rattle.bt_history.specs.Machine.{IsOfNetwork};
 use crate::Book;
 use bt_frame::OutOfMemory;
 use bt_journal::{Call, Reply};
-use bt_line::Object;
 use bt_outside::Keeper;
+use bt_shared::Object;
 use std::alloc::Global;
 
 impl<K: Keeper> Object for Book<K> {

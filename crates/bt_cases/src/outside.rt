@@ -9,7 +9,7 @@ use bt_cli::{
     History, centre_main, check_command, live_main, make_command, modes_command, plan_command,
     replay_command, timing_command, trans_command,
 };
-use bt_input::{Console, MemSource};
+use bt_outside::{Console, MemSource};
 use bt_report::WRITE_FAILED;
 use bt_sheet::{CaseFault, Part, Result, Shelf, number_of};
 use std::alloc::Global;

@@ -11,7 +11,7 @@ use Rattle.bt_history.specs.Recovery.{MaybeRecovered}
 use Rattle.bt_history.specs.Store.{IsKept, RoseBy, lost_of}
 use Rattle.bt_history.proofs.Histories.{state_from-none}
 use Rattle.bt_centre.specs.declared.history.History.{History}
-use Rattle.bt_workers.specs.AirLines.{AirState}
+use Rattle.bt_round.specs.AirLines.{AirState}
 use Rattle.bt_round.specs.Rounds.{BookRan}
 use Rattle.bt_round.proofs.Closing.{ran_nothing}
 use Rattle.bt_events.specs.Event.{Opening}

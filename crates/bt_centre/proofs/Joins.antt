@@ -4,7 +4,7 @@ use Rattle.bt_air.specs.declared.order.Order.{Order}
 use Rattle.bt_journal.specs.declared.call.Change.{Change}
 use Rattle.bt_history.specs.Changes.{orders}
 use Rattle.bt_events.specs.World.{wanted}
-use Rattle.bt_workers.specs.AirLines.{AirState, happened, orders_in}
+use Rattle.bt_round.specs.AirLines.{AirState, happened, orders_in}
 use Rattle.bt_centre.specs.Progress.{TellsJoined}
 use Rattle.bt_centre.specs.Run.{JoinsOrder}
 

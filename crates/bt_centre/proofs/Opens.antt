@@ -21,10 +21,10 @@ use Rattle.bt_journal.specs.declared.call.Change.TheVariants as change
 use Rattle.bt_history.specs.Causes.{CanCome, FollowFrom, Follows, IsInTurn}
 use Rattle.bt_demand.specs.Plan.{empty_plan}
 use Rattle.bt_history.specs.Changes.{is_installed, last_command, newest, order_in, orders, plan_in, plans}
-use Rattle.bt_change.specs.Centre.{AreNumbered}
+use Rattle.bt_machines.specs.Centre.{AreNumbered}
 use Rattle.bt_events.specs.Fits.{HasPlan, IsInTime, IsOpening, StartsEmpty, newest_of}
 use Rattle.bt_world.specs.Life.{opening_of}
-use Rattle.bt_workers.proofs.Installed.{newest-install}
+use Rattle.bt_round.proofs.Installed.{newest-install}
 use Rattle.bt_events.specs.World.{first_or, plan_of}
 
 -- what holds of the plans and the orders of changes, the latest first

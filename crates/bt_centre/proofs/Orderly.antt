@@ -23,8 +23,8 @@ use Rattle.bt_script.specs.declared.script.DeskLine.{DeskLine}
 use Rattle.bt_script.specs.declared.script.DeskLine.TheVariants as desk_line
 use Rattle.bt_demand.specs.declared.demand.Link.{Link}
 use Rattle.bt_frame.specs.declared.numbers.EditionNo.{EditionNo}
-use Rattle.bt_workers.specs.Desks.{asked_by, asked_by_line}
-use Rattle.bt_workers.specs.Planning.{PlansEdition, PlansOnce, PlaysPlans}
+use Rattle.bt_round.specs.Desks.{asked_by, asked_by_line}
+use Rattle.bt_round.specs.Planning.{PlansEdition, PlansOnce, PlaysPlans}
 
 -- no entry made or lost a change
 abbrev pub MakesNone : List Entry → Type 0

@@ -10,9 +10,9 @@ use Rattle.bt_air.specs.declared.order.Status.{Status}
 use Rattle.bt_air.specs.declared.sent.Aired.{Aired}
 use Rattle.bt_air.specs.declared.sent.Aired.TheVariants as sends
 use Rattle.bt_air.specs.declared.sent.Place.{Place}
-use Rattle.bt_change.specs.Last.{last_order}
-use Rattle.bt_change.specs.Turn.{act_of, wanted_by}
-use Rattle.bt_change.specs.declared.turn.Turn.{Turn as Sight}
+use Rattle.bt_machines.specs.Last.{last_order}
+use Rattle.bt_machines.specs.Turn.{act_of, wanted_by}
+use Rattle.bt_machines.specs.declared.turn.Turn.{Turn as Sight}
 use Rattle.bt_events.specs.Event.{Tick, Second, Ordered, Deliver, Frame, ResetTerminal, Install, Happening}
 use Rattle.bt_events.specs.Fits.{newest_of}
 use Rattle.bt_events.specs.World.{kept, orders as placed, plans, sight, wanted, with_wanted}
@@ -29,9 +29,9 @@ use Rattle.bt_history.proofs.Histories.{as_list}
 use Rattle.bt_script.specs.declared.script.AirLine.{AirLine}
 use Rattle.bt_script.specs.declared.script.AirLine.TheVariants as line
 use Rattle.bt_script.specs.declared.script.Losing.{Losing}
-use Rattle.bt_workers.specs.AirLines.{AirState, PlaysAirLine, PlaysAirLines, PlaysBack, PlaysBurst, PlaysDeliveries, PlaysDelivery, PlaysFrame, PlaysHearing, PlaysLoss, PlaysNotice, PlaysOrder, PlaysReset, PlaysTick, PlaysTurn, awaiting, bridging, going, happened, having, installing, newest_in, noticed, once_answered, orders_in, target_of, turning}
-use Rattle.bt_workers.specs.Waiting.{left_of}
-use Rattle.bt_workers.proofs.Running.{past-having}
+use Rattle.bt_round.specs.AirLines.{AirState, PlaysAirLine, PlaysAirLines, PlaysBack, PlaysBurst, PlaysDeliveries, PlaysDelivery, PlaysFrame, PlaysHearing, PlaysLoss, PlaysNotice, PlaysOrder, PlaysReset, PlaysTick, PlaysTurn, awaiting, bridging, going, happened, having, installing, newest_in, noticed, once_answered, orders_in, target_of, turning}
+use Rattle.bt_round.specs.Waiting.{left_of}
+use Rattle.bt_round.proofs.Running.{past-having}
 use Rattle.bt_centre.proofs.Orderly.{AreOrderly, AreOrderly-first, AreOrderly-second, AsksNone, IsPlacing, MakesNone, MakesNone-parts, no_order, none_behind_lost, not_both, one_order, orders_lost, orders_made, with_append, with_cons, with_quiet}
 
 -- the newest edition of the plans that the air has after this

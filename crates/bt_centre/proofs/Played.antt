@@ -20,10 +20,10 @@ use Rattle.bt_script.specs.declared.script.Item.TheVariants as item
 use Rattle.bt_script.specs.declared.script.Round.{Round}
 use Rattle.bt_timeline.specs.Timeline.{start_line}
 use Rattle.bt_centre.specs.declared.history.History.{History}
-use Rattle.bt_workers.specs.AirLines.{AirState, PlaysAirLines, mark_of}
-use Rattle.bt_workers.specs.Desks.{IsNotOlder, Sight}
+use Rattle.bt_round.specs.AirLines.{AirState, PlaysAirLines, mark_of}
+use Rattle.bt_round.specs.Desks.{IsNotOlder, Sight}
 use Rattle.bt_round.specs.Rounds.{newest_at}
-use Rattle.bt_workers.proofs.Installed.{newest_ascends}
+use Rattle.bt_round.proofs.Installed.{newest_ascends}
 use Rattle.bt_centre.specs.Progress.{CentreBegan, Hand, IsBegun, ItemPlayed, ItemsDone, ItemsWritten, RestartPlayed, RoundPlayed, histories_in, start_of}
 use Rattle.bt_centre.specs.Run.{IsNextTime, PlaysItem, PlaysItems, PlaysRestart, PlaysRound, Stand, at_start, changes_at, first_line, histories_at}
 use Rattle.bt_centre.proofs.Going.{legal_begins, legal_goes_on, legal_restarts}

@@ -17,7 +17,7 @@ use Rattle.bt_history.specs.Recovery.{IsOutside, IsReadable, IsRecoverFault, May
 use Rattle.bt_history.proofs.Holding.{tells_some}
 use Rattle.bt_history.specs.Store.{IsKept, IsNextOpening, IsStored, lost_of}
 use Rattle.bt_script.specs.declared.script.Item.TheVariants as item
-use Rattle.bt_workers.specs.AirLines.{AirState}
+use Rattle.bt_round.specs.AirLines.{AirState}
 use Rattle.bt_centre.specs.declared.history.History.{History}
 use Rattle.bt_centre.specs.Progress.{BeganAgain, CentreBegan, Hand, IsLeftAtRestart, IsOpenFault, IsLeftBehind, IsLeftEarly, ItemFailed, Left, RestartPlayed, histories_in}
 use Rattle.bt_centre.specs.Run.{AreFew}

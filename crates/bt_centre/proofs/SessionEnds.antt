@@ -6,11 +6,11 @@ use Rattle.std.proofs.lemmas.List.{append-nil}
 use Rattle.bt_outside.specs.declared.sink.SinkFault.{SinkFault}
 use Rattle.bt_outside.specs.declared.sink.SinkFault.TheVariants as sink
 use Rattle.bt_outside.specs.Told.{GainsPrefix, HasCause, Rose, gained}
-use Rattle.bt_input.specs.declared.source.Incoming.{Incoming}
-use Rattle.bt_input.specs.declared.source.SourceFault.{SourceFault}
-use Rattle.bt_input.specs.declared.source.SourceFault.TheVariants as source
-use Rattle.bt_input.specs.Input.{Comes, given_by, said_by}
-use Rattle.bt_input.specs.Talk.{Turn, Heard, Said, heard, said, took}
+use Rattle.bt_outside.specs.declared.source.Incoming.{Incoming}
+use Rattle.bt_outside.specs.declared.source.SourceFault.{SourceFault}
+use Rattle.bt_outside.specs.declared.source.SourceFault.TheVariants as source
+use Rattle.bt_outside.specs.Input.{Comes, given_by, said_by}
+use Rattle.bt_outside.specs.Talk.{Turn, Heard, Said, heard, said, took}
 use Rattle.bt_net.specs.Network.{Net}
 use Rattle.bt_air.specs.declared.event.Event.{Event}
 use Rattle.bt_journal.specs.declared.call.Change.{Change}

@@ -3,9 +3,9 @@ use Rattle.std.proofs.Common.{◌≡◌, ℕ, ◌+◌, ◌≤◌, Bool, List, []
 use Rattle.std.specs.Option.{is_some}
 use Rattle.std.proofs.lemmas.List.{append-nil, map-append}
 use Rattle.bt_outside.specs.Told.{gained}
-use Rattle.bt_input.specs.declared.source.Incoming.{Incoming}
-use Rattle.bt_input.specs.Input.{Comes, said_by}
-use Rattle.bt_input.specs.Talk.{Turn, Heard, Said, heard, said, took}
+use Rattle.bt_outside.specs.declared.source.Incoming.{Incoming}
+use Rattle.bt_outside.specs.Input.{Comes, said_by}
+use Rattle.bt_outside.specs.Talk.{Turn, Heard, Said, heard, said, took}
 use Rattle.bt_net.specs.Network.{Net}
 use Rattle.bt_history.specs.Book.{Books}
 use Rattle.bt_history.specs.Machine.{State}
@@ -25,7 +25,7 @@ use Rattle.bt_centre.specs.Run.{Stand, at_start, changes_at}
 use Rattle.bt_centre.specs.Session.{Exchange, PlaysLines, PlaysStep, heard_in, opening_text, session_turns, turns_in}
 use Rattle.bt_centre.specs.Talked.{spoken}
 use Rattle.bt_centre.specs.Told.{IsTold}
-use Rattle.bt_workers.specs.AirLines.{AirState}
+use Rattle.bt_round.specs.AirLines.{AirState}
 use Rattle.bt_centre.proofs.Played.{gained-append, item_goes_further, items_begin, rounds_more, start_is}
 
 -- what came of an input

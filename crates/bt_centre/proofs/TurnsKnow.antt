@@ -18,9 +18,9 @@ use Rattle.bt_history.specs.Store.{lost_of}
 use Rattle.bt_script.specs.declared.script.Item.{Item}
 use Rattle.bt_script.specs.declared.script.Item.TheVariants as item
 use Rattle.bt_script.specs.declared.script.Round.{Round}
-use Rattle.bt_workers.specs.AirLines.{AirState, newest_in, restarting}
-use Rattle.bt_workers.proofs.Installed.{newest_ascends}
-use Rattle.bt_workers.proofs.Running.{past-having}
+use Rattle.bt_round.specs.AirLines.{AirState, newest_in, restarting}
+use Rattle.bt_round.proofs.Installed.{newest_ascends}
+use Rattle.bt_round.proofs.Running.{past-having}
 use Rattle.bt_centre.specs.declared.history.History.{History}
 use Rattle.bt_report.specs.Output.{Output}
 use Rattle.bt_centre.specs.Parts.{EachPart, EachPartAtEnd, EachPartOfRun}

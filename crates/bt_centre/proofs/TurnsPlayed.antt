@@ -23,9 +23,9 @@ use Rattle.bt_history.specs.Machine.{CallStep, Legal, newer_than, running, state
 use Rattle.bt_history.proofs.Histories.{Legal-follows}
 use Rattle.bt_script.specs.declared.script.AirLine.{AirLine}
 use Rattle.bt_script.specs.declared.script.AirLine.TheVariants as line
-use Rattle.bt_workers.specs.AirLines.{AirState, PlaysAirLine, PlaysAirLines, PlaysOrder, PlaysTurn, going, happened, having, installing, newest_in, once_answered, target_by, target_of, turning}
-use Rattle.bt_workers.proofs.Installed.{newest_ascends}
-use Rattle.bt_workers.proofs.Running.{past-having}
+use Rattle.bt_round.specs.AirLines.{AirState, PlaysAirLine, PlaysAirLines, PlaysOrder, PlaysTurn, going, happened, having, installing, newest_in, once_answered, target_by, target_of, turning}
+use Rattle.bt_round.proofs.Installed.{newest_ascends}
+use Rattle.bt_round.proofs.Running.{past-having}
 use Rattle.bt_centre.specs.Turns.{IsNewestOf, IsNoNewer, LineKnows, LinesKnow}
 use Rattle.bt_centre.proofs.Lawful.{step_at, steps_first}
 use Rattle.bt_centre.proofs.OrdersPlayed.{Stays, newest_past, stays_back, stays_burst, stays_delivery, stays_flow, stays_frame_line, stays_going, stays_is, stays_loss, stays_notice, stays_reset_line, stays_tick_line}

@@ -2,8 +2,8 @@
 use Rattle.std.specs.Prelude.{◌≡◌, ◌≢◌, ◌⊎◌, ℕ, ◌+◌, ◌++◌, List, [], length, reverse, Option, Some, None}
 use Rattle.std.specs.Option.{is_some}
 use Rattle.bt_outside.specs.Told.{gained}
-use Rattle.bt_input.specs.Input.{given_by}
-use Rattle.bt_input.specs.Talk.{Turn, took}
+use Rattle.bt_outside.specs.Input.{given_by}
+use Rattle.bt_outside.specs.Talk.{Turn, took}
 use Rattle.bt_net.specs.Network.{Net}
 use Rattle.bt_script.specs.declared.script.Item.{Item}
 use Rattle.bt_history.specs.Book.{Books}

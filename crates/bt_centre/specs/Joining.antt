@@ -6,7 +6,7 @@ use Rattle.bt_journal.specs.declared.call.Change.{Change}
 use Rattle.bt_history.specs.Changes.{orders}
 use Rattle.bt_script.specs.declared.script.Item.{Item}
 use Rattle.bt_script.specs.declared.script.Item.TheVariants as item
-use Rattle.bt_workers.specs.AirLines.{AirState, orders_in}
+use Rattle.bt_round.specs.AirLines.{AirState, orders_in}
 use Rattle.bt_centre.specs.Run.{IsJoining, PlaysItem, Stand, changes_at}
 
 -- the orders that the world has, the latest first, are just those of the changes

@@ -20,8 +20,8 @@ use Rattle.bt_script.specs.declared.script.Item.TheVariants as item
 use Rattle.bt_script.specs.declared.script.Round.{Round}
 use Rattle.bt_timeline.specs.Timeline.{restart_line, round_line, start_line}
 use Rattle.bt_centre.specs.declared.history.History.{History}
-use Rattle.bt_workers.specs.AirLines.{AirState, mark_of, restarting}
-use Rattle.bt_workers.specs.Desks.{IsNotOlder, Sight}
+use Rattle.bt_round.specs.AirLines.{AirState, mark_of, restarting}
+use Rattle.bt_round.specs.Desks.{IsNotOlder, Sight}
 use Rattle.bt_round.specs.Rounds.{BookRan, RoundDone, newest_at}
 use Rattle.bt_report.specs.Output.{Output}
 use Rattle.bt_centre.specs.Run.{AreFew, AreTimes, EndsFrom, JoinsOrder, PlaysItems, Stand, at_start, first_line, lost_in, opening_on}

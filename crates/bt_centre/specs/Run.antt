@@ -28,9 +28,9 @@ use Rattle.bt_script.specs.declared.script.Round.{Round}
 use Rattle.bt_script.specs.declared.script.Script.{Script}
 use Rattle.bt_timeline.specs.Timeline.{start_line, restart_line, round_line}
 use Rattle.bt_centre.specs.declared.history.History.{History}
-use Rattle.bt_workers.specs.AirLines.{AirState, PlaysAirLines, happened, mark_of, orders_in, restarting}
-use Rattle.bt_workers.specs.Desks.{Sight, IsNotOlder, asked_by, desks_text, shown_to, shows_of}
-use Rattle.bt_workers.specs.Planning.{PlaysPlans, planner_text}
+use Rattle.bt_round.specs.AirLines.{AirState, PlaysAirLines, happened, mark_of, orders_in, restarting}
+use Rattle.bt_round.specs.Desks.{Sight, IsNotOlder, asked_by, desks_text, shown_to, shows_of}
+use Rattle.bt_round.specs.Planning.{PlaysPlans, planner_text}
 use Rattle.bt_centre.specs.Lines.{total_of}
 use Rattle.bt_report.specs.declared.status.TheConstants.{DONE, STORE_FAILED, WRITE_FAILED}
 use Rattle.bt_report.specs.Output.{Output, HasFailed}

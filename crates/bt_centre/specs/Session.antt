@@ -2,8 +2,8 @@
 use Rattle.std.specs.Prelude.{◌≡◌, ◌≢◌, ◌⊎◌, ℕ, ◌+◌, ◌≤◌, ◌++◌, Bool, List, [], ◌∷◌, length, map, reverse, Option, None, IfSome, if◌then◌else◌}
 use Rattle.std.specs.Option.{is_some}
 use Rattle.bt_outside.specs.Told.{Rose}
-use Rattle.bt_input.specs.Input.{given_by}
-use Rattle.bt_input.specs.Talk.{Turn, Heard, Said}
+use Rattle.bt_outside.specs.Input.{given_by}
+use Rattle.bt_outside.specs.Talk.{Turn, Heard, Said}
 use Rattle.bt_net.specs.Network.{Net}
 use Rattle.bt_air.specs.declared.event.Event.{Event}
 use Rattle.bt_journal.specs.declared.call.Change.{Change}

@@ -1,7 +1,7 @@
 -- What a talk tells before and after a call, and how a piece is said in it.
 use Rattle.std.specs.Prelude.{◌≡◌, ℕ, ◌⊎◌, ◌++◌, List, [], ◌∷◌, Option}
 use Rattle.bt_outside.specs.Told.{GainsPrefix, gained}
-use Rattle.bt_input.specs.Talk.{Turn, Heard, Said, said, took}
+use Rattle.bt_outside.specs.Talk.{Turn, Heard, Said, said, took}
 use Rattle.bt_report.specs.declared.status.TheConstants.{OUT_OF_MEMORY, WRITE_FAILED}
 use Rattle.bt_report.specs.Output.{Output, HasFailed}
 

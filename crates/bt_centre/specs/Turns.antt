@@ -10,7 +10,7 @@ use Rattle.bt_script.specs.declared.script.AirLine.{AirLine}
 use Rattle.bt_script.specs.declared.script.AirLine.TheVariants as line
 use Rattle.bt_script.specs.declared.script.Item.{Item}
 use Rattle.bt_script.specs.declared.script.Item.TheVariants as item
-use Rattle.bt_workers.specs.AirLines.{AirState, PlaysAirLine, PlaysAirLines, installing, newest_in, target_by, target_of}
+use Rattle.bt_round.specs.AirLines.{AirState, PlaysAirLine, PlaysAirLines, installing, newest_in, target_by, target_of}
 use Rattle.bt_centre.specs.Run.{PlaysItem, Stand, changes_at}
 
 -- the newest edition of which the world has a plan is that of the newest plan after these changes

@@ -2,7 +2,7 @@
 //! parts are asked by lines that come one by one, each of which is answered before the next is heard.
 //!
 //! It stands on what a program ends with (`bt_report`), on the book and its store, on the world, on the rounds of a script
-//! (`bt_round`), and for sessions on a talk (`bt_input`) and on what a line comes to (`bt_talk`). A run begins with the changes
+//! (`bt_round`), and for sessions on a talk (`bt_outside`) and on what a line comes to (`bt_talk`). A run begins with the changes
 //! that its store tells, and reads them again at each restart of the centre. `specs/Run.antt`, `specs/Lines.antt` and
 //! `specs/RecoverFaults.antt` are promises: what a run is, and how it ends; so are `specs/Talked.antt` and `specs/Session.antt`:
 //! what is said, and what a session is. `Progress`, `Answering`, `Handed` and `Whole` are for bodies alone. `specs/Joining.antt` and
@@ -30,7 +30,7 @@ mod tell;
 mod total;
 mod turn_laws;
 
-pub use bt_workers::{Gate, NoGate};
+pub use bt_round::{Gate, NoGate};
 pub use bt_world::TracedEvents;
 pub use fault::print_fault;
 pub use history::{Histories, History, SessionHistories};

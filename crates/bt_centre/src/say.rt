@@ -6,7 +6,7 @@ ghost use Rattle.bt_centre.specs.Talked.{SaysOrNot};
 
 use crate::fault::{fault_text, recover_status, restart_fault_text};
 use bt_book::RecoverFault;
-use bt_input::Talk;
+use bt_outside::Talk;
 use bt_report::{OUT_OF_MEMORY, unwritten};
 use std::alloc::Global;
 

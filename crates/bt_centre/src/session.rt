@@ -1,8 +1,8 @@
 // A session: lines come one by one, and each is played and answered before the next is heard.
 ghost use Rattle.std.specs.Prelude.{◌≡◌, ◌≤◌, ◌<◌, ◌++◌, [], IfErr, IfOk, IsErrOf, OnErr, OnOk};
 ghost use Rattle.bt_outside.specs.Told.{GainsPrefix, Rose, gained};
-ghost use Rattle.bt_input.specs.Input.{said_by};
-ghost use Rattle.bt_input.specs.Talk.{said, took};
+ghost use Rattle.bt_outside.specs.Input.{said_by};
+ghost use Rattle.bt_outside.specs.Talk.{said, took};
 ghost use Rattle.bt_talk.specs.Answers.{answer_of, ready_line};
 ghost use Rattle.bt_talk.specs.Block.{IsOpenFor, IsStepFor, row_of};
 ghost use Rattle.bt_centre.specs.Answering.{SessionEnded, SessionHeard};
@@ -17,13 +17,12 @@ use crate::playing::Playing;
 use crate::say::{say_fault, say_restart_fault, say_text};
 use bt_book::installed_plans_are_good;
 use bt_frame::OutOfMemory;
-use bt_input::{Incoming, SourceFault, Talk};
 use bt_net::Network;
-use bt_outside::{Keeper, SinkFault};
+use bt_outside::{Incoming, Keeper, SinkFault, SourceFault, Talk};
 use bt_report::{DONE, OUT_OF_MEMORY, READ_FAILED, STORE_FAILED, unwritten};
+use bt_round::Gate;
 use bt_talk::{Block, Step, add_input_fault, add_ready, answer_text};
 use bt_timeline::start_text;
-use bt_workers::Gate;
 use bt_world::{Events, TracedEvents, frames_are_safe};
 use std::alloc::Global;
 use std::sync::Wait;

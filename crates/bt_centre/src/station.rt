@@ -2,11 +2,10 @@
 ghost use Rattle.std.specs.Prelude.{◌≡◌, IfErr, IfOk};
 ghost use Rattle.bt_round.specs.Boards.{IsPublished};
 
-use bt_board::board;
 use bt_book::Book;
 use bt_outside::Keeper;
-use bt_round::{DESKS, Station};
-use bt_workers::CentreWorker;
+use bt_round::{CentreWorker, DESKS, Station};
+use bt_shared::board;
 use bt_world::Events;
 use std::alloc::Global;
 use std::sync::Wait;

@@ -9,8 +9,8 @@ use bt_frame::OutOfMemory;
 use bt_look::{capacity_of_book, demand_of_book, newest_of_book, room_of_book, state_of_book};
 use bt_net::Network;
 use bt_outside::Keeper;
+use bt_round::CentreWorker;
 use bt_talk::{Query, counted_text, help_text};
-use bt_workers::CentreWorker;
 use bt_world::Events;
 use std::alloc::Global;
 

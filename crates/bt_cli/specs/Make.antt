@@ -9,7 +9,7 @@ use Rattle.bt_demand.specs.declared.demand.Link.{Link}
 use Rattle.bt_demand.specs.declared.plan.Plan.{Plan}
 use Rattle.bt_demand.specs.Plan.{IsGoodPlan}
 use Rattle.bt_demand.specs.Traffic.{matrix_of}
-use Rattle.bt_make.specs.Made.{IsMade}
+use Rattle.bt_cut.specs.Made.{IsMade}
 use Rattle.bt_words.specs.Lines.{line_of}
 use Rattle.bt_report.specs.declared.status.TheConstants.{DONE}
 use Rattle.bt_report.specs.Output.{Output}

@@ -13,3 +13,6 @@ pub mod Prefixes
 pub mod Served
 pub mod Tables
 pub mod Buckets
+pub mod Shares
+pub mod Gained
+pub mod Going

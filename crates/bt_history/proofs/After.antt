@@ -19,7 +19,7 @@ use Rattle.bt_history.specs.Changes.{edits_in, given, taken_from, slots_after, h
 use Rattle.bt_history.specs.EditCauses.{with_edit}
 use Rattle.bt_history.specs.Records.{AddsUp}
 use Rattle.bt_demand.proofs.Tables.{same_tables, LinesExceed, table-LinesExceed}
-use Rattle.bt_occupancy.proofs.Shares.{units_of-in-beams}
+use Rattle.bt_history.proofs.Shares.{units_of-in-beams}
 
 -- what one more change gives and takes
 given-more : (test : TermNo → TermNo → Bool) (changes : List Change) (edit : Edit)

@@ -14,8 +14,8 @@ use Rattle.bt_journal.specs.declared.call.Edit.{Edit}
 use Rattle.bt_journal.specs.declared.call.Edit.TheVariants.{Add, Drop, Move}
 use Rattle.bt_journal.specs.declared.call.Change.{Change}
 use Rattle.bt_journal.specs.declared.call.Change.TheVariants as change
-use Rattle.bt_occupancy.specs.Occupancy.{EditsLinks, HoldsTaken}
-use Rattle.bt_occupancy.proofs.Shares.{still_held}
+use Rattle.bt_history.specs.Occupancy.{EditsLinks, HoldsTaken}
+use Rattle.bt_history.proofs.Shares.{still_held}
 use Rattle.bt_history.specs.Causes.{Follows, FollowFrom, IsChangeOn, IsGood}
 use Rattle.bt_history.specs.Changes.{edits_in, IsDemandAfter}
 use Rattle.bt_history.specs.Records.{KeepsUp}

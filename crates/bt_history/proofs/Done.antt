@@ -16,7 +16,7 @@ use Rattle.bt_journal.specs.declared.call.Edit.{Edit}
 use Rattle.bt_journal.specs.declared.call.Edit.TheVariants.{Add, Drop, Move}
 use Rattle.bt_journal.specs.declared.call.Change.{Change}
 use Rattle.bt_journal.specs.Journal.{NamesTerminals}
-use Rattle.bt_occupancy.specs.Occupancy.{EditsLinks, HoldsTaken}
+use Rattle.bt_history.specs.Occupancy.{EditsLinks, HoldsTaken}
 use Rattle.bt_history.specs.EditCauses.{with_edit, IsThere, IsGoodEdit}
 use Rattle.bt_history.specs.Records.{AddsUp}
 use Rattle.bt_demand.proofs.Tables.{LinesExceed, table-LinesExceed}

@@ -14,7 +14,7 @@ use Rattle.bt_journal.specs.declared.call.Change.TheVariants as change
 use Rattle.bt_journal.specs.declared.reply.Reply.{Reply}
 use Rattle.bt_journal.specs.declared.reply.Reply.TheVariants.{StoreFault}
 use Rattle.bt_journal.specs.Journal.{NamesTerminals, is_made}
-use Rattle.bt_occupancy.specs.Occupancy.{EditsLinks}
+use Rattle.bt_history.specs.Occupancy.{EditsLinks}
 use Rattle.bt_demand.specs.Plan.{empty_plan}
 use Rattle.bt_history.specs.Changes.{edits_in, edition, plan_in, order_in}
 use Rattle.bt_history.specs.EditCauses.{with_edit, IsGoodEdit}

@@ -20,3 +20,6 @@ pub mod Stored
 pub mod NextOpening
 pub mod Holding
 mod GoodPlans
+pub mod Shares
+pub mod Occupied
+pub mod Lengths

@@ -9,7 +9,7 @@ use Rattle.bt_demand.specs.Traffic.{matrix_of, HasSumsTo}
 use Rattle.bt_journal.specs.declared.call.Edit.{Edit}
 use Rattle.bt_journal.specs.declared.call.Change.{Change}
 use Rattle.bt_journal.specs.declared.call.Change.TheVariants as change
-use Rattle.bt_occupancy.specs.Occupancy.{EditsLinks}
+use Rattle.bt_history.specs.Occupancy.{EditsLinks}
 use Rattle.bt_history.specs.Changes.{edits_in}
 use Rattle.bt_history.specs.EditCauses.{with_edit}
 use Rattle.bt_history.specs.Causes.{FollowFrom, Follows, IsChangeOn, IsGood}

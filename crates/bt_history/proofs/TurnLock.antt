@@ -3,8 +3,8 @@ use Rattle.std.proofs.Common.{◌≡◌, ℕ, ◌+◌, ◌≤◌, List, [], ◌�
 use Rattle.std.specs.Option.{is_some}
 use Rattle.bt_outside.specs.Told.{Rose, gained}
 use Rattle.bt_net.specs.Network.{Net}
-use Rattle.bt_line.specs.declared.object.TurnEntry as line
-use Rattle.bt_line.specs.Legal as line_legal
+use Rattle.bt_shared.specs.declared.object.TurnEntry as line
+use Rattle.bt_shared.specs.Legal as line_legal
 use Rattle.bt_journal.specs.declared.call.Call.{Call}
 use Rattle.bt_journal.specs.declared.call.Change.{Change}
 use Rattle.bt_journal.specs.declared.entry.Entry.{Entry}

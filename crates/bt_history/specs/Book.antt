@@ -3,7 +3,7 @@ use Rattle.std.specs.Prelude.{◌≡◌, false, true, ℕ, List, Option}
 use Rattle.std.proofs.Common.{subst, sym}
 use Rattle.bt_outside.specs.Crash.{Crashes, LeavesOnly, LeavesSince}
 use Rattle.bt_net.specs.Network.{Net}
-use Rattle.bt_line.specs.declared.object.TurnEntry as line
+use Rattle.bt_shared.specs.declared.object.TurnEntry as line
 use Rattle.bt_journal.specs.declared.call.Call.{Call}
 use Rattle.bt_journal.specs.declared.entry.Entry.{Entry}
 use Rattle.bt_journal.specs.declared.reply.Reply.{Reply}

@@ -18,7 +18,7 @@ use Rattle.bt_journal.specs.declared.call.Change.TheVariants as change
 use Rattle.bt_journal.specs.declared.reply.Reply.{Reply}
 use Rattle.bt_journal.specs.declared.reply.Reply.TheVariants.{SameTerminal, NotThere, RowFull, ColumnFull, NotNewer, NoSuchEdition, NotGood, OutOfTurn, NotInstalled}
 use Rattle.bt_journal.specs.Journal.{NamesTerminals}
-use Rattle.bt_occupancy.specs.Occupancy.{HasEqualEnds, HasEnds}
+use Rattle.bt_history.specs.Occupancy.{HasEqualEnds, HasEnds}
 use Rattle.bt_history.specs.Changes.{edition, IsDemandAt, newest, is_installed, last_command}
 use Rattle.bt_history.specs.EditCauses.{TakesTooMuch, OverfillsRow, OverfillsColumn, IsThere, FitsRow, IsGoodEdit}
 

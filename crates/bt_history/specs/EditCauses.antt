@@ -9,7 +9,7 @@ use Rattle.bt_journal.specs.declared.call.Edit.{Edit}
 use Rattle.bt_journal.specs.declared.call.Edit.TheVariants.{Add, Drop, Move}
 use Rattle.bt_journal.specs.declared.call.Change.{Change}
 use Rattle.bt_journal.specs.declared.call.Change.TheVariants as change
-use Rattle.bt_occupancy.specs.Occupancy.{HasEnds}
+use Rattle.bt_history.specs.Occupancy.{HasEnds}
 use Rattle.bt_history.specs.Changes.{held_after, matrix_after}
 
 -- the list with this edit behind it

@@ -8,3 +8,4 @@ pub mod Recovery
 pub mod Store
 pub mod Crash
 pub mod Records
+pub mod Occupancy

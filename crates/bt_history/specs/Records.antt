@@ -27,7 +27,7 @@ use Rattle.bt_journal.specs.declared.reply.Reply.TheVariants.{StoreFault as stor
 use Rattle.bt_history.specs.declared.fault.RecoverFault.{RecoverFault}
 use Rattle.bt_history.specs.declared.fault.RecoverFault.TheVariants.{J1, J2, StoreFault, TooLong, OutOfMemory}
 use Rattle.bt_history.specs.Changes.{given, taken_from, edition, held_after, plans, orders}
-use Rattle.bt_occupancy.specs.Occupancy.{HasEnds, HoldsTaken}
+use Rattle.bt_history.specs.Occupancy.{HasEnds, HoldsTaken}
 use Rattle.bt_history.specs.EditCauses.{IsGoodEdit}
 use Rattle.bt_history.specs.Causes.{Follows, IsChangeOn, IsGood, IsCause}
 use Rattle.bt_history.specs.Machine.{State, bytes_of, bytes_with, line_behind, running}

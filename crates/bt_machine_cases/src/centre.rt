@@ -4,10 +4,10 @@ ghost use Rattle.std.specs.Prelude.{◌<◌, IfOk};
 use crate::lines::{put_line, put_number, put_word};
 use crate::message::{numbers_of, status_of};
 use crate::shown::{put_act, put_order};
-use bt_change::{Centre, with_terminal};
 use bt_frame::{
     Command, EditionNo, LAST_MARK, MOST_LEAD, MOST_PLACED, MOST_TERMINALS, Mark, TermNo, TermSet,
 };
+use bt_machines::{Centre, with_terminal};
 use bt_sheet::{CaseFault, Result, byte_of, number_of};
 use std::alloc::Global;
 

@@ -3,8 +3,8 @@ use crate::air::put_status;
 use crate::lines::{put_number, put_word};
 use crate::message::message_of;
 use bt_frame::{LAST_MARK, Mark};
+use bt_machines::Satellite;
 use bt_sheet::{CaseFault, Result, number_of};
-use bt_switch::Satellite;
 use bt_timeline::taken_text;
 use std::alloc::Global;
 

@@ -5,12 +5,9 @@ use crate::satellite::show_satellite;
 use crate::standby::show_standby;
 use crate::terminal::show_terminal;
 use crate::world::Flight;
-use bt_change::Centre;
 use bt_frame::{Mark, TermNo};
+use bt_machines::{Centre, Satellite, Standby, Terminal};
 use bt_sheet::{CaseFault, Result, Shelf};
-use bt_standby::Standby;
-use bt_switch::Satellite;
-use bt_term::Terminal;
 use std::alloc::Global;
 
 /// What the lines act on.

@@ -2,8 +2,8 @@
 use crate::lines::{put_number, put_word};
 use crate::message::status_of;
 use bt_frame::Mark;
+use bt_machines::Standby;
 use bt_sheet::{CaseFault, Result, number_of};
-use bt_standby::Standby;
 use bt_timeline::noticed_word;
 
 /// Does what a line of a standby says.

@@ -3,8 +3,8 @@ use crate::air::put_bursts;
 use crate::lines::{put_numbers, put_word};
 use crate::message::message_of;
 use bt_frame::{Mark, TermNo};
+use bt_machines::Terminal;
 use bt_sheet::{CaseFault, Result, byte_of, number_of};
-use bt_term::Terminal;
 use bt_timeline::heard_text;
 use std::alloc::Global;
 

@@ -7,11 +7,11 @@ ghost use Rattle.bt_matrix.specs.Walk.{positive_entries};
 ghost use Rattle.bt_modes.specs.Padding.{HasLinesWithin, IsGreatestSum, IsPartPadding};
 ghost use Rattle.bt_modes.specs.Serving.{MayHold, ServesMatrix, ServesPart};
 
+use crate::Perm;
 use crate::copy::copy_of;
 use crate::hold::hold_of;
 use crate::search::Tables;
 use bt_frame::{BeamNo, Columns, MOST_SUM, Mode, OutOfMemory};
-use bt_match::Perm;
 use bt_matrix::{Dense, Traffic};
 use std::alloc::Global;
 

@@ -10,7 +10,7 @@ use Rattle.bt_plan.specs.declared.text_fault.TextCode.TheVariants.{P1}
 use Rattle.bt_demand.specs.Burst.{IsNotAfter}
 use Rattle.bt_plan.specs.PlanSpelling.{edition_line, burst_line, plan_lines, plan_spelling, IsBurstInRange, IsPlanInRange}
 use Rattle.bt_plan.specs.PlanText.{edition_in, bursts_in, is_mode, modes_and_bursts, first_says, parts_behind, critical_behind, length_behind, plan_in, plan_reading}
-use Rattle.bt_verdict.specs.PlanVerdict.{AreBetweenTerminals}
+use Rattle.bt_demand.specs.Apart.{AreBetweenTerminals}
 use Rattle.bt_plan.specs.Reading.{Reading}
 use Rattle.bt_plan.specs.ScheduleSpelling.{length_line, critical_line, mode_line, IsModeInRange}
 use Rattle.bt_plan.specs.ScheduleText.{length_in, critical_in, mode_in}

@@ -1,5 +1,5 @@
-//! The texts of matrices, schedules, demands and burst time plans. It also gives out demands and plans, and their
-//! verdicts, which stand in crates of their own.
+//! The texts of matrices, schedules, demands and burst time plans. It also gives out demands and plans, which stand in a crate of
+//! their own.
 //!
 //! It stands on `bt_text` for lines and words, on `bt_net` for the names of terminals, and on the values of `bt_frame`,
 //! `bt_matrix` and `bt_demand`. Promises are in `specs/MatrixText.antt`, `specs/ScheduleText.antt`,
@@ -21,7 +21,6 @@ mod text_fault;
 mod traffic_reader;
 
 pub use bt_demand::{Burst, Bursts, Demand, Link, MOST_BURSTS, Plan, traffic_of};
-pub use bt_verdict::{Verdict, check, check_modes};
 pub use laws::{plans_have_one_spelling, schedules_have_one_spelling};
 pub use matrix_reader::read_matrix;
 pub use plan_reader::read_plan;

@@ -9,7 +9,7 @@ ghost use Rattle.bt_plan.specs.declared.text_fault.TextCode.TheVariants.{P1};
 ghost use Rattle.bt_demand.specs.Burst.{IsNotAfter};
 ghost use Rattle.bt_frame.specs.Critical.{IsOfBeams};
 ghost use Rattle.bt_plan.specs.PlanText.{edition_in, burst_with, burst_between, burst_behind, burst_in, in_order, burst_below, bursts_in, is_mode, modes_and_bursts, critical_behind, length_behind, plan_reading};
-ghost use Rattle.bt_verdict.specs.PlanVerdict.{AreBetweenTerminals};
+ghost use Rattle.bt_demand.specs.Apart.{AreBetweenTerminals};
 ghost use Rattle.bt_plan.specs.ScheduleText.{mode_in};
 ghost use Rattle.bt_net.specs.Name.{are_names};
 

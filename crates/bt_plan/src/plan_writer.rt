@@ -2,7 +2,7 @@
 ghost use Rattle.std.specs.Prelude.{◌≡◌, ◌<◌, ◌++◌, ◌∷◌, [], IfOk, OnOk, length, map};
 ghost use Rattle.bt_text.specs.Text.{ended};
 ghost use Rattle.bt_plan.specs.PlanSpelling.{edition_line, burst_line, plan_spelling};
-ghost use Rattle.bt_verdict.specs.PlanVerdict.{AreBetweenTerminals};
+ghost use Rattle.bt_demand.specs.Apart.{AreBetweenTerminals};
 ghost use Rattle.bt_net.specs.Terminals.{name_at, IsTerminal};
 
 use crate::schedule_writer::{write_next, write_schedule};

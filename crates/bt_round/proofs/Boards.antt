@@ -8,14 +8,14 @@ use mathlib.Core.List.{IsPrefix}
 use Rattle.bt_net.specs.Network.{Net}
 use Rattle.bt_demand.specs.declared.plan.Plan.{Plan}
 use Rattle.bt_journal.specs.declared.call.Change.{Change}
-use Rattle.bt_board.specs.Plans.{last_after, last_of, next_edition, next_of}
+use Rattle.bt_shared.specs.Plans.{last_after, last_of, next_edition, next_of}
 use Rattle.bt_history.specs.Causes.{Follows}
 use Rattle.bt_demand.specs.Plan.{empty_plan}
 use Rattle.bt_history.specs.Changes.{installs, newest, plans}
-use Rattle.bt_workers.specs.Lent.{IsLent}
+use Rattle.bt_round.specs.Lent.{IsLent}
 use Rattle.bt_round.specs.Boards.{IsShownBetween}
-use Rattle.bt_workers.proofs.Lent.{contained_on}
-use Rattle.bt_workers.proofs.Installed.{installed_is_no_newer, newest_is_installed, plans-append, stays_installed}
+use Rattle.bt_round.proofs.Lent.{contained_on}
+use Rattle.bt_round.proofs.Installed.{installed_is_no_newer, newest_is_installed, plans-append, stays_installed}
 
 last_grows : (list : List Plan) (plan : Plan) (more : List Plan) → plan ≡ get_or list (length list - 1) empty_plan
     → last_after (Some plan) more ≡ Some (get_or (list ++ more) (length (list ++ more) - 1) empty_plan)

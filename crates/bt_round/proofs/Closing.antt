@@ -5,10 +5,10 @@ use Rattle.atomic_table.specs.Seated.{TableId}
 use Rattle.bt_frame.specs.declared.numbers.OutOfMemory.{OutOfMemory}
 use Rattle.bt_net.specs.Network.{Net}
 use mathlib.Core.List.{IsPrefix}
-use Rattle.bt_board.specs.Posted.{Posted}
-use Rattle.bt_line.specs.declared.object.TurnEntry as line
-use Rattle.bt_line.specs.Legal as line_legal
-use Rattle.bt_line.specs.Passes.{HasSeen, IsPass, Place, seen_at}
+use Rattle.bt_shared.specs.Posted.{Posted}
+use Rattle.bt_shared.specs.declared.object.TurnEntry as line
+use Rattle.bt_shared.specs.Legal as line_legal
+use Rattle.bt_shared.specs.Passes.{HasSeen, IsPass, Place, seen_at}
 use Rattle.bt_journal.specs.declared.call.Call.{Call}
 use Rattle.bt_journal.specs.declared.call.Change.{Change}
 use Rattle.bt_journal.specs.declared.entry.Entry.{Entry}
@@ -21,8 +21,8 @@ use Rattle.bt_script.specs.declared.script.Round.{Round}
 use Rattle.bt_round.specs.declared.seats.TheConstants.{DESKS, SEATS}
 use Rattle.bt_round.specs.declared.workers.Job.{Job}
 use Rattle.bt_round.specs.declared.workers.Job.TheVariants.{Air, Plans, Desk}
-use Rattle.bt_workers.specs.AirLines.{AirState}
-use Rattle.bt_workers.specs.Callers.{Calling, IsSameCaller, own_of}
+use Rattle.bt_round.specs.AirLines.{AirState}
+use Rattle.bt_round.specs.Callers.{Calling, IsSameCaller, own_of}
 use Rattle.bt_round.specs.Rounds.{BookRan}
 use Rattle.bt_history.specs.Store.{RoseBy, lost_of}
 use Rattle.std.specs.Option.{is_some}

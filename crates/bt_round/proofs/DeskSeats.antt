@@ -12,8 +12,8 @@ use Rattle.bt_demand.specs.declared.plan.Plan.{Plan}
 use Rattle.bt_journal.specs.declared.call.Call.{Call}
 use Rattle.bt_script.specs.declared.script.DeskLine.{DeskLine}
 use Rattle.bt_script.specs.Named.{IsLineFor}
-use Rattle.bt_workers.specs.Lent.{IsNoNewer}
-use Rattle.bt_workers.specs.Desks.{IsNotOlder, Sight, asked_by, asked_by_line, shown_by_line, shown_to, shows_of}
+use Rattle.bt_round.specs.Lent.{IsNoNewer}
+use Rattle.bt_round.specs.Desks.{IsNotOlder, Sight, asked_by, asked_by_line, shown_by_line, shown_to, shows_of}
 use Rattle.bt_round.specs.Seats.{lines_of}
 
 -- a desk with its lines

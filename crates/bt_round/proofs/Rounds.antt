@@ -6,7 +6,7 @@ use Rattle.std.proofs.lemmas.List.{get_or-map, map-append}
 use Rattle.std.proofs.lemmas.List.Elements.{All-head, All-tail}
 use Rattle.bt_net.specs.Network.{Net}
 use Rattle.bt_demand.specs.declared.plan.Plan.{Plan}
-use Rattle.bt_line.specs.declared.object.TurnEntry as line
+use Rattle.bt_shared.specs.declared.object.TurnEntry as line
 use Rattle.bt_journal.specs.declared.call.Call.{Call}
 use Rattle.bt_journal.specs.declared.call.Change.{Change}
 use Rattle.bt_journal.specs.declared.entry.Entry.{Entry}
@@ -15,24 +15,24 @@ use Rattle.bt_journal.specs.Journal.{calls_of, changes_of}
 use Rattle.bt_history.specs.Book.{Books, journal_entry, lock_entry}
 use Rattle.bt_history.specs.Machine.{State, state_from}
 use Rattle.bt_history.specs.Causes.{Follows}
-use Rattle.bt_board.specs.Posted.{Posted}
+use Rattle.bt_shared.specs.Posted.{Posted}
 use Rattle.bt_history.specs.Changes.{installs, newest}
 use Rattle.bt_script.specs.declared.script.DeskLine.{DeskLine}
 use Rattle.bt_script.specs.declared.script.Round.{Round}
 use Rattle.bt_script.specs.Desks.{AreDesks}
 use Rattle.bt_round.specs.declared.seats.TheConstants.{SEATS}
-use Rattle.bt_workers.specs.AirLines.{AirState, PlaysAirLines}
-use Rattle.bt_workers.specs.Desks.{Sight, asked_by, desk_text, desks_text, shown_by_line, shown_to}
-use Rattle.bt_workers.specs.Planning.{PlaysPlans, planner_text}
-use Rattle.bt_workers.specs.Lent.{IsNoNewer}
+use Rattle.bt_round.specs.AirLines.{AirState, PlaysAirLines}
+use Rattle.bt_round.specs.Desks.{Sight, asked_by, desk_text, desks_text, shown_by_line, shown_to}
+use Rattle.bt_round.specs.Planning.{PlaysPlans, planner_text}
+use Rattle.bt_round.specs.Lent.{IsNoNewer}
 use Rattle.bt_round.specs.Boards.{IsShownBetween}
 use Rattle.bt_round.specs.Rounds.{RoundDone}
 use Rattle.bt_round.specs.Seats.{AllDone, lines_of, text_at}
-use Rattle.bt_workers.proofs.Lent.{installs-append}
+use Rattle.bt_round.proofs.Lent.{installs-append}
 use Rattle.bt_round.proofs.Boards.{lent_between}
-use Rattle.bt_workers.proofs.DeskLines.{call_in}
+use Rattle.bt_round.proofs.DeskLines.{call_in}
 use Rattle.bt_round.proofs.DeskSeats.{Desk, all_seen, asked_by_desk, none_asked, own_lines, seen_in, shown_as_often, shown_to_each, sights_ascend}
-use Rattle.bt_workers.proofs.Posting.{air_installs_none, desks_install_none, installed_by, none_installed, one_installs, plan_asked}
+use Rattle.bt_round.proofs.Posting.{air_installs_none, desks_install_none, installed_by, none_installed, one_installs, plan_asked}
 use Rattle.bt_round.proofs.Seating.{DeskIsDone, centre_done, desk_done, planner_done}
 
 same_flat : {A B : Type 0} (f g : A → List B) (xs : List A) → All (λ (x : A). f x ≡ g x) xs → flat_map f xs ≡ flat_map g xs

@@ -7,11 +7,11 @@ use Rattle.bt_frame.specs.declared.numbers.OutOfMemory.{OutOfMemory}
 use Rattle.bt_net.specs.Network.{Net}
 use mathlib.Core.List.{IsPrefix}
 use Rattle.bt_demand.specs.declared.plan.Plan.{Plan}
-use Rattle.bt_board.specs.Plans.{next_edition}
-use Rattle.bt_board.specs.Posted.{Posted}
-use Rattle.bt_line.specs.declared.object.TurnEntry as line
-use Rattle.bt_line.specs.Legal.{calls_by}
-use Rattle.bt_line.specs.Passes.{HasSeen, IsPass, IsSamePass, Place, seen_at}
+use Rattle.bt_shared.specs.Plans.{next_edition}
+use Rattle.bt_shared.specs.Posted.{Posted}
+use Rattle.bt_shared.specs.declared.object.TurnEntry as line
+use Rattle.bt_shared.specs.Legal.{calls_by}
+use Rattle.bt_shared.specs.Passes.{HasSeen, IsPass, IsSamePass, Place, seen_at}
 use Rattle.bt_journal.specs.declared.call.Call.{Call}
 use Rattle.bt_journal.specs.declared.call.Change.{Change}
 use Rattle.bt_journal.specs.declared.entry.Entry.{Entry}
@@ -26,14 +26,14 @@ use Rattle.bt_script.specs.Named.{IsAirLineFor, IsLineFor, IsRoundFor}
 use Rattle.bt_round.specs.declared.seats.TheConstants.{SEATS}
 use Rattle.bt_round.specs.declared.workers.Job.{Job}
 use Rattle.bt_round.specs.declared.workers.Job.TheVariants.{Air, Plans, Desk}
-use Rattle.bt_workers.specs.AirLines.{AirState, PlaysAirLines}
-use Rattle.bt_workers.specs.Callers.{Calling, IsSameCaller, caller_number, own_in, own_of}
-use Rattle.bt_workers.specs.Done.{DeskDone, PlannerDone}
+use Rattle.bt_round.specs.AirLines.{AirState, PlaysAirLines}
+use Rattle.bt_round.specs.Callers.{Calling, IsSameCaller, caller_number, own_in, own_of}
+use Rattle.bt_round.specs.Done.{DeskDone, PlannerDone}
 use Rattle.bt_round.specs.Seats.{AllAt, IsDoneAt, IsJobAt, IsOfBoard, IsOfPlace, IsOver, IsReady, air_in, lines_of, publisher_in, reader_in}
-use Rattle.bt_workers.specs.Worker.{Asks}
+use Rattle.bt_round.specs.Worker.{Asks}
 use Rattle.bt_round.specs.Workers.{CanDo, JobDone}
-use Rattle.bt_workers.specs.Planned.{HasPosted}
-use Rattle.bt_workers.proofs.Asking.{calls_in_log}
+use Rattle.bt_round.specs.Planned.{HasPosted}
+use Rattle.bt_round.proofs.Asking.{calls_in_log}
 use Rattle.bt_round.proofs.DeskSeats.{lines_name}
 
 -- one element more at its place

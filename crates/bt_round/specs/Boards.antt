@@ -2,7 +2,7 @@
 use Rattle.std.specs.Prelude.{◌≡◌, ◌≤◌, ◌++◌, List, ◌∷◌, length, All, Contains}
 use Rattle.bt_demand.specs.declared.plan.Plan.{Plan}
 use Rattle.bt_journal.specs.declared.call.Change.{Change}
-use Rattle.bt_board.specs.Posted.{Posted}
+use Rattle.bt_shared.specs.Posted.{Posted}
 use Rattle.bt_history.specs.Changes.{installs, newest, plans}
 use Rattle.bt_round.specs.declared.seats.TheConstants.{DESKS}
 

@@ -2,3 +2,12 @@ pub mod Boards
 pub mod Rounds
 pub mod Workers
 pub mod Seats
+pub mod Lent
+pub mod Desks
+pub mod Planning
+pub mod AirLines
+pub mod Waiting
+pub mod Worker
+pub mod Callers
+pub mod Done
+pub mod Planned

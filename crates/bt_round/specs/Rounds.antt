@@ -11,10 +11,10 @@ use Rattle.bt_history.specs.Changes.{newest}
 use Rattle.bt_history.specs.Machine.{state_after, state_from, Legal}
 use Rattle.bt_history.specs.Store.{RoseBy, lost_of}
 use Rattle.bt_script.specs.declared.script.Round.{Round}
-use Rattle.bt_workers.specs.AirLines.{AirState, PlaysAirLines}
+use Rattle.bt_round.specs.AirLines.{AirState, PlaysAirLines}
 use Rattle.bt_round.specs.Boards.{IsShownBetween}
-use Rattle.bt_workers.specs.Desks.{IsNotOlder, Sight, asked_by, desks_text, shown_to, shows_of}
-use Rattle.bt_workers.specs.Planning.{PlaysPlans, planner_text}
+use Rattle.bt_round.specs.Desks.{IsNotOlder, Sight, asked_by, desks_text, shown_to, shows_of}
+use Rattle.bt_round.specs.Planning.{PlaysPlans, planner_text}
 
 -- a book before and after a round: its history has gained entries, by steps of the machine, and the count of its store's faults rose by as
 -- many changes as the store lost; it tells its bytes as before, or does not

@@ -5,10 +5,10 @@ use Rattle.atomic_table.specs.Seated.{TableId}
 use Rattle.bt_frame.specs.declared.numbers.OutOfMemory.{OutOfMemory}
 use Rattle.bt_net.specs.Network.{Net}
 use mathlib.Core.List.{IsPrefix}
-use Rattle.bt_board.specs.Posted.{Posted}
-use Rattle.bt_line.specs.declared.object.TurnEntry as line
-use Rattle.bt_line.specs.Legal.{calls_by}
-use Rattle.bt_line.specs.Passes.{HasSeen, IsPass, Place, seen_at}
+use Rattle.bt_shared.specs.Posted.{Posted}
+use Rattle.bt_shared.specs.declared.object.TurnEntry as line
+use Rattle.bt_shared.specs.Legal.{calls_by}
+use Rattle.bt_shared.specs.Passes.{HasSeen, IsPass, Place, seen_at}
 use Rattle.bt_journal.specs.declared.call.Call.{Call}
 use Rattle.bt_journal.specs.declared.entry.Entry.{Entry}
 use Rattle.bt_journal.specs.declared.reply.Reply.{Reply}
@@ -19,10 +19,10 @@ use Rattle.bt_script.specs.declared.script.Round.{Round}
 use Rattle.bt_round.specs.declared.seats.TheConstants.{SEATS}
 use Rattle.bt_round.specs.declared.workers.Job.{Job}
 use Rattle.bt_round.specs.declared.workers.Job.TheVariants.{Air, Plans, Desk}
-use Rattle.bt_workers.specs.AirLines.{AirState, PlaysAirLines}
-use Rattle.bt_workers.specs.Callers.{Calling, own_of}
-use Rattle.bt_workers.specs.Done.{DeskDone, PlannerDone}
-use Rattle.bt_workers.specs.Worker.{Asks}
+use Rattle.bt_round.specs.AirLines.{AirState, PlaysAirLines}
+use Rattle.bt_round.specs.Callers.{Calling, own_of}
+use Rattle.bt_round.specs.Done.{DeskDone, PlannerDone}
+use Rattle.bt_round.specs.Worker.{Asks}
 
 -- each element, with its place
 abbrev pub AllAt : {X : Type 0} → (ℕ → X → Type 0) → List X → Type 0

@@ -2,17 +2,17 @@
 use Rattle.std.specs.Prelude.{◌≡◌, ◌+◌, ℕ, List, All, OnOk, Result}
 use Rattle.bt_frame.specs.declared.numbers.OutOfMemory.{OutOfMemory}
 use Rattle.bt_net.specs.Network.{Net}
-use Rattle.bt_board.specs.Posted.{Posted}
+use Rattle.bt_shared.specs.Posted.{Posted}
 use Rattle.bt_journal.specs.declared.entry.Entry.{Entry}
 use Rattle.bt_script.specs.Named.{IsAirLineFor, IsLineFor}
 use Rattle.bt_round.specs.declared.workers.Job.{Job}
 use Rattle.bt_round.specs.declared.workers.Job.TheVariants.{Air, Plans, Desk}
 use Rattle.bt_round.specs.declared.workers.Worker.{Worker}
-use Rattle.bt_workers.specs.AirLines.{AirState, PlaysAirLines}
-use Rattle.bt_workers.specs.Callers.{Calling, IsSameCaller, caller_number, own_of}
-use Rattle.bt_workers.specs.Done.{DeskDone, PlannerDone}
-use Rattle.bt_workers.specs.Planned.{HasPosted}
-use Rattle.bt_workers.specs.Worker.{Asks}
+use Rattle.bt_round.specs.AirLines.{AirState, PlaysAirLines}
+use Rattle.bt_round.specs.Callers.{Calling, IsSameCaller, caller_number, own_of}
+use Rattle.bt_round.specs.Done.{DeskDone, PlannerDone}
+use Rattle.bt_round.specs.Planned.{HasPosted}
+use Rattle.bt_round.specs.Worker.{Asks}
 
 -- The caller can do the job: the centre's worker is caller 0, the planner caller 1, and desk `d` is caller `d + 1`; and the lines
 -- name terminals of the network alone.

@@ -1,14 +1,36 @@
-//! A round of a script on the book: its desks, its planner and the centre's worker do their lines at once.
+//! A round of a script on the book: its workers, each with its own pass of the book's line, and the round in which the desks, the
+//! planner and the centre's worker do their lines at once.
 //!
-//! It stands on the workers of `bt_workers`, on the book behind its turn lock, on the board and on scripts. Each worker
-//! has its place on the book's line and does its lines there; the round's text is put together when all have returned.
+//! It stands on scripts, on the book behind its turn lock, on the board, on the world and on the printed lines. A worker
+//! does its lines one after the other, and appends what is printed of them to a text; the planner posts what it
+//! installed, and a desk has a reader of the board. Each worker has its place on the book's line; the round's text is put together
+//! when all have returned.
 //! These are promises: `specs/Rounds.antt`, what a round does, and `specs/Boards.antt`, the board between two rounds;
-//! `Seats` and `Workers` are for bodies alone.
+//! `specs/Done.antt`, what the lines of a desk and of the planner come to, with `Lent`, `Desks` and
+//! `Planning`; `specs/AirLines.antt` with `Waiting`, what those of the air come to; and of `Callers`, `Worker` and
+//! `Planned` what the public calls name: the number of a caller and its own entries, that a caller is the same, what is
+//! asked, and what was posted. The rest of these three, `Seats` and `Workers` are for bodies alone.
 #![tactic(auto)]
 
+mod air;
+mod caller;
+mod desk;
+mod flow;
+mod gate;
+mod lines;
+mod planner;
 mod round;
 mod seats;
+mod standby;
+mod turn;
+mod waiting;
+mod worker;
 mod workers;
 
+pub use caller::Caller;
+pub use desk::run_desk;
+pub use gate::{Gate, NoGate};
+pub use planner::run_planner;
 pub use round::{Station, run_round};
 pub use seats::DESKS;
+pub use worker::CentreWorker;

@@ -3,8 +3,8 @@
 ghost use Rattle.std.specs.Prelude.{◌≡◌, ◌+◌, ◌<◌, ◌≤◌, ◌++◌, [], ℕ, length, map, slice_index_or, vec_len, All, IsOk, OnOk};
 ghost use Rattle.std.specs.List.{flat_map};
 ghost use mathlib.Core.List.{IsPrefix};
-ghost use Rattle.bt_line.specs.Passes.{IsPass, seen_at};
-ghost use Rattle.bt_board.specs.Plans.{next_edition};
+ghost use Rattle.bt_shared.specs.Passes.{IsPass, seen_at};
+ghost use Rattle.bt_shared.specs.Plans.{next_edition};
 ghost use Rattle.bt_history.specs.Causes.{Follows};
 ghost use Rattle.bt_history.specs.Changes.{newest};
 ghost use Rattle.bt_script.specs.Desks.{AreDesks};
@@ -17,14 +17,13 @@ ghost use Rattle.bt_round.specs.Workers.{CanDo, WorkDone};
 
 use crate::seats::{Crew, SEATS, room_for, seat_all, take_apart};
 use crate::workers::{Worker, work};
-use bt_board::{Publisher, Reader};
+use crate::{CentreWorker, Gate};
 use bt_book::{Book, locked_books_are_legal, locked_books_go_on};
 use bt_frame::OutOfMemory;
-use bt_line::Line;
 use bt_net::Network;
 use bt_outside::Keeper;
 use bt_script::{DeskLines, Round};
-use bt_workers::{CentreWorker, Gate};
+use bt_shared::{Line, Publisher, Reader};
 use bt_world::Events;
 use std::alloc::Global;
 use std::sync::Wait;
@@ -39,16 +38,18 @@ pub struct Station<K: Keeper, E: Events> {
     pub centre: CentreWorker<E>,
 }
 
-/// All workers do their lines: the first `apart` of them at once, each on a thread of its own where one can be made, and
-/// then the others one after the other.
+/// All workers do their lines: the first `apart` of them at once, so many `together` on a thread of their own where one can be made,
+/// and then the others one after the other.
 fn work_all<R: Threads + Wait + Sync, G: Gate + Sync, K: Keeper + Send, E: Events + Send>(
     rt: &R,
     alloc: Global,
     net: &Network,
     apart: usize,
+    together: usize,
     workers: &mut [Worker<'_, G, K, E>],
 )
     requires apart { apart ≤ length workers.old }
+    requires together { 0 < together }
     requires can { All (λ worker. (worker.caller.start.net ≡ net.now) × CanDo net.now worker.caller worker.job) workers.old }
     ensures length { length workers.new ≡ length workers.old }
     ensures done { (i : ℕ) (d : _) → i < length workers.old → WorkDone net.now (slice_index_or workers.old i d) (slice_index_or workers.new i d) }
@@ -56,7 +57,7 @@ fn work_all<R: Threads + Wait + Sync, G: Gate + Sync, K: Keeper + Send, E: Event
     for_each_chunk_mut(
         rt,
         &mut workers[..apart],
-        1,
+        together,
         &|_, part: &mut [Worker<'_, G, K, E>]|
             requires can { All (λ worker. (worker.caller.start.net ≡ net.now) × CanDo net.now worker.caller worker.job) part.old }
             ensures done { (i : ℕ) (d : _) → i < length part.old → WorkDone net.entry.now (slice_index_or part.old i d) (slice_index_or part.new i d) }
@@ -96,6 +97,45 @@ fn seats_apart(round: &Round) -> usize
         Some(desk) => usize::from(desk.0) + 2,
         None => 2,
     }
+}
+
+/// How many neighbours of those places share a thread: as many as can where no two with lines do, so that few threads are made for
+/// workers that have none.
+fn seats_together(round: &Round, apart: usize) -> usize
+    ensures { 0 < result }
+{
+    let mut together = apart;
+    while 1 < together {
+        if are_apart(round, together) {
+            return together;
+        }
+        together -= 1;
+    }
+    1
+}
+
+/// Whether no two workers with lines share a thread where so many neighbours do.
+fn are_apart(round: &Round, together: usize) -> bool
+    requires { 0 < together }
+{
+    let mut next = 0;
+    if !round.air.as_slice().is_empty() {
+        next = 1;
+    }
+    if 0 < round.plans {
+        if 1 / together < next {
+            return false;
+        }
+        next = 1 / together + 1;
+    }
+    for desk in round.desks.as_slice() {
+        let thread = (usize::from(desk.0) + 1) / together;
+        if thread < next {
+            return false;
+        }
+        next = thread + 1;
+    }
+    true
 }
 
 /// Appends the texts of a round's workers: of its desks by number, of the planner and of the centre's worker. None of
@@ -205,7 +245,9 @@ fn run_on<'a, R: Threads + Wait + Sync, G: Gate + Sync, K: Keeper + Send, E: Eve
         Err(fault) => return (crew, Err(fault)),
     };
     let mut workers = seat_all(alloc, gate, line, round, crew, workers);
-    work_all(rt, alloc, net, seats_apart(round), &mut workers[..]);
+    let apart = seats_apart(round);
+    let together = seats_together(round, apart);
+    work_all(rt, alloc, net, apart, together, &mut workers[..]);
     let ended = add_texts(round, &workers[..], text);
     let mut crew = take_apart(workers, passes, readers);
     let met = meet_all(rt, ended, &mut crew.publisher, &mut crew.readers[..]);

@@ -1,20 +1,19 @@
 // The workers of a round get their places, and leave them again.
 ghost use Rattle.std.specs.Prelude.{◌≡◌, ◌<◌, ◌≤◌, [], Some, drop, length, map, slice_index_or, vec_capacity, vec_len, All, IfOk};
 ghost use Rattle.bt_history.specs.Causes.{Follows};
-ghost use Rattle.bt_line.specs.Passes.{IsPass, seen_at};
+ghost use Rattle.bt_shared.specs.Passes.{IsPass, seen_at};
 ghost use Rattle.bt_round.specs.declared.seats.TheConstants.{DESKS, SEATS};
-ghost use Rattle.bt_workers.specs.AirLines.{AirState};
+ghost use Rattle.bt_round.specs.AirLines.{AirState};
 ghost use Rattle.bt_round.specs.Seats.{AllAt, IsJobAt, IsOfPlace, IsReady, air_in, lines_of, publisher_in, reader_in};
 
 use crate::workers::{Job, Worker};
-use bt_board::{Publisher, Reader};
+use crate::{Caller, CentreWorker, Gate};
 use bt_book::Book;
 use bt_frame::{MOST_DESKS, OutOfMemory};
 use bt_journal::{Call, Reply};
-use bt_line::{Line, Object, Pass};
 use bt_outside::Keeper;
 use bt_script::{DeskLine, DeskLines, Round};
-use bt_workers::{Caller, CentreWorker, Gate};
+use bt_shared::{Line, Object, Pass, Publisher, Reader};
 use bt_world::Events;
 use std::alloc::Global;
 

@@ -2,15 +2,14 @@
 ghost use Rattle.std.specs.Prelude.{◌≡◌};
 ghost use Rattle.bt_round.specs.Workers.{CanDo, WorkDone};
 
-use bt_board::{Publisher, Reader};
+use crate::{Caller, CentreWorker, Gate, run_desk, run_planner};
 use bt_book::Book;
 use bt_frame::OutOfMemory;
 use bt_journal::{Call, Reply};
-use bt_line::Object;
 use bt_net::Network;
 use bt_outside::Keeper;
 use bt_script::{AirLine, DeskLine};
-use bt_workers::{Caller, CentreWorker, Gate, run_desk, run_planner};
+use bt_shared::{Object, Publisher, Reader};
 use bt_world::Events;
 use std::alloc::Global;
 use std::sync::Wait;

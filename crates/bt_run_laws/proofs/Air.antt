@@ -8,7 +8,7 @@ use Rattle.bt_script.specs.declared.script.AirLine.{AirLine}
 use Rattle.bt_script.specs.declared.script.AirLine.TheVariants as air_line
 use Rattle.bt_run_laws.specs.Readable.{AreLines}
 use Rattle.bt_run_laws.specs.Small.{IsAnswered, IsSmallAirLine}
-use Rattle.bt_workers.specs.AirLines.{AirState, PlaysAirLine, PlaysAirLines}
+use Rattle.bt_round.specs.AirLines.{AirState, PlaysAirLine, PlaysAirLines}
 use Rattle.bt_run_laws.proofs.Read.{more_lines, no_lines}
 use Rattle.bt_run_laws.proofs.Turns.{turn_goes}
 use Rattle.bt_run_laws.proofs.Waiting.{IsAirOf}

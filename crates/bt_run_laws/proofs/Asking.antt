@@ -17,8 +17,8 @@ use Rattle.bt_script.specs.declared.script.DeskLine.{DeskLine}
 use Rattle.bt_script.specs.declared.script.DeskLine.TheVariants as desk_line
 use Rattle.bt_script.specs.declared.script.Round.{Round}
 use Rattle.bt_timeline.specs.Timeline.{IsInstall}
-use Rattle.bt_workers.specs.AirLines.{AirState, PlaysAirLine, PlaysAirLines, PlaysOrder, PlaysTurn, happened, having, installing, newest_in, turning}
-use Rattle.bt_workers.specs.Desks.{asked_by, asked_by_line}
+use Rattle.bt_round.specs.AirLines.{AirState, PlaysAirLine, PlaysAirLines, PlaysOrder, PlaysTurn, happened, having, installing, newest_in, turning}
+use Rattle.bt_round.specs.Desks.{asked_by, asked_by_line}
 use Rattle.bt_centre.specs.Run.{PlaysRound, Stand}
 use Rattle.bt_run_laws.proofs.Planner.{PlannerInstalls}
 

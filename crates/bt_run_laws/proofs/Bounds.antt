@@ -37,7 +37,7 @@ use Rattle.bt_history.specs.EditCauses.{GainsFrom, GainsTo, with_edit}
 use Rattle.bt_history.specs.Machine.{bytes_of}
 use Rattle.bt_history.proofs.Entries.{edition-more, edition-other}
 use Rattle.bt_history.proofs.OneMore.{ended_length}
-use Rattle.bt_workers.proofs.Installed.{newest-install, newest-other}
+use Rattle.bt_round.proofs.Installed.{newest-install, newest-other}
 
 -- each change has a line, and each line a newline
 lines-behind : (net : Net) (edits : ℕ) (changes : List Change) → length changes ≤ length (lines_from net edits changes)

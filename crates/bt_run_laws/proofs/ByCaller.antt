@@ -12,7 +12,7 @@ use Rattle.bt_script.specs.declared.script.DeskLine.{DeskLine}
 use Rattle.bt_script.specs.declared.script.DeskLine.TheVariants as desk_line
 use Rattle.bt_script.specs.declared.script.Round.{Round}
 use Rattle.bt_script.specs.Length.{desks_length}
-use Rattle.bt_workers.specs.Desks.{asked_by, asked_by_line}
+use Rattle.bt_round.specs.Desks.{asked_by, asked_by_line}
 use Rattle.bt_run_laws.proofs.NoEdits.{AskNoEdit}
 
 -- the entries that ask for an edit

@@ -20,10 +20,10 @@ use Rattle.bt_script.specs.declared.script.DeskLine.{DeskLine}
 use Rattle.bt_script.specs.declared.script.DeskLine.TheVariants as desk_line
 use Rattle.bt_script.specs.declared.script.Round.{Round}
 use Rattle.bt_timeline.specs.Timeline.{burst_line, burst_lines, desk_reply_line, entry_line}
-use Rattle.bt_forms.specs.declared.form.Form.TheVariants as form
+use Rattle.bt_words.specs.declared.form.Form.TheVariants as form
 use Rattle.bt_run_lines.specs.declared.printed.Value.TheVariants as value
 use Rattle.bt_run_lines.specs.Printers.{line, numbers, printed_line}
-use Rattle.bt_workers.specs.Desks.{Sight, asked_by, asked_by_line, desk_text, desks_text, plan_shown, shown_to}
+use Rattle.bt_round.specs.Desks.{Sight, asked_by, asked_by_line, desk_text, desks_text, plan_shown, shown_to}
 use Rattle.bt_run_laws.specs.Readable.{AreLines}
 use Rattle.bt_run_laws.specs.Small.{IsAnswered, IsSmallBurst, IsSmallCall, IsSmallDeskLine, IsSmallPlan, IsSmallReply, IsSmallRound}
 use Rattle.bt_run_laws.proofs.Asking.{of_calls}

@@ -19,15 +19,15 @@ use Rattle.bt_events.specs.World.{accepted, bursts_for, frames_shown, heard, hel
 use Rattle.bt_events.proofs.Plans.{flies-each, plan-holds, plans-flyable}
 use Rattle.bt_events.proofs.Ranges.{front-fits, world-fits}
 use Rattle.bt_world.specs.Shown.{IsFrame}
-use Rattle.bt_forms.specs.declared.form.Form.TheVariants as form
+use Rattle.bt_words.specs.declared.form.Form.TheVariants as form
 use Rattle.bt_timeline.specs.Air.{frame_lines}
 use Rattle.bt_timeline.specs.Timeline.{burst_line, burst_lines}
 use Rattle.bt_run_lines.specs.declared.printed.Value.TheVariants as value
 use Rattle.bt_run_lines.specs.Printers.{line, printed_line}
 use Rattle.bt_run_laws.specs.Readable.{AreLines}
 use Rattle.bt_run_laws.specs.Small.{IsSmall, IsSmallBurst}
-use Rattle.bt_workers.proofs.Marks.{mark-small}
-use Rattle.bt_workers.proofs.Sending.{terminals-own}
+use Rattle.bt_round.proofs.Marks.{mark-small}
+use Rattle.bt_round.proofs.Sending.{terminals-own}
 use Rattle.bt_centre.specs.World.{IsSpelledWorld}
 use Rattle.bt_run_laws.proofs.Read.{each_lines, line_printed, more_lines}
 use Rattle.bt_run_laws.proofs.Sent.{small_superframe, small_word}

@@ -6,11 +6,11 @@ use Rattle.bt_events.specs.Event.{Event}
 use Rattle.bt_events.proofs.Ranges.{Fits, world-fits}
 use Rattle.bt_run_laws.specs.Readable.{AreLines}
 use Rattle.bt_run_laws.specs.Small.{IsSmall}
-use Rattle.bt_workers.specs.AirLines.{AirState, having, mark_of, sends_text, sent_by, sent_count, sent_in}
-use Rattle.bt_workers.specs.Worker.{NamesOwn}
-use Rattle.bt_workers.proofs.Marks.{mark-small}
-use Rattle.bt_workers.proofs.Running.{count-having, sent-having}
-use Rattle.bt_workers.proofs.Sending.{all-name}
+use Rattle.bt_round.specs.AirLines.{AirState, having, mark_of, sends_text, sent_by, sent_count, sent_in}
+use Rattle.bt_round.specs.Worker.{NamesOwn}
+use Rattle.bt_round.proofs.Marks.{mark-small}
+use Rattle.bt_round.proofs.Running.{count-having, sent-having}
+use Rattle.bt_round.proofs.Sending.{all-name}
 use Rattle.bt_run_laws.proofs.Read.{more_lines}
 use Rattle.bt_run_laws.proofs.Sent.{sent_printed, small_superframe}
 use Rattle.bt_run_laws.proofs.Waiting.{IsAirOf, having_few}

@@ -18,7 +18,7 @@ use Rattle.bt_events.specs.Event.{Opening, Happening, Deliver}
 use Rattle.bt_events.specs.Fits.{IsPlace}
 use Rattle.bt_events.specs.World.{sent}
 use Rattle.bt_world.specs.Shown.{IsShown, answer_to, noted_by}
-use Rattle.bt_forms.specs.declared.form.Form.TheVariants as form
+use Rattle.bt_words.specs.declared.form.Form.TheVariants as form
 use Rattle.bt_timeline.specs.Air.{got_line}
 use Rattle.bt_run_lines.specs.declared.printed.Value.TheVariants as value
 use Rattle.bt_run_lines.specs.Printers.{numbers}

@@ -10,8 +10,8 @@ use Rattle.bt_journal.specs.declared.call.Call.TheVariants as call
 use Rattle.bt_journal.specs.declared.entry.Entry.{Entry}
 use Rattle.bt_journal.specs.Journal.{asks_edit}
 use Rattle.bt_script.specs.declared.script.AirLine.{AirLine}
-use Rattle.bt_workers.specs.AirLines.{AirState, PlaysAirLines}
-use Rattle.bt_workers.specs.Planning.{PlansEdition, PlansOnce, PlaysPlans}
+use Rattle.bt_round.specs.AirLines.{AirState, PlaysAirLines}
+use Rattle.bt_round.specs.Planning.{PlansEdition, PlansOnce, PlaysPlans}
 use Rattle.bt_run_laws.proofs.Asking.{centre_asks}
 
 -- none of the entries asks for an edit

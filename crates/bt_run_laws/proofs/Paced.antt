@@ -12,9 +12,9 @@ use Rattle.bt_air.specs.declared.order.Order.TheVariants.{Load, Arm}
 use Rattle.bt_air.specs.declared.order.Status.{Status}
 use Rattle.bt_air.specs.declared.sent.Act.TheVariants.{Quiet, RepeatLoad, RepeatArm, Want}
 use Rattle.bt_air.specs.declared.sent.Aired.{Aired}
-use Rattle.bt_change.specs.declared.turn.Turn.{Turn as Seen}
-use Rattle.bt_change.specs.Last.{last_order}
-use Rattle.bt_change.specs.Turn.{act_of, arm_after, attempt, is_before, may_arm, wanted_by}
+use Rattle.bt_machines.specs.declared.turn.Turn.{Turn as Seen}
+use Rattle.bt_machines.specs.Last.{last_order}
+use Rattle.bt_machines.specs.Turn.{act_of, arm_after, attempt, is_before, may_arm, wanted_by}
 use Rattle.bt_events.specs.Event.{Opening, Event, Tick, Turn, Second, Ordered, Deliver, Frame, ResetTerminal, RestartCentre, Install, Happening}
 use Rattle.bt_events.specs.Fits.{IsWorld}
 use Rattle.bt_events.specs.World.{comes_to, greatest_due, kept, log, mark, orders, sent, sent_with, sight, wanted, with_wanted}

@@ -25,10 +25,10 @@ use Rattle.bt_history.proofs.Flying.{install_flies}
 use Rattle.bt_history.proofs.Histories.{Step-adds, as_list}
 use Rattle.bt_history.proofs.Strays.{cause_strays}
 use Rattle.bt_timeline.specs.Timeline.{IsInstall, plan_reply_line}
-use Rattle.bt_forms.specs.declared.form.Form.TheVariants as form
+use Rattle.bt_words.specs.declared.form.Form.TheVariants as form
 use Rattle.bt_run_lines.specs.Printers.{numbers}
-use Rattle.bt_workers.specs.Planning.{PlansEdition, PlansOnce, PlaysPlans, planner_line, planner_text}
-use Rattle.bt_workers.proofs.Installed.{newest-other}
+use Rattle.bt_round.specs.Planning.{PlansEdition, PlansOnce, PlaysPlans, planner_line, planner_text}
+use Rattle.bt_round.proofs.Installed.{newest-other}
 use Rattle.bt_centre.specs.Run.{AreFew}
 use Rattle.bt_run_laws.specs.Readable.{AreLines}
 use Rattle.bt_run_laws.specs.Small.{IsSmallPlan}

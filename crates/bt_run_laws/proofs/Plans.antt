@@ -16,7 +16,7 @@ use Rattle.bt_journal.specs.declared.call.Change.{Change}
 use Rattle.bt_history.specs.Causes.{Follows}
 use Rattle.bt_history.specs.Changes.{plans}
 use Rattle.bt_history.proofs.Flying.{plans_fly}
-use Rattle.bt_workers.proofs.Installed.{installed_is_no_newer}
+use Rattle.bt_round.proofs.Installed.{installed_is_no_newer}
 use Rattle.bt_centre.specs.Run.{AreFew}
 use Rattle.bt_run_laws.specs.Small.{IsSmallPlan}
 use Rattle.bt_run_laws.proofs.Bounds.{are_bounded}

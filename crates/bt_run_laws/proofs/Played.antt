@@ -10,17 +10,17 @@ use Rattle.bt_air.specs.declared.sent.Aired.TheVariants as sends
 use Rattle.bt_air.specs.declared.sent.Place.{Place}
 use Rattle.bt_events.specs.Event.{Tick, Deliver, Frame, ResetTerminal}
 use Rattle.bt_script.specs.declared.script.Losing.{Losing}
-use Rattle.bt_standby.specs.declared.standby.Noticed.{Noticed}
-use Rattle.bt_standby.specs.declared.standby.Noticed.TheVariants as notice
-use Rattle.bt_standby.specs.Standby.{step_of}
-use Rattle.bt_forms.specs.declared.form.Form.TheVariants as form
+use Rattle.bt_machines.specs.declared.standby.Noticed.{Noticed}
+use Rattle.bt_machines.specs.declared.standby.Noticed.TheVariants as notice
+use Rattle.bt_machines.specs.Standby.{step_of}
+use Rattle.bt_words.specs.declared.form.Form.TheVariants as form
 use Rattle.bt_timeline.specs.Air.{ahead_line, back_line, flow_line, frame_lines, got_line, last_tick_line, lost_line, not_installed_line, not_sent_line, noticed_line, over_line, reset_line, standby_burst_line, tick_line, unsent_line}
 use Rattle.bt_run_lines.specs.declared.printed.Value.TheVariants as value
 use Rattle.bt_run_lines.specs.Printers.{numbers}
 use Rattle.bt_run_laws.specs.Readable.{AreLines}
 use Rattle.bt_run_laws.specs.Small.{IsSmall}
-use Rattle.bt_workers.specs.AirLines.{AirState, PlaysAhead, PlaysBack, PlaysBurst, PlaysDeliveries, PlaysDelivery, PlaysFlow, PlaysFrame, PlaysHearing, PlaysLoss, PlaysNotice, PlaysReset, PlaysTick, ShowsFrame, awaiting, bridging, going, happened, having, mark_of, notice_text, noticed}
-use Rattle.bt_workers.specs.Waiting.{left_of, loses, lost_of}
+use Rattle.bt_round.specs.AirLines.{AirState, PlaysAhead, PlaysBack, PlaysBurst, PlaysDeliveries, PlaysDelivery, PlaysFlow, PlaysFrame, PlaysHearing, PlaysLoss, PlaysNotice, PlaysReset, PlaysTick, ShowsFrame, awaiting, bridging, going, happened, having, mark_of, notice_text, noticed}
+use Rattle.bt_round.specs.Waiting.{left_of, loses, lost_of}
 use Rattle.bt_run_laws.proofs.Frames.{frame_printed}
 use Rattle.bt_run_laws.proofs.Heard.{delivery_printed}
 use Rattle.bt_run_laws.proofs.Read.{line_printed, more_lines, no_lines}

@@ -20,10 +20,10 @@ use Rattle.bt_air.specs.declared.sent.Taken.{Taken}
 use Rattle.bt_air.specs.declared.sent.Taken.TheVariants as taken
 use Rattle.bt_timeline.specs.Air.{taken_name, heard_name}
 use Rattle.bt_timeline.specs.Timeline.{name_of_beam}
-use Rattle.bt_forms.specs.declared.form.Form.{Form}
-use Rattle.bt_forms.specs.declared.form.Form.TheVariants as form
-use Rattle.bt_forms.specs.Forms as part
-use Rattle.bt_forms.specs.Forms.{Part, is_of_a_run, parts_of}
+use Rattle.bt_words.specs.declared.form.Form.{Form}
+use Rattle.bt_words.specs.declared.form.Form.TheVariants as form
+use Rattle.bt_words.specs.Forms as part
+use Rattle.bt_words.specs.Forms.{Part, is_of_a_run, parts_of}
 use Rattle.bt_run_lines.specs.declared.output.OutputCode.{OutputCode}
 use Rattle.bt_run_lines.specs.declared.output.OutputCode.TheVariants.{O1}
 use Rattle.bt_run_lines.specs.declared.printed.Printed.{Printed}

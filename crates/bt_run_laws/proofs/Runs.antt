@@ -3,7 +3,7 @@ use Rattle.std.proofs.Common.{ℕ, ◌+◌, ◌<◌, ◌≤◌, ◌^◌, ◌==�
 use Rattle.std.proofs.lemmas.List.Elements.{All-contains, All-filter, All-head, All-tail}
 use Rattle.std.proofs.lemmas.List.Sums.{sum_by-cons}
 use Rattle.bt_net.specs.Network.{IsSound, Net}
-use Rattle.bt_forms.specs.declared.form.Form.TheVariants as form
+use Rattle.bt_words.specs.declared.form.Form.TheVariants as form
 use Rattle.bt_journal.specs.declared.call.Change.{Change}
 use Rattle.bt_journal.specs.declared.entry.Entry.{Entry}
 use Rattle.bt_journal.specs.Journal.{calls_of}
@@ -16,9 +16,9 @@ use Rattle.bt_script.specs.declared.script.Item.TheVariants as item
 use Rattle.bt_script.specs.declared.script.Round.{Round}
 use Rattle.bt_script.specs.Length.{item_length, script_length}
 use Rattle.bt_timeline.specs.Timeline.{restart_line, round_line, start_line, total_line}
-use Rattle.bt_workers.specs.AirLines.{AirState, mark_of}
-use Rattle.bt_workers.specs.Desks.{Sight, desks_text}
-use Rattle.bt_workers.specs.Planning.{planner_text}
+use Rattle.bt_round.specs.AirLines.{AirState, mark_of}
+use Rattle.bt_round.specs.Desks.{Sight, desks_text}
+use Rattle.bt_round.specs.Planning.{planner_text}
 use Rattle.bt_run_lines.specs.Printers.{numbers}
 use Rattle.bt_centre.specs.Run.{AreFew, PlaysItem, PlaysItems, PlaysRestart, PlaysRound, Stand, changes_at}
 use Rattle.bt_centre.proofs.Lawful.{steps_first}

@@ -12,14 +12,14 @@ use Rattle.bt_air.specs.declared.sent.Aired.TheVariants as sends
 use Rattle.bt_air.specs.Range.{IsArmed, IsStatus, IsWord}
 use Rattle.bt_air.specs.Sent.{sent_as}
 use Rattle.bt_events.proofs.Ranges.{Fits}
-use Rattle.bt_forms.specs.declared.form.Form.TheVariants as form
+use Rattle.bt_words.specs.declared.form.Form.TheVariants as form
 use Rattle.bt_run_lines.specs.declared.printed.Value.TheVariants as value
 use Rattle.bt_run_lines.specs.Printers.{numbers}
 use Rattle.bt_timeline.specs.Air.{reference_line, sent_line, status_line}
 use Rattle.bt_run_laws.specs.Readable.{AreLines}
 use Rattle.bt_run_laws.specs.Small.{IsSmall}
-use Rattle.bt_workers.specs.AirLines.{sent_lines}
-use Rattle.bt_workers.specs.Worker.{NamesOwn}
+use Rattle.bt_round.specs.AirLines.{sent_lines}
+use Rattle.bt_round.specs.Worker.{NamesOwn}
 use Rattle.bt_run_laws.proofs.Read.{line_printed, more_lines, no_lines}
 
 -- four bytes hold what a field of four bytes has

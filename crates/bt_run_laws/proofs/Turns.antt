@@ -13,7 +13,7 @@ use Rattle.bt_events.specs.World.{log, orders, plans, wanted}
 use Rattle.bt_events.proofs.Banks.{world-planned}
 use Rattle.bt_events.proofs.Counted.{world-counted}
 use Rattle.bt_events.proofs.Ranges.{Taken, wanted-fits}
-use Rattle.bt_forms.specs.declared.form.Form.TheVariants as form
+use Rattle.bt_words.specs.declared.form.Form.TheVariants as form
 use Rattle.bt_history.specs.Machine.{Step}
 use Rattle.bt_journal.specs.declared.call.Call.{Call}
 use Rattle.bt_journal.specs.declared.call.Call.TheVariants as call
@@ -24,9 +24,9 @@ use Rattle.bt_timeline.specs.Air.{IsUnplaced, order_line, unplaced_line}
 use Rattle.bt_run_lines.specs.Printers.{numbers}
 use Rattle.bt_run_laws.specs.Readable.{AreLines}
 use Rattle.bt_run_laws.specs.Small.{IsAnswered, IsSmall, IsSmallReply}
-use Rattle.bt_workers.specs.AirLines.{turn_text_by, AirState, PlaysOrder, PlaysTurn, PlaysTurning, answer_text, happened, having, installing, mark_of, newest_in, once_answered, sends_text, turning}
-use Rattle.bt_workers.specs.Worker.{AnswersOrder}
-use Rattle.bt_workers.proofs.Unplaced.{change-answers}
+use Rattle.bt_round.specs.AirLines.{turn_text_by, AirState, PlaysOrder, PlaysTurn, PlaysTurning, answer_text, happened, having, installing, mark_of, newest_in, once_answered, sends_text, turning}
+use Rattle.bt_round.specs.Worker.{AnswersOrder}
+use Rattle.bt_round.proofs.Unplaced.{change-answers}
 use Rattle.bt_centre.specs.World.{IsSpelledWorld}
 use Rattle.bt_run_laws.proofs.Paced.{orders_few}
 use Rattle.bt_run_laws.proofs.Sent.{small_superframe, small_word}

@@ -15,9 +15,9 @@ use Rattle.bt_air.specs.Sent.{sent_as}
 use Rattle.bt_events.specs.Event.{Event, RestartCentre}
 use Rattle.bt_events.specs.World.{terminals}
 use Rattle.bt_journal.specs.declared.call.Change.{Change}
-use Rattle.bt_workers.specs.AirLines.{AirState, awaiting, going, having, restarting, sent_by, sent_count}
-use Rattle.bt_workers.specs.Waiting.{deliveries, deliveries_of, receivers}
-use Rattle.bt_workers.proofs.Running.{count-having}
+use Rattle.bt_round.specs.AirLines.{AirState, awaiting, going, having, restarting, sent_by, sent_count}
+use Rattle.bt_round.specs.Waiting.{deliveries, deliveries_of, receivers}
+use Rattle.bt_round.proofs.Running.{count-having}
 use Rattle.bt_centre.specs.Run.{at_start}
 use Rattle.bt_run_laws.specs.Small.{IsSmall}
 

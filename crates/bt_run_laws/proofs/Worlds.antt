@@ -17,8 +17,8 @@ use Rattle.bt_journal.specs.declared.reply.Reply.{Reply}
 use Rattle.bt_journal.specs.declared.reply.Reply.TheVariants as reply
 use Rattle.bt_script.specs.declared.script.AirLine.{AirLine}
 use Rattle.bt_script.specs.declared.script.AirLine.TheVariants as line
-use Rattle.bt_workers.specs.AirLines.{AirState, PlaysAirLine, PlaysAirLines, PlaysBack, PlaysDeliveries, PlaysDelivery, PlaysFrame, PlaysNotice, PlaysOrder, PlaysTick, PlaysTurn, PlaysTurning, awaiting, bridging, happened, having, installing, noticed, once_answered, restarting, turning}
-use Rattle.bt_workers.proofs.Running.{last-first}
+use Rattle.bt_round.specs.AirLines.{AirState, PlaysAirLine, PlaysAirLines, PlaysBack, PlaysDeliveries, PlaysDelivery, PlaysFrame, PlaysNotice, PlaysOrder, PlaysTick, PlaysTurn, PlaysTurning, awaiting, bridging, happened, having, installing, noticed, once_answered, restarting, turning}
+use Rattle.bt_round.proofs.Running.{last-first}
 use Rattle.bt_centre.specs.World.{IsSpelledWorld}
 
 -- the messages of the air's world can be spelled

@@ -1,8 +1,8 @@
 -- A text that is printed lines.
 use Rattle.std.specs.Prelude.{◌≡◌, ℕ, Bool, true, false, List, All, flat_map}
 use Rattle.bt_net.specs.Network.{Net}
-use Rattle.bt_forms.specs.declared.form.Form.{Form}
-use Rattle.bt_forms.specs.declared.form.Form.TheVariants as form
+use Rattle.bt_words.specs.declared.form.Form.{Form}
+use Rattle.bt_words.specs.declared.form.Form.TheVariants as form
 use Rattle.bt_run_lines.specs.declared.printed.Printed.{Printed}
 use Rattle.bt_run_lines.specs.Printers.{printed_line}
 use Rattle.bt_run_lines.specs.Spelled.{Suits}

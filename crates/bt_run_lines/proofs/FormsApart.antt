@@ -11,12 +11,12 @@ use Rattle.bt_text.specs.Text.{is_word, is_number, lacks}
 use Rattle.bt_net.specs.Network.{Net, IsSound, names_of}
 use Rattle.bt_net.specs.Terminals.{IsTerminal, name_at, terminal_of}
 use Rattle.bt_plan.proofs.NamedTerminals.{terminal_found}
-use Rattle.bt_forms.specs.declared.form.Form.{Form}
-use Rattle.bt_forms.specs.declared.form.Form.TheVariants as form
+use Rattle.bt_words.specs.declared.form.Form.{Form}
+use Rattle.bt_words.specs.declared.form.Form.TheVariants as form
 use Rattle.bt_run_lines.specs.declared.printed.Value.{Value}
 use Rattle.bt_run_lines.specs.declared.printed.Value.TheVariants as value
-use Rattle.bt_forms.specs.Forms as part
-use Rattle.bt_forms.specs.Forms.{Part, parts_of, is_of_a_run, forms_from}
+use Rattle.bt_words.specs.Forms as part
+use Rattle.bt_words.specs.Forms.{Part, parts_of, is_of_a_run, forms_from}
 use Rattle.bt_run_lines.specs.Words.{taken_of, heard_of, said_by}
 use Rattle.bt_run_lines.specs.Lines.{followed, values_in}
 use Rattle.bt_run_lines.specs.Spelled.{word_of, words_of, SuitsPlace, SuitPlaces}

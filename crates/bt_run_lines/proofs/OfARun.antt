@@ -4,8 +4,8 @@ use Rattle.std.specs.List.{list_all}
 use Rattle.std.proofs.lemmas.Bool.{and_parts}
 use Rattle.bt_text.specs.Text.{words}
 use Rattle.bt_net.specs.Network.{Net}
-use Rattle.bt_forms.specs.declared.form.Form.{Form}
-use Rattle.bt_forms.specs.Forms.{is_of_a_run, forms_from, parts_of}
+use Rattle.bt_words.specs.declared.form.Form.{Form}
+use Rattle.bt_words.specs.Forms.{is_of_a_run, forms_from, parts_of}
 use Rattle.bt_run_lines.specs.declared.printed.Printed.{Printed}
 use Rattle.bt_run_lines.specs.declared.printed.Value.{Value}
 use Rattle.bt_run_lines.specs.Lines.{values_in, or_else, printed_as, first_of_forms, printed_in, line_in}

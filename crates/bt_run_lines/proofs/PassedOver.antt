@@ -9,7 +9,7 @@ use Rattle.bt_text.proofs.TextNumbers.{lacks-decimal}
 use Rattle.bt_text.proofs.TextLines.{lacks-spaced, lines-ended, lines-ended_append, words-spaced}
 use Rattle.bt_net.specs.Network.{Net, IsSound}
 use Rattle.bt_talk.specs.Answers as talk
-use Rattle.bt_forms.specs.declared.form.Form.TheVariants as form
+use Rattle.bt_words.specs.declared.form.Form.TheVariants as form
 use Rattle.bt_run_lines.specs.declared.output.OutputCode.{OutputCode}
 use Rattle.bt_run_lines.specs.declared.output.OutputCode.TheVariants.{O1}
 use Rattle.bt_run_lines.specs.declared.printed.Printed.{Printed}

@@ -5,15 +5,15 @@ use Rattle.bt_text.specs.Text.{is_word}
 use Rattle.bt_text.specs.WordReader.{first_word}
 use Rattle.bt_text.proofs.Fronts.{front_word}
 use Rattle.bt_net.specs.Network.{Net}
-use Rattle.bt_forms.specs.declared.form.Form.{Form}
-use Rattle.bt_forms.specs.declared.form.Form.TheVariants as form
+use Rattle.bt_words.specs.declared.form.Form.{Form}
+use Rattle.bt_words.specs.declared.form.Form.TheVariants as form
 use Rattle.bt_run_lines.specs.declared.printed.Printed.{Printed}
 use Rattle.bt_run_lines.specs.declared.printed.Value.{Value}
-use Rattle.bt_forms.specs.declared.token.Token.{Token}
-use Rattle.bt_forms.specs.declared.token.Token.TheVariants as token
-use Rattle.bt_forms.proofs.Places.{places_at, places_at-cons}
-use Rattle.bt_forms.specs.Forms as part
-use Rattle.bt_forms.specs.Forms.{Part, part_of, is_fixed, open_places}
+use Rattle.bt_words.specs.declared.token.Token.{Token}
+use Rattle.bt_words.specs.declared.token.Token.TheVariants as token
+use Rattle.bt_words.proofs.Places.{places_at, places_at-cons}
+use Rattle.bt_words.specs.Forms as part
+use Rattle.bt_words.specs.Forms.{Part, part_of, is_fixed, open_places}
 use Rattle.bt_run_lines.specs.Words.{said_by, value_of}
 use Rattle.bt_run_lines.specs.Lines.{followed, values_in, or_else, printed_as, first_of_forms}
 

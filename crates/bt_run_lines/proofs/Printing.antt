@@ -7,8 +7,8 @@ use Rattle.bt_air.specs.declared.sent.Heard.TheVariants as heard
 use Rattle.bt_air.specs.declared.sent.Place.{Place}
 use Rattle.bt_air.specs.declared.sent.Place.TheVariants.{Satellite, Centre, Terminal}
 use Rattle.bt_air.specs.declared.sent.Taken.TheVariants as taken
-use Rattle.bt_forms.specs.Forms.{parts_of}
-use Rattle.bt_forms.proofs.Places.{line_of-spaced}
+use Rattle.bt_words.specs.Forms.{parts_of}
+use Rattle.bt_words.proofs.Places.{line_of-spaced}
 use Rattle.bt_timeline.specs.Air.{got_line}
 use Rattle.bt_run_lines.specs.declared.printed.Printed.{Printed}
 use Rattle.bt_run_lines.specs.Spelled.{words_of, spelled}

@@ -6,11 +6,11 @@ use Rattle.std.proofs.lemmas.Cmp.{nat_list_eq_equiv}
 use Rattle.bt_text.specs.Text.{lacks}
 use Rattle.bt_text.proofs.TextLines.{words-spaced}
 use Rattle.bt_net.specs.Network.{Net, IsSound}
-use Rattle.bt_forms.specs.declared.form.Form.{Form}
+use Rattle.bt_words.specs.declared.form.Form.{Form}
 use Rattle.bt_run_lines.specs.declared.printed.Printed.{Printed}
 use Rattle.bt_run_lines.specs.declared.printed.Value.{Value}
-use Rattle.bt_forms.specs.Forms as part
-use Rattle.bt_forms.specs.Forms.{Part, parts_of}
+use Rattle.bt_words.specs.Forms as part
+use Rattle.bt_words.specs.Forms.{Part, parts_of}
 use Rattle.bt_run_lines.specs.Lines.{values_in, or_else, first_of_forms, printed_in, line_in}
 use Rattle.bt_run_lines.specs.Spelled.{words_of, spelled, SuitPlaces, Suits}
 use Rattle.bt_run_lines.specs.Printers.{line}

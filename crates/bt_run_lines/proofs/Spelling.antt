@@ -21,12 +21,12 @@ use Rattle.bt_air.specs.declared.sent.Heard.TheVariants as heard
 use Rattle.bt_air.specs.declared.sent.Taken.{Taken}
 use Rattle.bt_air.specs.declared.sent.Taken.TheVariants as taken
 use Rattle.bt_timeline.specs.Air.{taken_name, heard_name}
-use Rattle.bt_forms.specs.declared.form.Form.{Form}
+use Rattle.bt_words.specs.declared.form.Form.{Form}
 use Rattle.bt_run_lines.specs.declared.printed.Printed.{Printed}
 use Rattle.bt_run_lines.specs.declared.printed.Value.{Value}
 use Rattle.bt_run_lines.specs.declared.printed.Value.TheVariants as value
-use Rattle.bt_forms.specs.Forms as part
-use Rattle.bt_forms.specs.Forms.{Part, parts_of, forms_from}
+use Rattle.bt_words.specs.Forms as part
+use Rattle.bt_words.specs.Forms.{Part, parts_of, forms_from}
 use Rattle.bt_run_lines.specs.Words.{small_number, desk_number, frame_of, beam_of, taken_of, heard_of, value_of, said_by}
 use Rattle.bt_run_lines.specs.Lines.{IsOf, followed, values_in, printed_as, or_else, first_of_forms, printed_in, line_in}
 use Rattle.bt_run_lines.specs.Spelled.{word_of, words_of, spelled}

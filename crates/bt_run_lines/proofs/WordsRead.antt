@@ -27,8 +27,8 @@ use Rattle.bt_timeline.specs.Air.{taken_name, heard_name}
 use Rattle.bt_timeline.specs.Timeline.{IsBeam, name_of_beam}
 use Rattle.bt_run_lines.specs.declared.printed.Value.{Value}
 use Rattle.bt_run_lines.specs.declared.printed.Value.TheVariants as value
-use Rattle.bt_forms.specs.Forms as part
-use Rattle.bt_forms.specs.Forms.{Part}
+use Rattle.bt_words.specs.Forms as part
+use Rattle.bt_words.specs.Forms.{Part}
 use Rattle.bt_run_lines.specs.Words.{small_number, desk_number, frame_of, frame_in, beam_of, taken_of, heard_of, value_of}
 use Rattle.bt_run_lines.specs.Spelled.{word_of, SuitsPlace}
 use Rattle.bt_run_lines.proofs.First.{position-first}

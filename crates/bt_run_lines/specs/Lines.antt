@@ -6,13 +6,13 @@ use Rattle.bt_text.specs.Reading.{◌>>=◌, LineReading, or_fault}
 use Rattle.bt_net.specs.Network.{Net}
 use Rattle.bt_net.specs.Terminals.{IsTerminal}
 use Rattle.bt_timeline.specs.Timeline.{IsBeam}
-use Rattle.bt_forms.specs.declared.form.Form.{Form}
+use Rattle.bt_words.specs.declared.form.Form.{Form}
 use Rattle.bt_run_lines.specs.declared.output.OutputCode.{OutputCode}
 use Rattle.bt_run_lines.specs.declared.output.OutputCode.TheVariants.{O1}
 use Rattle.bt_run_lines.specs.declared.printed.Printed.{Printed}
 use Rattle.bt_run_lines.specs.declared.printed.Value.{Value}
 use Rattle.bt_run_lines.specs.declared.printed.Value.TheVariants as value
-use Rattle.bt_forms.specs.Forms.{Part, parts_of, forms_from}
+use Rattle.bt_words.specs.Forms.{Part, parts_of, forms_from}
 use Rattle.bt_run_lines.specs.Words.{said_by}
 
 -- these values, and behind them those that are said further on

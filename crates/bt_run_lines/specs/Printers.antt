@@ -7,9 +7,9 @@ use Rattle.bt_air.specs.declared.sent.Heard.TheVariants as heard
 use Rattle.bt_air.specs.declared.sent.Place.{Place}
 use Rattle.bt_air.specs.declared.sent.Place.TheVariants.{Satellite, Centre, Terminal}
 use Rattle.bt_air.specs.declared.sent.Taken.TheVariants as taken
-use Rattle.bt_forms.specs.declared.form.Form.{Form}
-use Rattle.bt_forms.specs.declared.form.Form.TheVariants as form
-use Rattle.bt_forms.specs.Filled.{form_line}
+use Rattle.bt_words.specs.declared.form.Form.{Form}
+use Rattle.bt_words.specs.declared.form.Form.TheVariants as form
+use Rattle.bt_words.specs.Filled.{form_line}
 use Rattle.bt_run_lines.specs.declared.printed.Printed.{Printed}
 use Rattle.bt_run_lines.specs.declared.printed.Value.{Value}
 use Rattle.bt_run_lines.specs.declared.printed.Value.TheVariants as value

@@ -13,9 +13,9 @@ use Rattle.bt_timeline.specs.Timeline.{IsBeam, name_of_beam}
 use Rattle.bt_run_lines.specs.declared.printed.Printed.{Printed}
 use Rattle.bt_run_lines.specs.declared.printed.Value.{Value}
 use Rattle.bt_run_lines.specs.declared.printed.Value.TheVariants as value
-use Rattle.bt_forms.specs.Filled.{filled}
-use Rattle.bt_forms.specs.Forms as part
-use Rattle.bt_forms.specs.Forms.{Part, is_of_a_run, parts_of}
+use Rattle.bt_words.specs.Filled.{filled}
+use Rattle.bt_words.specs.Forms as part
+use Rattle.bt_words.specs.Forms.{Part, is_of_a_run, parts_of}
 
 -- the word of a value
 abbrev pub word_of : Net → Value → List ℕ

@@ -1,10 +1,10 @@
 // A printed line: its form and its values.
 ghost use Rattle.std.specs.Prelude.{◌≡◌, ◌<◌, [], ◌∷◌, ◌++◌, length};
-ghost use Rattle.bt_forms.specs.declared.token.TheConstants.{MOST_VALUES};
+ghost use Rattle.bt_words.specs.declared.token.TheConstants.{MOST_VALUES};
 
 use bt_air::{Heard, Taken};
-use bt_forms::{Form, MOST_VALUES};
 use bt_frame::{BeamNo, Mark, TermNo};
+use bt_words::{Form, MOST_VALUES};
 use std::marker::Model;
 
 /// What a word of a printed line says that is no fixed one.
@@ -50,7 +50,7 @@ pub(crate) struct Values {
 impl Model for Values {
     ghost use Rattle.std.specs.Prelude.{List, take, ◌≤◌};
     ghost use Rattle.bt_run_lines.specs.declared.printed.Value.{Value as OneValue};
-    ghost use Rattle.bt_forms.specs.declared.token.TheConstants.{MOST_VALUES};
+    ghost use Rattle.bt_words.specs.declared.token.TheConstants.{MOST_VALUES};
 
     ghost Value = { List OneValue };
 

@@ -1,15 +1,15 @@
 // A printed line from its bytes.
 ghost use Rattle.std.specs.Prelude.{◌≡◌, ◌≤◌, All, IfSome, map};
 ghost use Rattle.bt_text.specs.Text.{words};
-ghost use Rattle.bt_forms.specs.declared.token.TheConstants.{MOST_VALUES};
-ghost use Rattle.bt_forms.specs.Forms.{part_of, open_places};
+ghost use Rattle.bt_words.specs.declared.token.TheConstants.{MOST_VALUES};
+ghost use Rattle.bt_words.specs.Forms.{part_of, open_places};
 ghost use Rattle.bt_run_lines.specs.Lines.{IsOf, first_of_forms, line_in, printed_as, told_behind, values_in};
 
 use crate::printed::{Printed, Values};
 use crate::word::add_said;
-use bt_forms::{Form, Token, forms_from, tokens_of};
 use bt_net::Network;
 use bt_text::WordReader;
+use bt_words::{Form, Token, forms_from, tokens_of};
 
 /// The printed line that the bytes spell, its newline left out; None where no run prints such a line.
 pub fn read_line(net: &Network, line: &[u8]) -> Option<Printed>

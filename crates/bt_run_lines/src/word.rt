@@ -1,16 +1,16 @@
 // What a word of a printed line says.
 ghost use Rattle.std.specs.Prelude.{◌≡◌, ◌<◌, ◌==◌, ◌++◌, Some, None, IfSome, IsTrue, length, not, option_map, position, if◌then◌else◌};
 ghost use Rattle.bt_text.specs.WordReader.{number_to};
-ghost use Rattle.bt_forms.specs.declared.token.TheConstants.{MOST_VALUES};
-ghost use Rattle.bt_forms.specs.Forms.{part_of, is_fixed};
+ghost use Rattle.bt_words.specs.declared.token.TheConstants.{MOST_VALUES};
+ghost use Rattle.bt_words.specs.Forms.{part_of, is_fixed};
 ghost use Rattle.bt_run_lines.specs.Words.{desk_number, frame_in, beam_of, taken_of, heard_of, value_of, said_by};
 
 use crate::printed::{Value, Values};
 use bt_air::{Heard, Taken};
-use bt_forms::Token;
 use bt_frame::{BeamNo, MOST_DESKS, Mark};
 use bt_net::Network;
 use bt_text::{is_word, number, number_of_digits};
+use bt_words::Token;
 
 /// Adds what the word says at this place, and answers whether it may stand there.
 pub(crate) fn add_said(net: &Network, token: Token, word: &[u8], said: &mut Values) -> bool

@@ -3,9 +3,9 @@ use Rattle.std.specs.Prelude.{ℕ, ◌-◌, ◌++◌, List, [], ◌∷◌, decim
 use Rattle.bt_script.specs.declared.fault.ScriptCode.{ScriptCode}
 use Rattle.bt_script.specs.declared.fault.ScriptCode.TheVariants.{S1, S2, S3, S4, S5}
 use Rattle.bt_text.specs.Text.{lines}
-use Rattle.bt_forms.specs.declared.form.Form.{Form}
-use Rattle.bt_forms.specs.declared.form.Form.TheVariants as form
-use Rattle.bt_forms.specs.Filled.{form_line}
+use Rattle.bt_words.specs.declared.form.Form.{Form}
+use Rattle.bt_words.specs.declared.form.Form.TheVariants as form
+use Rattle.bt_words.specs.Filled.{form_line}
 use Rattle.bt_talk.specs.declared.block.Step.{Step}
 use Rattle.bt_talk.specs.declared.block.Step.TheVariants as step
 

@@ -4,11 +4,10 @@ ghost use Rattle.bt_text.specs.Text.{lines};
 ghost use Rattle.bt_talk.specs.Answers.{answer_of, counted, fault_line, form_of_fault, input_fault_line, lines_line, ready_line};
 
 use crate::block::Step;
-use bt_forms::{Form, print};
 use bt_frame::OutOfMemory;
 use bt_script::ScriptCode;
 use bt_text::first_line;
-use bt_words::Word;
+use bt_words::{Form, Word, print};
 use std::alloc::Global;
 
 /// The answer to line `at`: its fault, where it has one, and that the next may come.

@@ -1,7 +1,7 @@
 //! What a line of a session comes to, and its answer.
 //!
 //! It stands on the lines of a script (`bt_script`), of which a session has all, and `go`, `forget` and lines that ask and change
-//! nothing, and on the forms of printed lines (`bt_forms`). All of `specs/` is promise: `Block.antt`, the table of a session's lines, in the order of
+//! nothing, and on the forms of printed lines (`bt_words`). All of `specs/` is promise: `Block.antt`, the table of a session's lines, in the order of
 //! `block.rt`; `Answers.antt`, what stands behind the text of what a line plays, and in front of what it is told; `Help.antt`, what
 //! is told of the lines; `Asked.antt`, the parts that lines ask; `Scripts.antt`, the session that asks what a script asks.
 #![tactic(auto)]

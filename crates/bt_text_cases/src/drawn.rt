@@ -5,8 +5,8 @@ ghost use Rattle.bt_demand.specs.Traffic.{HasSumsTo};
 ghost use Rattle.bt_trans.specs.Part.{total_slots};
 ghost use Rattle.bt_trans.specs.declared.part.TheConstants.{MOST_PART_BEAMS};
 
+use bt_cut::make_demand;
 use bt_frame::MOST_NUMBERED_BEAMS;
-use bt_make::make_demand;
 use bt_matrix::{Dense, Traffic};
 use bt_net::Network;
 use bt_sheet::{CaseFault, Result};

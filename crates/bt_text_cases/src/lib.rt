@@ -1,7 +1,7 @@
 //! The lines of cases that show texts and the steps of planning, for the program that plays cases. `docs/cases.md` says
 //! what they mean.
 //!
-//! It stands on the readers of texts, on the steps from a matrix to a plan, on drawn demands (`bt_make`), on schedules for
+//! It stands on the readers of texts, on the steps from a matrix to a plan, on drawn demands (`bt_cut`), on schedules for
 //! fewer transponders (`bt_trans`), and on the text of cases. It promises nothing beyond that each step is safe, and has no
 //! `specs/`; but one small decomposition, whose looks stand in its contract (`crossed.rt`).
 #![tactic(auto)]

@@ -1,15 +1,15 @@
 // Steps of planning that a command does not show one by one.
 ghost use Rattle.std.specs.Bool.{OnTrue};
 ghost use Rattle.std.specs.Prelude.{◌≡◌, ◌<◌};
-ghost use Rattle.bt_match.specs.Matching.{HasEqualLineSums};
+ghost use Rattle.bt_modes.specs.Matching.{HasEqualLineSums};
 
 use crate::crossed::put_crossed;
 use crate::cutting::put_cutting;
 use crate::texts::{matrix_from, put_verdict};
 use bt_frame::{BeamNo, Steps};
 use bt_links::Crosslinked;
-use bt_match::{Partial, Perm, perfect};
 use bt_matrix::{Dense, Traffic};
+use bt_modes::{Partial, Perm, perfect};
 use bt_sheet::{CaseFault, Result, Shelf, byte_of};
 use std::alloc::Global;
 use std::marker::Brand;

@@ -4,7 +4,7 @@ use Rattle.bt_frame.specs.declared.numbers.TermNo.{TermNo}
 use Rattle.bt_net.specs.Network.{Net}
 use Rattle.bt_demand.specs.Apart.{bursts_from}
 use Rattle.bt_demand.specs.declared.burst.Burst.{Burst}
-use Rattle.bt_forms.specs.declared.form.Form.TheVariants as form
+use Rattle.bt_words.specs.declared.form.Form.TheVariants as form
 use Rattle.bt_timeline.specs.Timeline.{burst_line, burst_lines}
 
 -- the line of a burst where the terminal sends it

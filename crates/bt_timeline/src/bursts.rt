@@ -3,19 +3,18 @@ ghost use Rattle.std.specs.Prelude.{◌≡◌, ◌==◌, ◌++◌, [], if◌then
 ghost use Rattle.bt_demand.specs.Apart.{bursts_from};
 ghost use Rattle.bt_net.specs.Terminals.{name_at};
 ghost use Rattle.bt_timeline.specs.Air.{frame_lines};
-ghost use Rattle.bt_forms.specs.declared.form.Form.TheVariants as form;
-ghost use Rattle.bt_forms.specs.Filled.{form_line};
+ghost use Rattle.bt_words.specs.declared.form.Form.TheVariants as form;
+ghost use Rattle.bt_words.specs.Filled.{form_line};
 ghost use Rattle.bt_words.specs.Lines.{word_bytes};
 ghost use Rattle.bt_timeline.specs.Timeline.{burst_line, burst_lines, show_lines};
 ghost use Rattle.bt_words.specs.Written.{Extends};
 
 use bt_air::AirFrame;
 use bt_demand::Burst;
-use bt_forms::{Form, print, put};
 use bt_frame::{EditionNo, OutOfMemory, TermNo};
 use bt_net::Network;
 use bt_text::ShortText;
-use bt_words::Word;
+use bt_words::{Form, Word, print, put};
 use std::alloc::Global;
 
 /// Appends what a desk is shown of a plan: its edition, its length in slots and the number of its modes, and then those of

@@ -4,10 +4,9 @@ ghost use Rattle.bt_timeline.specs.Air.{IsPlaceOf, answer_name, got_line, heard_
 ghost use Rattle.bt_words.specs.Lines.{word_bytes};
 
 use bt_air::{Answer, Heard, Place, Taken};
-use bt_forms::{Form, print};
 use bt_frame::OutOfMemory;
 use bt_net::Network;
-use bt_words::{Word, add_line};
+use bt_words::{Form, Word, add_line, print};
 use std::alloc::Global;
 
 /// Appends the line of the delivery of the message of that number: who received it, and what the receiver did with it.

@@ -5,12 +5,11 @@ ghost use Rattle.bt_timeline.specs.Verdicts.{CanName};
 ghost use Rattle.bt_words.specs.Written.{Extends};
 
 use crate::verdict::verdict_text;
-use bt_forms::{Form, print, print_front};
 use bt_frame::{EditionNo, OutOfMemory};
 use bt_journal::Call;
 use bt_net::Network;
 use bt_verdict::Verdict;
-use bt_words::Word;
+use bt_words::{Form, Word, print, print_front};
 use std::alloc::Global;
 
 /// Appends the line of a plan that was installed, by the call that asked for it.

@@ -2,9 +2,8 @@
 ghost use Rattle.std.specs.Prelude.{◌≡◌, ◌++◌, OnOk, OnErr};
 ghost use Rattle.bt_timeline.specs.Timeline.{restart_line, round_line, start_line, total_line};
 
-use bt_forms::{Form, print};
 use bt_frame::OutOfMemory;
-use bt_words::Word;
+use bt_words::{Form, Word, print};
 use std::alloc::Global;
 
 /// Appends the line of a start: the last edition, the edition of the newest plan, and the mark of the superframe.

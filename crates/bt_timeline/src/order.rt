@@ -3,10 +3,9 @@ ghost use Rattle.std.specs.Prelude.{◌≡◌, ◌++◌, OnOk, OnErr};
 ghost use Rattle.bt_timeline.specs.Air.{IsUnplaced, order_line, unplaced_line};
 
 use bt_air::Order;
-use bt_forms::{Form, print};
 use bt_frame::OutOfMemory;
 use bt_journal::Reply;
-use bt_words::Word;
+use bt_words::{Form, Word, print};
 use std::alloc::Global;
 
 /// Appends the line of an order that the centre wants.

@@ -3,11 +3,10 @@ ghost use Rattle.std.specs.Prelude.{◌≡◌, ◌++◌, None, OnOk, OnErr};
 ghost use Rattle.bt_timeline.specs.Timeline.{AnswersEdit, IsPrinted, desk_reply_line, plan_reply_line};
 
 use crate::install::{installed_text, not_good_text};
-use bt_forms::{Form, print};
 use bt_frame::OutOfMemory;
 use bt_journal::{Entry, Reply};
 use bt_net::Network;
-use bt_words::Word;
+use bt_words::{Form, Word, print};
 use std::alloc::Global;
 
 /// Appends the line of the reply to an edit of a desk.

@@ -3,10 +3,9 @@ ghost use Rattle.std.specs.Prelude.{◌≡◌, ◌++◌, OnOk, OnErr};
 ghost use Rattle.bt_timeline.specs.Air.{NamesTerminal, reference_line, sent_line, status_line};
 
 use bt_air::{Sent, Status};
-use bt_forms::{Form, print};
 use bt_frame::{EditionNo, Mark, OutOfMemory};
 use bt_net::Network;
-use bt_words::Word;
+use bt_words::{Form, Word, print};
 use std::alloc::Global;
 
 /// Appends the line of the message of that number: what it says, without its modes and bursts.

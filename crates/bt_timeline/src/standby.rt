@@ -2,10 +2,9 @@
 ghost use Rattle.std.specs.Prelude.{◌≡◌, ◌++◌, OnOk, OnErr};
 ghost use Rattle.bt_timeline.specs.Air.{noticed_form, noticed_line, noticed_name, standby_burst_line, unnoticed_line, unsent_line};
 
-use bt_forms::{Form, print};
 use bt_frame::OutOfMemory;
-use bt_standby::Noticed;
-use bt_words::Word;
+use bt_machines::Noticed;
+use bt_words::{Form, Word, print};
 use std::alloc::Global;
 
 /// Appends the line of a status that the standby heard: the number of its message, and what the standby did with it.

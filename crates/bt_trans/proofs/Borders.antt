@@ -4,7 +4,7 @@ use Rattle.std.proofs.lemmas.Bool.{cases_lt}
 use Rattle.std.proofs.lemmas.List.{get_or_past, get_or_default}
 use Rattle.bt_frame.specs.declared.schedule.Critical.TheVariants.{Row, Column}
 use Rattle.bt_matrix.specs.Traffic.{row_of, entry, row_sum, column_sum, IsTraffic}
-use Rattle.bt_match.specs.Matching.{HasLineSums}
+use Rattle.bt_modes.specs.Matching.{HasLineSums}
 use Rattle.bt_modes.specs.Padding.{HasLinesWithin}
 use Rattle.bt_modes.proofs.Sums.{IsSquare, IsSquare-traffic, row_sum-total, column_sum-total, rows_are_columns}
 use Rattle.bt_frame.proofs.Totals.{total}

@@ -5,7 +5,7 @@ use Rattle.bt_frame.specs.declared.limits.TheConstants.{MOST_SUM}
 use Rattle.bt_matrix.specs.Traffic.{entry, row_sum, column_sum}
 use Rattle.bt_frame.specs.declared.mode.Mode.{Mode}
 use Rattle.bt_trans.specs.declared.part.PartMode.{PartMode}
-use Rattle.bt_match.specs.Matching.{HasLineSums}
+use Rattle.bt_modes.specs.Matching.{HasLineSums}
 use Rattle.bt_modes.specs.Padding.{HasLinesWithin}
 use Rattle.bt_trans.specs.declared.border.Cuts.{Cuts}
 use Rattle.bt_trans.specs.declared.border.TheConstants.{MOST_WANTED}

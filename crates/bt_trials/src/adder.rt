@@ -3,7 +3,7 @@ ghost use Rattle.std.specs.Prelude.{◌≡◌, ◌≤◌, ◌^◌, [], length};
 ghost use Rattle.bt_trials.specs.Sums.{Adds};
 
 use bt_frame::OutOfMemory;
-use bt_line::{Object, TurnEntry};
+use bt_shared::{Object, TurnEntry};
 use std::alloc::Global;
 use std::marker::Model;
 

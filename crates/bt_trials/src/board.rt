@@ -1,9 +1,9 @@
 // What only a run shows: memory that is there suffices, and threads post and look at once.
 ghost use Rattle.std.specs.Prelude.{◌≡◌};
 
-use bt_board::{Publisher, Reader, board};
 use bt_demand::{Bursts, Plan};
 use bt_frame::{BeamNo, Critical, EditionNo, Modes, Schedule};
+use bt_shared::{Publisher, Reader, board};
 use std::alloc::Global;
 use std::sync::Wait;
 use std::test::*;

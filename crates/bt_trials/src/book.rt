@@ -3,14 +3,14 @@ ghost use Rattle.std.specs.Prelude.{◌≡◌, ◌<◌, ℕ, length, slice_index
 ghost use Rattle.bt_net.specs.Network.{Net};
 ghost use Rattle.bt_journal.specs.Journal.{NamesTerminals};
 ghost use Rattle.bt_history.specs.Machine.{IsOfNetwork};
-ghost use Rattle.bt_line.specs.Passes.{IsOfLine, IsSamePass};
+ghost use Rattle.bt_shared.specs.Passes.{IsOfLine, IsSamePass};
 
 use bt_base::{Keeper, SureKeeper};
 use bt_book::Book;
 use bt_frame::{EditionNo, TermNo, Units};
 use bt_journal::{Call, Edit, Entry};
-use bt_line::{Line, Pass};
 use bt_net::Network;
+use bt_shared::{Line, Pass};
 use std::alloc::Global;
 use std::sync::Wait;
 use std::test;

@@ -1,10 +1,10 @@
 // What only a run shows: the calls of several threads are all made, and memory that is there suffices for them.
 ghost use Rattle.std.specs.Prelude.{◌≡◌, ◌≤◌, ◌<◌, ℕ, length, slice_index_or};
 ghost use Rattle.bt_frame.specs.declared.limits.TheConstants.{MOST_CALLERS};
-ghost use Rattle.bt_line.specs.Passes.{IsOfLine, IsSamePass};
+ghost use Rattle.bt_shared.specs.Passes.{IsOfLine, IsSamePass};
 
 use crate::adder::Adder;
-use bt_line::{Line, Pass};
+use bt_shared::{Line, Pass};
 use std::alloc::Global;
 use std::sync::Wait;
 use std::test::Fail;

@@ -1,2 +1,4 @@
 pub mod Lines
 pub mod Written
+pub mod Forms
+pub mod Filled

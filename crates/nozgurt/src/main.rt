@@ -1,7 +1,7 @@
 //! The program: it makes the real files, the input, the output and the store, and hands its words to the top call, or to that
 //! of a session.
 //!
-//! It stands on the real adapters (`bt_outside`, `bt_input` for the talk, and `bt_disk` for the store), on what a program ends
+//! It stands on the real adapters (`bt_outside`, and `bt_disk` for the store), on what a program ends
 //! with (`bt_report`), on what is said of that (`bt_explain`) and on the top calls (`bt_cli`).
 #![tactic(auto)]
 
@@ -11,8 +11,7 @@ mod pages;
 use bt_cli::{centre_main, journal_of, live_main, live_words};
 use bt_disk::{FileDisk, LineKeeper};
 use bt_explain::{Done, KeptFiles, LastLine, tell, tell_status};
-use bt_input::{Console, StdSource};
-use bt_outside::{DirFiles, StdSink};
+use bt_outside::{Console, DirFiles, StdSink, StdSource};
 use bt_report::{DONE, OUT_OF_MEMORY, Program, print_text, put_standard_input, words_after_name};
 use std::alloc::{AllocError, Global};
 use std::env::Env;

@@ -2,7 +2,7 @@
 use Rattle.std.proofs.Common.{◌≡◌, List, ℕ, rules, refl, subst, ◌+◌}
 use Rattle.bt_timeline.specs.Timeline.{round_line}
 use Rattle.bt_round.specs.Rounds.{RoundDone}
-use Rattle.bt_workers.proofs.OnOk.{when_ok}
+use Rattle.bt_round.proofs.OnOk.{when_ok}
 use Rattle.bt_centre.specs.Progress.{Hand, IsLeftEarly, RoundPlayed}
 use Rattle.bt_centre.proofs.Going.{left_early, left_on}
 use Rattle.bt_centre.proofs.play.play_round.Goals as goal

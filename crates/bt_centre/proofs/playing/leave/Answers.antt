@@ -4,7 +4,7 @@ use Rattle.std.specs.Prelude.{reverse}
 use Rattle.bt_air.specs.declared.event.Event.{Event}
 use Rattle.bt_journal.specs.declared.entry.Entry.{Entry}
 use Rattle.bt_history.specs.Book.{Books}
-use Rattle.bt_workers.specs.AirLines.{AirState}
+use Rattle.bt_round.specs.AirLines.{AirState}
 use Rattle.bt_centre.specs.declared.history.History.{History}
 use Rattle.bt_centre.specs.Progress.{Hand, IsLeftOf, Left}
 use Rattle.bt_centre.proofs.playing.leave.Goals as goal

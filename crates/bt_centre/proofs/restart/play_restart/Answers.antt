@@ -2,7 +2,7 @@
 use Rattle.std.proofs.Common.{◌≡◌, List, refl, sym, ap, ◌∙◌, subst, inl, arith}
 use Rattle.bt_history.specs.Book.{Books}
 use Rattle.bt_history.specs.Causes.{Follows}
-use Rattle.bt_workers.specs.AirLines.{AirState}
+use Rattle.bt_round.specs.AirLines.{AirState}
 use Rattle.bt_script.specs.declared.script.Item.TheVariants as item
 use Rattle.bt_centre.specs.declared.history.History.{History}
 use Rattle.bt_centre.specs.Progress.{Hand, IsLeftEarly, IsLeftOf, ItemFailed, Left, RestartPlayed}

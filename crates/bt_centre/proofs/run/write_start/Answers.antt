@@ -1,7 +1,7 @@
 -- the line was written
 use Rattle.std.proofs.Common.{◌≡◌, ◌∙◌, List, ℕ, ap, subst, rules}
 use Rattle.bt_outside.specs.Told.{GainsPrefix, gained}
-use Rattle.bt_workers.proofs.OnOk.{on_ok}
+use Rattle.bt_round.proofs.OnOk.{on_ok}
 use Rattle.bt_centre.specs.Progress.{start_of}
 use Rattle.bt_centre.proofs.run.write_start.Goals as goal
 

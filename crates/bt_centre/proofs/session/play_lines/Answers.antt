@@ -1,10 +1,10 @@
 -- the lines were played and answered, or the session stopped
 use Rattle.std.proofs.Common.{◌≡◌, ◌∙◌, List, ◌++◌, ℕ, Option, refl, sym, ap, subst, rules, arith}
-use Rattle.bt_input.specs.declared.source.Incoming.{Incoming}
-use Rattle.bt_input.specs.Input.{Comes}
-use Rattle.bt_input.specs.Talk.{heard, took}
+use Rattle.bt_outside.specs.declared.source.Incoming.{Incoming}
+use Rattle.bt_outside.specs.Input.{Comes}
+use Rattle.bt_outside.specs.Talk.{heard, took}
 use Rattle.bt_talk.specs.Block.{IsOpenFor, Open}
-use Rattle.bt_workers.proofs.OnOk.{where_ok}
+use Rattle.bt_round.proofs.OnOk.{where_ok}
 use Rattle.bt_centre.specs.Answering.{SessionGoing}
 use Rattle.bt_centre.proofs.Ended.{err_is, rose_from}
 use Rattle.bt_centre.proofs.SessionEnds.{going_not_played, going_not_said, going_stopped, heard_all, heard_fault, heard_over, same_session_end, session_not_begun, source_failed}

@@ -7,7 +7,7 @@ use Rattle.bt_matrix.specs.Traffic.{IsHeaviest}
 use Rattle.bt_modes.specs.Few.{HasFewModes}
 use Rattle.bt_demand.specs.Plan.{IsGoodPlan}
 use Rattle.bt_demand.specs.Traffic.{matrix_of}
-use Rattle.bt_make.specs.Made.{IsMade}
+use Rattle.bt_cut.specs.Made.{IsMade}
 use Rattle.bt_cli.specs.Make.{summary}
 use Rattle.bt_report.specs.Outcome.{text_alone}
 use Rattle.bt_cli.proofs.make.draw.Goals as goal

@@ -2,7 +2,7 @@
 use Rattle.std.proofs.Common.{◌≡◌, ◌<◌, get_or, length, length-set, sym, ap, ◌∙◌, subst, arith}
 use Rattle.std.proofs.lemmas.List.{get_or_default, get_or-set_other}
 use mathlib.Core.List.{IsPrefix}
-use Rattle.bt_board.specs.Posted.{Posted}
+use Rattle.bt_shared.specs.Posted.{Posted}
 use Rattle.bt_round.proofs.Seating.{turned}
 use Rattle.bt_round.proofs.round.meet_all.Goals as goal
 

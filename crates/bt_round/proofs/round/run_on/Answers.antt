@@ -2,9 +2,9 @@
 use Rattle.std.proofs.Common.{◌≡◌, ◌+◌, ◌++◌, All, IsOk, List, Some, drop, length, map, get_or, ap, sym, ◌∙◌, subst}
 use Rattle.std.specs.List.{flat_map}
 use mathlib.Core.List.{IsPrefix}
-use Rattle.bt_board.specs.Posted.{Posted}
+use Rattle.bt_shared.specs.Posted.{Posted}
 use Rattle.bt_round.specs.Seats.{AllAt, IsOfPlace, IsReady, air_in, publisher_in, reader_in, text_at}
-use Rattle.bt_workers.proofs.OnOk.{on_both, on_ok, where_ok}
+use Rattle.bt_round.proofs.OnOk.{on_both, on_ok, where_ok}
 use Rattle.bt_round.proofs.Closing.{AreOver, all_done, are_over, as_many, boards_are, count_readers, passes_are, placed, publisher_of, readers_of, still_opening, written_back}
 use Rattle.bt_round.proofs.DeskSeats.{Desk}
 use Rattle.bt_round.proofs.Seating.{ready_can}

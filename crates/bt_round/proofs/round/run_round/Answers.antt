@@ -1,7 +1,7 @@
 -- the line is closed, and its history is that of the workers
 use Rattle.std.proofs.Common.{◌≡◌, ◌+◌, ◌++◌, List, map, get_or, sym, ap, ◌∙◌, subst, arith}
-use Rattle.bt_line.specs.Passes.{IsPass}
-use Rattle.bt_board.specs.Plans.{next_edition}
+use Rattle.bt_shared.specs.Passes.{IsPass}
+use Rattle.bt_shared.specs.Plans.{next_edition}
 use Rattle.bt_journal.specs.declared.call.Call.{Call}
 use Rattle.bt_journal.specs.declared.call.Change.{Change}
 use Rattle.bt_journal.specs.declared.reply.Reply.{Reply}
@@ -15,7 +15,7 @@ use Rattle.bt_round.specs.declared.seats.TheConstants.{SEATS}
 use Rattle.bt_round.specs.Rounds.{BookRan}
 use Rattle.bt_round.proofs.Boards.{last_edition}
 use Rattle.bt_round.proofs.Closing.{Laws, comes_back, ran_nothing, seen_through}
-use Rattle.bt_workers.proofs.OnOk.{on_ok, on_three}
+use Rattle.bt_round.proofs.OnOk.{on_ok, on_three}
 use Rattle.bt_round.proofs.Rounds.{changes_over, posted_over, round_over, stored_entries}
 use Rattle.bt_round.proofs.round.run_round.Goals as goal
 

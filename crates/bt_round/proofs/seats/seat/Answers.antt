@@ -1,7 +1,7 @@
 -- a pass that has seen nothing is one of a caller
 use Rattle.std.proofs.Common.{List, refl, sym, subst}
-use Rattle.bt_line.specs.declared.object.TurnEntry as line
-use Rattle.bt_line.specs.Legal.{Legal}
+use Rattle.bt_shared.specs.declared.object.TurnEntry as line
+use Rattle.bt_shared.specs.Legal.{Legal}
 use Rattle.bt_journal.specs.declared.call.Call.{Call}
 use Rattle.bt_journal.specs.declared.reply.Reply.{Reply}
 use Rattle.bt_history.specs.Book.{book_steps}

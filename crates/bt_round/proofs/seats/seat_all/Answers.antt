@@ -4,8 +4,8 @@ use Rattle.std.proofs.lemmas.Grind.{get_or_after_one}
 use Rattle.std.proofs.lemmas.List.{drop-drop}
 use Rattle.std.proofs.lemmas.List.Elements.{All-head, All-tail}
 use Rattle.std.specs.Vec.Iter.{into_iter_items}
-use Rattle.bt_line.specs.Passes.{IsPass, seen_at}
-use Rattle.bt_board.specs.Posted.{Posted}
+use Rattle.bt_shared.specs.Passes.{IsPass, seen_at}
+use Rattle.bt_shared.specs.Posted.{Posted}
 use Rattle.bt_round.specs.declared.seats.TheConstants.{SEATS}
 use Rattle.bt_round.specs.Seats.{AllAt, IsJobAt, IsReady}
 use Rattle.bt_round.proofs.Seating.{all_at_push, next_of, only_one, seated, taken}

@@ -3,7 +3,7 @@ use Rattle.std.proofs.Common.{◌≡◌, ◌+◌, [], ◌∷◌, ◌++◌, List,
 use Rattle.std.proofs.lemmas.Grind.{get_or_after_one}
 use Rattle.std.proofs.lemmas.List.{append-nil, drop-drop, get_or_default, nil_from_length}
 use Rattle.std.specs.Vec.Iter.{into_iter_items}
-use Rattle.bt_board.specs.Posted.{Posted}
+use Rattle.bt_shared.specs.Posted.{Posted}
 use Rattle.bt_round.specs.Seats.{IsOfPlace, air_in, publisher_in, reader_in}
 use Rattle.bt_round.proofs.Seating.{behind_is_desk, moved_on, moved_two, next_of}
 use Rattle.bt_round.proofs.seats.take_apart.Goals as goal

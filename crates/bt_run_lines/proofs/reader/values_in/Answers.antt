@@ -1,5 +1,5 @@
 -- a place without a word, a word that may not stand there, and one word more
-use Rattle.bt_forms.specs.declared.token.TheConstants.{MOST_VALUES}
+use Rattle.bt_words.specs.declared.token.TheConstants.{MOST_VALUES}
 use Rattle.bt_run_lines.proofs.Places.{goes_on, stops, lacks_word, room_left}
 use Rattle.bt_run_lines.proofs.reader.values_in.Goals as goal
 

@@ -1,5 +1,5 @@
 use Rattle.std.proofs.Common.{ℕ, ◌-◌, ◌*◌, List, map, subst, sym, ◌∙◌, arith}
-use Rattle.bt_match.specs.Matching.{HasLineSums}
+use Rattle.bt_modes.specs.Matching.{HasLineSums}
 use Rattle.bt_trans.specs.Border.{IsBordered}
 use Rattle.bt_trans.proofs.Written.{IsBorderedWhole-made}
 use Rattle.bt_trans.proofs.border.bordered.Goals as goal

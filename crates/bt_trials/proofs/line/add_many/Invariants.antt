@@ -1,4 +1,4 @@
-use Rattle.bt_line.specs.Passes.{IsSamePass}
+use Rattle.bt_shared.specs.Passes.{IsSamePass}
 use Rattle.bt_trials.proofs.line.add_many.Given as goal
 
 -- it is the same pass

@@ -1,6 +1,6 @@
 use Rattle.std.proofs.Common.{length, ◌∙◌, ap, arith}
 use Rattle.bt_air.specs.declared.order.Status.{Status}
-use Rattle.bt_switch.specs.Satellite.{status_of}
+use Rattle.bt_machines.specs.Satellite.{status_of}
 use Rattle.bt_world.specs.Life.{Life, past_of}
 use Rattle.bt_world.proofs.Framed.{length-terminals, few-kept, air-kept}
 use Rattle.bt_world.proofs.Kept.{kept-as}

@@ -2,7 +2,7 @@ use Rattle.std.proofs.Common.{◌≡◌, ◌++◌, List, Option, Some, refl, sym
 use Rattle.bt_frame.specs.declared.numbers.TermSet.{TermSet}
 use Rattle.bt_air.specs.declared.order.Order.{Order}
 use Rattle.bt_air.specs.declared.sent.Aired.{Aired}
-use Rattle.bt_change.specs.Centre.{having_placed}
+use Rattle.bt_machines.specs.Centre.{having_placed}
 use Rattle.bt_events.specs.Centre.{needed_by}
 use Rattle.bt_events.specs.Event.{Ordered}
 use Rattle.bt_world.specs.Life.{Life, MayCome, having_had, life_of, plans_in, terminals_of}

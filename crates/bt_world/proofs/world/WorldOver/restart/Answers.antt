@@ -1,8 +1,8 @@
 use Rattle.std.proofs.Common.{◌≡◌, List, Option, reverse, refl, sym, subst, ap, ◌∙◌}
 use Rattle.bt_frame.specs.declared.numbers.TermSet.{TermSet}
 use Rattle.bt_air.specs.declared.order.Order.{Order}
-use Rattle.bt_change.specs.Centre.{begins_with}
-use Rattle.bt_change.specs.Last.{last_order}
+use Rattle.bt_machines.specs.Centre.{begins_with}
+use Rattle.bt_machines.specs.Last.{last_order}
 use Rattle.bt_events.specs.Centre.{needed_by}
 use Rattle.bt_events.specs.Event.{RestartCentre}
 use Rattle.bt_world.specs.Life.{Life, MayCome, having_had, life_of, plans_in, terminals_of}

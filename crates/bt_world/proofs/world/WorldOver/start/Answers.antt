@@ -2,11 +2,11 @@ use Rattle.std.proofs.Common.{arith, ◌≡◌, ℕ, List, Option, map, length, 
 use Rattle.std.proofs.lemmas.List.{length-reverse}
 use Rattle.bt_net.specs.Network.{Net, IsSound}
 use Rattle.bt_air.specs.declared.order.Order.{Order}
-use Rattle.bt_change.specs.Centre.{AreNumbered, begins_with}
-use Rattle.bt_change.specs.Last.{last_order}
+use Rattle.bt_machines.specs.Centre.{AreNumbered, begins_with}
+use Rattle.bt_machines.specs.Last.{last_order}
 use Rattle.bt_frame.specs.declared.numbers.TermSet.{TermSet}
-use Rattle.bt_switch.specs.Satellite.{new_at}
-use Rattle.bt_term.specs.Terminal.{new_of}
+use Rattle.bt_machines.specs.Satellite.{new_at}
+use Rattle.bt_machines.specs.Terminal.{new_of}
 use Rattle.bt_events.specs.Centre.{needed_by}
 use Rattle.bt_events.specs.Fits.{IsOpening}
 use Rattle.bt_world.specs.Life.{opening_of, plans_in, terminals_of}

@@ -1,0 +1,15 @@
+pub mod Slots
+pub mod Satellite
+pub mod Orders
+pub mod SatelliteRun
+pub mod Banks
+pub mod Terminal
+pub mod TerminalRun
+pub mod Said
+pub mod Terminals
+pub mod Known
+pub mod Last
+pub mod Turn
+pub mod Centre
+pub mod Standby
+pub mod Heard

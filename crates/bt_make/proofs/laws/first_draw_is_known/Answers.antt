@@ -1,7 +1,0 @@
-use Rattle.std.proofs.Common.{refl}
-use Rattle.bt_make.specs.Generator.{drawn, next}
-use Rattle.bt_make.proofs.laws.first_draw_is_known.Goals as goal
-
-pub returns : goal.returns
-unfolding drawn next
-returns c = record { first = refl }

@@ -1,6 +1,0 @@
-use Rattle.bt_occupancy.proofs.Occupied.{heaviest-kept}
-use Rattle.bt_occupancy.proofs.occupancy.Occupancy.length.Goals as goal
-
--- by the first line that has it
-pub returns : goal.returns
-returns c = record { heaviest = heaviest-kept c.self.inside.matrix.rows _ _ _ _ c.self.view_is c.self.invariant.0 c.self.invariant.3.1 }

@@ -1,2 +1,0 @@
-pub mod Standby
-pub mod Heard

@@ -1,5 +1,0 @@
-use Rattle.bt_switch.proofs.Said.{stands_for}
-use Rattle.bt_switch.proofs.laws.satellites_stand_for_their_orders.Goals as goal
-
-pub returns : goal.returns
-returns c = record { stands = λ mark events. stands_for mark events }

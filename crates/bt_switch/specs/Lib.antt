@@ -1,4 +1,0 @@
-pub mod Slots
-pub mod Satellite
-pub mod Orders
-pub mod Run

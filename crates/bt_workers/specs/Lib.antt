@@ -1,9 +1,0 @@
-pub mod Lent
-pub mod Desks
-pub mod Planning
-pub mod AirLines
-pub mod Waiting
-pub mod Worker
-pub mod Callers
-pub mod Done
-pub mod Planned
