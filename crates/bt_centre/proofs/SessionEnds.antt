@@ -10,15 +10,18 @@ use Rattle.bt_outside.specs.declared.source.Incoming.{Incoming}
 use Rattle.bt_outside.specs.declared.source.SourceFault.{SourceFault}
 use Rattle.bt_outside.specs.declared.source.SourceFault.TheVariants as source
 use Rattle.bt_outside.specs.Input.{Comes, given_by, said_by}
-use Rattle.bt_outside.specs.Talk.{Turn, Heard, Said, heard, said, took}
+use Rattle.bt_outside.specs.Talk.{Shown, Turn, Heard, Said, heard, said, took}
 use Rattle.bt_net.specs.Network.{Net}
 use Rattle.bt_air.specs.declared.event.Event.{Event}
 use Rattle.bt_journal.specs.declared.call.Change.{Change}
+use Rattle.bt_journal.specs.declared.entry.Entry.{Entry}
 use Rattle.bt_history.specs.declared.fault.RecoverFault.{RecoverFault}
 use Rattle.bt_history.specs.declared.fault.RecoverFault.TheVariants.{StoreFault}
 use Rattle.bt_history.specs.Book.{Books}
 use Rattle.bt_history.specs.Causes.{Follows}
+use Rattle.bt_history.specs.Store.{IsKept, lost_of}
 use Rattle.bt_history.specs.Recovery.{IsReadable, MaybeRecovered, Recovered, marked}
+use Rattle.bt_script.specs.declared.script.Item.{Item}
 use Rattle.bt_script.specs.declared.script.Item.TheVariants as item
 use Rattle.bt_talk.specs.declared.block.Step.{Step}
 use Rattle.bt_talk.specs.declared.block.Step.TheVariants as step
@@ -31,45 +34,45 @@ use Rattle.bt_centre.specs.declared.history.History.{History}
 use Rattle.bt_centre.specs.declared.session.InputEnd.{InputEnd}
 use Rattle.bt_centre.specs.declared.session.InputEnd.TheVariants as ending
 use Rattle.bt_centre.specs.Answering.{GaveSince, SaysNamed, SessionDone, SessionEnded, SessionGoing, SessionHeard, StepFailed, StepPlayed, Took}
-use Rattle.bt_centre.specs.Progress.{Hand, IsBegun, IsLeftAtRestart, IsLeftEarly, IsLeftOf, IsLegalHand, IsOpenFault, Left, start_of}
+use Rattle.bt_centre.specs.Progress.{Hand, IsBegun, IsLeftAtRestart, IsLeftEarly, IsLeftOf, IsOpenFault, ItemsDone, Left, start_of}
 use Rattle.bt_centre.specs.RecoverFaults.{recover_line, recover_status}
 use Rattle.bt_centre.specs.Run.{AreFew, AreLegalTimes, at_start, lost_in, opening_on}
-use Rattle.bt_centre.specs.Session.{AllGiven, Exchange, IsSession, PlaysLines, SessionEndsFrom, SessionFrom, SessionTo, StopsHearing, WereGiven, closing_text, heard_in, session_turns, status_behind}
+use Rattle.bt_centre.specs.Session.{AllGiven, Exchange, GoesOnFrom, IsSession, PlaysLines, SessionEndsFrom, SessionFrom, SessionTo, ShowsChanges, StopsHearing, StopsTurns, WereGiven, closing_text, heard_in, session_turns, status_behind}
 use Rattle.bt_centre.specs.Talked.{Says, SaysOrNot, SaysPart, Talked, behind}
 use Rattle.bt_round.proofs.Closing.{ran_nothing}
 use Rattle.bt_centre.proofs.Going.{breaks_off, left_early}
 use Rattle.bt_centre.proofs.Ended.{AreGood, left_of, only_fault, output_of, rose_from, run_of, world_of}
 use Rattle.bt_centre.proofs.Ends.{AreFlown, AreSafe, frames_safe, leaves_from, run_over, stored_from}
 use Rattle.bt_centre.proofs.Restarts.{left_at_fault, left_unopened, named_fault, tells_marked}
-use Rattle.bt_centre.proofs.Sessions.{Came, gave_more, gave_none, heard_more, opening_is, row_is, session_begins, session_goes_on, session_turns_more, took_end, took_heard, took_none, took_same}
+use Rattle.bt_centre.proofs.Sessions.{Came, gave_more, gave_none, heard_more, opening_is, row_is, session_begins, session_goes_on, session_turns_more, start_shown, took-nil, took_end, took_heard, took_none, took_same}
 use Rattle.bt_centre.proofs.Times.{rose_since}
 
 -- what a talk tells, from the start of a session on
-abbrev pub talk_of : Option (List ℕ) → ℕ → ℕ → Option (List ℕ) → Option (List ℕ) → ℕ → ℕ → Option (List Turn) → Option (List Turn) → Talked
-talk_of coming u0 u2 before after f0 f2 t0 t2 = record { coming = coming; unheard_before = u0; unheard_after = u2; output = output_of before after f0 f2; turns_before = t0; turns_after = t2 }
+abbrev pub talk_of : Option (List ℕ) → ℕ → ℕ → Option (List ℕ) → Option (List ℕ) → ℕ → ℕ → Option (List Turn) → Option (List Turn) → Shown → Talked
+talk_of coming u0 u2 before after f0 f2 t0 t2 s = record { coming = coming; unheard_before = u0; unheard_after = u2; output = output_of before after f0 f2; turns_before = t0; turns_after = t2; store = s }
 
 -- a piece over which the sink failed, behind turns that were taken before
-pub part_behind : (turns : List Turn) (piece : List ℕ) (coming : Option (List ℕ)) (u0 u2 : ℕ) (before between after : Option (List ℕ)) (f0 f1 f2 : ℕ) (t0 t1 t2 : Option (List Turn))
-    → Took turns before between t0 t1 → f0 ≤ f1 → Rose f1 f2 → GainsPrefix between piece after → t2 ≡ t1 → SaysPart (behind (talk_of coming u0 u2 before after f0 f2 t0 t2) turns) piece
-part_behind turns piece coming u0 u2 before between after f0 f1 f2 t0 t1 t2 so later rose gains same = record {
+pub part_behind : (turns : List Turn) (piece : List ℕ) (coming : Option (List ℕ)) (u0 u2 : ℕ) (before between after : Option (List ℕ)) (f0 f1 f2 : ℕ) (t0 t1 t2 : Option (List Turn)) (s : Shown)
+    → Took turns before between t0 t1 → f0 ≤ f1 → Rose f1 f2 → GainsPrefix between piece after → t2 ≡ t1 → SaysPart (behind (talk_of coming u0 u2 before after f0 f2 t0 t2 s) turns) piece
+part_behind turns piece coming u0 u2 before between after f0 f1 f2 t0 t1 t2 s so later rose gains same = record {
   failed = rose_from f0 f1 f2 later rose;
   wrote = subst (λ (t : Option (List ℕ)). GainsPrefix t piece after) so.wrote gains;
   turn = same ∙ so.turn;
 }
 
 -- a piece that was said, or over which the sink failed, behind turns that were taken before
-pub says_behind : (turns : List Turn) (piece : List ℕ) (wanted status : ℕ) (coming now : Option (List ℕ)) (u0 u1 u2 : ℕ) (before between after : Option (List ℕ)) (f0 f1 f2 : ℕ) (t0 t1 t2 : Option (List Turn))
-    → Took turns before between t0 t1 → f0 ≤ f1 → Says (talk_of now u1 u2 between after f1 f2 t1 t2) piece wanted status
-    → Says (behind (talk_of coming u0 u2 before after f0 f2 t0 t2) turns) piece wanted status
-says_behind turns piece wanted status coming now u0 u1 u2 before between after f0 f1 f2 t0 t1 t2 so later (inl (all, same)) = inl (
+pub says_behind : (turns : List Turn) (piece : List ℕ) (wanted status : ℕ) (coming now : Option (List ℕ)) (u0 u1 u2 : ℕ) (before between after : Option (List ℕ)) (f0 f1 f2 : ℕ) (t0 t1 t2 : Option (List Turn)) (s : Shown)
+    → Took turns before between t0 t1 → f0 ≤ f1 → Says (talk_of now u1 u2 between after f1 f2 t1 t2 s) piece wanted status
+    → Says (behind (talk_of coming u0 u2 before after f0 f2 t0 t2 s) turns) piece wanted status
+says_behind turns piece wanted status coming now u0 u1 u2 before between after f0 f1 f2 t0 t1 t2 s so later (inl (all, same)) = inl (
   record {
     wrote = all.wrote ∙ ap (λ (t : Option (List ℕ)). gained t piece) so.wrote;
-    turn = all.turn ∙ ap (λ (t : Option (List Turn)). took t (said piece)) so.turn;
+    turn = all.turn ∙ ap (λ (t : Option (List Turn)). took t (said piece s)) so.turn;
   },
   same,
 )
-says_behind turns piece wanted status coming now u0 u1 u2 before between after f0 f1 f2 t0 t1 t2 so later (inr (part, same)) =
-    inr (part_behind turns piece coming u0 u2 before between after f0 f1 f2 t0 t1 t2 so later part.failed part.wrote part.turn, same)
+says_behind turns piece wanted status coming now u0 u1 u2 before between after f0 f1 f2 t0 t1 t2 s so later (inr (part, same)) =
+    inr (part_behind turns piece coming u0 u2 before between after f0 f1 f2 t0 t1 t2 s so later part.failed part.wrote part.turn, same)
 
 -- lines were given
 pub were_given : (talk : Talked) (coming now : Option (List ℕ)) (lines : List Came) → talk.coming ≡ coming → GaveSince coming now lines → WereGiven talk lines
@@ -85,30 +88,72 @@ all_given talk (Some bytes) (Some rest) None lines is gave comes = absurd comes
 all_given talk (Some bytes) None next lines is gave comes = absurd gave
 all_given talk None now next lines is gave comes = subst (λ (c : Option (List ℕ)). IfSome c (λ bytes. given_by 4096 bytes ≡ lines)) (sym is) tt
 
+-- a store that told this at the start, and the turns that were taken where memory ran out
+abbrev pub Halts : Net → Talked → Books → List Exchange → Type 0
+Halts net talk begun exchanges =
+    (start : Shown) × (turns : List Turn) × ShowsChanges net (at_start net begun.state.changes) start × StopsTurns net begun.state.changes start exchanges turns
+    × (talk.turns_after ≡ took talk.turns_before turns)
+
+-- behind the last answer
+pub halts_at : (net : Net) (talk : Talked) (begun : Books) (exchanges : List Exchange) (start : Shown) → ShowsChanges net (at_start net begun.state.changes) start
+    → talk.turns_after ≡ took talk.turns_before (session_turns net begun.state.changes start exchanges) → Halts net talk begun exchanges
+halts_at net talk begun exchanges start shows taken = (start, session_turns net begun.state.changes start exchanges, shows, inl refl, taken)
+
+-- behind a line that was not answered
+pub halts_heard : (net : Net) (talk : Talked) (begun : Books) (exchanges : List Exchange) (start : Shown) (one : Came) → ShowsChanges net (at_start net begun.state.changes) start
+    → talk.turns_after ≡ took talk.turns_before (session_turns net begun.state.changes start exchanges ++ Heard one ∷ []) → Halts net talk begun exchanges
+halts_heard net talk begun exchanges start one shows taken = (start, session_turns net begun.state.changes start exchanges ++ Heard one ∷ [], shows, inr (inl (one, refl)), taken)
+
+-- what was asked and answered goes on from there
+goes_from : (net : Net) (begun : Books) (parts : List Item) (old : Hand) (lines : List ℕ) (left : Left) → (so : ItemsDone net begun parts old lines) → IsLeftEarly old left → GoesOnFrom so.end left.histories
+goes_from net begun parts old lines left so is =
+    let entries = is.goes.ran.entries in
+    let one : ℕ → List Entry → List History = λ (b : ℕ) (e : List Entry). record { before = b; entries = e } ∷ [] in (
+      entries,
+      is.histories
+          ∙ ap (λ (o : List History). o ++ one is.hand.before is.hand.book.history) (is.goes.over ∙ sym so.over_is)
+          ∙ ap (λ (b : ℕ). so.end.over ++ one b is.hand.book.history) (is.goes.before ∙ so.so_far.before)
+          ∙ ap (λ (e : List Entry). so.end.over ++ one (length so.end.opening) e) (is.goes.ran.kept ∙ ap (λ (h : List Entry). h ++ entries) (sym so.history_is)),
+    )
+
 -- memory ran out
-pub session_early : (net : Net) (talk : Talked) (begun : Books) (opening : List Change) (old : Hand) (left : Left) (status : ℕ)
-    → IsLegalHand net begun opening old → IsLeftEarly old left → status ≡ 1 → SessionEnded net talk begun left status
-session_early net talk begun opening old left status so is status_is = record {
-  world = world_of net begun opening old left.events so is.world;
-  ends = inl (breaks_off net begun opening old left status so is status_is);
+pub session_early : (net : Net) (talk : Talked) (begun : Books) (exchanges : List Exchange) (old : Hand) (left : Left) (status : ℕ)
+    → SessionDone net begun exchanges old → Halts net talk begun exchanges → IsLeftEarly old left → status ≡ 1 → SessionEnded net talk begun left status
+session_early net talk begun exchanges old left status so (start, turns, shows, stops, taken) is status_is = record {
+  world = world_of net begun so.done.end.opening old left.events so.done.so_far is.world;
+  ends = inl (record {
+    off = breaks_off net begun so.done.end.opening old left status so.done.so_far is status_is;
+    exchanges = exchanges;
+    start = start;
+    shows = shows;
+    stand = so.done.end;
+    played = so.played;
+    goes = goes_from net begun so.parts old so.lines left so.done is;
+    turns = turns;
+    stops = stops;
+    taken = taken;
+  });
 }
 
 -- memory ran out between two lines
 pub session_stopped : (net : Net) (talk : Talked) (begun : Books) (exchanges : List Exchange) (hand : Hand) (left : Left) (status : ℕ)
-    → SessionDone net begun exchanges hand → IsLeftOf hand left → status ≡ 1 → SessionEnded net talk begun left status
-session_stopped net talk begun exchanges hand left status so is status_is =
-    session_early net talk begun so.done.end.opening hand left status so.done.so_far (left_early net hand left so.done.so_far.network so.done.so_far.follow is) status_is
+    → SessionDone net begun exchanges hand → Halts net talk begun exchanges → IsLeftOf hand left → status ≡ 1 → SessionEnded net talk begun left status
+session_stopped net talk begun exchanges hand left status so halts is status_is =
+    session_early net talk begun exchanges hand left status so halts (left_early net hand left so.done.so_far.network so.done.so_far.follow is) status_is
 
 -- the sink failed over a piece
-session_unsaid : (net : Net) (talk : Talked) (begun : Books) (exchanges : List Exchange) (hand : Hand) (turns : List Turn) (piece : List ℕ) (left : Left) (status : ℕ) → AreGood net
-    → SessionDone net begun exchanges hand → IsLeftOf hand left → WereGiven talk (heard_in exchanges) → session_turns net begun.state.changes exchanges ≡ turns ++ Said piece ∷ []
+session_unsaid : (net : Net) (talk : Talked) (begun : Books) (exchanges : List Exchange) (hand : Hand) (turns : List Turn) (piece : List ℕ) (start shown : Shown) (left : Left) (status : ℕ) → AreGood net
+    → ShowsChanges net (at_start net begun.state.changes) start
+    → SessionDone net begun exchanges hand → IsLeftOf hand left → WereGiven talk (heard_in exchanges) → session_turns net begun.state.changes start exchanges ≡ turns ++ Said piece shown ∷ []
     → SaysPart (behind talk turns) piece → status ≡ 6 → SessionEnded net talk begun left status
 unfolding run_of
-session_unsaid net talk begun exchanges hand turns piece left status good so is given last part status_is = record {
+session_unsaid net talk begun exchanges hand turns piece start shown left status good shows so is given last part status_is = record {
   world = world_of net begun so.done.end.opening hand left.events so.done.so_far is.world;
   ends = inr (inr (inl (record {
     exchanges = exchanges;
+    start = start;
     session = record {
+      shows = shows;
       parts = so.parts;
       parts_are = so.parts_are;
       lines = so.lines;
@@ -119,6 +164,7 @@ session_unsaid net talk begun exchanges hand turns piece left status good so is 
     given = given;
     turns = turns;
     piece = piece;
+    shown = shown;
     last = last;
     part = part;
     status_is = status_is;
@@ -126,24 +172,27 @@ session_unsaid net talk begun exchanges hand turns piece left status good so is 
 }
 
 -- a piece was not said
-pub session_not_said : (net : Net) (talk : Talked) (begun : Books) (exchanges : List Exchange) (hand : Hand) (turns : List Turn) (piece : List ℕ) (left : Left) (why : SinkFault) (status : ℕ) → AreGood net
-    → SessionDone net begun exchanges hand → IsLeftOf hand left → WereGiven talk (heard_in exchanges) → session_turns net begun.state.changes exchanges ≡ turns ++ Said piece ∷ []
+pub session_not_said : (net : Net) (talk : Talked) (begun : Books) (exchanges : List Exchange) (hand : Hand) (turns : List Turn) (piece : List ℕ) (start shown : Shown) (left : Left) (why : SinkFault) (status : ℕ) → AreGood net
+    → ShowsChanges net (at_start net begun.state.changes) start → talk.turns_after ≡ took talk.turns_before turns
+    → SessionDone net begun exchanges hand → IsLeftOf hand left → WereGiven talk (heard_in exchanges) → session_turns net begun.state.changes start exchanges ≡ turns ++ Said piece shown ∷ []
     → (why ≡ sink.Failed → SaysPart (behind talk turns) piece) → (why ≡ sink.OutOfMemory → status ≡ 1) → (why ≡ sink.Failed → status ≡ 6) → SessionEnded net talk begun left status
-session_not_said net talk begun exchanges hand turns piece left sink.OutOfMemory status good so is given last part early partly =
-    session_stopped net talk begun exchanges hand left status so is (early refl)
-session_not_said net talk begun exchanges hand turns piece left sink.Failed status good so is given last part early partly =
-    session_unsaid net talk begun exchanges hand turns piece left status good so is given last (part refl) (partly refl)
+session_not_said net talk begun exchanges hand turns piece start shown left sink.OutOfMemory status good shows taken so is given last part early partly =
+    session_stopped net talk begun exchanges hand left status so (start, turns, shows, inr (inr (piece, shown, last)), taken) is (early refl)
+session_not_said net talk begun exchanges hand turns piece start shown left sink.Failed status good shows taken so is given last part early partly =
+    session_unsaid net talk begun exchanges hand turns piece start shown left status good shows so is given last (part refl) (partly refl)
 
 -- the input came to its end
-session_whole : (net : Net) (talk : Talked) (begun : Books) (exchanges : List Exchange) (hand : Hand) (left : Left) (end : InputEnd) (status : ℕ) → AreGood net
+session_whole : (net : Net) (talk : Talked) (begun : Books) (exchanges : List Exchange) (hand : Hand) (start : Shown) (left : Left) (end : InputEnd) (status : ℕ) → AreGood net → ShowsChanges net (at_start net begun.state.changes) start
     → SessionDone net begun exchanges hand → IsLeftOf hand left → StopsHearing talk (heard_in exchanges) end
-    → Says (behind talk (session_turns net begun.state.changes exchanges)) (closing_text end left.histories) (status_behind end left.histories) status → SessionEnded net talk begun left status
+    → Says (behind talk (session_turns net begun.state.changes start exchanges)) (closing_text end left.histories) (status_behind end left.histories) status → SessionEnded net talk begun left status
 unfolding run_of
-session_whole net talk begun exchanges hand left end status good so is stops closing = record {
+session_whole net talk begun exchanges hand start left end status good shows so is stops closing = record {
   world = world_of net begun so.done.end.opening hand left.events so.done.so_far is.world;
   ends = inr (inl (record {
     exchanges = exchanges;
+    start = start;
     session = record {
+      shows = shows;
       parts = so.parts;
       parts_are = so.parts_are;
       lines = so.lines;
@@ -158,14 +207,14 @@ session_whole net talk begun exchanges hand left end status good so is stops clo
 }
 
 -- the recovery at a restart failed
-session_at_restart : (net : Net) (talk : Talked) (begun : Books) (exchanges : List Exchange) (one : Came) (old : Hand) (left : Left) (fault : RecoverFault) (status : ℕ)
-    → AreGood net → SessionDone net begun exchanges old → (row_of net (open_behind net None (heard_in exchanges)) one).1 ≡ step.Plays item.Restart → WereGiven talk (heard_in exchanges ++ one ∷ [])
-    → IsLeftAtRestart net old left fault → SaysNamed (behind talk (session_turns net begun.state.changes exchanges ++ Heard one ∷ [])) restart_line fault status
+session_at_restart : (net : Net) (talk : Talked) (begun : Books) (exchanges : List Exchange) (one : Came) (old : Hand) (start : Shown) (left : Left) (fault : RecoverFault) (status : ℕ)
+    → AreGood net → ShowsChanges net (at_start net begun.state.changes) start → SessionDone net begun exchanges old → (row_of net (open_behind net None (heard_in exchanges)) one).1 ≡ step.Plays item.Restart → WereGiven talk (heard_in exchanges ++ one ∷ [])
+    → IsLeftAtRestart net old left fault → SaysNamed (behind talk (session_turns net begun.state.changes start exchanges ++ Heard one ∷ [])) restart_line fault status
     → SessionEnded net talk begun left status
 unfolding run_of
-session_at_restart net talk begun exchanges one old left fault status good so asked given is (inl early) =
+session_at_restart net talk begun exchanges one old start left fault status good shows so asked given is (inl early) =
     let done = so.done in
-    session_early net talk begun done.end.opening old left status done.so_far (record {
+    session_early net talk begun exchanges old left status so (halts_heard net talk begun exchanges start one shows early.1) (record {
       hand = old;
       goes = record { over = refl; before = refl; ran = ran_nothing old.book (subst (λ (n : Net). Follows n old.book.state.changes) (sym done.so_far.network) done.so_far.follow); world = refl };
       histories = is.histories;
@@ -173,13 +222,15 @@ session_at_restart net talk begun exchanges one old left fault status good so as
       cut = subst (λ (n : Net). MaybeRecovered n old.book.told left.told old.book.faults left.faults) (sym done.so_far.network) (left_at_fault net old.book.told left.told old.book.faults left.faults fault is.failed);
       later = is.later;
       world = is.world;
-    }) early
-session_at_restart net talk begun exchanges one old left fault status good so asked given is (inr (named, told)) = record {
+    }) early.0
+session_at_restart net talk begun exchanges one old start left fault status good shows so asked given is (inr (named, told)) = record {
   world = world_of net begun so.done.end.opening old left.events so.done.so_far is.world;
   ends = inr (inr (inr (record {
     exchanges = exchanges;
     last = one;
+    start = start;
     session = record {
+      shows = shows;
       parts = so.parts;
       parts_are = so.parts_are;
       lines = so.lines;
@@ -201,131 +252,141 @@ session_at_restart net talk begun exchanges one old left fault status good so as
 }
 
 -- what a line comes to could not be played
-session_not_played : (net : Net) (talk : Talked) (begun : Books) (exchanges : List Exchange) (one : Came) (stp : Step) (old : Hand) (left : Left) (fault : RecoverFault) (status : ℕ)
-    → AreGood net → SessionDone net begun exchanges old → stp ≡ (row_of net (open_behind net None (heard_in exchanges)) one).1 → WereGiven talk (heard_in exchanges ++ one ∷ [])
-    → StepFailed net stp old left fault → SaysNamed (behind talk (session_turns net begun.state.changes exchanges ++ Heard one ∷ [])) restart_line fault status
+session_not_played : (net : Net) (talk : Talked) (begun : Books) (exchanges : List Exchange) (one : Came) (stp : Step) (old : Hand) (start : Shown) (left : Left) (fault : RecoverFault) (status : ℕ)
+    → AreGood net → ShowsChanges net (at_start net begun.state.changes) start → SessionDone net begun exchanges old → stp ≡ (row_of net (open_behind net None (heard_in exchanges)) one).1 → WereGiven talk (heard_in exchanges ++ one ∷ [])
+    → StepFailed net stp old left fault → SaysNamed (behind talk (session_turns net begun.state.changes start exchanges ++ Heard one ∷ [])) restart_line fault status
     → SessionEnded net talk begun left status
-session_not_played net talk begun exchanges one (step.Plays part) old left fault status good so is given (inl (memory, early)) (inl status_is) =
-    session_early net talk begun so.done.end.opening old left status so.done.so_far early status_is
-session_not_played net talk begun exchanges one (step.Plays part) old left fault status good so is given (inl (memory, early)) (inr (named, told)) = absurd (named memory)
-session_not_played net talk begun exchanges one (step.Plays part) old left fault status good so is given (inr (restart, at)) told =
-    session_at_restart net talk begun exchanges one old left fault status good so (sym is ∙ ap step.Plays restart) given at told
-session_not_played net talk begun exchanges one step.Nothing old left fault status good so is given failed told = absurd failed
-session_not_played net talk begun exchanges one (step.Fault code) old left fault status good so is given failed told = absurd failed
-session_not_played net talk begun exchanges one (step.Tells asked) old left fault status good so is given (memory, is_left) (inl status_is) =
-    session_stopped net talk begun exchanges old left status so is_left status_is
-session_not_played net talk begun exchanges one (step.Tells asked) old left fault status good so is given (memory, is_left) (inr (named, told)) = absurd (named memory)
+session_not_played net talk begun exchanges one (step.Plays part) old start left fault status good shows so is given (inl (memory, early)) (inl status_is) =
+    session_early net talk begun exchanges old left status so (halts_heard net talk begun exchanges start one shows status_is.1) early status_is.0
+session_not_played net talk begun exchanges one (step.Plays part) old start left fault status good shows so is given (inl (memory, early)) (inr (named, told)) = absurd (named memory)
+session_not_played net talk begun exchanges one (step.Plays part) old start left fault status good shows so is given (inr (restart, at)) told =
+    session_at_restart net talk begun exchanges one old start left fault status good shows so (sym is ∙ ap step.Plays restart) given at told
+session_not_played net talk begun exchanges one step.Nothing old start left fault status good shows so is given failed told = absurd failed
+session_not_played net talk begun exchanges one (step.Fault code) old start left fault status good shows so is given failed told = absurd failed
+session_not_played net talk begun exchanges one (step.Tells asked) old start left fault status good shows so is given (memory, is_left) (inl status_is) =
+    session_stopped net talk begun exchanges old left status so (halts_heard net talk begun exchanges start one shows status_is.1) is_left status_is.0
+session_not_played net talk begun exchanges one (step.Tells asked) old start left fault status good shows so is given (memory, is_left) (inr (named, told)) = absurd (named memory)
 
 -- the first piece was not said
-pub session_not_begun : (net : Net) (hand : Hand) (left : Left) (why : SinkFault) (coming : Option (List ℕ)) (u0 u2 : ℕ) (before after : Option (List ℕ)) (f0 f2 : ℕ) (t0 t2 : Option (List Turn)) (status : ℕ)
+pub session_not_begun : (net : Net) (hand : Hand) (left : Left) (why : SinkFault) (coming : Option (List ℕ)) (u0 u2 : ℕ) (before after : Option (List ℕ)) (f0 f2 : ℕ) (t0 t2 : Option (List Turn)) (s : Shown) (status : ℕ)
     → AreGood net → IsBegun net hand → IsLeftOf hand left → (why ≡ sink.Failed → Rose f0 f2) → (why ≡ sink.Failed → GainsPrefix before (start_of hand ++ ready_line 0) after) → t2 ≡ t0
-    → (why ≡ sink.OutOfMemory → status ≡ 1) → (why ≡ sink.Failed → status ≡ 6) → SessionEnded net (talk_of coming u0 u2 before after f0 f2 t0 t2) hand.book left status
-session_not_begun net hand left why coming u0 u2 before after f0 f2 t0 t2 status good begun is failed gains same early partly =
+    → (why ≡ sink.OutOfMemory → status ≡ 1) → (why ≡ sink.Failed → status ≡ 6) → SessionEnded net (talk_of coming u0 u2 before after f0 f2 t0 t2 s) hand.book left status
+session_not_begun net hand left why coming u0 u2 before after f0 f2 t0 t2 s status good begun is failed gains same early partly =
     let piece = start_of hand ++ ready_line 0 in
-    session_not_said net (talk_of coming u0 u2 before after f0 f2 t0 t2) hand.book [] hand [] piece left why status good (session_begins net hand begun) is
-    (were_given (talk_of coming u0 u2 before after f0 f2 t0 t2) coming coming [] refl (gave_none coming)) (ap (λ (p : List ℕ). Said p ∷ []) (sym (opening_is net hand begun)))
-    (λ stopped. part_behind [] piece coming u0 u2 before before after f0 f0 f2 t0 t0 t2 (took_none before t0) (omega arith) (failed stopped) (gains stopped) same) early partly
+    let start : Shown = record { told = hand.book.told; faults = hand.book.faults } in
+    session_not_said net (talk_of coming u0 u2 before after f0 f2 t0 t2 s) hand.book [] hand [] piece start start left why status good (start_shown net hand start begun is.kept) (same ∙ took-nil t0) (session_begins net hand begun) is
+    (were_given (talk_of coming u0 u2 before after f0 f2 t0 t2 s) coming coming [] refl (gave_none coming)) (ap (λ (p : List ℕ). Said p start ∷ []) (sym (opening_is net hand begun)))
+    (λ stopped. part_behind [] piece coming u0 u2 before before after f0 f0 f2 t0 t0 t2 s (took_none before t0) (omega arith) (failed stopped) (gains stopped) same) early partly
 
--- memory ran out over a line
-pub going_stopped : (net : Net) (talk : Talked) (begun : Books) (at : ℕ) (block : Open) (hand : Hand) (left : Left) (coming now before after : Option (List ℕ)) (t0 t1 : Option (List Turn)) (status : ℕ)
-    → SessionGoing net begun at block hand coming now before after t0 t1 → IsLeftOf hand left → status ≡ 1 → SessionEnded net talk begun left status
-going_stopped net talk begun at block hand left coming now before after t0 t1 status so is status_is = session_stopped net talk begun so.exchanges hand left status so.said.done is status_is
+-- memory ran out over the next line
+pub going_stopped : (net : Net) (talk : Talked) (begun : Books) (at : ℕ) (block : Open) (hand : Hand) (left : Left) (coming now before after : Option (List ℕ)) (t1 : Option (List Turn)) (status : ℕ)
+    → SessionGoing net begun at block hand coming now before after talk.turns_before t1 → talk.turns_after ≡ t1 → IsLeftOf hand left → status ≡ 1 → SessionEnded net talk begun left status
+going_stopped net talk begun at block hand left coming now before after t1 status so same is status_is =
+    session_stopped net talk begun so.exchanges hand left status so.said.done (halts_at net talk begun so.exchanges so.said.start so.said.shows (same ∙ so.said.taken.turn)) is status_is
+
+-- memory ran out over a line that was heard
+pub going_not_taken : (net : Net) (talk : Talked) (begun : Books) (at : ℕ) (block : Open) (came : Incoming) (hand : Hand) (left : Left) (coming now before after : Option (List ℕ)) (t1 : Option (List Turn)) (status : ℕ)
+    → SessionGoing net begun at block hand coming now before after talk.turns_before t1 → talk.turns_after ≡ took t1 (heard (Some came)) → IsLeftOf hand left → status ≡ 1 → SessionEnded net talk begun left status
+going_not_taken net talk begun at block came hand left coming now before after t1 status so turn is status_is =
+    session_stopped net talk begun so.exchanges hand left status so.said.done (halts_heard net talk begun so.exchanges so.said.start (said_by came) so.said.shows
+    (took_heard (session_turns net begun.state.changes so.said.start so.exchanges) came before after after talk.turns_before t1 talk.turns_after so.said.taken refl turn).turn) is status_is
 
 -- a line was played, and the piece was not said to it
-pub going_not_said : (net : Net) (begun : Books) (at : ℕ) (block behind_it : Open) (came : Incoming) (stp : Step) (old new : Hand) (own piece : List ℕ) (left : Left) (why : SinkFault)
-    (coming now next : Option (List ℕ)) (u0 u2 : ℕ) (before b1 b2 after : Option (List ℕ)) (f0 f1 f2 : ℕ) (t0 t1 t2 t3 : Option (List Turn)) (status : ℕ)
+pub going_not_said : (net : Net) (begun : Books) (at : ℕ) (block behind_it : Open) (came : Incoming) (stp : Step) (old new : Hand) (own piece : List ℕ) (shown : Shown) (left : Left) (why : SinkFault)
+    (coming now next : Option (List ℕ)) (u0 u2 : ℕ) (before b1 b2 after : Option (List ℕ)) (f0 f1 f2 : ℕ) (t0 t1 t2 t3 : Option (List Turn)) (s : Shown) (status : ℕ)
     → AreGood net → SessionGoing net begun at block old coming now before b1 t0 t1 → Comes 4096 now (Some came) next → b2 ≡ b1 → t2 ≡ took t1 (heard (Some came))
-    → (let row : Open × Step = (behind_it, stp) in row ≡ row_of net block (said_by came)) → StepPlayed net stp old new own → IsLeftOf new left → piece ≡ own ++ answer_of at stp
+    → (let row : Open × Step = (behind_it, stp) in row ≡ row_of net block (said_by came)) → StepPlayed net stp old new own → IsLeftOf new left → shown.told ≡ new.book.told → piece ≡ own ++ answer_of at stp
     → f0 ≤ f1 → (why ≡ sink.Failed → Rose f1 f2) → (why ≡ sink.Failed → GainsPrefix b2 piece after) → t3 ≡ t2 → (why ≡ sink.OutOfMemory → status ≡ 1) → (why ≡ sink.Failed → status ≡ 6)
-    → SessionEnded net (talk_of coming u0 u2 before after f0 f2 t0 t3) begun left status
-going_not_said net begun at block behind_it came stp old new own piece left why coming now next u0 u2 before b1 b2 after f0 f1 f2 t0 t1 t2 t3 status good so comes same turn row played is piece_is later failed gains quiet early partly =
-    let one : Exchange = record { line = said_by came; piece = piece } in
+    → SessionEnded net (talk_of coming u0 u2 before after f0 f2 t0 t3 s) begun left status
+going_not_said net begun at block behind_it came stp old new own piece shown left why coming now next u0 u2 before b1 b2 after f0 f1 f2 t0 t1 t2 t3 s status good so comes same turn row played is told_is piece_is later failed gains quiet early partly =
+    let one : Exchange = record { line = said_by came; piece = piece; shown = shown } in
     let lines = heard_in so.exchanges in
-    let talk = talk_of coming u0 u2 before after f0 f2 t0 t3 in
-    let turns = session_turns net begun.state.changes so.exchanges ++ Heard (said_by came) ∷ [] in
-    session_not_said net talk begun (so.exchanges ++ one ∷ []) new turns piece left why status good
-    (session_goes_on net begun so.exchanges one stp old new own at so.said.done (row_is net block behind_it lines (said_by came) stp so.open_is row) (omega (arith, so.count)) played piece_is) is
+    let talk = talk_of coming u0 u2 before after f0 f2 t0 t3 s in
+    let turns = session_turns net begun.state.changes so.said.start so.exchanges ++ Heard (said_by came) ∷ [] in
+    let taken = took_heard (session_turns net begun.state.changes so.said.start so.exchanges) came before b1 b2 t0 t1 t2 so.said.taken same turn in
+    let kept = subst (λ (t : Option (List ℕ)). IsKept new.book.net t new.book.state.changes (lost_of new.book.history)) (sym told_is) is.kept in
+    session_not_said net talk begun (so.exchanges ++ one ∷ []) new turns piece so.said.start shown left why status good so.said.shows (quiet ∙ taken.turn)
+    (session_goes_on net begun so.exchanges one stp old new own at so.said.done (row_is net block behind_it lines (said_by came) stp so.open_is row) (omega (arith, so.count)) played piece_is kept) is
     (subst (WereGiven talk) (sym (heard_more so.exchanges one)) (were_given talk coming next (lines ++ said_by came ∷ []) refl (gave_more coming now next lines came so.gave comes)))
-    (session_turns_more net begun.state.changes so.exchanges one)
-    (λ stopped. part_behind turns piece coming u0 u2 before b2 after f0 f1 f2 t0 t2 t3
-    (took_heard (session_turns net begun.state.changes so.exchanges) came before b1 b2 t0 t1 t2 so.said.taken same turn) later (failed stopped) (gains stopped) quiet) early partly
+    (session_turns_more net begun.state.changes so.said.start so.exchanges one)
+    (λ stopped. part_behind turns piece coming u0 u2 before b2 after f0 f1 f2 t0 t2 t3 s taken later (failed stopped) (gains stopped) quiet) early partly
 
 -- the line of the fault is said behind the turns before
-named_behind : (net : Net) (begun : Books) (exchanges : List Exchange) (one : Came) (fault : RecoverFault) (coming now : Option (List ℕ)) (u0 u1 u2 : ℕ) (before between after : Option (List ℕ)) (f0 f1 f2 : ℕ) (t0 t1 t2 : Option (List Turn)) (status : ℕ)
-    → Took (session_turns net begun.state.changes exchanges ++ Heard one ∷ []) before between t0 t1 → f0 ≤ f1 → SaysNamed (talk_of now u1 u2 between after f1 f2 t1 t2) restart_line fault status
-    → SaysNamed (behind (talk_of coming u0 u2 before after f0 f2 t0 t2) (session_turns net begun.state.changes exchanges ++ Heard one ∷ [])) restart_line fault status
-named_behind net begun exchanges one fault coming now u0 u1 u2 before between after f0 f1 f2 t0 t1 t2 status so later (inl early) = inl early
-named_behind net begun exchanges one fault coming now u0 u1 u2 before between after f0 f1 f2 t0 t1 t2 status so later (inr (named, told)) =
-    inr (named, says_behind (session_turns net begun.state.changes exchanges ++ Heard one ∷ []) (restart_line ++ recover_line fault) (recover_status fault) status coming now u0 u1 u2 before between after f0 f1 f2 t0 t1 t2 so later told)
+named_behind : (net : Net) (begun : Books) (exchanges : List Exchange) (one : Came) (start : Shown) (fault : RecoverFault) (coming now : Option (List ℕ)) (u0 u1 u2 : ℕ) (before between after : Option (List ℕ)) (f0 f1 f2 : ℕ) (t0 t1 t2 : Option (List Turn)) (s : Shown) (status : ℕ)
+    → Took (session_turns net begun.state.changes start exchanges ++ Heard one ∷ []) before between t0 t1 → f0 ≤ f1 → SaysNamed (talk_of now u1 u2 between after f1 f2 t1 t2 s) restart_line fault status
+    → SaysNamed (behind (talk_of coming u0 u2 before after f0 f2 t0 t2 s) (session_turns net begun.state.changes start exchanges ++ Heard one ∷ [])) restart_line fault status
+named_behind net begun exchanges one start fault coming now u0 u1 u2 before between after f0 f1 f2 t0 t1 t2 s status so later (inl early) = inl (early.0, early.1 ∙ so.turn)
+named_behind net begun exchanges one start fault coming now u0 u1 u2 before between after f0 f1 f2 t0 t1 t2 s status so later (inr (named, told)) =
+    inr (named, says_behind (session_turns net begun.state.changes start exchanges ++ Heard one ∷ []) (restart_line ++ recover_line fault) (recover_status fault) status coming now u0 u1 u2 before between after f0 f1 f2 t0 t1 t2 s so later told)
 
 -- what a line comes to could not be played, which was said
 pub going_not_played : (net : Net) (begun : Books) (at : ℕ) (block behind_it : Open) (came : Incoming) (stp : Step) (old : Hand) (left : Left) (fault : RecoverFault)
-    (coming now next : Option (List ℕ)) (u0 u1 u2 : ℕ) (before b1 b2 after : Option (List ℕ)) (f0 f1 f2 : ℕ) (t0 t1 t2 t3 : Option (List Turn)) (status : ℕ)
+    (coming now next : Option (List ℕ)) (u0 u1 u2 : ℕ) (before b1 b2 after : Option (List ℕ)) (f0 f1 f2 : ℕ) (t0 t1 t2 t3 : Option (List Turn)) (s : Shown) (status : ℕ)
     → AreGood net → SessionGoing net begun at block old coming now before b1 t0 t1 → Comes 4096 now (Some came) next → b2 ≡ b1 → t2 ≡ took t1 (heard (Some came))
     → (let row : Open × Step = (behind_it, stp) in row ≡ row_of net block (said_by came)) → StepFailed net stp old left fault → f0 ≤ f1
-    → SaysNamed (talk_of next u1 u2 b2 after f1 f2 t2 t3) restart_line fault status → SessionEnded net (talk_of coming u0 u2 before after f0 f2 t0 t3) begun left status
-going_not_played net begun at block behind_it came stp old left fault coming now next u0 u1 u2 before b1 b2 after f0 f1 f2 t0 t1 t2 t3 status good so comes same turn row failed later told =
+    → SaysNamed (talk_of next u1 u2 b2 after f1 f2 t2 t3 s) restart_line fault status → SessionEnded net (talk_of coming u0 u2 before after f0 f2 t0 t3 s) begun left status
+going_not_played net begun at block behind_it came stp old left fault coming now next u0 u1 u2 before b1 b2 after f0 f1 f2 t0 t1 t2 t3 s status good so comes same turn row failed later told =
     let lines = heard_in so.exchanges in
-    let talk = talk_of coming u0 u2 before after f0 f2 t0 t3 in
-    session_not_played net talk begun so.exchanges (said_by came) stp old left fault status good so.said.done (row_is net block behind_it lines (said_by came) stp so.open_is row)
+    let talk = talk_of coming u0 u2 before after f0 f2 t0 t3 s in
+    session_not_played net talk begun so.exchanges (said_by came) stp old so.said.start left fault status good so.said.shows so.said.done (row_is net block behind_it lines (said_by came) stp so.open_is row)
     (were_given talk coming next (lines ++ said_by came ∷ []) refl (gave_more coming now next lines came so.gave comes)) failed
-    (named_behind net begun so.exchanges (said_by came) fault coming next u0 u1 u2 before b2 after f0 f1 f2 t0 t2 t3 status
-    (took_heard (session_turns net begun.state.changes so.exchanges) came before b1 b2 t0 t1 t2 so.said.taken same turn) later told)
+    (named_behind net begun so.exchanges (said_by came) so.said.start fault coming next u0 u1 u2 before b2 after f0 f1 f2 t0 t2 t3 s status
+    (took_heard (session_turns net begun.state.changes so.said.start so.exchanges) came before b1 b2 t0 t1 t2 so.said.taken same turn) later told)
 
 -- the end of the input was heard
-pub heard_over : (net : Net) (begun : Books) (at : ℕ) (block : Open) (hand : Hand) (coming now next : Option (List ℕ)) (u0 u2 : ℕ) (before b1 after : Option (List ℕ)) (f0 f2 : ℕ) (t0 t1 t2 : Option (List Turn))
+pub heard_over : (net : Net) (begun : Books) (at : ℕ) (block : Open) (hand : Hand) (coming now next : Option (List ℕ)) (u0 u2 : ℕ) (before b1 after : Option (List ℕ)) (f0 f2 : ℕ) (t0 t1 t2 : Option (List Turn)) (s : Shown)
     → SessionGoing net begun at block hand coming now before b1 t0 t1 → Comes 4096 now None next → after ≡ b1 → t2 ≡ took t1 []
-    → SessionHeard net begun (talk_of coming u0 u2 before after f0 f2 t0 t2) hand ending.Over
-heard_over net begun at block hand coming now next u0 u2 before b1 after f0 f2 t0 t1 t2 so comes same turn = record {
+    → SessionHeard net begun (talk_of coming u0 u2 before after f0 f2 t0 t2 s) hand ending.Over
+heard_over net begun at block hand coming now next u0 u2 before b1 after f0 f2 t0 t1 t2 s so comes same turn = record {
   exchanges = so.exchanges;
-  stops = inl (all_given (talk_of coming u0 u2 before after f0 f2 t0 t2) coming now next (heard_in so.exchanges) refl so.gave comes);
-  said = record { done = so.said.done; taken = took_end (session_turns net begun.state.changes so.exchanges) before b1 after t0 t1 t2 so.said.taken same turn };
+  stops = inl (all_given (talk_of coming u0 u2 before after f0 f2 t0 t2 s) coming now next (heard_in so.exchanges) refl so.gave comes);
+  said = record { done = so.said.done; start = so.said.start; shows = so.said.shows; taken = took_end (session_turns net begun.state.changes so.said.start so.exchanges) before b1 after t0 t1 t2 so.said.taken same turn };
 }
 
 -- as many lines were heard as are counted
-pub heard_all : (net : Net) (begun : Books) (at : ℕ) (block : Open) (hand : Hand) (coming now : Option (List ℕ)) (u0 u2 : ℕ) (before after : Option (List ℕ)) (f0 f2 : ℕ) (t0 t2 : Option (List Turn))
-    → SessionGoing net begun at block hand coming now before after t0 t2 → at ≡ 9223372036854775808 → SessionHeard net begun (talk_of coming u0 u2 before after f0 f2 t0 t2) hand ending.Over
-heard_all net begun at block hand coming now u0 u2 before after f0 f2 t0 t2 so end = record {
+pub heard_all : (net : Net) (begun : Books) (at : ℕ) (block : Open) (hand : Hand) (coming now : Option (List ℕ)) (u0 u2 : ℕ) (before after : Option (List ℕ)) (f0 f2 : ℕ) (t0 t2 : Option (List Turn)) (s : Shown)
+    → SessionGoing net begun at block hand coming now before after t0 t2 → at ≡ 9223372036854775808 → SessionHeard net begun (talk_of coming u0 u2 before after f0 f2 t0 t2 s) hand ending.Over
+heard_all net begun at block hand coming now u0 u2 before after f0 f2 t0 t2 s so end = record {
   exchanges = so.exchanges;
-  stops = inr (so.count ∙ end, were_given (talk_of coming u0 u2 before after f0 f2 t0 t2) coming now (heard_in so.exchanges) refl so.gave);
+  stops = inr (so.count ∙ end, were_given (talk_of coming u0 u2 before after f0 f2 t0 t2 s) coming now (heard_in so.exchanges) refl so.gave);
   said = so.said;
 }
 
 -- the input failed
-pub heard_fault : (net : Net) (begun : Books) (at : ℕ) (block : Open) (hand : Hand) (coming now : Option (List ℕ)) (u0 u2 : ℕ) (before b1 after : Option (List ℕ)) (f0 f2 : ℕ) (t0 t1 t2 : Option (List Turn))
-    → SessionGoing net begun at block hand coming now before b1 t0 t1 → Rose u0 u2 → after ≡ b1 → t2 ≡ t1 → SessionHeard net begun (talk_of coming u0 u2 before after f0 f2 t0 t2) hand ending.Failed
-heard_fault net begun at block hand coming now u0 u2 before b1 after f0 f2 t0 t1 t2 so rose same turn = record {
+pub heard_fault : (net : Net) (begun : Books) (at : ℕ) (block : Open) (hand : Hand) (coming now : Option (List ℕ)) (u0 u2 : ℕ) (before b1 after : Option (List ℕ)) (f0 f2 : ℕ) (t0 t1 t2 : Option (List Turn)) (s : Shown)
+    → SessionGoing net begun at block hand coming now before b1 t0 t1 → Rose u0 u2 → after ≡ b1 → t2 ≡ t1 → SessionHeard net begun (talk_of coming u0 u2 before after f0 f2 t0 t2 s) hand ending.Failed
+heard_fault net begun at block hand coming now u0 u2 before b1 after f0 f2 t0 t1 t2 s so rose same turn = record {
   exchanges = so.exchanges;
-  stops = (rose, were_given (talk_of coming u0 u2 before after f0 f2 t0 t2) coming now (heard_in so.exchanges) refl so.gave);
-  said = record { done = so.said.done; taken = took_same (session_turns net begun.state.changes so.exchanges) before b1 after t0 t1 t2 so.said.taken same turn };
+  stops = (rose, were_given (talk_of coming u0 u2 before after f0 f2 t0 t2 s) coming now (heard_in so.exchanges) refl so.gave);
+  said = record { done = so.said.done; start = so.said.start; shows = so.said.shows; taken = took_same (session_turns net begun.state.changes so.said.start so.exchanges) before b1 after t0 t1 t2 so.said.taken same turn };
 }
 
 -- the hearing stopped so, also for the talk as it is later
-stops_later : (coming : Option (List ℕ)) (u0 u1 u2 : ℕ) (before between after : Option (List ℕ)) (f0 f1 f2 : ℕ) (t0 t1 t2 : Option (List Turn)) (lines : List Came) (end : InputEnd) → u2 ≡ u1
-    → StopsHearing (talk_of coming u0 u1 before between f0 f1 t0 t1) lines end → StopsHearing (talk_of coming u0 u2 before after f0 f2 t0 t2) lines end
-stops_later coming u0 u1 u2 before between after f0 f1 f2 t0 t1 t2 lines ending.Over same stops = stops
-stops_later coming u0 u1 u2 before between after f0 f1 f2 t0 t1 t2 lines ending.Failed same (rose, given) = (subst (Rose u0) (sym same) rose, given)
+stops_later : (coming : Option (List ℕ)) (u0 u1 u2 : ℕ) (before between after : Option (List ℕ)) (f0 f1 f2 : ℕ) (t0 t1 t2 : Option (List Turn)) (s1 s : Shown) (lines : List Came) (end : InputEnd) → u2 ≡ u1
+    → StopsHearing (talk_of coming u0 u1 before between f0 f1 t0 t1 s1) lines end → StopsHearing (talk_of coming u0 u2 before after f0 f2 t0 t2 s) lines end
+stops_later coming u0 u1 u2 before between after f0 f1 f2 t0 t1 t2 s1 s lines ending.Over same stops = stops
+stops_later coming u0 u1 u2 before between after f0 f1 f2 t0 t1 t2 s1 s lines ending.Failed same (rose, given) = (subst (Rose u0) (sym same) rose, given)
 
 -- the last piece was said, or not
-pub session_closed : (net : Net) (begun : Books) (hand : Hand) (left : Left) (end : InputEnd) (coming now : Option (List ℕ)) (u0 u1 u2 : ℕ) (before between after : Option (List ℕ)) (f0 f1 f2 : ℕ) (t0 t1 t2 : Option (List Turn)) (status : ℕ)
-    → AreGood net → SessionHeard net begun (talk_of coming u0 u1 before between f0 f1 t0 t1) hand end → f0 ≤ f1 → u2 ≡ u1 → IsLeftOf hand left
-    → SaysOrNot (talk_of now u1 u2 between after f1 f2 t1 t2) (closing_text end left.histories) (status_behind end left.histories) status
-    → SessionEnded net (talk_of coming u0 u2 before after f0 f2 t0 t2) begun left status
-session_closed net begun hand left end coming now u0 u1 u2 before between after f0 f1 f2 t0 t1 t2 status good so later same is (inl early) =
-    session_stopped net (talk_of coming u0 u2 before after f0 f2 t0 t2) begun so.exchanges hand left status so.said.done is early
-session_closed net begun hand left end coming now u0 u1 u2 before between after f0 f1 f2 t0 t1 t2 status good so later same is (inr closing) =
-    session_whole net (talk_of coming u0 u2 before after f0 f2 t0 t2) begun so.exchanges hand left end status good so.said.done is
-    (stops_later coming u0 u1 u2 before between after f0 f1 f2 t0 t1 t2 (heard_in so.exchanges) end same so.stops)
-    (says_behind (session_turns net begun.state.changes so.exchanges) (closing_text end left.histories) (status_behind end left.histories) status coming now u0 u1 u2 before between after f0 f1 f2 t0 t1 t2
+pub session_closed : (net : Net) (begun : Books) (hand : Hand) (left : Left) (end : InputEnd) (coming now : Option (List ℕ)) (u0 u1 u2 : ℕ) (before between after : Option (List ℕ)) (f0 f1 f2 : ℕ) (t0 t1 t2 : Option (List Turn)) (s1 s : Shown) (status : ℕ)
+    → AreGood net → SessionHeard net begun (talk_of coming u0 u1 before between f0 f1 t0 t1 s1) hand end → f0 ≤ f1 → u2 ≡ u1 → IsLeftOf hand left
+    → SaysOrNot (talk_of now u1 u2 between after f1 f2 t1 t2 s) (closing_text end left.histories) (status_behind end left.histories) status
+    → SessionEnded net (talk_of coming u0 u2 before after f0 f2 t0 t2 s) begun left status
+session_closed net begun hand left end coming now u0 u1 u2 before between after f0 f1 f2 t0 t1 t2 s1 s status good so later same is (inl early) =
+    session_stopped net (talk_of coming u0 u2 before after f0 f2 t0 t2 s) begun so.exchanges hand left status so.said.done (halts_at net (talk_of coming u0 u2 before after f0 f2 t0 t2 s) begun so.exchanges so.said.start so.said.shows (early.1 ∙ so.said.taken.turn)) is early.0
+session_closed net begun hand left end coming now u0 u1 u2 before between after f0 f1 f2 t0 t1 t2 s1 s status good so later same is (inr closing) =
+    session_whole net (talk_of coming u0 u2 before after f0 f2 t0 t2 s) begun so.exchanges hand so.said.start left end status good so.said.shows so.said.done is
+    (stops_later coming u0 u1 u2 before between after f0 f1 f2 t0 t1 t2 s1 s (heard_in so.exchanges) end same so.stops)
+    (says_behind (session_turns net begun.state.changes so.said.start so.exchanges) (closing_text end left.histories) (status_behind end left.histories) status coming now u0 u1 u2 before between after f0 f1 f2 t0 t1 t2 s
     so.said.taken later closing)
 
 -- the same of what is given back
-pub same_session_end : (net : Net) (talk : Talked) (begun : Books) (left : Left) (told : Option (List ℕ)) (faults : ℕ) (histories : List History) (events : List Event) (status s : ℕ)
-    → told ≡ left.told → faults ≡ left.faults → histories ≡ left.histories → events ≡ left.events → status ≡ s → SessionEnded net talk begun left s
-    → SessionEnded net talk begun (record { told = told; faults = faults; histories = histories; events = events }) status
-same_session_end net talk begun left told faults histories events status s told_is faults_are all same status_is ended =
-    subst (λ (n : ℕ). SessionEnded net talk begun (record { told = told; faults = faults; histories = histories; events = events }) n) (sym status_is)
-    (subst (λ (l : Left). SessionEnded net talk begun l s) (sym (
+pub same_session_end : (net : Net) (coming : Option (List ℕ)) (u0 u2 : ℕ) (b0 b2 : Option (List ℕ)) (f0 f2 : ℕ) (t0 t2 : Option (List Turn)) (begun : Books) (left : Left) (told : Option (List ℕ)) (faults : ℕ) (histories : List History) (events : List Event) (status s : ℕ)
+    → told ≡ left.told → faults ≡ left.faults → histories ≡ left.histories → events ≡ left.events → status ≡ s → SessionEnded net (talk_of coming u0 u2 b0 b2 f0 f2 t0 t2 (record { told = left.told; faults = left.faults })) begun left s
+    → SessionEnded net (talk_of coming u0 u2 b0 b2 f0 f2 t0 t2 (record { told = told; faults = faults })) begun (record { told = told; faults = faults; histories = histories; events = events }) status
+same_session_end net coming u0 u2 b0 b2 f0 f2 t0 t2 begun left told faults histories events status s told_is faults_are all same status_is ended =
+    subst (λ (n : ℕ). SessionEnded net (talk_of coming u0 u2 b0 b2 f0 f2 t0 t2 (record { told = told; faults = faults })) begun (record { told = told; faults = faults; histories = histories; events = events }) n) (sym status_is)
+    (subst (λ (l : Left). SessionEnded net (talk_of coming u0 u2 b0 b2 f0 f2 t0 t2 (record { told = l.told; faults = l.faults })) begun l s) (sym (
     ap (λ (t : Option (List ℕ)). let l : Left = record { told = t; faults = faults; histories = histories; events = events } in l) told_is
     ∙ ap (λ (f : ℕ). let l : Left = record { told = left.told; faults = f; histories = histories; events = events } in l) faults_are
     ∙ ap (λ (h : List History). let l : Left = record { told = left.told; faults = left.faults; histories = h; events = events } in l) all
@@ -338,10 +399,11 @@ source_failed before now source.Failed cause is = cause.failed refl
 source_failed before now source.OutOfMemory cause is = absurd cc
 
 -- a session over a store is one over another that tells its bytes where that one does
-unfoldable session_over : (net : Net) (tells other : Bool) (opening : List Change) (exchanges : List Exchange) (histories : List History) (events : List Event) → tells ≡ other
-    → IsSession net tells opening exchanges histories events → IsSession net other opening exchanges histories events
+unfoldable session_over : (net : Net) (tells other : Bool) (opening : List Change) (start : Shown) (exchanges : List Exchange) (histories : List History) (events : List Event) → tells ≡ other
+    → IsSession net tells opening start exchanges histories events → IsSession net other opening start exchanges histories events
 unfolding run_over
-session_over net tells other opening exchanges histories events same session = record {
+session_over net tells other opening start exchanges histories events same session = record {
+  shows = session.shows;
   parts = session.parts;
   parts_are = session.parts_are;
   lines = session.lines;
@@ -355,22 +417,34 @@ session_ends_from : (net : Net) (talk : Talked) (told given after : Option (List
     → SessionEndsFrom net talk (stored_from given after faults now) opening status histories events
 unfolding run_over session_over
 session_ends_from net talk told given after faults begun now opening status histories events tells later (inl breaks) = inl (record {
-  last = breaks.last;
-  legal = subst (λ (b : Bool). AreLegalTimes net b opening breaks.last histories) tells breaks.legal;
-  over = breaks.over;
-  entries = breaks.entries;
-  all = breaks.all;
-  told = breaks.told;
-  faults = breaks.faults;
-  kept = breaks.kept;
-  count = rose_since (length (lost_in histories)) faults begun breaks.faults later breaks.count;
-  later = breaks.later;
-  bytes = breaks.bytes;
-  status_is = breaks.status_is;
+  off = record {
+    last = breaks.off.last;
+    legal = subst (λ (b : Bool). AreLegalTimes net b opening breaks.off.last histories) tells breaks.off.legal;
+    over = breaks.off.over;
+    entries = breaks.off.entries;
+    all = breaks.off.all;
+    told = breaks.off.told;
+    faults = breaks.off.faults;
+    kept = breaks.off.kept;
+    count = rose_since (length (lost_in histories)) faults begun breaks.off.faults later breaks.off.count;
+    later = breaks.off.later;
+    bytes = breaks.off.bytes;
+    status_is = breaks.off.status_is;
+  };
+  exchanges = breaks.exchanges;
+  start = breaks.start;
+  shows = breaks.shows;
+  stand = breaks.stand;
+  played = subst (λ (b : Bool). PlaysLines net b 1 None (at_start net opening) breaks.exchanges breaks.stand) tells breaks.played;
+  goes = breaks.goes;
+  turns = breaks.turns;
+  stops = breaks.stops;
+  taken = breaks.taken;
 })
 session_ends_from net talk told given after faults begun now opening status histories events tells later (inr (inl whole)) = inr (inl (record {
   exchanges = whole.exchanges;
-  session = session_over net (is_some told) (is_some given) opening whole.exchanges histories events tells whole.session;
+  start = whole.start;
+  session = session_over net (is_some told) (is_some given) opening whole.start whole.exchanges histories events tells whole.session;
   left = leaves_from net told given after faults begun now histories whole.session.run.end later whole.left;
   end = whole.end;
   stops = whole.stops;
@@ -378,19 +452,22 @@ session_ends_from net talk told given after faults begun now opening status hist
 }))
 session_ends_from net talk told given after faults begun now opening status histories events tells later (inr (inr (inl part))) = inr (inr (inl (record {
   exchanges = part.exchanges;
-  session = session_over net (is_some told) (is_some given) opening part.exchanges histories events tells part.session;
+  start = part.start;
+  session = session_over net (is_some told) (is_some given) opening part.start part.exchanges histories events tells part.session;
   left = leaves_from net told given after faults begun now histories part.session.run.end later part.left;
   given = part.given;
   turns = part.turns;
   piece = part.piece;
+  shown = part.shown;
   last = part.last;
   part = part.part;
   status_is = part.status_is;
 })))
 session_ends_from net talk told given after faults begun now opening status histories events tells later (inr (inr (inr fails))) = inr (inr (inr (record {
   exchanges = fails.exchanges;
+  start = fails.start;
   last = fails.last;
-  session = session_over net (is_some told) (is_some given) opening fails.exchanges histories events tells fails.session;
+  session = session_over net (is_some told) (is_some given) opening fails.start fails.exchanges histories events tells fails.session;
   asked = fails.asked;
   given = fails.given;
   told = fails.told;
@@ -424,7 +501,7 @@ pub session_nothing_run : (net : Net) (talk : Talked) (stored : Stored) (fault :
 session_nothing_run net talk stored fault status histories events failed later none quiet (inl early) = inl (record {
   none = record { none = none; quiet = quiet; later = later };
   bytes = left_unopened net stored.before stored.after stored.faults_before stored.faults_after fault failed;
-  status_is = early;
+  status_is = early.0;
 })
 session_nothing_run net talk stored fault status histories events failed later none quiet (inr (named, told)) = inr (inl (record {
   fault = fault;

@@ -5,10 +5,11 @@ use Rattle.std.proofs.lemmas.List.{append-nil, map-append}
 use Rattle.bt_outside.specs.Told.{gained}
 use Rattle.bt_outside.specs.declared.source.Incoming.{Incoming}
 use Rattle.bt_outside.specs.Input.{Comes, said_by}
-use Rattle.bt_outside.specs.Talk.{Turn, Heard, Said, heard, said, took}
+use Rattle.bt_outside.specs.Talk.{Shown, Turn, Heard, Said, heard, said, took}
 use Rattle.bt_net.specs.Network.{Net}
 use Rattle.bt_history.specs.Book.{Books}
 use Rattle.bt_history.specs.Machine.{State}
+use Rattle.bt_history.specs.Store.{IsKept, lost_of}
 use Rattle.bt_journal.specs.declared.call.Change.{Change}
 use Rattle.bt_journal.specs.declared.entry.Entry.{Entry}
 use Rattle.bt_journal.specs.Journal.{changes_of}
@@ -22,7 +23,7 @@ use Rattle.bt_talk.specs.Block.{Open, row_of}
 use Rattle.bt_centre.specs.Answering.{GaveSince, SessionDone, SessionGoing, SessionSaid, StepPlayed, Took}
 use Rattle.bt_centre.specs.Progress.{Hand, IsBegun, ItemsDone, start_of}
 use Rattle.bt_centre.specs.Run.{Stand, at_start, changes_at}
-use Rattle.bt_centre.specs.Session.{Exchange, PlaysLines, PlaysStep, heard_in, opening_text, session_turns, turns_in}
+use Rattle.bt_centre.specs.Session.{Exchange, PlaysLines, PlaysStep, ShowsChanges, heard_in, opening_text, session_turns, turns_in}
 use Rattle.bt_centre.specs.Talked.{spoken}
 use Rattle.bt_centre.specs.Told.{IsTold}
 use Rattle.bt_round.specs.AirLines.{AirState}
@@ -36,7 +37,7 @@ Came = Option (List ℕ)
 spoken-append : (a b : List Turn) → spoken (a ++ b) ≡ spoken a ++ spoken b
 spoken-append [] b = refl
 spoken-append (Heard line ∷ a) b = spoken-append a b
-spoken-append (Said piece ∷ a) b = ap (λ (t : List ℕ). piece ++ t) (spoken-append a b) ∙ sym (append_assoc piece (spoken a) (spoken b))
+spoken-append (Said piece shown ∷ a) b = ap (λ (t : List ℕ). piece ++ t) (spoken-append a b) ∙ sym (append_assoc piece (spoken a) (spoken b))
 
 -- turns that were taken one list after the other
 took-append : (turns : Option (List Turn)) (a b : List Turn) → took (took turns a) b ≡ took turns (a ++ b)
@@ -44,7 +45,7 @@ took-append None a b = refl
 took-append (Some turns) a b = ap Some (append_assoc turns a b)
 
 -- where none were taken
-took-nil : (turns : Option (List Turn)) → turns ≡ took turns []
+pub took-nil : (turns : Option (List Turn)) → turns ≡ took turns []
 took-nil None = refl
 took-nil (Some turns) = ap Some (sym (append-nil turns))
 
@@ -57,12 +58,12 @@ pub took_none : (told : Option (List ℕ)) (turns : Option (List Turn)) → Took
 took_none told turns = record { wrote = gained-nil told; turn = took-nil turns }
 
 -- a piece more was said
-pub took_said : (turns : List Turn) (piece : List ℕ) (before between after : Option (List ℕ)) (t0 t1 t2 : Option (List Turn)) → Took turns before between t0 t1
-    → after ≡ gained between piece → t2 ≡ took t1 (said piece) → Took (turns ++ Said piece ∷ []) before after t0 t2
-took_said turns piece before between after t0 t1 t2 so wrote turn = record {
+pub took_said : (turns : List Turn) (piece : List ℕ) (shown : Shown) (before between after : Option (List ℕ)) (t0 t1 t2 : Option (List Turn)) → Took turns before between t0 t1
+    → after ≡ gained between piece → t2 ≡ took t1 (said piece shown) → Took (turns ++ Said piece shown ∷ []) before after t0 t2
+took_said turns piece shown before between after t0 t1 t2 so wrote turn = record {
   wrote = wrote ∙ ap (λ (t : Option (List ℕ)). gained t piece) so.wrote ∙ gained-append before (spoken turns) piece
-      ∙ ap (gained before) (sym (spoken-append turns (Said piece ∷ []) ∙ ap (λ (t : List ℕ). spoken turns ++ t) (append-nil piece)));
-  turn = turn ∙ ap (λ (t : Option (List Turn)). took t (said piece)) so.turn ∙ took-append t0 turns (said piece);
+      ∙ ap (gained before) (sym (spoken-append turns (Said piece shown ∷ []) ∙ ap (λ (t : List ℕ). spoken turns ++ t) (append-nil piece)));
+  turn = turn ∙ ap (λ (t : Option (List Turn)). took t (said piece shown)) so.turn ∙ took-append t0 turns (said piece shown);
 }
 
 -- a line more was heard
@@ -87,34 +88,36 @@ took_same turns before between after t0 t1 t2 so same turn = record { wrote = sa
 pub heard_more : (exchanges : List Exchange) (one : Exchange) → heard_in (exchanges ++ one ∷ []) ≡ heard_in exchanges ++ one.line ∷ []
 heard_more exchanges one = map-append (λ (e : Exchange). e.line) exchanges (one ∷ [])
 
-turns_more : (exchanges : List Exchange) (one : Exchange) → turns_in (exchanges ++ one ∷ []) ≡ turns_in exchanges ++ Heard one.line ∷ Said one.piece ∷ []
+turns_more : (exchanges : List Exchange) (one : Exchange) → turns_in (exchanges ++ one ∷ []) ≡ turns_in exchanges ++ Heard one.line ∷ Said one.piece one.shown ∷ []
 turns_more [] one = refl
-turns_more (first ∷ exchanges) one = ap (λ (l : List Turn). Heard first.line ∷ Said first.piece ∷ l) (turns_more exchanges one)
+turns_more (first ∷ exchanges) one = ap (λ (l : List Turn). Heard first.line ∷ Said first.piece first.shown ∷ l) (turns_more exchanges one)
 
 -- the turns with those of one exchange more
-pub session_turns_more : (net : Net) (opening : List Change) (exchanges : List Exchange) (one : Exchange)
-    → session_turns net opening (exchanges ++ one ∷ []) ≡ (session_turns net opening exchanges ++ Heard one.line ∷ []) ++ Said one.piece ∷ []
-session_turns_more net opening exchanges one =
-    ap (λ (l : List Turn). Said (opening_text net opening) ∷ l) (turns_more exchanges one)
-    ∙ sym (append_assoc (session_turns net opening exchanges) (Heard one.line ∷ []) (Said one.piece ∷ []))
+pub session_turns_more : (net : Net) (opening : List Change) (start : Shown) (exchanges : List Exchange) (one : Exchange)
+    → session_turns net opening start (exchanges ++ one ∷ []) ≡ (session_turns net opening start exchanges ++ Heard one.line ∷ []) ++ Said one.piece one.shown ∷ []
+session_turns_more net opening start exchanges one =
+    ap (λ (l : List Turn). Said (opening_text net opening) start ∷ l) (turns_more exchanges one)
+    ∙ sym (append_assoc (session_turns net opening start exchanges) (Heard one.line ∷ []) (Said one.piece one.shown ∷ []))
 
 -- a line more is played
 pub lines_more : (net : Net) (tells : Bool) (at : ℕ) (block : Open) (before between after : Stand) (exchanges : List Exchange) (one : Exchange) (stp : Step) (own : List ℕ) (n : ℕ)
     → PlaysLines net tells at block before exchanges between → stp ≡ (row_of net (open_behind net block (heard_in exchanges)) one.line).1 → n ≡ at + length (heard_in exchanges)
-    → PlaysStep net tells between stp own after → one.piece ≡ own ++ answer_of n stp → PlaysLines net tells at block before (exchanges ++ one ∷ []) after
-lines_more net tells at block before between after [] one stp own n same is number played piece = (
+    → PlaysStep net tells between stp own after → one.piece ≡ own ++ answer_of n stp → ShowsChanges net after one.shown → PlaysLines net tells at block before (exchanges ++ one ∷ []) after
+lines_more net tells at block before between after [] one stp own n same is number played piece shows = (
   after,
   own,
   subst (λ (s : Stand). PlaysStep net tells s (row_of net block one.line).1 own after) same (subst (λ (s : Step). PlaysStep net tells between s own after) is played),
   refl,
   piece ∙ ap (λ (m : ℕ). own ++ answer_of m stp) (omega (arith, number)) ∙ ap (λ (s : Step). own ++ answer_of at s) is,
+  shows,
 )
-lines_more net tells at block before between after (first ∷ exchanges) one stp own n (next, begun, started, going, text_is) is number played piece = (
+lines_more net tells at block before between after (first ∷ exchanges) one stp own n (next, begun, started, going, text_is, shown_is) is number played piece shows = (
   next,
   begun,
   started,
-  lines_more net tells (at + 1) (row_of net block first.line).0 next between after exchanges one stp own n going is (omega (arith, number)) played piece,
+  lines_more net tells (at + 1) (row_of net block first.line).0 next between after exchanges one stp own n going is (omega (arith, number)) played piece shows,
   text_is,
+  shown_is,
 )
 
 -- the parts that they ask
@@ -153,13 +156,14 @@ asked_more net exchanges one stp parts parts_are is =
 -- a line more, which plays nothing
 nothing_more : (net : Net) (begun : Books) (exchanges : List Exchange) (one : Exchange) (stp : Step) (hand : Hand) (own : List ℕ) (n : ℕ) → (so : SessionDone net begun exchanges hand)
     → stp ≡ (row_of net (open_behind net None (heard_in exchanges)) one.line).1 → n ≡ 1 + length (heard_in exchanges) → part_in stp ≡ []
-    → PlaysStep net (is_some begun.told) so.done.end stp own so.done.end → one.piece ≡ own ++ answer_of n stp → SessionDone net begun (exchanges ++ one ∷ []) hand
-nothing_more net begun exchanges one stp hand own n so is number none played piece = record {
+    → PlaysStep net (is_some begun.told) so.done.end stp own so.done.end → one.piece ≡ own ++ answer_of n stp → ShowsChanges net so.done.end one.shown
+    → SessionDone net begun (exchanges ++ one ∷ []) hand
+nothing_more net begun exchanges one stp hand own n so is number none played piece shows = record {
   parts = so.parts;
   parts_are = sym (append-nil so.parts) ∙ ap (λ (l : List Item). so.parts ++ l) (sym none) ∙ asked_more net exchanges one stp so.parts so.parts_are is;
   lines = so.lines;
   done = so.done;
-  played = lines_more net (is_some begun.told) 1 None (at_start net begun.state.changes) so.done.end so.done.end exchanges one stp own n so.played is number played piece;
+  played = lines_more net (is_some begun.told) 1 None (at_start net begun.state.changes) so.done.end so.done.end exchanges one stp own n so.played is number played piece shows;
 }
 
 -- what was told of what a run has in hand was told of how far it has come
@@ -171,54 +175,81 @@ told_at net begun parts hand lines asked text so told =
     subst (λ (c : List Change). IsTold net c so.end.air.waiting asked text) changes
     (subst (λ (a : AirState). IsTold net hand.book.state.changes a.waiting asked text) (sym so.air_is) told)
 
+-- a store that tells the changes of a book tells those made up to there
+pub shown_at : (net : Net) (begun : Books) (parts : List Item) (hand : Hand) (lines : List ℕ) (shown : Shown) → (so : ItemsDone net begun parts hand lines)
+    → IsKept hand.book.net shown.told hand.book.state.changes (lost_of hand.book.history) → ShowsChanges net so.end shown
+shown_at net begun parts hand lines shown so kept =
+    let changes : hand.book.state.changes ≡ changes_at so.end =
+    ap (λ (s : State). s.changes) so.so_far.reached ∙ ap (λ (h : List Entry). so.end.opening ++ changes_of h) (sym so.history_is) in
+    subst (λ (h : List Entry). IsKept net shown.told (changes_at so.end) (lost_of h)) (sym so.history_is)
+    (subst (λ (c : List Change). IsKept net shown.told c (lost_of hand.book.history)) changes
+    (subst (λ (n : Net). IsKept n shown.told hand.book.state.changes (lost_of hand.book.history)) so.so_far.network kept))
+
+shown_before : (net : Net) (begun : Books) (parts : List Item) (old new : Hand) (lines : List ℕ) (shown : Shown) → (so : ItemsDone net begun parts old lines) → new ≡ old
+    → IsKept new.book.net shown.told new.book.state.changes (lost_of new.book.history) → ShowsChanges net so.end shown
+shown_before net begun parts old new lines shown so same kept =
+    shown_at net begun parts old lines shown so (subst (λ (h : Hand). IsKept h.book.net shown.told h.book.state.changes (lost_of h.book.history)) same kept)
+
+-- what the store told at the start
+pub start_shown : (net : Net) (hand : Hand) (start : Shown) → IsBegun net hand → IsKept hand.book.net start.told hand.book.state.changes (lost_of hand.book.history)
+    → ShowsChanges net (at_start net hand.book.state.changes) start
+unfolding items_begin
+start_shown net hand start begun kept = shown_at net hand.book [] hand [] start (items_begin net hand begun) kept
+
 -- a line more
 pub session_goes_on : (net : Net) (begun : Books) (exchanges : List Exchange) (one : Exchange) (stp : Step) (old new : Hand) (own : List ℕ) (n : ℕ) → (so : SessionDone net begun exchanges old)
     → stp ≡ (row_of net (open_behind net None (heard_in exchanges)) one.line).1 → n ≡ 1 + length (heard_in exchanges) → StepPlayed net stp old new own → one.piece ≡ own ++ answer_of n stp
-    → SessionDone net begun (exchanges ++ one ∷ []) new
-session_goes_on net begun exchanges one (step.Plays part) old new own n so is number played piece =
+    → IsKept new.book.net one.shown.told new.book.state.changes (lost_of new.book.history) → SessionDone net begun (exchanges ++ one ∷ []) new
+session_goes_on net begun exchanges one (step.Plays part) old new own n so is number played piece kept =
     let further = item_goes_further net begun so.parts part old new so.lines own so.done played in
     record {
       parts = so.parts ++ part ∷ [];
       parts_are = asked_more net exchanges one (step.Plays part) so.parts so.parts_are is;
       lines = so.lines ++ own;
       done = further.done;
-      played = lines_more net (is_some begun.told) 1 None (at_start net begun.state.changes) so.done.end further.done.end exchanges one (step.Plays part) own n so.played is number further.way piece;
+      played = lines_more net (is_some begun.told) 1 None (at_start net begun.state.changes) so.done.end further.done.end exchanges one (step.Plays part) own n so.played is number further.way piece
+          (shown_at net begun (so.parts ++ part ∷ []) new (so.lines ++ own) one.shown further.done kept);
     }
-session_goes_on net begun exchanges one step.Nothing old new own n so is number (same, nothing) piece =
+session_goes_on net begun exchanges one step.Nothing old new own n so is number (same, nothing) piece kept =
     subst (SessionDone net begun (exchanges ++ one ∷ [])) (sym same)
-    (nothing_more net begun exchanges one step.Nothing old own n so is number refl (nothing, refl) piece)
-session_goes_on net begun exchanges one (step.Fault code) old new own n so is number (same, nothing) piece =
+    (nothing_more net begun exchanges one step.Nothing old own n so is number refl (nothing, refl) piece (shown_before net begun so.parts old new so.lines one.shown so.done same kept))
+session_goes_on net begun exchanges one (step.Fault code) old new own n so is number (same, nothing) piece kept =
     subst (SessionDone net begun (exchanges ++ one ∷ [])) (sym same)
-    (nothing_more net begun exchanges one (step.Fault code) old own n so is number refl (nothing, refl) piece)
-session_goes_on net begun exchanges one (step.Tells asked) old new own n so is number (same, told) piece =
+    (nothing_more net begun exchanges one (step.Fault code) old own n so is number refl (nothing, refl) piece (shown_before net begun so.parts old new so.lines one.shown so.done same kept))
+session_goes_on net begun exchanges one (step.Tells asked) old new own n so is number (same, told) piece kept =
     subst (SessionDone net begun (exchanges ++ one ∷ [])) (sym same)
-    (nothing_more net begun exchanges one (step.Tells asked) old own n so is number refl (told_at net begun so.parts old so.lines asked own so.done told, refl) piece)
+    (nothing_more net begun exchanges one (step.Tells asked) old own n so is number refl (told_at net begun so.parts old so.lines asked own so.done told, refl) piece
+    (shown_before net begun so.parts old new so.lines one.shown so.done same kept))
 
 -- the first piece is that of a session that begins so
 pub opening_is : (net : Net) (hand : Hand) → IsBegun net hand → start_of hand ++ ready_line 0 ≡ opening_text net hand.book.state.changes
 opening_is net hand begins = ap (λ (t : List ℕ). t ++ ready_line 0) (start_is net hand begins)
 
 -- it was said
-pub session_first : (net : Net) (hand : Hand) → IsBegun net hand → (before after : Option (List ℕ)) (t0 t1 : Option (List Turn)) → after ≡ gained before (start_of hand ++ ready_line 0)
-    → t1 ≡ took t0 (said (start_of hand ++ ready_line 0)) → SessionSaid net hand.book [] hand before after t0 t1
-session_first net hand begins before after t0 t1 wrote turn = record {
+pub session_first : (net : Net) (hand : Hand) (start : Shown) → IsBegun net hand → (before after : Option (List ℕ)) (t0 t1 : Option (List Turn)) → after ≡ gained before (start_of hand ++ ready_line 0)
+    → t1 ≡ took t0 (said (start_of hand ++ ready_line 0) start) → IsKept hand.book.net start.told hand.book.state.changes (lost_of hand.book.history) → SessionSaid net hand.book [] hand before after t0 t1
+session_first net hand start begins before after t0 t1 wrote turn kept = record {
   done = session_begins net hand begins;
-  taken = subst (λ (p : List ℕ). Took (Said p ∷ []) before after t0 t1) (opening_is net hand begins)
-      (took_said [] (start_of hand ++ ready_line 0) before before after t0 t0 t1 (took_none before t0) wrote turn);
+  start = start;
+  shows = start_shown net hand start begins kept;
+  taken = subst (λ (p : List ℕ). Took (Said p start ∷ []) before after t0 t1) (opening_is net hand begins)
+      (took_said [] (start_of hand ++ ready_line 0) start before before after t0 t0 t1 (took_none before t0) wrote turn);
 }
 
 -- a line more was answered
-pub session_more : (net : Net) (begun : Books) (exchanges : List Exchange) (came : Incoming) (stp : Step) (old new : Hand) (own piece : List ℕ) (n : ℕ) (before between after : Option (List ℕ)) (t0 t1 t2 : Option (List Turn))
-    → SessionDone net begun exchanges old → Took (session_turns net begun.state.changes exchanges ++ Heard (said_by came) ∷ []) before between t0 t1
+pub session_more : (net : Net) (begun : Books) (exchanges : List Exchange) (came : Incoming) (stp : Step) (old new : Hand) (own piece : List ℕ) (start shown : Shown) (n : ℕ) (before between after : Option (List ℕ)) (t0 t1 t2 : Option (List Turn))
+    → SessionDone net begun exchanges old → ShowsChanges net (at_start net begun.state.changes) start → Took (session_turns net begun.state.changes start exchanges ++ Heard (said_by came) ∷ []) before between t0 t1
     → stp ≡ (row_of net (open_behind net None (heard_in exchanges)) (said_by came)).1 → n ≡ 1 + length (heard_in exchanges)
-    → StepPlayed net stp old new own → piece ≡ own ++ answer_of n stp → after ≡ gained between piece → t2 ≡ took t1 (said piece)
-    → SessionSaid net begun (exchanges ++ record { line = said_by came; piece = piece } ∷ []) new before after t0 t2
-session_more net begun exchanges came stp old new own piece n before between after t0 t1 t2 so taken is number played piece_is wrote turn =
-    let one : Exchange = record { line = said_by came; piece = piece } in
-    let turns = session_turns net begun.state.changes exchanges ++ Heard (said_by came) ∷ [] in
+    → StepPlayed net stp old new own → piece ≡ own ++ answer_of n stp → after ≡ gained between piece → t2 ≡ took t1 (said piece shown)
+    → IsKept new.book.net shown.told new.book.state.changes (lost_of new.book.history) → SessionSaid net begun (exchanges ++ record { line = said_by came; piece = piece; shown = shown } ∷ []) new before after t0 t2
+session_more net begun exchanges came stp old new own piece start shown n before between after t0 t1 t2 so shows taken is number played piece_is wrote turn kept =
+    let one : Exchange = record { line = said_by came; piece = piece; shown = shown } in
+    let turns = session_turns net begun.state.changes start exchanges ++ Heard (said_by came) ∷ [] in
     record {
-      done = session_goes_on net begun exchanges one stp old new own n so is number played piece_is;
-      taken = subst (λ (l : List Turn). Took l before after t0 t2) (sym (session_turns_more net begun.state.changes exchanges one)) (took_said turns piece before between after t0 t1 t2 taken wrote turn);
+      done = session_goes_on net begun exchanges one stp old new own n so is number played piece_is kept;
+      start = start;
+      shows = shows;
+      taken = subst (λ (l : List Turn). Took l before after t0 t2) (sym (session_turns_more net begun.state.changes start exchanges one)) (took_said turns piece shown before between after t0 t1 t2 taken wrote turn);
     }
 
 -- a line plays one round at most
@@ -244,14 +275,14 @@ gave_none (Some bytes) = refl
 gave_none None = tt
 
 -- a session at its start
-pub going_first : (net : Net) (hand : Hand) → IsBegun net hand → (coming now before after : Option (List ℕ)) (t0 t1 : Option (List Turn)) → now ≡ coming → after ≡ gained before (start_of hand ++ ready_line 0)
-    → t1 ≡ took t0 (said (start_of hand ++ ready_line 0)) → SessionGoing net hand.book 1 None hand coming now before after t0 t1
-going_first net hand begins coming now before after t0 t1 same wrote turn = record {
+pub going_first : (net : Net) (hand : Hand) (start : Shown) → IsBegun net hand → (coming now before after : Option (List ℕ)) (t0 t1 : Option (List Turn)) → now ≡ coming → after ≡ gained before (start_of hand ++ ready_line 0)
+    → t1 ≡ took t0 (said (start_of hand ++ ready_line 0) start) → IsKept hand.book.net start.told hand.book.state.changes (lost_of hand.book.history) → SessionGoing net hand.book 1 None hand coming now before after t0 t1
+going_first net hand start begins coming now before after t0 t1 same wrote turn kept = record {
   exchanges = [];
   count = refl;
   open_is = refl;
   gave = subst (λ (c : Option (List ℕ)). GaveSince coming c []) (sym same) (gave_none coming);
-  said = session_first net hand begins before after t0 t1 wrote turn;
+  said = session_first net hand start begins before after t0 t1 wrote turn kept;
 }
 
 -- the row of a line in the block that is open
@@ -260,12 +291,12 @@ pub row_is : (net : Net) (block behind : Open) (lines : List Came) (one : Came) 
 row_is net block behind lines one stp is row = ap (λ (r : Open × Step). r.1) (row ∙ ap (λ (o : Open). row_of net o one) is)
 
 -- a session goes on
-pub going_more : (net : Net) (begun : Books) (at : ℕ) (block behind : Open) (came : Incoming) (stp : Step) (old new : Hand) (own piece : List ℕ) (coming now next rest before b1 b2 after : Option (List ℕ)) (t0 t1 t2 t3 : Option (List Turn))
+pub going_more : (net : Net) (begun : Books) (at : ℕ) (block behind : Open) (came : Incoming) (stp : Step) (old new : Hand) (own piece : List ℕ) (shown : Shown) (coming now next rest before b1 b2 after : Option (List ℕ)) (t0 t1 t2 t3 : Option (List Turn))
     → SessionGoing net begun at block old coming now before b1 t0 t1 → Comes 4096 now (Some came) next → b2 ≡ b1 → t2 ≡ took t1 (heard (Some came))
     → (let row : Open × Step = (behind, stp) in row ≡ row_of net block (said_by came)) → StepPlayed net stp old new own
-    → piece ≡ own ++ answer_of at stp → after ≡ gained b2 piece → t3 ≡ took t2 (said piece) → rest ≡ next → SessionGoing net begun (at + 1) behind new coming rest before after t0 t3
-going_more net begun at block behind came stp old new own piece coming now next rest before b1 b2 after t0 t1 t2 t3 so comes same turn row played piece_is wrote answered input =
-    let one : Exchange = record { line = said_by came; piece = piece } in
+    → piece ≡ own ++ answer_of at stp → after ≡ gained b2 piece → t3 ≡ took t2 (said piece shown) → IsKept new.book.net shown.told new.book.state.changes (lost_of new.book.history) → rest ≡ next → SessionGoing net begun (at + 1) behind new coming rest before after t0 t3
+going_more net begun at block behind came stp old new own piece shown coming now next rest before b1 b2 after t0 t1 t2 t3 so comes same turn row played piece_is wrote answered kept input =
+    let one : Exchange = record { line = said_by came; piece = piece; shown = shown } in
     let lines = heard_in so.exchanges in
     let here : row_of net block one.line ≡ row_of net (open_behind net None lines) one.line = ap (λ (o : Open). row_of net o one.line) so.open_is in
     record {
@@ -274,7 +305,7 @@ going_more net begun at block behind came stp old new own piece coming now next 
       open_is = ap (λ (r : Open × Step). r.0) (row ∙ here) ∙ sym (open_more net None lines one.line) ∙ ap (open_behind net None) (sym (heard_more so.exchanges one));
       gave = subst (λ (c : Option (List ℕ)). GaveSince coming c (heard_in (so.exchanges ++ one ∷ []))) (sym input)
           (subst (GaveSince coming next) (sym (heard_more so.exchanges one)) (gave_more coming now next lines came so.gave comes));
-      said = session_more net begun so.exchanges came stp old new own piece at before b2 after t0 t2 t3 so.said.done
-          (took_heard (session_turns net begun.state.changes so.exchanges) came before b1 b2 t0 t1 t2 so.said.taken same turn)
-          (row_is net block behind lines one.line stp so.open_is row) (omega (arith, so.count)) played piece_is wrote answered;
+      said = session_more net begun so.exchanges came stp old new own piece so.said.start shown at before b2 after t0 t2 t3 so.said.done so.said.shows
+          (took_heard (session_turns net begun.state.changes so.said.start so.exchanges) came before b1 b2 t0 t1 t2 so.said.taken same turn)
+          (row_is net block behind lines one.line stp so.open_is row) (omega (arith, so.count)) played piece_is wrote answered kept;
     }

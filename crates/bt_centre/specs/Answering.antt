@@ -3,7 +3,7 @@ use Rattle.std.specs.Prelude.{◌≡◌, ◌≢◌, ◌⊎◌, ℕ, ◌+◌, ◌
 use Rattle.std.specs.Option.{is_some}
 use Rattle.bt_outside.specs.Told.{gained}
 use Rattle.bt_outside.specs.Input.{given_by}
-use Rattle.bt_outside.specs.Talk.{Turn, took}
+use Rattle.bt_outside.specs.Talk.{Shown, Turn, took}
 use Rattle.bt_net.specs.Network.{Net}
 use Rattle.bt_script.specs.declared.script.Item.{Item}
 use Rattle.bt_history.specs.Book.{Books}
@@ -19,14 +19,14 @@ use Rattle.bt_centre.specs.declared.session.TheConstants.{MOST_LINE_BYTES}
 use Rattle.bt_centre.specs.Progress.{Hand, IsLeftOf, ItemFailed, ItemPlayed, ItemsDone, Left}
 use Rattle.bt_centre.specs.RecoverFaults.{recover_line, recover_status}
 use Rattle.bt_centre.specs.Run.{at_start, opening_on}
-use Rattle.bt_centre.specs.Session.{Exchange, PlaysLines, SessionEndsFrom, StopsHearing, heard_in, session_turns}
-use Rattle.bt_centre.specs.Talked.{Says, Talked, spoken}
+use Rattle.bt_centre.specs.Session.{Exchange, PlaysLines, SessionEndsFrom, ShowsChanges, StopsHearing, heard_in, session_turns}
+use Rattle.bt_centre.specs.Talked.{Says, SaysNothing, Talked, spoken}
 use Rattle.bt_centre.specs.Told.{IsTold}
 use Rattle.bt_centre.specs.World.{IsSpelledWorld}
 
 -- memory ran out, or the line of a recovery's fault, which has one, was said behind this text
 abbrev pub SaysNamed : Talked → List ℕ → RecoverFault → ℕ → Type 0
-SaysNamed talk text fault status = (status ≡ OUT_OF_MEMORY) ⊎ ((fault ≢ OutOfMemory) × Says talk (text ++ recover_line fault) (recover_status fault) status)
+SaysNamed talk text fault status = SaysNothing talk status ⊎ ((fault ≢ OutOfMemory) × Says talk (text ++ recover_line fault) (recover_status fault) status)
 
 -- what a line comes to was played, or told
 abbrev pub StepPlayed : Net → Step → Hand → Hand → List ℕ → Type 0
@@ -58,7 +58,9 @@ pub record SessionDone (net : Net) (begun : Books) (exchanges : List Exchange) (
 -- the same, and the first piece was said, and each of them was answered
 pub record SessionSaid (net : Net) (begun : Books) (exchanges : List Exchange) (hand : Hand) (before after : Option (List ℕ)) (turns_before turns_after : Option (List Turn)) : Type 0 where
   pub done : SessionDone net begun exchanges hand
-  pub taken : Took (session_turns net begun.state.changes exchanges) before after turns_before turns_after
+  pub start : Shown
+  pub shows : ShowsChanges net (at_start net begun.state.changes) start
+  pub taken : Took (session_turns net begun.state.changes start exchanges) before after turns_before turns_after
 
 -- an input gave these between two moments
 abbrev pub GaveSince : Option (List ℕ) → Option (List ℕ) → List (Option (List ℕ)) → Type 0

@@ -3,13 +3,15 @@ use Rattle.std.specs.Prelude.{◌≡◌, ◌≢◌, ◌⊎◌, ℕ, ◌+◌, ◌
 use Rattle.std.specs.Option.{is_some}
 use Rattle.bt_outside.specs.Told.{Rose}
 use Rattle.bt_outside.specs.Input.{given_by}
-use Rattle.bt_outside.specs.Talk.{Turn, Heard, Said}
+use Rattle.bt_outside.specs.Talk.{Shown, Turn, Heard, Said, took}
 use Rattle.bt_net.specs.Network.{Net}
 use Rattle.bt_air.specs.declared.event.Event.{Event}
 use Rattle.bt_journal.specs.declared.call.Change.{Change}
 use Rattle.bt_history.specs.declared.fault.RecoverFault.{RecoverFault}
 use Rattle.bt_history.specs.declared.fault.RecoverFault.TheVariants.{OutOfMemory, StoreFault}
 use Rattle.bt_history.specs.Recovery.{IsRecoverFault}
+use Rattle.bt_history.specs.Store.{IsKept, lost_of}
+use Rattle.bt_journal.specs.declared.entry.Entry.{Entry}
 use Rattle.bt_script.specs.declared.script.Item.{Item}
 use Rattle.bt_script.specs.declared.script.Item.TheVariants as item
 use Rattle.bt_talk.specs.declared.block.Step.{Step}
@@ -31,10 +33,11 @@ use Rattle.bt_centre.specs.Talked.{Says, SaysPart, Talked, behind}
 use Rattle.bt_centre.specs.Told.{IsTold}
 use Rattle.bt_centre.specs.World.{IsSpelledWorld}
 
--- a line that was heard, or None where what came is no line, and the piece that was said to it
+-- a line that was heard, or None where what came is no line, the piece that was said to it, and what the store told then
 pub record Exchange : Type 0 where
   pub line : Option (List ℕ)
   pub piece : List ℕ
+  pub shown : Shown
 
 -- the lines that were heard
 abbrev pub heard_in : List Exchange → List (Option (List ℕ))
@@ -43,7 +46,11 @@ heard_in exchanges = map (λ (one : Exchange). one.line) exchanges
 -- the turns of exchanges: each line is heard, and its piece is said before the next is heard
 abbrev pub turns_in : List Exchange → List Turn
 turns_in [] = []
-turns_in (first ∷ exchanges) = Heard first.line ∷ Said first.piece ∷ turns_in exchanges
+turns_in (first ∷ exchanges) = Heard first.line ∷ Said first.piece first.shown ∷ turns_in exchanges
+
+-- the store told the changes that were made up to there, and maybe a first part of the one that it lost
+abbrev pub ShowsChanges : Net → Stand → Shown → Type 0
+ShowsChanges net stand shown = IsKept net shown.told (changes_at stand) (lost_of stand.history)
 
 -- what a line comes to is played: a part of a run, or nothing; or it is told, of what is in hand before the line, and nothing changes
 abbrev pub PlaysStep : Net → (tells : Bool) → Stand → Step → List ℕ → Stand → Type 0
@@ -53,16 +60,18 @@ PlaysStep net tells before (step.Fault code) text after = (text ≡ []) × (afte
 PlaysStep net tells before (step.Tells one) text after = IsTold net (changes_at before) before.air.waiting one text × (after ≡ before)
 
 -- lines one after the other, the first of them line `at`: each is played, and the piece said to it is the text of that with its answer
--- behind
+-- behind, while the store told all changes that were made up to there
 abbrev pub PlaysLines : Net → (tells : Bool) → (at : ℕ) → Open → Stand → List Exchange → Stand → Type 0
 PlaysLines net tells at block before [] after = after ≡ before
 PlaysLines net tells at block before (first ∷ exchanges) after =
     (between : Stand) × (own : List ℕ) × PlaysStep net tells before (row_of net block first.line).1 own between
     × PlaysLines net tells (at + 1) (row_of net block first.line).0 between exchanges after × (first.piece ≡ own ++ answer_of at (row_of net block first.line).1)
+    × ShowsChanges net between first.shown
 
 -- A session of these exchanges, from these changes on: it is a run of the parts that its lines ask, and what is said to each line is the
 -- text of what it plays, with its answer behind.
-pub record IsSession (net : Net) (tells : Bool) (opening : List Change) (exchanges : List Exchange) (histories : List History) (events : List Event) : Type 0 where
+pub record IsSession (net : Net) (tells : Bool) (opening : List Change) (start : Shown) (exchanges : List Exchange) (histories : List History) (events : List Event) : Type 0 where
+  pub shows : ShowsChanges net (at_start net opening) start
   pub parts : List Item
   pub parts_are : parts ≡ parts_of net None (heard_in exchanges)
   pub lines : List ℕ
@@ -74,8 +83,8 @@ abbrev pub opening_text : Net → List Change → List ℕ
 opening_text net opening = first_line net opening ++ ready_line 0
 
 -- the turns of a session: that is said, and then each line is heard and answered
-abbrev pub session_turns : Net → List Change → List Exchange → List Turn
-session_turns net opening exchanges = Said (opening_text net opening) ∷ turns_in exchanges
+abbrev pub session_turns : Net → List Change → Shown → List Exchange → List Turn
+session_turns net opening start exchanges = Said (opening_text net opening) start ∷ turns_in exchanges
 
 -- what is said of the end of the input
 abbrev pub input_text : InputEnd → List ℕ
@@ -111,22 +120,25 @@ StopsHearing talk lines ending.Failed = Rose talk.unheard_before talk.unheard_af
 -- the lines were played and answered up to the end of the input, and the last piece was said, or the sink failed over it
 pub record SessionWhole (net : Net) (talk : Talked) (stored : Stored) (opening : List Change) (status : ℕ) (histories : List History) (events : List Event) : Type 0 where
   pub exchanges : List Exchange
-  pub session : IsSession net (is_some stored.before) opening exchanges histories events
+  pub start : Shown
+  pub session : IsSession net (is_some stored.before) opening start exchanges histories events
   pub left : LeavesStore net stored histories session.run.end
   pub end : InputEnd
   pub stops : StopsHearing talk (heard_in exchanges) end
-  pub said : Says (behind talk (session_turns net opening exchanges)) (closing_text end histories) (status_behind end histories) status
+  pub said : Says (behind talk (session_turns net opening start exchanges)) (closing_text end histories) (status_behind end histories) status
 
 -- The sink failed over the last of these turns, which is the first piece of the session or what was to be said to the last of its lines.
 -- That line was played; the turns before were taken, and no other.
 pub record SessionUnsaid (net : Net) (talk : Talked) (stored : Stored) (opening : List Change) (status : ℕ) (histories : List History) (events : List Event) : Type 0 where
   pub exchanges : List Exchange
-  pub session : IsSession net (is_some stored.before) opening exchanges histories events
+  pub start : Shown
+  pub session : IsSession net (is_some stored.before) opening start exchanges histories events
   pub left : LeavesStore net stored histories session.run.end
   pub given : WereGiven talk (heard_in exchanges)
   pub turns : List Turn
   pub piece : List ℕ
-  pub last : session_turns net opening exchanges ≡ turns ++ Said piece ∷ []
+  pub shown : Shown
+  pub last : session_turns net opening start exchanges ≡ turns ++ Said piece shown ∷ []
   pub part : SaysPart (behind talk turns) piece
   pub status_is : status ≡ WRITE_FAILED
 
@@ -136,7 +148,8 @@ pub record SessionUnsaid (net : Net) (talk : Talked) (stored : Stored) (opening 
 pub record SessionToRestart (net : Net) (talk : Talked) (stored : Stored) (opening : List Change) (status : ℕ) (histories : List History) (events : List Event) : Type 0 where
   pub exchanges : List Exchange
   pub last : Option (List ℕ)
-  pub session : IsSession net (is_some stored.before) opening exchanges histories events
+  pub start : Shown
+  pub session : IsSession net (is_some stored.before) opening start exchanges histories events
   pub asked : (row_of net (open_behind net None (heard_in exchanges)) last).1 ≡ step.Plays item.Restart
   pub given : WereGiven talk (heard_in exchanges ++ last ∷ [])
   pub told : Option (List ℕ)
@@ -147,13 +160,38 @@ pub record SessionToRestart (net : Net) (talk : Talked) (stored : Stored) (openi
   pub later : faults ≤ stored.faults_after
   pub named : fault ≢ OutOfMemory
   pub only : IfSome stored.before (λ _. fault ≡ StoreFault)
-  pub said : Says (behind talk (session_turns net opening exchanges ++ Heard last ∷ [])) (restart_line ++ recover_line fault) (recover_status fault) status
+  pub said : Says (behind talk (session_turns net opening start exchanges ++ Heard last ∷ [])) (restart_line ++ recover_line fault) (recover_status fault) status
+
+-- the turns that were taken where memory ran out: those of these exchanges; or one more line was heard; or all but the last of them, a
+-- piece that was not said
+abbrev pub StopsTurns : Net → List Change → Shown → List Exchange → List Turn → Type 0
+StopsTurns net opening start exchanges turns =
+    (turns ≡ session_turns net opening start exchanges) ⊎ ((last : Option (List ℕ)) × (turns ≡ session_turns net opening start exchanges ++ Heard last ∷ []))
+    ⊎ ((piece : List ℕ) × (shown : Shown) × (session_turns net opening start exchanges ≡ turns ++ Said piece shown ∷ []))
+
+-- these histories go on from there, in the same time
+abbrev pub GoesOnFrom : Stand → List History → Type 0
+GoesOnFrom stand histories = (more : List Entry) × (histories ≡ stand.over ++ record { before = length stand.opening; entries = stand.history ++ more } ∷ [])
+
+-- Memory ran out. What was asked and answered goes on from these exchanges, each of which was played, and said while the store told all
+-- changes that were made up to there; no other turn was taken, but for a line that was not answered.
+pub record SessionBreaksOff (net : Net) (talk : Talked) (stored : Stored) (opening : List Change) (status : ℕ) (histories : List History) : Type 0 where
+  pub off : BreaksOff net stored opening status histories
+  pub exchanges : List Exchange
+  pub start : Shown
+  pub shows : ShowsChanges net (at_start net opening) start
+  pub stand : Stand
+  pub played : PlaysLines net (is_some stored.before) 1 None (at_start net opening) exchanges stand
+  pub goes : GoesOnFrom stand histories
+  pub turns : List Turn
+  pub stops : StopsTurns net opening start exchanges turns
+  pub taken : talk.turns_after ≡ took talk.turns_before turns
 
 -- how a session ends, from these changes on: memory ran out, or its lines were played to the end of the input, up to a piece that could
 -- not be said, or up to a restart at which the changes could not be recovered again
 abbrev pub SessionEndsFrom : Net → Talked → Stored → List Change → ℕ → List History → List Event → Type 0
 SessionEndsFrom net talk stored opening status histories events =
-    BreaksOff net stored opening status histories
+    SessionBreaksOff net talk stored opening status histories
     ⊎ SessionWhole net talk stored opening status histories events
     ⊎ SessionUnsaid net talk stored opening status histories events
     ⊎ SessionToRestart net talk stored opening status histories events

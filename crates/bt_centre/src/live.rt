@@ -2,6 +2,7 @@
 // the events of its world, but for the plans that were installed.
 ghost use Rattle.std.specs.Prelude.{◌≡◌, ◌<◌, ◌++◌, ◌∷◌, [], length, IfErr, IfOk, OnOk};
 ghost use Rattle.bt_history.specs.Causes.{Follows};
+ghost use Rattle.bt_history.specs.Store.{IsKept, lost_of};
 ghost use Rattle.bt_script.specs.Named.{IsItemFor, IsRoundFor};
 ghost use Rattle.bt_script.specs.declared.script.Item.TheVariants as item;
 ghost use Rattle.bt_talk.specs.Block.{IsQueryFor, IsStepFor};
@@ -99,6 +100,15 @@ impl<K: Keeper> Live<K> {
         left_behind(run.stop(rt), log)
     }
 
+    /// The store. It tells the changes of the book, and maybe a first part of the one that it lost.
+    pub(crate) fn store(&self) -> &K
+        ensures told { K.told result.now ≡ self.now.book.told }
+        ensures faults { K.fault_count result.now ≡ self.now.book.faults }
+        ensures kept { IsKept self.now.book.net self.now.book.told self.now.book.state.changes (lost_of self.now.book.history) }
+    {
+        self.run.station.book.store()
+    }
+
     /// What a line that asks is told, of what the run has in hand.
     fn tell(&self, alloc: Global, net: &Network, query: Query) -> Result<Vec<u8>, OutOfMemory>
         requires network { self.now.book.net ≡ net.now }
@@ -140,6 +150,14 @@ fn left_behind<K: Keeper>(remains: Remains<K, TracedEvents>, log: Log) -> LiveRe
 }
 
 impl<K: Keeper> LiveRemains<K> {
+    /// The store.
+    pub(crate) fn store(&self) -> &K
+        ensures told { K.told result.now ≡ self.now.told }
+        ensures faults { K.fault_count result.now ≡ self.now.faults }
+    {
+        &self.store
+    }
+
     /// The end of a session, with its status.
     pub(crate) fn end(self, status: u8) -> SessionEnd<K>
         ensures status { result.status ≡ status }

@@ -6,12 +6,18 @@ ghost use Rattle.bt_centre.specs.Talked.{SaysOrNot};
 
 use crate::fault::{fault_text, recover_status, restart_fault_text};
 use bt_book::RecoverFault;
-use bt_outside::Talk;
+use bt_outside::{Keeper, Talk};
 use bt_report::{OUT_OF_MEMORY, unwritten};
 use std::alloc::Global;
 
 /// Says a piece, and gives the status to end with: this one where it was said whole.
-pub fn say_text<T: Talk>(alloc: Global, piece: &[u8], status: u8, talk: &mut T) -> u8
+pub fn say_text<T: Talk<K>, K: Keeper>(
+    alloc: Global,
+    piece: &[u8],
+    status: u8,
+    talk: &mut T,
+    store: &K,
+) -> u8
     ensures said { SaysOrNot
         (record {
           coming = T.coming talk.old;
@@ -20,19 +26,25 @@ pub fn say_text<T: Talk>(alloc: Global, piece: &[u8], status: u8, talk: &mut T) 
           output = record { before = T.told talk.old; after = T.told talk.new; faults_before = T.fault_count talk.old; faults_after = T.fault_count talk.new };
           turns_before = T.turns talk.old;
           turns_after = T.turns talk.new;
+          store = record { told = K.told store.now; faults = K.fault_count store.now };
         })
         piece.now status result }
     ensures later { T.fault_count talk.old ≤ T.fault_count talk.new }
     ensures input_faults { T.unheard talk.new ≡ T.unheard talk.old }
 {
-    match talk.say(alloc, piece) {
+    match talk.say(alloc, piece, store) {
         Ok(()) => status,
         Err(fault) => unwritten(fault),
     }
 }
 
 /// Says the line of a recovery that failed, and gives the status to end with. Want of memory has no line.
-pub(crate) fn say_fault<T: Talk>(alloc: Global, fault: RecoverFault, talk: &mut T) -> u8
+pub(crate) fn say_fault<T: Talk<K>, K: Keeper>(
+    alloc: Global,
+    fault: RecoverFault,
+    talk: &mut T,
+    store: &K,
+) -> u8
     ensures said { SaysNamed
         (record {
           coming = T.coming talk.old;
@@ -41,17 +53,23 @@ pub(crate) fn say_fault<T: Talk>(alloc: Global, fault: RecoverFault, talk: &mut 
           output = record { before = T.told talk.old; after = T.told talk.new; faults_before = T.fault_count talk.old; faults_after = T.fault_count talk.new };
           turns_before = T.turns talk.old;
           turns_after = T.turns talk.new;
+          store = record { told = K.told store.now; faults = K.fault_count store.now };
         })
         [] fault result }
 {
     match fault_text(alloc, fault) {
-        Ok(text) => say_text(alloc, text.as_slice(), recover_status(fault), talk),
+        Ok(text) => say_text(alloc, text.as_slice(), recover_status(fault), talk, store),
         Err(_) => OUT_OF_MEMORY,
     }
 }
 
 /// Says the line of a restart, and behind it that of the recovery that failed there; gives the status to end with.
-pub(crate) fn say_restart_fault<T: Talk>(alloc: Global, fault: RecoverFault, talk: &mut T) -> u8
+pub(crate) fn say_restart_fault<T: Talk<K>, K: Keeper>(
+    alloc: Global,
+    fault: RecoverFault,
+    talk: &mut T,
+    store: &K,
+) -> u8
     ensures said { SaysNamed
         (record {
           coming = T.coming talk.old;
@@ -60,12 +78,13 @@ pub(crate) fn say_restart_fault<T: Talk>(alloc: Global, fault: RecoverFault, tal
           output = record { before = T.told talk.old; after = T.told talk.new; faults_before = T.fault_count talk.old; faults_after = T.fault_count talk.new };
           turns_before = T.turns talk.old;
           turns_after = T.turns talk.new;
+          store = record { told = K.told store.now; faults = K.fault_count store.now };
         })
         restart_line fault result }
     ensures later { T.fault_count talk.old ≤ T.fault_count talk.new }
 {
     match restart_fault_text(alloc, fault) {
-        Ok(text) => say_text(alloc, text.as_slice(), recover_status(fault), talk),
+        Ok(text) => say_text(alloc, text.as_slice(), recover_status(fault), talk, store),
         Err(_) => OUT_OF_MEMORY,
     }
 }

@@ -3,9 +3,11 @@ ghost use Rattle.std.specs.Prelude.{◌≡◌, ◌≤◌, ◌<◌, ◌++◌, [],
 ghost use Rattle.bt_outside.specs.Told.{GainsPrefix, Rose, gained};
 ghost use Rattle.bt_outside.specs.Input.{said_by};
 ghost use Rattle.bt_outside.specs.Talk.{said, took};
+ghost use Rattle.bt_history.specs.Store.{IsKept, lost_of};
+ghost use Rattle.bt_timeline.specs.Timeline.{restart_line};
 ghost use Rattle.bt_talk.specs.Answers.{answer_of, ready_line};
 ghost use Rattle.bt_talk.specs.Block.{IsOpenFor, IsStepFor, row_of};
-ghost use Rattle.bt_centre.specs.Answering.{SessionEnded, SessionHeard};
+ghost use Rattle.bt_centre.specs.Answering.{SaysNamed, SessionEnded, SessionHeard};
 ghost use Rattle.bt_centre.specs.Progress.{IsBegun, start_of};
 ghost use Rattle.bt_centre.specs.Session.{SessionTo, closing_text, input_status, input_text, status_behind};
 ghost use Rattle.bt_centre.specs.Talked.{SaysOrNot};
@@ -15,7 +17,7 @@ use crate::live::{Live, LiveRemains, play_step};
 use crate::open::open;
 use crate::playing::Playing;
 use crate::say::{say_fault, say_restart_fault, say_text};
-use bt_book::installed_plans_are_good;
+use bt_book::{RecoverFault, installed_plans_are_good};
 use bt_frame::OutOfMemory;
 use bt_net::Network;
 use bt_outside::{Incoming, Keeper, SinkFault, SourceFault, Talk};
@@ -80,7 +82,7 @@ pub enum InputEnd {
 /// the air the plans that were installed are kept.
 ///
 /// The status is that of a run; it is 5 where the input failed and the store lost nothing.
-pub fn run_session<R: Threads + Wait + Sync, G: Gate + Sync, T: Talk, K: Keeper + Send>(
+pub fn run_session<R: Threads + Wait + Sync, G: Gate + Sync, T: Talk<K>, K: Keeper + Send>(
     rt: &R,
     alloc: Global,
     net: &Network,
@@ -96,6 +98,7 @@ pub fn run_session<R: Threads + Wait + Sync, G: Gate + Sync, T: Talk, K: Keeper 
           output = record { before = T.told talk.old; after = T.told talk.new; faults_before = T.fault_count talk.old; faults_after = T.fault_count talk.new };
           turns_before = T.turns talk.old;
           turns_after = T.turns talk.new;
+          store = record { told = K.told result.store; faults = K.fault_count result.store };
         })
         (record { before = K.told store; after = K.told result.store; faults_before = K.fault_count store; faults_after = K.fault_count result.store })
         result.status result.histories result.events }
@@ -104,14 +107,14 @@ pub fn run_session<R: Threads + Wait + Sync, G: Gate + Sync, T: Talk, K: Keeper 
     match open(rt, alloc, net, store) {
         Ok(playing) => session_from(rt, alloc, net, gate, Live::new(playing), talk),
         Err((store, fault)) => {
-            let status = say_fault(alloc, fault, talk);
+            let status = say_fault(alloc, fault, talk, &store);
             SessionEnd::unbegun(alloc, status, store)
         }
     }
 }
 
 /// A session from its first piece on.
-fn session_from<R: Threads + Wait + Sync, G: Gate + Sync, T: Talk, K: Keeper + Send>(
+fn session_from<R: Threads + Wait + Sync, G: Gate + Sync, T: Talk<K>, K: Keeper + Send>(
     rt: &R,
     alloc: Global,
     net: &Network,
@@ -128,6 +131,7 @@ fn session_from<R: Threads + Wait + Sync, G: Gate + Sync, T: Talk, K: Keeper + S
           output = record { before = T.told talk.old; after = T.told talk.new; faults_before = T.fault_count talk.old; faults_after = T.fault_count talk.new };
           turns_before = T.turns talk.old;
           turns_after = T.turns talk.new;
+          store = record { told = K.told result.store; faults = K.fault_count result.store };
         })
         playing.book (record { told = K.told result.store; faults = K.fault_count result.store; histories = result.histories; events = result.events }) result.status }
 {
@@ -144,7 +148,7 @@ fn session_from<R: Threads + Wait + Sync, G: Gate + Sync, T: Talk, K: Keeper + S
 
 /// Says the first piece of a session, then hears line after line, plays each, and answers it. Gives the run at the end of
 /// its input, or the end of the run where it stops before.
-fn play_lines<R: Threads + Wait + Sync, G: Gate + Sync, T: Talk, K: Keeper + Send>(
+fn play_lines<R: Threads + Wait + Sync, G: Gate + Sync, T: Talk<K>, K: Keeper + Send>(
     rt: &R,
     alloc: Global,
     net: &Network,
@@ -161,6 +165,7 @@ fn play_lines<R: Threads + Wait + Sync, G: Gate + Sync, T: Talk, K: Keeper + Sen
           output = record { before = T.told talk.old; after = T.told talk.new; faults_before = T.fault_count talk.old; faults_after = T.fault_count talk.new };
           turns_before = T.turns talk.old;
           turns_after = T.turns talk.new;
+          store = record { told = on.0.book.told; faults = on.0.book.faults };
         })
         on.0 on.1) }
     ensures ended { IfErr result (λ end. SessionEnded net.now
@@ -171,6 +176,7 @@ fn play_lines<R: Threads + Wait + Sync, G: Gate + Sync, T: Talk, K: Keeper + Sen
           output = record { before = T.told talk.old; after = T.told talk.new; faults_before = T.fault_count talk.old; faults_after = T.fault_count talk.new };
           turns_before = T.turns talk.old;
           turns_after = T.turns talk.new;
+          store = record { told = K.told end.store; faults = K.fault_count end.store };
         })
         playing.book (record { told = K.told end.store; faults = K.fault_count end.store; histories = end.histories; events = end.events }) end.status) }
     ensures later { T.fault_count talk.old ≤ T.fault_count talk.new }
@@ -195,12 +201,13 @@ fn play_lines<R: Threads + Wait + Sync, G: Gate + Sync, T: Talk, K: Keeper + Sen
             Ok((next, text)) => {
                 playing = next;
                 block = behind;
-                if let Err(fault) = say_both(alloc, text, answer.as_slice(), talk) {
+                if let Err(fault) = say_both(alloc, text, answer.as_slice(), &playing, talk) {
                     return Err(playing.stop(rt).end(unwritten(fault)));
                 }
             }
             Err((remains, fault)) => {
-                return Err(remains.end(say_restart_fault(alloc, fault, talk)));
+                let status = say_no_restart(alloc, fault, &remains, talk);
+                return Err(remains.end(status));
             }
         }
     }
@@ -230,7 +237,7 @@ fn take(
 }
 
 /// Says the first line of a session, and that the first line may come.
-fn say_opening<T: Talk, K: Keeper>(
+fn say_opening<T: Talk<K>, K: Keeper>(
     alloc: Global,
     playing: &Live<K>,
     talk: &mut T,
@@ -239,13 +246,16 @@ fn say_opening<T: Talk, K: Keeper>(
     ensures failed { IsErrOf result SinkFault.Failed → GainsPrefix (T.told talk.old) (start_of playing.now ++ ready_line 0) (T.told talk.new) }
     ensures cause { IsErrOf result SinkFault.Failed → Rose (T.fault_count talk.old) (T.fault_count talk.new) }
     ensures later { T.fault_count talk.old ≤ T.fault_count talk.new }
-    ensures turn { OnOk result (T.turns talk.new ≡ took (T.turns talk.old) (said (start_of playing.now ++ ready_line 0))) }
+    ensures turn { OnOk result (T.turns talk.new ≡ took (T.turns talk.old) (said (start_of playing.now ++ ready_line 0)
+        (record { told = playing.now.book.told; faults = playing.now.book.faults }))) }
     ensures no_turn { OnErr result (T.turns talk.new ≡ T.turns talk.old) }
     ensures input { T.coming talk.new ≡ T.coming talk.old }
     ensures input_faults { T.unheard talk.new ≡ T.unheard talk.old }
+    ensures shows { IsKept playing.now.book.net playing.now.book.told playing.now.book.state.changes (lost_of playing.now.book.history) }
 {
+    let store = playing.store();
     match opening_text(alloc, playing) {
-        Ok(text) => talk.say(alloc, text.as_slice()),
+        Ok(text) => talk.say(alloc, text.as_slice(), store),
         Err(_) => Err(SinkFault::OutOfMemory),
     }
 }
@@ -279,29 +289,56 @@ fn begin_text<K: Keeper>(
 }
 
 /// Says a text and its answer behind it, in one piece.
-fn say_both<T: Talk>(
+fn say_both<T: Talk<K>, K: Keeper>(
     alloc: Global,
     mut text: Vec<u8>,
     answer: &[u8],
+    playing: &Live<K>,
     talk: &mut T,
 ) -> Result<(), SinkFault>
     ensures ok { OnOk result (T.told talk.new ≡ gained (T.told talk.old) (text.items ++ answer.now)) }
     ensures failed { IsErrOf result SinkFault.Failed → GainsPrefix (T.told talk.old) (text.items ++ answer.now) (T.told talk.new) }
     ensures cause { IsErrOf result SinkFault.Failed → Rose (T.fault_count talk.old) (T.fault_count talk.new) }
     ensures later { T.fault_count talk.old ≤ T.fault_count talk.new }
-    ensures turn { OnOk result (T.turns talk.new ≡ took (T.turns talk.old) (said (text.items ++ answer.now))) }
+    ensures turn { OnOk result (T.turns talk.new ≡ took (T.turns talk.old) (said (text.items ++ answer.now)
+        (record { told = playing.now.book.told; faults = playing.now.book.faults }))) }
     ensures no_turn { OnErr result (T.turns talk.new ≡ T.turns talk.old) }
     ensures input { T.coming talk.new ≡ T.coming talk.old }
     ensures input_faults { T.unheard talk.new ≡ T.unheard talk.old }
+    ensures shows { IsKept playing.now.book.net playing.now.book.told playing.now.book.state.changes (lost_of playing.now.book.history) }
 {
+    let store = playing.store();
     if text.extend_from_slice(answer).is_err() {
         return Err(SinkFault::OutOfMemory);
     }
-    talk.say(alloc, text.as_slice())
+    talk.say(alloc, text.as_slice(), store)
+}
+
+/// Says that the recovery at a restart failed, and gives the status to end with.
+fn say_no_restart<T: Talk<K>, K: Keeper>(
+    alloc: Global,
+    fault: RecoverFault,
+    remains: &LiveRemains<K>,
+    talk: &mut T,
+) -> u8
+    ensures said { SaysNamed
+        (record {
+          coming = T.coming talk.old;
+          unheard_before = T.unheard talk.old;
+          unheard_after = T.unheard talk.new;
+          output = record { before = T.told talk.old; after = T.told talk.new; faults_before = T.fault_count talk.old; faults_after = T.fault_count talk.new };
+          turns_before = T.turns talk.old;
+          turns_after = T.turns talk.new;
+          store = record { told = remains.now.told; faults = remains.now.faults };
+        })
+        restart_line fault result }
+    ensures later { T.fault_count talk.old ≤ T.fault_count talk.new }
+{
+    say_restart_fault(alloc, fault, talk, remains.store())
 }
 
 /// Says the last piece of a session whose input ended so, and gives the status to end with.
-fn say_closing<T: Talk, K: Keeper>(
+fn say_closing<T: Talk<K>, K: Keeper>(
     alloc: Global,
     end: InputEnd,
     remains: &LiveRemains<K>,
@@ -315,12 +352,16 @@ fn say_closing<T: Talk, K: Keeper>(
           output = record { before = T.told talk.old; after = T.told talk.new; faults_before = T.fault_count talk.old; faults_after = T.fault_count talk.new };
           turns_before = T.turns talk.old;
           turns_after = T.turns talk.new;
+          store = record { told = remains.now.told; faults = remains.now.faults };
         })
         (closing_text end remains.now.histories) (status_behind end remains.now.histories) result }
     ensures input_faults { T.unheard talk.new ≡ T.unheard talk.old }
 {
     match closing_text(alloc, end, remains) {
-        Ok(text) => say_text(alloc, text.as_slice(), status_behind(end, remains), talk),
+        Ok(text) => {
+            let status = status_behind(end, remains);
+            say_text(alloc, text.as_slice(), status, talk, remains.store())
+        }
         Err(_) => OUT_OF_MEMORY,
     }
 }

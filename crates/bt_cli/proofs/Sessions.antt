@@ -50,7 +50,7 @@ ended_so talk lines ending.Failed histories status steady (rose, given) is kept 
 
 whole_done : (net : Net) (talk : Talked) (stored : Stored) (opening : List Change) (status : ℕ) (histories : List History) (events : List Event)
     → IsSteady stored → ¬ (HasFailed talk.output) → ¬ (Rose talk.unheard_before talk.unheard_after) → (whole : SessionWhole net talk stored opening status histories events)
-    → Says (behind talk (session_turns net opening whole.exchanges)) (closing_text whole.end histories) (status_behind whole.end histories) status → status ≡ 0
+    → Says (behind talk (session_turns net opening whole.start whole.exchanges)) (closing_text whole.end histories) (status_behind whole.end histories) status → status ≡ 0
 whole_done net talk stored opening status histories events steady sink heard whole (inl (all, is)) =
     ended_so talk (heard_in whole.exchanges) whole.end histories status heard whole.stops is
     (kept_status net _ opening whole.session.run.end.opening histories whole.session.run.legal (none_lost stored (length (lost_in histories)) steady whole.left.count))
@@ -67,7 +67,7 @@ never_failed net held talk stored opening status histories events is steady stop
 
 lines_done : (net : Net) (held : List ℕ) (talk : Talked) (stored : Stored) (opening : List Change) (status : ℕ) (histories : List History) (events : List Event)
     → stored.before ≡ Some held → IsSteady stored → ¬ (HasFailed talk.output) → ¬ (Rose talk.unheard_before talk.unheard_after) → SessionEndsFrom net talk stored opening status histories events → IsDone status
-lines_done net held talk stored opening status histories events is steady sink heard (inl broke) = inr broke.status_is
+lines_done net held talk stored opening status histories events is steady sink heard (inl broke) = inr broke.off.status_is
 lines_done net held talk stored opening status histories events is steady sink heard (inr (inl whole)) = inl (whole_done net talk stored opening status histories events steady sink heard whole whole.said)
 lines_done net held talk stored opening status histories events is steady sink heard (inr (inr (inl unsaid))) = absurd (sink unsaid.part.failed)
 lines_done net held talk stored opening status histories events is steady sink heard (inr (inr (inr stops))) = absurd (never_failed net held talk stored opening status histories events is steady stops)
@@ -82,7 +82,7 @@ session_done laws net talk stored status histories events sound steady sink hear
 
 -- nothing was said of a load that does not stop
 memory_alone : (talk : Talked) (Outcomes : Outcome → Type 0) (status : ℕ) → ((outcome : Outcome) → Outcomes outcome → ⊥) → SaysOneOf talk Outcomes status → IsDone status
-memory_alone talk Outcomes status never (inl memory) = inr memory
+memory_alone talk Outcomes status never (inl memory) = inr memory.0
 memory_alone talk Outcomes status never (inr (outcome, is, told_so)) = absurd (never outcome is)
 
 -- a file that spells a network is loaded as that network

@@ -2,7 +2,6 @@
 use Rattle.std.specs.Prelude.{◌≡◌, ◌⊎◌, ℕ, ◌&&◌, if◌then◌else◌, nat_lt, length, codes, List, [], ◌∷◌, Option, Some, None}
 use Rattle.std.specs.Str.{bytes_eq}
 use Rattle.bt_net.specs.Network.{Net, IsSound}
-use Rattle.bt_report.specs.declared.status.TheConstants.{OUT_OF_MEMORY}
 use Rattle.bt_report.specs.Faults.{SaysFaultyWords}
 use Rattle.bt_report.specs.Input.{Input, FilesFailed}
 use Rattle.bt_report.specs.Outcome.{Outcome}
@@ -10,7 +9,7 @@ use Rattle.bt_report.specs.Stored.{Stored}
 use Rattle.bt_report.specs.declared.report.Stop.{Stop}
 use Rattle.bt_report.specs.declared.report.Stop.TheVariants.{Early, OutOfMemory}
 use Rattle.bt_centre.specs.Session.{SessionTo}
-use Rattle.bt_centre.specs.Talked.{Says, SaysOrNot, Talked}
+use Rattle.bt_centre.specs.Talked.{Says, SaysNothing, SaysOrNot, Talked}
 use Rattle.bt_load.specs.Files.{IsLoaded, StopsAtLoad}
 use Rattle.bt_load.specs.Kinds.{network_file}
 use Rattle.bt_cli.specs.Run.{BeginsNoRun, End}
@@ -25,14 +24,14 @@ abbrev pub live_words : List (List ℕ) → Option (List ℕ × List ℕ)
 live_words (command ∷ net ∷ journal ∷ []) = live_request command net journal
 live_words _ = None
 
--- memory ran out; or the work had one of these outcomes, and it was said
+-- memory ran out, and no turn was taken; or the work had one of these outcomes, and it was said
 abbrev pub SaysOneOf : Talked → (Outcome → Type 0) → ℕ → Type 0
-SaysOneOf talk Outcomes status = (status ≡ OUT_OF_MEMORY) ⊎ ((outcome : Outcome) × Outcomes outcome × Says talk outcome.text outcome.status status)
+SaysOneOf talk Outcomes status = SaysNothing talk status ⊎ ((outcome : Outcome) × Outcomes outcome × Says talk outcome.text outcome.status status)
 
 -- how it ends after this stop was to be said
 abbrev pub SaysStop : Talked → Stop → ℕ → Type 0
 SaysStop talk (Early report) status = SaysOrNot talk report.text.items report.status status
-SaysStop talk OutOfMemory status = status ≡ OUT_OF_MEMORY
+SaysStop talk OutOfMemory status = SaysNothing talk status
 
 -- the network was loaded, which is sound, and there was a session on it; or why it could not be was said, no line was heard, and the
 -- store is as it was given

@@ -48,7 +48,7 @@ fn live_of<'a>(command: &str, net: &'a str, journal: &'a str) -> Option<(&'a str
 /// that is made; where there is no session it comes back as it was.
 ///
 /// The status is one of the table in `bt_report`, `meaning.rt`.
-pub fn live_main<R: Threads + Wait + Sync, F: Files, T: Talk, K: Keeper + Send>(
+pub fn live_main<R: Threads + Wait + Sync, F: Files, T: Talk<K>, K: Keeper + Send>(
     rt: &R,
     alloc: Global,
     words: &[String],
@@ -64,6 +64,7 @@ pub fn live_main<R: Threads + Wait + Sync, F: Files, T: Talk, K: Keeper + Send>(
           output = record { before = T.told talk.old; after = T.told talk.new; faults_before = T.fault_count talk.old; faults_after = T.fault_count talk.new };
           turns_before = T.turns talk.old;
           turns_after = T.turns talk.new;
+          store = record { told = K.told result.store; faults = K.fault_count result.store };
         })
         (record { before = K.told store; after = K.told result.store; faults_before = K.fault_count store; faults_after = K.fault_count result.store })
         (live_words (map string_bytes words.now))
@@ -71,12 +72,15 @@ pub fn live_main<R: Threads + Wait + Sync, F: Files, T: Talk, K: Keeper + Send>(
 {
     match live_words(words) {
         Some((net, _)) => live_on(rt, alloc, net, files, talk, store),
-        None => SessionEnd::unbegun(alloc, say_faulty_words(alloc, talk), store),
+        None => {
+            let status = say_faulty_words(alloc, talk, &store);
+            SessionEnd::unbegun(alloc, status, store)
+        },
     }
 }
 
 /// A session on the network in a file.
-fn live_on<R: Threads + Wait + Sync, F: Files, T: Talk, K: Keeper + Send>(
+fn live_on<R: Threads + Wait + Sync, F: Files, T: Talk<K>, K: Keeper + Send>(
     rt: &R,
     alloc: Global,
     net: &str,
@@ -92,6 +96,7 @@ fn live_on<R: Threads + Wait + Sync, F: Files, T: Talk, K: Keeper + Send>(
           output = record { before = T.told talk.old; after = T.told talk.new; faults_before = T.fault_count talk.old; faults_after = T.fault_count talk.new };
           turns_before = T.turns talk.old;
           turns_after = T.turns talk.new;
+          store = record { told = K.told result.store; faults = K.fault_count result.store };
         })
         (record { before = K.told store; after = K.told result.store; faults_before = K.fault_count store; faults_after = K.fault_count result.store })
         net.now (record { status = result.status; histories = result.histories; events = result.events }) }
@@ -102,12 +107,15 @@ fn live_on<R: Threads + Wait + Sync, F: Files, T: Talk, K: Keeper + Send>(
             let _beams = network.beam_count();
             run_session(rt, alloc, &network, &NoGate, talk, store)
         }
-        Err(stop) => SessionEnd::unbegun(alloc, say_stop(alloc, stop, talk), store),
+        Err(stop) => {
+            let status = say_stop(alloc, stop, talk, &store);
+            SessionEnd::unbegun(alloc, status, store)
+        }
     }
 }
 
 /// Says that the words are no command's, and gives the status to end with.
-fn say_faulty_words<T: Talk>(alloc: Global, talk: &mut T) -> u8
+fn say_faulty_words<T: Talk<K>, K: Keeper>(alloc: Global, talk: &mut T, store: &K) -> u8
     ensures said { SaysOneOf
         (record {
           coming = T.coming talk.old;
@@ -116,17 +124,18 @@ fn say_faulty_words<T: Talk>(alloc: Global, talk: &mut T) -> u8
           output = record { before = T.told talk.old; after = T.told talk.new; faults_before = T.fault_count talk.old; faults_after = T.fault_count talk.new };
           turns_before = T.turns talk.old;
           turns_after = T.turns talk.new;
+          store = record { told = K.told store.now; faults = K.fault_count store.now };
         })
         SaysFaultyWords result }
 {
     match faulty_words(alloc) {
-        Ok(report) => say_stop(alloc, Stop::Early(report), talk),
+        Ok(report) => say_stop(alloc, Stop::Early(report), talk, store),
         Err(_) => OUT_OF_MEMORY,
     }
 }
 
 /// Says what kept the session from its start, and gives the status to end with.
-fn say_stop<T: Talk>(alloc: Global, stop: Stop, talk: &mut T) -> u8
+fn say_stop<T: Talk<K>, K: Keeper>(alloc: Global, stop: Stop, talk: &mut T, store: &K) -> u8
     ensures said { SaysStop
         (record {
           coming = T.coming talk.old;
@@ -135,11 +144,12 @@ fn say_stop<T: Talk>(alloc: Global, stop: Stop, talk: &mut T) -> u8
           output = record { before = T.told talk.old; after = T.told talk.new; faults_before = T.fault_count talk.old; faults_after = T.fault_count talk.new };
           turns_before = T.turns talk.old;
           turns_after = T.turns talk.new;
+          store = record { told = K.told store.now; faults = K.fault_count store.now };
         })
         stop result }
 {
     match stop {
-        Stop::Early(report) => say_text(alloc, report.text.as_slice(), report.status, talk),
+        Stop::Early(report) => say_text(alloc, report.text.as_slice(), report.status, talk, store),
         Stop::OutOfMemory => OUT_OF_MEMORY,
     }
 }

@@ -1,37 +1,43 @@
 // A source and a sink as one.
 ghost use Rattle.std.specs.Prelude.{◌≡◌, None};
 
-use crate::{Incoming, Sink, SinkFault, Source, SourceFault, Talk};
+use crate::{Incoming, Keeper, Sink, SinkFault, Source, SourceFault, Talk};
 use std::alloc::Global;
+use std::marker::PhantomData;
 
-/// A source and a sink by which a centre talks. What was heard and said is not told, and nothing of it is kept.
+/// A source and a sink by which a centre talks over a store of the type `K`. What was heard and said is not told, and nothing of it is kept.
 #[derive(Drop)]
-pub struct Console<I, O> {
+pub struct Console<K, I, O> {
     input: I,
     output: O,
+    of: PhantomData<K>,
 }
 
-impl<I: Source, O: Sink> Console<I, O> {
+impl<K: Keeper, I: Source, O: Sink> Console<K, I, O> {
     /// What hears by `input` and says by `output`.
-    pub fn new(input: I, output: O) -> Console<I, O>
-        ensures coming { ⟦<Console<I, O> as Talk>⟧.coming result ≡ I.told input }
-        ensures unheard { ⟦<Console<I, O> as Talk>⟧.unheard result ≡ I.fault_count input }
-        ensures told { ⟦<Console<I, O> as Sink>⟧.told result ≡ O.told output }
-        ensures faults { ⟦<Console<I, O> as Sink>⟧.fault_count result ≡ O.fault_count output }
+    pub fn new(input: I, output: O) -> Console<K, I, O>
+        ensures coming { ⟦<Console<K, I, O> as Talk<K>>⟧.coming result ≡ I.told input }
+        ensures unheard { ⟦<Console<K, I, O> as Talk<K>>⟧.unheard result ≡ I.fault_count input }
+        ensures told { ⟦<Console<K, I, O> as Sink>⟧.told result ≡ O.told output }
+        ensures faults { ⟦<Console<K, I, O> as Sink>⟧.fault_count result ≡ O.fault_count output }
     {
-        Console { input, output }
+        Console {
+            input,
+            output,
+            of: PhantomData,
+        }
     }
 
     /// The source and the sink.
     pub fn into_parts(self) -> (I, O)
-        ensures coming { I.told result.0 ≡ ⟦<Console<I, O> as Talk>⟧.coming self }
-        ensures told { O.told result.1 ≡ ⟦<Console<I, O> as Sink>⟧.told self }
+        ensures coming { I.told result.0 ≡ ⟦<Console<K, I, O> as Talk<K>>⟧.coming self }
+        ensures told { O.told result.1 ≡ ⟦<Console<K, I, O> as Sink>⟧.told self }
     {
         (self.input, self.output)
     }
 }
 
-impl<I: Source, O: Sink> Sink for Console<I, O> {
+impl<K: Keeper, I: Source, O: Sink> Sink for Console<K, I, O> {
     ghost told = { λ console. O.told console.output };
 
     ghost fault_count = { λ console. O.fault_count console.output };
@@ -45,7 +51,7 @@ impl<I: Source, O: Sink> Sink for Console<I, O> {
     }
 }
 
-impl<I: Source, O: Sink> Talk for Console<I, O> {
+impl<K: Keeper, I: Source, O: Sink> Talk<K> for Console<K, I, O> {
     ghost coming = { λ console. I.told console.input };
 
     ghost unheard = { λ console. I.fault_count console.input };
@@ -56,7 +62,7 @@ impl<I: Source, O: Sink> Talk for Console<I, O> {
         self.input.next_line(alloc, limit)
     }
 
-    fn say(&mut self, alloc: Global, piece: &[u8]) -> Result<(), SinkFault> {
+    fn say(&mut self, alloc: Global, piece: &[u8], _store: &K) -> Result<(), SinkFault> {
         self.output.write(alloc, piece)
     }
 }

@@ -3,7 +3,7 @@
 //!
 //! It stands on `bt_frame`, the words of the field, and on the lines of `bt_text`. All of `specs/` is promise: `Told.antt` says
 //! what the outside tells, `Crash.antt` what a crash may leave of a store, `Input.antt` the lines that bytes are and what a source
-//! gives of them, `Talk.antt` what was heard and said, in order, and `Kept.antt` the same as it is kept. `proofs/Moments.antt` says
+//! gives of them, `Talk.antt` what was heard and said over a store, in order, and `Kept.antt` the same as it is kept. `proofs/Moments.antt` says
 //! for all above how crashes go on from call to call. Files, a sink and stores in memory has `bt_base`, which gives these out too.
 #![tactic(auto)]
 
@@ -19,7 +19,9 @@ mod sink;
 mod source;
 mod std_sink;
 mod std_source;
+mod streams;
 mod talk;
+mod waiting;
 
 pub use console::Console;
 pub use dir_files::DirFiles;
@@ -33,4 +35,6 @@ pub use sink::{Sink, SinkFault};
 pub use source::{Incoming, Source, SourceFault};
 pub use std_sink::StdSink;
 pub use std_source::StdSource;
+pub use streams::take_closed_streams;
 pub use talk::Talk;
+pub use waiting::Waiting;

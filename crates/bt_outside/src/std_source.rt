@@ -12,6 +12,7 @@ use std::io::{BufRead, ErrorKind, Read};
 pub struct StdSource<B> {
     input: B,
     faults: u64,
+    begun: usize,
 }
 
 impl<B: BufRead> StdSource<B> {
@@ -19,7 +20,17 @@ impl<B: BufRead> StdSource<B> {
     pub fn new(input: B) -> StdSource<B>
         ensures faults { ⟦<StdSource<B> as Source>⟧.fault_count result ≡ 0 }
     {
-        StdSource { input, faults: 0 }
+        StdSource {
+            input,
+            faults: 0,
+            begun: 0,
+        }
+    }
+
+    /// How many bytes of a line had come when the input failed last, of a line that is too long some more than the limit. None
+    /// where it failed between two lines, or has not failed.
+    pub fn begun(&self) -> usize {
+        self.begun
     }
 }
 
@@ -35,13 +46,23 @@ impl<B: BufRead> Source for StdSource<B> {
     fn next_line(&mut self, alloc: Global, limit: usize) -> Result<Option<Incoming>, SourceFault> {
         match read_piece(&mut self.input, alloc, limit) {
             Ok(came) => Ok(came),
-            Err(e) if e.kind() == ErrorKind::OutOfMemory => Err(SourceFault::OutOfMemory),
-            Err(_) => {
+            Err(broken) if broken.error.kind() == ErrorKind::OutOfMemory => {
+                Err(SourceFault::OutOfMemory)
+            }
+            Err(broken) => {
                 self.faults = self.faults.saturating_add(1);
+                self.begun = broken.begun;
                 Err(SourceFault::Failed)
             }
         }
     }
+}
+
+/// Why a line did not come to its end, and how many bytes of it came.
+#[derive(Drop)]
+struct Broken {
+    error: io::Error,
+    begun: usize,
 }
 
 /// The next line of a reader, of at most so many bytes; a longer one is passed over to its newline.
@@ -49,12 +70,15 @@ fn read_piece<B: BufRead>(
     input: &mut B,
     alloc: Global,
     limit: usize,
-) -> io::Result<Option<Incoming>>
+) -> Result<Option<Incoming>, Broken>
     ensures { IfOk result (λ came. IsShort limit came) }
 {
     let mut line = Vec::new(alloc);
     let most = (limit as u64).saturating_add(1);
-    input.by_ref().take(most).read_until(b'\n', &mut line)?;
+    if let Err(error) = input.by_ref().take(most).read_until(b'\n', &mut line) {
+        let begun = line.len();
+        return Err(Broken { error, begun });
+    }
     if line.is_empty() {
         return Ok(None);
     }
@@ -65,8 +89,11 @@ fn read_piece<B: BufRead>(
         }
         return Ok(Some(Incoming::NoLine));
     }
-    if line.len() > limit {
-        input.skip_until(b'\n')?;
+    if line.len() > limit
+        && let Err(error) = input.skip_until(b'\n')
+    {
+        let begun = line.len();
+        return Err(Broken { error, begun });
     }
     Ok(Some(Incoming::NoLine))
 }
