@@ -12,7 +12,7 @@ use Rattle.bt_journal.specs.declared.call.Change.TheVariants as change
 use Rattle.bt_history.specs.Occupancy.{EditsLinks}
 use Rattle.bt_history.specs.Causes.{Follows}
 use Rattle.bt_history.specs.Changes.{edition, edits_in}
-use Rattle.bt_history.specs.Records.{CanRedo, IsRedone, Records, Redoes}
+use Rattle.bt_history.specs.Records.{CanRedo, Records, Redoes}
 use Rattle.bt_history.proofs.Redone.{can_redo, Redoes-made, Redoes-start, opening_past}
 use Rattle.bt_book.specs.Past.{edit_in, edits_among}
 
@@ -116,14 +116,3 @@ made_again inside now past links new number place edit view sound follow kept ma
           (Redoes-made now.net now.state.changes next.behind links new number (number - place) edit sounds follows next.redoes (omega (arith, some)) edits_links);
       edits = next.edits;
     }
-
--- all were
-pub redoes_all : (net : Net) (changes : List Change) (links : List Link) (number place : ℕ) → number ≤ place → RedoesFrom net changes links number place
-    → IsRedone net changes number links
-redoes_all net changes links number place over from = record {
-  before = from.redoes.before;
-  after = from.redoes.after;
-  parts = from.redoes.parts;
-  counted = omega (arith, over, from.redoes.counted);
-  keeps = from.redoes.keeps;
-}

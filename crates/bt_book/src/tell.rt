@@ -28,7 +28,7 @@ impl Machine {
         self.answer(alloc, caller, Call::Snapshot, reply)
     }
 
-    /// Lends the newest plan, where its edition is greater than that one.
+    /// Gives a copy of the newest plan, where its edition is greater than that one.
     pub(crate) fn newest_after(
         &mut self,
         alloc: Global,

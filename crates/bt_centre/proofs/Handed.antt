@@ -1,29 +1,20 @@
 -- The entries that a session's book handed over, and how they are counted.
-use Rattle.std.proofs.Common.{◌≡◌, ◌||◌, ◌&&◌, ℕ, ◌+◌, Bool, List, [], ◌∷◌, ◌++◌, length, length-append, refl, sym, ap, ◌∙◌, append_assoc, subst, arith}
+use Rattle.std.proofs.Common.{◌≡◌, ◌||◌, ◌+◌, Bool, List, [], ◌∷◌, ◌++◌, refl, sym, ap, ◌∙◌, append_assoc, subst}
 use Rattle.std.specs.List.{list_any}
-use Rattle.std.proofs.lemmas.List.{append-nil, map-append}
+use Rattle.std.proofs.lemmas.List.{append-nil}
 use Rattle.std.proofs.lemmas.List.Concat.{flat_map-append}
-use Rattle.std.proofs.lemmas.List.Elements.{filter-append}
 use Rattle.std.proofs.lemmas.List.Folds.{list_any-append}
 use Rattle.bt_journal.specs.declared.entry.Entry.{Entry}
-use Rattle.bt_journal.specs.Journal.{asks_edit, failed_of, is_fault, is_made, is_refusal, refused_of}
 use Rattle.bt_history.specs.Store.{is_lost}
-use Rattle.bt_timeline.specs.declared.marks.Totals.{Totals}
 use Rattle.bt_centre.specs.declared.history.History.{History}
 use Rattle.bt_centre.specs.declared.tally.Tally.{Tally}
-use Rattle.bt_centre.specs.Handed.{IsCounted, IsTally, any_lost, histories_of, history_of, joined}
-use Rattle.bt_centre.specs.Lines.{done_of}
+use Rattle.bt_centre.specs.Handed.{IsTally, any_lost, joined}
 use Rattle.bt_centre.specs.Run.{entries_of, has_lost}
 
 -- entries more, handed over behind those before them
 pub joined_more : (calls after : List (List Entry × Unit {0})) (more : List Entry) → after ≡ calls ++ (more, tt) ∷ [] → joined after ≡ joined calls ++ more
 joined_more calls after more is =
     ap joined is ∙ (flat_map-append (λ (one : List Entry × Unit {0}). one.0) calls ((more, tt) ∷ []) ∙ ap (λ (e : List Entry). joined calls ++ e) (append-nil more))
-
--- a time more
-pub histories_more : (times after : List (ℕ × List (List Entry × Unit {0}))) (one : ℕ × List (List Entry × Unit {0})) → after ≡ times ++ one ∷ []
-    → histories_of after ≡ histories_of times ++ history_of one ∷ []
-histories_more times after one is = ap histories_of is ∙ map-append history_of times (one ∷ [])
 
 -- the entries of all times, with one more
 entries_more : (times : List History) (last : History) → entries_of (times ++ last ∷ []) ≡ entries_of times ++ last.entries
@@ -48,28 +39,6 @@ tally_over times after last front none tally is same empty tallied =
 pub tally_end : (times : List History) (front : List Entry) (tally : Tally) → front ≡ [] → IsTally (entries_of times ++ front) tally → IsTally (entries_of times) tally
 tally_end times front tally none tallied =
     subst (λ (e : List Entry). IsTally e tally) (ap (λ (f : List Entry). entries_of times ++ f) none ∙ append-nil (entries_of times)) tallied
-
--- the counts of entries are sums
-abbrev did : Entry → Bool
-did entry = asks_edit entry.call && is_made entry.reply
-
-abbrev refused : Entry → Bool
-refused entry = asks_edit entry.call && is_refusal entry.reply
-
-abbrev failed : Entry → Bool
-failed entry = asks_edit entry.call && is_fault entry.reply
-
-pub counted_more : (before more : List Entry) (one other both : Totals) → IsCounted before one → IsCounted more other → both.done ≡ one.done + other.done
-    → both.refused ≡ one.refused + other.refused → both.failed ≡ one.failed + other.failed → IsCounted (before ++ more) both
-counted_more before more one other both counts others done_is refused_is failed_is =
-    let d : length (done_of (before ++ more)) ≡ length (done_of before) + length (done_of more) = ap length (filter-append did before more) ∙ length-append (done_of before) (done_of more) in
-    let r : length (refused_of (before ++ more)) ≡ length (refused_of before) + length (refused_of more) = ap length (filter-append refused before more) ∙ length-append (refused_of before) (refused_of more) in
-    let f : length (failed_of (before ++ more)) ≡ length (failed_of before) + length (failed_of more) = ap length (filter-append failed before more) ∙ length-append (failed_of before) (failed_of more) in
-    record {
-      done = omega (arith, done_is, counts.done, others.done, d);
-      refused = omega (arith, refused_is, counts.refused, others.refused, r);
-      failed = omega (arith, failed_is, counts.failed, others.failed, f);
-    }
 
 -- a change was lost in these or in those
 pub any_lost-append : (before more : List Entry) → any_lost (before ++ more) ≡ (any_lost before || any_lost more)

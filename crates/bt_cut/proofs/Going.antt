@@ -1,5 +1,5 @@
 -- Attempts one after the other.
-use Rattle.std.proofs.Common.{◌≡◌, ℕ, suc, ◌+◌, ◌-◌, ◌<◌, List, refl, sym, subst, arith}
+use Rattle.std.proofs.Common.{◌≡◌, ℕ, suc, ◌+◌, ◌-◌, ◌<◌, List, sym, subst, arith}
 use Rattle.bt_net.specs.Network.{Net}
 use Rattle.bt_demand.specs.declared.demand.Link.{Link}
 use Rattle.bt_cut.specs.Generator.{next}
@@ -18,10 +18,3 @@ one_less net terminals count number place state later begun old new within later
     let From : ℕ → Type 0 = λ s. TriesAll net new (attempts terminals (count - (place + 1)) s) after in
     let Left : ℕ → Type 0 = λ n. TriesAll net old (attempts terminals n state) after in
     so after (subst Left (sym left) (new, tried, subst From later_is rest))
-
--- and none in the end
-pub none_left : (net : Net) (terminals count number place state : ℕ) (begun links : List Link) → count - place ≡ 0 → GoesOn net terminals count number begun links (count - place) state
-    → TriesAll net begun (attempts terminals count number) links
-none_left net terminals count number place state begun links none so =
-    let Left : ℕ → Type 0 = λ n. TriesAll net links (attempts terminals n state) links in
-    so links (subst Left (sym none) refl)

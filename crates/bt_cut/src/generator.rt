@@ -1,5 +1,5 @@
 // The generator of numbers.
-ghost use Rattle.std.specs.Prelude.{◌≡◌, ◌<◌, ◌^◌};
+ghost use Rattle.std.specs.Prelude.{◌≡◌};
 ghost use Rattle.bt_cut.specs.Generator.{drawn, next};
 
 /// The multiplier of the congruence, Knuth's for MMIX.

@@ -250,12 +250,6 @@ pub AreRows-none : (rows : List (List Link)) → All (λ (row : List Link). row 
 AreRows-none rows none k d within = subst (λ (row : List Link). IsRowOf k row) (sym (none k d within))
     (record { demand = record { ordered = λ i j e lt inside. absurd (omega arith); each = All-nil IsLink }; sent = All-nil (λ (link : Link). link.from.0 ≡ k) })
 
-pub all_links-none : (rows : List (List Link)) → All (λ (row : List Link). row ≡ []) rows → all_links rows ≡ []
-all_links-none [] none = refl
-all_links-none (row ∷ rows) none =
-    let first : row ≡ [] = none 0 row (omega arith) in
-    ap (λ (r : List Link). r ++ all_links rows) first ∙ all_links-none rows (λ k d within. none (suc k) d (omega arith))
-
 -- one row without links behind them changes no link
 pub all_links-more : (rows : List (List Link)) → all_links (rows ++ [] ∷ []) ≡ all_links rows
 all_links-more [] = refl
@@ -278,10 +272,6 @@ AreRows-more rows are k d within = ⊎_elim
 -- no rows
 pub no_rows : AreRows []
 no_rows = AreRows-none [] (All-nil (λ (row : List Link). row ≡ []))
-
--- rows that keep links keep them through more of them
-pub KeepLinks-itself : (rows : List (List Link)) → KeepLinks rows rows
-KeepLinks-itself rows = record { links = refl; rows = λ are. are }
 
 pub KeepLinks-more : (old rows new : List (List Link)) → KeepLinks old rows → new ≡ rows ++ [] ∷ [] → KeepLinks old new
 KeepLinks-more old rows new keep is = subst (λ (r : List (List Link)). KeepLinks old r) (sym is)

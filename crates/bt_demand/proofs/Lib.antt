@@ -2,7 +2,6 @@ pub mod BurstOrder
 pub mod BurstTriples
 pub mod BySender
 pub mod FewLinks
-pub mod FirstLinks
 pub mod FlatPlaces
 pub mod Flyable
 pub mod Links

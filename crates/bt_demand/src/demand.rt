@@ -115,7 +115,7 @@ impl Demand {
         let place = usize::from(from.0);
         add_rows(alloc, &mut self.rows, place + 1)?;
         let row = &mut self.rows[place];
-        row.add(alloc, from, to, units)?;
+        row.add(from, to, units)?;
         Ok(())
     }
 

@@ -4,8 +4,8 @@ ghost use Rattle.std.specs.Prelude.{◌≡◌, []};
 use crate::{Link, LinkRow};
 use std::alloc::Global;
 
-/// Memory for one link more of a demand, whoever sends on it: for the links of that sender, and for rows up to its own. Both lists
-/// are without elements.
+/// Memory for one link more of a demand, whoever sends on it: for the links of that sender, and for rows up to its own. What takes
+/// room or uses it asks for lists without elements, and leaves them so.
 #[derive(Drop)]
 pub struct LinkRoom {
     /// What takes the memory.

@@ -79,7 +79,6 @@ impl LinkRow {
     /// The link asks for so many slots more. It takes memory where the link was not in the row.
     pub(crate) fn add(
         &mut self,
-        _: Global,
         from: TermNo,
         to: TermNo,
         units: u32,

@@ -1,5 +1,5 @@
 // A file of the system as a disk.
-ghost use Rattle.std.specs.Prelude.{◌≡◌, ◌≤◌, None, IfOk, IsErrOf, vec_len};
+ghost use Rattle.std.specs.Prelude.{◌≡◌, ◌≤◌, None};
 ghost use Rattle.bt_outside.specs.Told.{Rose};
 
 use crate::{Disk, DiskFault};

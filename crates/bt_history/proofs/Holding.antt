@@ -75,13 +75,6 @@ neither : (made lost : Bool) → (made ≡ true) ⊎ (lost ≡ true) → made �
 neither made lost (inl is) none kept = let bad : true ≡ false = sym is ∙ none in cc
 neither made lost (inr is) none kept = let bad : true ≡ false = sym is ∙ kept in cc
 
--- where the store is not asked, nothing goes by
-pub quiet : (line : List ℕ) (reply : Reply) (told now : Option (List ℕ)) (crashes : Option Crashes) → is_made reply ≡ false → is_lost reply ≡ false → CrashStep line reply told now crashes crashes
-quiet line reply told now crashes none kept = record {
-  asked = λ either. absurd (neither (is_made reply) (is_lost reply) either none kept);
-  not_asked = λ _ _. refl;
-}
-
 -- where a step changed neither
 pub holds_same : (old new : Records) (told now : Option (List ℕ)) (was will : Option Crashes) → new.net ≡ old.net → new.state ≡ old.state → lost_of new.history ≡ lost_of old.history
     → now ≡ told → will ≡ was → Holds old told was → Holds new now will

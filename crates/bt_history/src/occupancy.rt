@@ -111,7 +111,7 @@ impl Occupancy {
         self.net.slots()
     }
 
-    /// The slots of a link.
+    /// The slots of a link, none where the demand does not have it.
     pub fn units(&self, from: TermNo, to: TermNo) -> u32
         ensures slots { result ≡ units_of self.now.links from to }
     {
@@ -146,7 +146,7 @@ impl Occupancy {
         (beam, self.matrix.column_sum(beam))
     }
 
-    /// The greatest line sum.
+    /// The slots of the line with the most.
     pub fn length(&self) -> u32
         ensures heaviest { (line : Critical) × IsHeaviest (matrix_of self.now.net self.now.links) line result }
     {

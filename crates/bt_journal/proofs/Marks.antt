@@ -11,16 +11,12 @@ use Rattle.bt_text.specs.WordReader.{is_first}
 use Rattle.bt_text.proofs.TextLines.{words-spaced, spaced-words, lacks-spaced, slice_split-next, text_from_first_line}
 use Rattle.bt_text.proofs.TextNumbers.{lacks-decimal}
 use Rattle.bt_net.specs.Name.{is_name_byte}
-use Rattle.bt_net.specs.Network.{Net, IsSound}
 use Rattle.bt_plan.proofs.NamedTerminals.{name_lacks}
 use Rattle.bt_plan.proofs.OneText.{is_word-same}
-use Rattle.bt_journal.specs.declared.call.Change.{Change}
-use Rattle.bt_journal.specs.JournalLines.{change_parts, change_line, edition_said, IsChangeInRange}
 use Rattle.bt_journal.specs.Mark.{mark_words, mark_line, IsMarkOf}
-use Rattle.bt_journal.specs.LineReading.{at_end, number_from, said_in, sizes_in, mark_in}
+use Rattle.bt_journal.specs.LineReading.{at_end, number_from, sizes_in, mark_in}
 use Rattle.bt_journal.proofs.Words.{number_read}
 use Rattle.bt_journal.proofs.Spelled.{then, ended, front, number_spelled}
-use Rattle.bt_journal.proofs.ChangeLines.{change_read}
 
 -- a byte that is no digit and stands in no name stands in none of the words
 mark-lacks : (byte beams terminals : ℕ) → is_ascii_digit byte ≡ false → is_name_byte byte ≡ false → lacks byte (codes "2") ≡ true → IsMarkOf beams terminals → list_all (lacks byte) (mark_words beams terminals) ≡ true
@@ -109,18 +105,6 @@ same_sizes beams terminals other another range ranged same =
     let read = sym (mark_read beams terminals range) ∙ (ap (λ t. mark_in (words t)) (texts_same beams terminals other another same) ∙ mark_read other another ranged) in
     let both : (beams, terminals) ≡ (other, another) = same_Some (beams, terminals) (other, another) read in
     (ap (λ (said : ℕ × ℕ). said.0) both, ap (λ (said : ℕ × ℕ). said.1) both)
-
--- a mark is the line of no change
-not_said : (net : Net) (beams terminals : ℕ) → said_in net (mark_words beams terminals) ≡ None
-not_said net beams terminals = refl
-
-pub no_change : (net : Net) (sound : IsSound net) (number : ℕ) (change : Change) (beams terminals : ℕ) → IsChangeInRange net number change → IsMarkOf beams terminals → mark_line beams terminals ≢ change_line net number change
-no_change net sound number change beams terminals range mark same =
-    let text = append_cancel_right (spaced (mark_words beams terminals)) (spaced (change_parts net number change)) (10 ∷ []) same in
-    let read : said_in net (mark_words beams terminals) ≡ Some (edition_said number change, change) =
-    ap (said_in net) (sym (words_are beams terminals mark)) ∙ (ap (λ t. said_in net (words t)) text ∙ change_read net sound number change range) in
-    let none = not_said net beams terminals in
-    absurd cc
 
 -- the line of a mark is one
 own_line : (line : List ℕ) (beams terminals : ℕ) → IsMarkOf beams terminals → line ≡ mark_line beams terminals → lines line ≡ spaced (mark_words beams terminals) ∷ [] ∷ []

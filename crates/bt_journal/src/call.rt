@@ -40,7 +40,7 @@ pub enum Call {
     Snapshot,
     /// Install a plan, for an edition that has none yet and that is newer than those that have one.
     Install(Plan),
-    /// Lend the newest plan, where its edition is greater than this one.
+    /// Give a copy of the newest plan, where its edition is greater than this one.
     Newest { after: EditionNo },
     /// Place an order to the satellite, before any message carries it.
     Place(Order),

@@ -25,7 +25,7 @@ use bt_text::{ShortText, number_text};
 use std::alloc::Global;
 
 /// The bytes for which there is room when the text of a line is begun. Most lines of edits are no longer.
-const LINE_BYTES: usize = 64;
+const CHANGE_LINE_BYTES: usize = 64;
 
 /// The line of a change, its newline included, as `read_change` reads it. `edition` is the edition that an edit makes;
 /// it is not looked at for another change.
@@ -38,7 +38,7 @@ pub fn change_text(
     requires range { IsChangeInRange net.now edition.0 change.now }
     ensures line { IfOk result (λ line. line.items ≡ change_line net.now edition.0 change.now) }
 {
-    let mut line = Vec::with_capacity(alloc, LINE_BYTES)?;
+    let mut line = Vec::with_capacity(alloc, CHANGE_LINE_BYTES)?;
     write_change(alloc, net, edition, change, &mut line)?;
     Ok(line)
 }

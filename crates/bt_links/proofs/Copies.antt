@@ -1,7 +1,7 @@
 -- Copies of a matrix.
-use Rattle.std.proofs.Common.{◌≡◌, ◌≢◌, ℕ, zero, suc, ◌+◌, ◌<◌, ◌≤◌, ◌⊎◌, inl, inr, List, [], ◌∷◌, length, get_or, set, replicate, slice_index, sym, ap, ◌∙◌, refl, arith, subst, ⊎_elim, length-set, get_or-set_same, get_or-set_other}
+use Rattle.std.proofs.Common.{◌≡◌, ◌≢◌, ℕ, ◌+◌, ◌<◌, ◌≤◌, ◌⊎◌, inl, inr, List, [], length, get_or, set, slice_index, sym, ap, ◌∙◌, refl, arith, subst, ⊎_elim, length-set, get_or-set_same, get_or-set_other}
 use Rattle.std.proofs.lemmas.Bool.{cases_eq, cases_lt, cases_order}
-use Rattle.std.proofs.lemmas.List.{ext_get_or, get_or_past, length-replicate}
+use Rattle.std.proofs.lemmas.List.{ext_get_or}
 use Rattle.bt_frame.proofs.Totals.{total, total-le, sum_by-total}
 use Rattle.bt_frame.specs.declared.limits.TheConstants.{MOST_SUM}
 use Rattle.bt_matrix.specs.Traffic.{row_of, entry, row_sum, column_sum, with_entry, IsTraffic}
@@ -41,9 +41,6 @@ more d n above same = omega arith
 weaker : (d n : ℕ) → n + 1 ≤ d → n ≤ d
 weaker d n above = omega arith
 
-weaker_lt : (d n : ℕ) → n + 1 < d → n < d
-weaker_lt d n above = omega arith
-
 -- the next entry was copied
 pub IsCopied-with_entry : (rows copy : List (List ℕ)) (up down : ℕ) → IsTraffic copy → up < length rows → down < length rows → IsCopied rows copy up down
     → IsCopied rows (with_entry copy up down (entry rows up down)) up (down + 1)
@@ -67,46 +64,6 @@ IsCopied-with_entry rows copy up down traffic in_rows in_columns is =
           ∙ is.rest u d (inr (at.0, weaker d down at.1)))
           behind;
     }
-
--- an entry that is zero was copied, with nothing to write
-pub IsCopied-zero : (rows copy : List (List ℕ)) (up down : ℕ) → entry rows up down ≡ 0 → IsCopied rows copy up down → IsCopied rows copy up (down + 1)
-IsCopied-zero rows copy up down nothing is = record {
-  size = is.size;
-  done = λ u d before. ⊎_elim
-      (λ (earlier : u < up). is.done u d (inl earlier))
-      (λ (at : (u ≡ up) × (d < down + 1)). ⊎_elim
-      (λ (same : d ≡ down). rw at.0 (rw same (is.rest up down (inr (refl, omega arith)) ∙ sym nothing)))
-      (λ (other : d ≡ down → ⊥). is.done u d (inr (at.0, less d down at.1 other)))
-      (cases_eq d down))
-      before;
-  rest = λ u d behind. ⊎_elim
-      (λ (later : up < u). is.rest u d (inl later))
-      (λ (at : (u ≡ up) × (down + 1 ≤ d)). is.rest u d (inr (at.0, weaker d down at.1)))
-      behind;
-}
-
--- a whole row was copied
-pub IsCopied-row : (rows copy : List (List ℕ)) (up : ℕ) → IsTraffic rows → IsTraffic copy → up < length rows → IsCopied rows copy up (length rows)
-    → IsCopied rows copy (up + 1) 0
-IsCopied-row rows copy up traffic copied in_rows is = record {
-  size = is.size;
-  done = λ u d before. ⊎_elim
-      (λ (earlier : u < up + 1). ⊎_elim
-      (λ (same : u ≡ up). ⊎_elim
-      (λ (within : d < length rows). is.done u d (inr (same, within)))
-      (λ (past : length rows ≤ d).
-      rw same (get_or_past (row_of copy up) d 0 (omega (arith, length-row copy up copied (omega (arith, is.size)), is.size))
-      ∙ sym (get_or_past (row_of rows up) d 0 (omega (arith, length-row rows up traffic in_rows)))))
-      (cases_lt d (length rows)))
-      (λ (other : u ≡ up → ⊥). is.done u d (inl (less u up earlier other)))
-      (cases_eq u up))
-      (λ (at : (u ≡ up + 1) × (d < 0)). absurd (omega (arith, at.1)))
-      before;
-  rest = λ u d behind. ⊎_elim
-      (λ (later : up + 1 < u). is.rest u d (inl (weaker_lt u up later)))
-      (λ (at : (u ≡ up + 1) × (0 ≤ d)). is.rest u d (inl (omega (arith, at.0))))
-      behind;
-}
 
 -- room in the row and in the column for the next entry
 pub fits : (rows copy : List (List ℕ)) (up down : ℕ) → IsTraffic rows → IsTraffic copy → up < length rows → down < length rows → IsCopied rows copy up down
@@ -142,21 +99,3 @@ copied_all rows copy traffic copied is = ext_get_or [] copy rows is.size
     let long = length-row copy u copied below in
     let long_rows = length-row rows u traffic in_rows in
     ext_get_or 0 (row_of copy u) (row_of rows u) (long ∙ (is.size ∙ sym long_rows)) (λ d _. is.done u d (inl in_rows)))
-
-get_or-zeros : (m d : ℕ) → get_or (replicate m zero) d zero ≡ zero
-get_or-zeros zero d = refl
-get_or-zeros (suc m) zero = refl
-get_or-zeros (suc m) (suc d) = get_or-zeros m d
-
-entry-zeros : (n m u d : ℕ) → entry (replicate n (replicate m 0)) u d ≡ 0
-entry-zeros zero m u d = refl
-entry-zeros (suc n) m zero d = get_or-zeros m d
-entry-zeros (suc n) m (suc u) d = entry-zeros n m u d
-
--- nothing was copied
-pub IsCopied-none : (rows copy : List (List ℕ)) → copy ≡ replicate (length rows) (replicate (length rows) 0) → IsCopied rows copy 0 0
-IsCopied-none rows copy is = record {
-  size = ap (λ (m : List (List ℕ)). length m) is ∙ length-replicate {A = List ℕ} (length rows) (replicate (length rows) 0);
-  done = λ u d before. ⊎_elim (λ (no : u < 0). absurd (omega arith)) (λ (no : (u ≡ 0) × (d < 0)). absurd (omega (arith, no.1))) before;
-  rest = λ u d _. ap (λ (m : List (List ℕ)). entry m u d) is ∙ entry-zeros (length rows) (length rows) u d;
-}

@@ -3,10 +3,9 @@ use Rattle.std.proofs.Common.{◌≡◌, ℕ, zero, suc, ◌+◌, ◌-◌, ◌<�
 use Rattle.std.proofs.lemmas.List.{get_or-drop}
 use Rattle.std.specs.Option.{IfNone}
 use Rattle.bt_frame.specs.declared.numbers.BeamNo.{BeamNo}
-use Rattle.bt_matrix.specs.Traffic.{row_of, entry, IsTraffic}
+use Rattle.bt_matrix.specs.Traffic.{row_of, entry}
 use Rattle.bt_matrix.specs.Walk.{IsNextEntry, IsEmptyFrom}
-use Rattle.bt_matrix.proofs.Walks.{entry-past}
-use Rattle.bt_links.specs.Walk.{positives, column_behind, entries_behind, HasEntry}
+use Rattle.bt_links.specs.Walk.{positives, column_behind, entries_behind}
 
 -- none of these entries is positive
 none_positive : (c : ℕ) (xs : List ℕ) → positives c xs ≡ [] → (i : ℕ) → get_or xs i 0 ≡ 0
@@ -89,7 +88,3 @@ IsNextEntry-behind rows up last down units rest inside is =
       slots = entry-behind rows up c down (omega (arith, first.at)) ∙ (ap (λ (m : ℕ). get_or (drop c (row_of rows up)) m 0) past ∙ first.there);
       none_before = λ k from below. entry-behind rows up c k from ∙ first.none_before (k - c) (omega (arith, first.at));
     }
-
--- a positive entry of the row
-pub HasEntry-positive : (rows : List (List ℕ)) (up : ℕ) (down : BeamNo) → IsTraffic rows → 0 < entry rows up down.0 → HasEntry rows up (Some down)
-HasEntry-positive rows up down is positive = (entry-past rows up down.0 is.square positive, positive)

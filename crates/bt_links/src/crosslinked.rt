@@ -40,7 +40,7 @@ pub struct Crosslinked {
 }
 
 impl Model for Crosslinked {
-    ghost use Rattle.std.specs.Prelude.{ℕ, ◌+◌, ◌-◌, ◌<◌, ◌≤◌, ◌^◌, List, map, length, vec_len, vec_capacity};
+    ghost use Rattle.std.specs.Prelude.{◌+◌, ◌-◌, ◌<◌, ◌≤◌, ◌^◌, map, length, vec_len, vec_capacity};
     ghost use Rattle.bt_links.specs.Matrix.{Matrix};
 
     ghost Value = { Matrix };

@@ -1,7 +1,7 @@
 // Nodes and the links between them. A node is known by its place in the vector of all, a number of 16 bits: a head for
 // each of `MOST_BEAMS` beams and a node for each pair of them are far fewer.
-ghost use Rattle.std.specs.Prelude.{◌≡◌, ◌<◌, length};
-ghost use Rattle.bt_links.specs.Links.{node, IsJoinedInRow, IsJoinedInColumn, NamesNeighbours, IsLinkable, IsLinkedIn, IsLinkedOut, IsRevalued};
+ghost use Rattle.std.specs.Prelude.{◌<◌, length};
+ghost use Rattle.bt_links.specs.Links.{IsJoinedInRow, IsJoinedInColumn, NamesNeighbours, IsLinkable, IsLinkedIn, IsLinkedOut, IsRevalued};
 
 /// The nodes before and after a node in one line, by index.
 #[derive(Clone, Copy)]

@@ -1,5 +1,5 @@
 // Where a node comes from.
-ghost use Rattle.std.specs.Prelude.{◌≡◌, ◌<◌, ◌≤◌, ◌+◌, ◌⊎◌, [], ◌∷◌, ◌++◌, length, vec_len, vec_capacity, All, ◌^◌};
+ghost use Rattle.std.specs.Prelude.{◌≡◌, ◌<◌, ◌⊎◌, [], length, vec_len, vec_capacity, All, ◌^◌};
 ghost use Rattle.bt_links.specs.Links.{IsPut};
 ghost use Rattle.bt_links.specs.Pool.{CameFrom};
 

@@ -9,7 +9,7 @@ use Rattle.bt_report.specs.Printing.{CameTo}
 use Rattle.bt_report.specs.Report.{StopIs}
 use Rattle.bt_report.proofs.Reports.{CameTo-among}
 use Rattle.bt_load.specs.Files.{Kind, CannotRead}
-use Rattle.bt_load.specs.Loaders.{Loader, Loads, and_then, file, nothing, only_where, tested}
+use Rattle.bt_load.specs.Loaders.{Loader, Loads, and_then, file, only_where, tested}
 
 -- a count that rose since a later moment rose since an earlier one
 pub Rose-sooner : (before between now : ℕ) → before ≤ between → Rose between now → Rose before now
@@ -74,10 +74,6 @@ pub came_on : {Value : Type 0} (load : Loader Value) (after : Value → Outcome 
     → CameTo (Loads load after told failed) result
 came_on load after told failed value given result came = CameTo-among (after value) (Loads load after told failed) (λ outcome so. inr (value, given, so)) result came
 
--- there was nothing to load
-pub came_alone : (after : Outcome → Type 0) (told : List ℕ → Option (List ℕ)) (failed : Type 0) (result : Result Report Stop) → CameTo after result → CameTo (Loads nothing (λ none. after) told failed) result
-came_alone after told failed result came = came_on nothing (λ none. after) told failed tt tt result came
-
 -- a load that is made only where this holds, which it does
 goes_on_where : {Value : Type 0} (holds : Type 0) (load : Loader Value) (after : Option Value → Outcome → Type 0) (told : List ℕ → Option (List ℕ)) (failed : Type 0) → holds → (outcome : Outcome)
     → Loads load (λ value. after (Some value)) told failed outcome → Loads (only_where holds load) after told failed outcome
@@ -88,9 +84,3 @@ pub came_where : {Value : Type 0} (holds : Type 0) (load : Loader Value) (after 
     → CameTo (Loads load (λ value. after (Some value)) told failed) result → CameTo (Loads (only_where holds load) after told failed) result
 came_where holds load after told failed so result came =
     CameTo-among (Loads load (λ value. after (Some value)) told failed) (Loads (only_where holds load) after told failed) (goes_on_where holds load after told failed so) result came
-
--- a load with fewer outcomes behind it
-pub Loads-among : {Value : Type 0} (load : Loader Value) (after also : Value → Outcome → Type 0) (told : List ℕ → Option (List ℕ)) (failed : Type 0) → ((value : Value) (outcome : Outcome) → after value outcome → also value outcome) → (outcome : Outcome)
-    → Loads load after told failed outcome → Loads load also told failed outcome
-Loads-among load after also told failed among outcome (inl stopped) = inl stopped
-Loads-among load after also told failed among outcome (inr (value, given, so)) = inr (value, given, among value outcome so)

@@ -1,5 +1,5 @@
 // The reports that name the first fault of a file's bytes.
-ghost use Rattle.std.specs.Prelude.{◌≡◌, ◌∷◌, [], codes};
+ghost use Rattle.std.specs.Prelude.{◌∷◌, [], codes};
 ghost use Rattle.bt_net.specs.Fault.{path_text};
 ghost use Rattle.bt_report.specs.declared.status.TheConstants.{NO_NETWORK};
 ghost use Rattle.bt_report.specs.Outcome.{Says};

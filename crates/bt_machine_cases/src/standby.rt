@@ -2,9 +2,8 @@
 use crate::lines::{put_number, put_word};
 use crate::message::status_of;
 use bt_frame::Mark;
-use bt_machines::Standby;
+use bt_machines::{Noticed, Standby};
 use bt_sheet::{CaseFault, Result, number_of};
-use bt_timeline::noticed_word;
 
 /// Does what a line of a standby says.
 pub fn show_standby(standby: &mut Standby, words: &[&str], out: &mut String) -> Result<()> {
@@ -23,7 +22,11 @@ pub fn show_standby(standby: &mut Standby, words: &[&str], out: &mut String) -> 
 fn put_noticed(standby: &mut Standby, mark: &str, fields: &[&str], out: &mut String) -> Result<()> {
     let status = status_of(fields)?;
     let mark = Mark(number_of(mark)?);
-    put_word(noticed_word(standby.hear(mark, status)), out)
+    let word = match standby.hear(mark, status) {
+        Noticed::Noted => "noted",
+        Noticed::WrongMark => "wrongmark",
+    };
+    put_word(word, out)
 }
 
 /// Appends the edition that the standby names in that superframe.

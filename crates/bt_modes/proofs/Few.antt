@@ -102,9 +102,6 @@ pub record IsFewTo (rows now : List (List ℕ)) (modes : List Mode) (left slots 
   pub to_come : 0 < left → length modes + budget (length rows) now left ≤ budget (length rows) rows slots
   pub so_far : length modes ≤ budget (length rows) rows slots + 1
 
-pub IsFewTo-none : (rows now : List (List ℕ)) (slots : ℕ) → now ≡ rows → IsFewTo rows now [] slots slots
-IsFewTo-none rows now slots same = rw same (record { to_come = λ _. omega arith; so_far = omega arith })
-
 pub IsFewTo-mode : (rows now new : List (List ℕ)) (modes : List Mode) (mode : Mode) (left slots : ℕ) → IsFewTo rows now modes left slots → length now ≡ length rows
     → 0 < left → ServesPart now left mode new → IsFewTo rows new (modes ++ mode ∷ []) (left - mode.duration) slots
 IsFewTo-mode rows now new modes mode left slots few size some part =

@@ -3,11 +3,8 @@ use Rattle.std.proofs.Common.{◌≡◌, ℕ, ◌<◌, ◌≤◌, List, [], ◌+
 use Rattle.std.proofs.lemmas.Bool.{cases_eq, cases_lt, cases_order}
 use Rattle.std.proofs.lemmas.List.{get_or-map, get_or_past, get_or-replicate, length-replicate, length-map, length-set, take-set-le}
 use Rattle.std.proofs.Math.Seq.{take-append_seam, take-set-lt}
-use Rattle.std.specs.List.{All}
 use Rattle.bt_frame.specs.declared.limits.TheConstants.{MOST_BEAMS}
 use Rattle.bt_matrix.specs.Good.{IsPermutation}
-use Rattle.bt_matrix.specs.Traffic.{entry, row_of, IsTraffic}
-use Rattle.bt_modes.specs.Search.{IsMatching}
 use Rattle.bt_modes.specs.Matching.{column_of, IsPartial, IsWhole}
 
 -- a row of the empty map has no column
@@ -112,35 +109,6 @@ IsPartial-front size columns rest same partial = rw (take_front size columns res
 
 pub IsPermutation-front : (size : ℕ) (perm rest : List ℕ) → IsPermutation size perm → IsPermutation size (take size (perm ++ rest))
 IsPermutation-front size perm rest permutes = rw (take_front size perm rest permutes.count) permutes
-
--- no entry is positive past the last column
-entry-past : (rows : List (List ℕ)) (row down : ℕ) → All (λ row. length row ≡ length rows) rows → 0 < entry rows row down → down < length rows
-entry-past rows row down square positive =
-    elim (cases_lt down (length rows)) [
-      | inl inside ↦ inside
-      | inr past ↦ absurd (
-          elim (cases_lt row (length rows)) [
-            | inl known ↦
-                let long : length (row_of rows row) ≡ length rows = square row [] known in
-                let none : entry rows row down ≡ 0 = get_or_past (row_of rows row) down 0 (omega arith) in
-                omega arith
-            | inr beyond ↦
-                let empty : row_of rows row ≡ [] = get_or_past rows row [] beyond in
-                let none : entry rows row down ≡ 0 = rw empty refl in
-                omega arith
-          ])
-    ]
-
--- rows with columns of their own, at positive entries of a matrix
-pub IsPartial-matching : (rows : List (List ℕ)) (columns : List (Option ℕ)) → IsTraffic rows → length columns ≡ length rows → IsMatching rows columns → IsPartial columns
-IsPartial-matching rows columns traffic long matching = record {
-  some_rows = omega (arith, traffic.some_beams);
-  few_rows = omega (arith, traffic.few_beams);
-  below_size = λ row down has.
-      let inside : down < length rows = entry-past rows row down traffic.square (matching.inside row down has) in
-      omega arith;
-  own_columns = matching.own_columns;
-}
 
 -- in the map of a permutation every row has a column
 pub IsWhole-front : (size : ℕ) (columns rest : List (Option ℕ)) (perm : List ℕ) → length columns ≡ size → columns ≡ map Some perm → IsWhole (take size (columns ++ rest))

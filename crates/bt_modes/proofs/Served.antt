@@ -4,12 +4,11 @@ use Rattle.std.proofs.lemmas.List.Elements.{All-push}
 use Rattle.std.proofs.lemmas.List.Sums.{sum_by_push}
 use Rattle.bt_frame.specs.declared.mode.Mode.{Mode}
 use Rattle.bt_frame.specs.declared.schedule.Critical.{Critical}
-use Rattle.bt_frame.specs.declared.schedule.Critical.TheVariants.{Row, Column}
-use Rattle.bt_frame.specs.declared.schedule.Schedule.{Schedule}
-use Rattle.bt_matrix.specs.Good.{IsPermutation, slots_in, slots_of, total_duration, IsGood}
-use Rattle.bt_matrix.specs.Traffic.{row_of, entry, row_sum, column_sum, line_sum, IsLine, IsTraffic, IsHeaviest}
+use Rattle.bt_frame.specs.declared.schedule.Critical.TheVariants.{Column}
+use Rattle.bt_matrix.specs.Good.{IsPermutation, slots_in, slots_of, total_duration}
+use Rattle.bt_matrix.specs.Traffic.{row_of, entry, row_sum, column_sum, line_sum, IsLine, IsTraffic}
 use Rattle.bt_matrix.proofs.Lines.{entry-le-column_sum}
-use Rattle.bt_modes.specs.Padding.{IsRaised, HasLinesWithin, IsGreatestSum, IsPartPadding}
+use Rattle.bt_modes.specs.Padding.{IsRaised, HasLinesWithin, IsPartPadding}
 use Rattle.bt_modes.specs.Serving.{IsReached, MayHold, ServesMatrix, ServesPart}
 use Rattle.bt_modes.proofs.Fillings.{IsLine-size}
 use Rattle.bt_modes.proofs.Ends.{left_of, lines_raised, ends_one}
@@ -26,21 +25,6 @@ pub record IsServedTo (rows now : List (List ℕ)) (modes : List Mode) (left slo
   pub filled : total_duration modes + left ≡ slots
   pub carried : (up down : ℕ) → up < length rows → down < length rows → entry rows up down ≤ slots_of modes up down + entry now up down
 
--- the greatest sum is that of a line
-pub greatest_fits : (rows : List (List ℕ)) (slots : ℕ) → IsTraffic rows → IsGreatestSum rows slots → slots ≤ 1048576
-greatest_fits rows slots traffic ((Row up), is) = omega (arith, traffic.row_sums up.0 is.on_matrix, is.reached)
-greatest_fits rows slots traffic ((Column down), is) = omega (arith, traffic.column_sums down.0 is.on_matrix, is.reached)
-
--- no mode yet
-pub IsServedTo-none : (rows now : List (List ℕ)) (slots : ℕ) → now ≡ rows → IsGreatestSum rows slots → IsServedTo rows now [] slots slots
-IsServedTo-none rows now slots same greatest = rw same (record {
-  size = refl;
-  lines = greatest.1.greatest;
-  within = omega arith;
-  permutations = λ k d below. absurd (omega arith);
-  durations = λ k d below. absurd (omega arith);
-  filled = omega arith;
-  carried = λ up down _ _. omega arith;
 })
 
 -- one mode more
@@ -125,13 +109,3 @@ pub raised_column : (old new : List (List ℕ)) (size up down : ℕ) → IsSquar
 raised_column old new size up down was is raised count in_rows in_columns more =
     let less = total-less size (λ k. entry old k down) (λ k. entry new k down) (λ k inside. raised k down (omega arith) (omega arith)) up in_rows more in
     omega (arith, less, column_sum-total old size down was, column_sum-total new size down is)
-
--- a schedule of such modes, whose length is the greatest line sum, is good
-pub IsGood-serves : (rows : List (List ℕ)) (schedule : Schedule) → IsHeaviest rows schedule.critical schedule.length → ServesMatrix rows schedule.modes schedule.length → IsGood rows schedule
-IsGood-serves rows schedule heaviest serves = record {
-  permutations = serves.permutations;
-  durations = serves.durations;
-  filled = serves.filled;
-  least = record { on_matrix = heaviest.on_matrix; reached = heaviest.reached; greatest = heaviest.greatest };
-  carried = serves.carried;
-}

@@ -1,11 +1,11 @@
 -- The entries of a matrix in a table.
-use Rattle.std.proofs.Common.{◌≡◌, ℕ, ◌+◌, ◌<◌, ◌≤◌, Bool, List, [], length, Option, replicate, set, sym, ap, ◌∙◌, refl, inl, inr, arith, length-set, get_or-set_same, get_or-set_other}
+use Rattle.std.proofs.Common.{◌≡◌, ℕ, ◌+◌, ◌<◌, ◌≤◌, Bool, List, [], length, Option, replicate, ap, ◌∙◌, inl, inr, arith}
 use Rattle.std.specs.List.{slice_index, count_by}
-use Rattle.std.proofs.lemmas.Bool.{cases_eq, cases_lt}
+use Rattle.std.proofs.lemmas.Bool.{cases_lt}
 use Rattle.std.proofs.lemmas.List.{get_or_past, get_or-replicate, length-replicate}
 use Rattle.bt_frame.specs.declared.limits.TheConstants.{MOST_BEAMS}
-use Rattle.bt_frame.proofs.Totals.{total, total-next, sum_by-total}
-use Rattle.bt_matrix.specs.Traffic.{entry, row_of, IsTraffic}
+use Rattle.bt_frame.proofs.Totals.{total, sum_by-total}
+use Rattle.bt_matrix.specs.Traffic.{entry, IsTraffic}
 use Rattle.bt_matrix.specs.Walk.{is_positive, row_entries, positive_entries}
 use Rattle.bt_matrix.proofs.Walks.{entry-past}
 use Rattle.bt_modes.specs.Matching.{IsPartial}
@@ -34,57 +34,11 @@ zero_table n m up down =
       | inr past ↦ ap (λ (r : List ℕ). slice_index r down) (get_or_past (replicate n (replicate m 0)) up [] (rw (length-replicate {A = List ℕ}) past))
     ]
 
--- at first there is nothing
-pub IsTableTo-first : (rows table : List (List ℕ)) (steps : ℕ) → HasNoEntry table → IsTableTo (length table) rows table 0 steps steps
-IsTableTo-first rows table steps empty = record {
-  long = refl;
-  so_far = λ up down below. absurd (omega arith);
-  later = λ up down _. empty up down;
-  looks = omega arith;
-}
-
--- one row more
-pub IsTableTo-row : (size : ℕ) (rows table : List (List ℕ)) (slots : List ℕ) (row steps after first : ℕ) → IsTableTo size rows table row steps first
-    → row < size → ((down : ℕ) → slice_index slots down ≡ entry rows row down) → after ≤ steps + row_entries rows row
-    → IsTableTo size rows (set table row slots) (row + 1) after first
-IsTableTo-row size rows table slots row steps after first so_far inside here looks = record {
-  long = length-set table row slots ∙ so_far.long;
-  so_far = λ up down below. elim (cases_eq up row) [
-    | inl same ↦ rw same (ap (λ (r : List ℕ). slice_index r down) (get_or-set_same table row slots [] (omega (arith, so_far.long))) ∙ here down)
-    | inr apart ↦ ap (λ (r : List ℕ). slice_index r down) (get_or-set_other table row up slots [] apart) ∙ so_far.so_far up down (omega (arith, apart))
-  ];
-  later = λ up down above. ap (λ (r : List ℕ). slice_index r down) (get_or-set_other table row up slots [] (λ same. omega (arith, same))) ∙ so_far.later up down (omega arith);
-  looks = omega (arith, so_far.looks, total-next row (row_entries rows));
-}
-
--- all rows do
-pub HasEntriesOf-all : (size : ℕ) (rows table : List (List ℕ)) (steps first : ℕ) → IsTableTo size rows table (length rows) steps first → HasEntriesOf table rows
-HasEntriesOf-all size rows table steps first all up down =
-    elim (cases_lt up (length rows)) [
-      | inl inside ↦ all.so_far up down inside
-      | inr past ↦
-          let none : row_of rows up ≡ [] = get_or_past rows up [] past in
-          all.later up down past ∙ sym (ap (λ (r : List ℕ). slice_index r down) none)
-    ]
-
 -- and each positive entry was looked at once
 pub looks-all : (size : ℕ) (rows table : List (List ℕ)) (steps first : ℕ) → IsTableTo size rows table (length rows) steps first → steps ≤ first + positive_entries rows
 looks-all size rows table steps first all =
     let whole : positive_entries rows ≡ total (length rows) (row_entries rows) = sum_by-total (λ (row : List ℕ). count_by is_positive row) rows [] in
     omega (arith, all.looks)
-
--- what holds by the table holds by the matrix
-pub IsMatching-table : (rows table : List (List ℕ)) (columns : List (Option ℕ)) → HasEntriesOf table rows → IsMatching table columns → IsMatching rows columns
-IsMatching-table rows table columns same matching = record {
-  inside = λ up down has. rw (← same up down) (matching.inside up down has);
-  own_columns = matching.own_columns;
-}
-
-pub IsMatching-rows : (rows table : List (List ℕ)) (columns : List (Option ℕ)) → HasEntriesOf table rows → IsMatching rows columns → IsMatching table columns
-IsMatching-rows rows table columns same matching = record {
-  inside = λ up down has. rw (same up down) (matching.inside up down has);
-  own_columns = matching.own_columns;
-}
 
 -- what is spent in the table is spent in a matrix that has no positive entry elsewhere
 pub IsSpent-support : (rows table : List (List ℕ)) (visited : List Bool) (row : ℕ) → ((up down : ℕ) → 0 < entry rows up down → 0 < entry table up down)

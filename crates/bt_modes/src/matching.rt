@@ -5,7 +5,7 @@ ghost use Rattle.bt_matrix.specs.Good.{IsPermutation};
 ghost use Rattle.bt_matrix.specs.Traffic.{entry};
 ghost use Rattle.bt_matrix.specs.Walk.{positive_entries};
 ghost use Rattle.bt_modes.specs.Matching.{column_of, free_rows, HasEqualLineSums, HasSupport, IsPartial, IsWhole, IsInside, IsInsidePerm};
-ghost use Rattle.bt_modes.specs.Search.{IsMatching, StaysMatched, AreHolders, HasEntriesOf, HasNoEntry, IsWithin};
+ghost use Rattle.bt_modes.specs.Search.{IsMatching, StaysMatched, AreHolders, HasNoEntry, IsWithin};
 
 use crate::augmenting::seek;
 use crate::partial::Partial;

@@ -1,6 +1,5 @@
 // Writing a picture, part by part.
 ghost use Rattle.std.specs.Prelude.{◌≡◌, ◌++◌, map, flat_map, OnOk};
-ghost use Rattle.bt_words.specs.Lines.{word_bytes};
 ghost use Rattle.bt_picture.specs.Picture.{anchor_text, drawn, foot_text, head_text, label_text, line_text, cross_text, dot_text, part_text, rectangle_text, shape_text, size_text, strokes_text, words_text, Alone, Titled, field, letters_text, opening, view_text};
 
 use crate::sheet::sheet;

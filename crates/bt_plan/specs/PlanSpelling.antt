@@ -1,5 +1,5 @@
 -- How a burst time plan is spelled: its lines, each as its words, and a newline behind each of them.
-use Rattle.std.specs.Prelude.{ℕ, ◌<◌, ◌≤◌, codes, decimal, length, map, List, [], ◌∷◌, ◌++◌, All, AllPairs}
+use Rattle.std.specs.Prelude.{ℕ, ◌≤◌, codes, decimal, length, map, List, [], ◌∷◌, ◌++◌, All, AllPairs}
 use Rattle.bt_frame.specs.declared.limits.TheConstants.{LAST_EDITION, LAST_TEXT_SLOT, MOST_BURST_SLOTS}
 use Rattle.bt_text.specs.Text.{spaced, ended}
 use Rattle.bt_frame.specs.declared.numbers.EditionNo.{EditionNo}

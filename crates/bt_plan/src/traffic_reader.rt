@@ -1,6 +1,6 @@
 // The text of a demand: a line for each link, in any order.
 ghost use Rattle.std.specs.Prelude.{◌≡◌, ◌+◌, ◌<◌, ◌≤◌, ◌≢◌, length, IfOk, IsTrue, OnOk};
-ghost use Rattle.bt_text.specs.Text.{words, lines};
+ghost use Rattle.bt_text.specs.Text.{words};
 ghost use Rattle.bt_text.specs.Reading.{Gives};
 ghost use Rattle.bt_net.specs.Name.{are_names};
 ghost use Rattle.bt_demand.specs.Traffic.{matrix_of, AreOfNetwork, HasSumsTo};

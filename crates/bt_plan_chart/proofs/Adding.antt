@@ -1,7 +1,7 @@
 -- Parts that are added to a picture, one behind the other.
 use Rattle.std.proofs.Common.{refl, arith, Bool, true, false, if◌then◌else◌, ◌≡◌, ℕ, ◌+◌, ◌<◌, ◌≤◌, List, [], ◌∷◌, ◌++◌, length, get_or, take, map, flat_map, OnOk, Ok, Err, Result, ap, sym, ◌∙◌, append_assoc}
 use Rattle.std.specs.List.{range_with_len}
-use Rattle.std.proofs.lemmas.List.{append-nil, take_more, take_all, map-append}
+use Rattle.std.proofs.lemmas.List.{append-nil, take_more, take_all}
 use Rattle.std.proofs.lemmas.List.Concat.{flat_map-append}
 use Rattle.std.proofs.lemmas.List.FromFn.{map-range_with_len_more}
 use Rattle.bt_picture.specs.Picture.{Part, part_text}
@@ -57,16 +57,6 @@ one_more f xs k x before between after within first second =
 
 pub all_of : {A : Type 0} (f : A → List Part) (xs : List A) (k : ℕ) (before between : List ℕ) → length xs ≤ k → between ≡ before ++ parts_text (flat_map f (take k xs)) → between ≡ before ++ parts_text (flat_map f xs)
 all_of f xs k before between past first = first ∙ ap (λ l. before ++ parts_text (flat_map f l)) (take_all k xs past)
-
--- the same of items with one part each
-pub one_more_each : {A : Type 0} (f : A → Part) (xs : List A) (k : ℕ) (x : A) (before between after : List ℕ) → k < length xs → between ≡ before ++ parts_text (map f (take k xs))
-    → after ≡ between ++ parts_text (f (get_or xs k x) ∷ []) → after ≡ before ++ parts_text (map f (take (k + 1) xs))
-one_more_each f xs k x before between after within first second =
-    and_more (map f (take k xs)) (f (get_or xs k x) ∷ []) before between after first second
-    ∙ ap (λ parts. before ++ parts_text parts) (sym (map-append f (take k xs) (get_or xs k x ∷ [])) ∙ ap (map f) (sym (take_more xs k x within)))
-
-pub all_of_each : {A : Type 0} (f : A → Part) (xs : List A) (k : ℕ) (before between : List ℕ) → length xs ≤ k → between ≡ before ++ parts_text (map f (take k xs)) → between ≡ before ++ parts_text (map f xs)
-all_of_each f xs k before between past first = first ∙ ap (λ l. before ++ parts_text (map f l)) (take_all k xs past)
 
 -- some parts, and then those of so many numbers and of one more
 pub next_number : (f : ℕ → Part) (head : List Part) (k : ℕ) (before between after : List ℕ) → between ≡ before ++ parts_text (head ++ map f (range_with_len 0 k))

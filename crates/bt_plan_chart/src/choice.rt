@@ -1,6 +1,4 @@
 // What of a plan is drawn.
-ghost use Rattle.std.specs.Prelude.{◌≡◌};
-ghost use Rattle.bt_plan_chart.specs.Scale.{whole};
 
 use bt_frame::MOST_BEAMS;
 
@@ -20,16 +18,4 @@ pub struct Choice {
     pub beams: [bool; MOST_BEAMS],
     /// The slots that are shown, where not all are.
     pub slots: Option<SlotRange>,
-}
-
-impl Choice {
-    /// All beams, and all slots.
-    pub fn whole() -> Choice
-        ensures { result ≡ whole }
-    {
-        Choice {
-            beams: [true; MOST_BEAMS],
-            slots: None,
-        }
-    }
 }

@@ -1,5 +1,5 @@
 // The marks of bursts that meet.
-ghost use Rattle.std.specs.Prelude.{◌≡◌, ◌++◌, ◌<◌, ◌≤◌, ◌^◌, [], ◌∷◌, length, OnOk};
+ghost use Rattle.std.specs.Prelude.{◌≡◌, ◌++◌, ◌<◌, ◌≤◌, ◌^◌, [], ◌∷◌, OnOk};
 ghost use Rattle.bt_frame.specs.declared.limits.TheConstants.{MOST_BEAMS};
 ghost use Rattle.bt_demand.specs.Apart.{AreBetweenTerminals};
 ghost use Rattle.bt_plan_chart.specs.Chart.{clash_mark, clash_part, clash_parts, clashes_parts};

@@ -1,5 +1,5 @@
 // Where slots and lanes lie in the picture. All places and sizes are in twips.
-ghost use Rattle.std.specs.Prelude.{◌≡◌, ◌+◌, ◌-◌, ◌*◌, ◌^◌, ◌<◌, ◌≤◌, max, length, if◌then◌else◌, slice_index};
+ghost use Rattle.std.specs.Prelude.{◌≡◌, ◌+◌, ◌-◌, ◌*◌, ◌^◌, ◌<◌, ◌≤◌, max, length, if◌then◌else◌};
 ghost use Rattle.bt_frame.specs.declared.limits.TheConstants.{MOST_BEAMS};
 ghost use Rattle.bt_plan_chart.specs.Scale.{IsScale, column_of, end_of, end_shown, first_shown, height_of, is_drawn, is_shown, lane_top, lanes_before, legend_top, places_of, scale_of, slots_box, span_of, unit_of, width_of, x_of};
 

@@ -15,10 +15,10 @@ use Rattle.bt_air.specs.declared.sent.Aired.TheVariants as sends
 use Rattle.bt_air.specs.Sent.{sent_as}
 use Rattle.bt_frame.specs.declared.numbers.EditionNo.{EditionNo}
 use Rattle.bt_events.specs.Event.{Opening, Event, Happening, Turn}
-use Rattle.bt_events.specs.Fits.{IsPlace, IsWorld, Meets, newest_of}
+use Rattle.bt_events.specs.Fits.{IsPlace, IsWorld, Meets}
 use Rattle.bt_world.specs.Life.{Life, having_had, past_of}
 use Rattle.bt_events.specs.World.{comes_to, is_told, log, plan_of, plans, sent, tells, terminals}
-use Rattle.bt_round.specs.AirLines.{AirState, happened, having, mark_of, newest_in, sends_text, target_by, target_of, turn_text_by, turning, sent_by, sent_count, sent_in, sent_lines}
+use Rattle.bt_round.specs.AirLines.{AirState, happened, having, mark_of, newest_in, sends_text, target_of, turn_text_by, turning, sent_by, sent_count, sent_in, sent_lines}
 use Rattle.bt_round.specs.Waiting.{deliveries, deliveries_of, receivers}
 use Rattle.bt_round.specs.Worker.{CanHear, IsHeard, IsPlanned, IsRunning, NamesOwn, numbered}
 use Rattle.bt_round.proofs.Sending.{event-names, terminals-own}
@@ -174,20 +174,6 @@ told net air now event first text middle after heading had counted headed added 
     ∙ ap (λ (l : List Aired). sent_lines net (sent_count air) l) (sent-since air event) in
     added ∙ ap (λ (l : List ℕ). middle ++ l) since ∙ ap (λ (l : List ℕ). l ++ sends_text net air event) headed
     ∙ append_assoc text heading (sends_text net air event)
-
--- the newest edition of a world has a plan
-abbrev pub NewestPlanned : Type 0
-NewestPlanned = (o : Opening) (events : List Event) → IsWorld o events → IsSome (plan_of (plans o (log o events)) (newest_of (plans o (log o events))))
-
-one-planned : (life : Life) (back : Option EditionNo) (newest : EditionNo) → IfSome back (IsPlanned life) → IsPlanned life newest → IsPlanned life (target_by back newest)
-one-planned life None newest has fresh = fresh
-one-planned life (Some edition) newest has fresh = has
-
--- the edition to bring to the front has a plan
-pub target-planned : NewestPlanned → (inside air : AirState) → inside ≡ air → IsRunning inside → IsPlanned air.life (target_of air)
-target-planned planned inside air same running =
-    subst (λ (a : AirState). IsPlanned a.life (target_of a)) same
-    (one-planned inside.life inside.back (newest_in inside) running.back (planned inside.life.opening (reverse inside.life.events) running.world))
 
 -- the text of a turn
 pub turn-told : (net : Net) (air now : AirState) (target : EditionNo) (first : ℕ) (text middle after : List ℕ) → target ≡ target_of air

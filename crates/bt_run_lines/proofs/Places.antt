@@ -1,5 +1,5 @@
 -- Words and places, one after the other, as a loop goes over them.
-use Rattle.std.proofs.Common.{◌≡◌, ℕ, ◌+◌, ◌<◌, ◌≤◌, Bool, true, false, cond, Option, Some, None, List, [], ◌∷◌, ◌++◌, length, get_or, drop, option_map, refl, sym, ap, ◌∙◌, append_assoc, append-nil, length-append, subst, not, add-one, drop-cons, arith}
+use Rattle.std.proofs.Common.{◌≡◌, ℕ, ◌+◌, ◌<◌, ◌≤◌, Bool, true, false, cond, Option, Some, None, List, [], ◌∷◌, ◌++◌, length, get_or, drop, option_map, refl, sym, ap, ◌∙◌, append_assoc, append-nil, length-append, subst, not, arith}
 use Rattle.std.proofs.lemmas.List.Sums.{sum_by-cons}
 use Rattle.bt_text.specs.Text.{is_word}
 use Rattle.bt_text.specs.WordReader.{first_word}
@@ -7,7 +7,6 @@ use Rattle.bt_text.proofs.Fronts.{front_word}
 use Rattle.bt_net.specs.Network.{Net}
 use Rattle.bt_words.specs.declared.form.Form.{Form}
 use Rattle.bt_words.specs.declared.form.Form.TheVariants as form
-use Rattle.bt_run_lines.specs.declared.printed.Printed.{Printed}
 use Rattle.bt_run_lines.specs.declared.printed.Value.{Value}
 use Rattle.bt_words.specs.declared.token.Token.{Token}
 use Rattle.bt_words.specs.declared.token.Token.TheVariants as token
@@ -15,7 +14,7 @@ use Rattle.bt_words.proofs.Places.{places_at, places_at-cons}
 use Rattle.bt_words.specs.Forms as part
 use Rattle.bt_words.specs.Forms.{Part, part_of, is_fixed, open_places}
 use Rattle.bt_run_lines.specs.Words.{said_by, value_of}
-use Rattle.bt_run_lines.specs.Lines.{followed, values_in, or_else, printed_as, first_of_forms}
+use Rattle.bt_run_lines.specs.Lines.{followed, values_in}
 
 regroup : (front here : List Value) (more : Option (List Value)) → followed (Some front) (followed (Some here) more) ≡ followed (Some (front ++ here)) more
 regroup front here None = refl
@@ -82,17 +81,3 @@ pub room_left : (net : Net) (tokens : List Token) (at : ℕ) (front said : List 
 room_left net tokens at front said word most within says room =
     room_behind net front said (part_of (get_or tokens at token.Number)) word (places_at tokens (at + 1)) most says
     (subst (λ places. length front + open_places places ≤ most) (places_at-cons tokens at within) room)
-
--- one form more
-pub forms_at-cons : (forms : List Form) (at : ℕ) → at < length forms → drop at forms ≡ get_or forms at form.SentLoad ∷ drop (at + 1) forms
-forms_at-cons forms at within = rw add-one (drop-cons forms at form.SentLoad within)
-
-module _ (net : Net) (forms : List Form) (at : ℕ) (within : at < length forms) (ws : List (List ℕ)) (total : Option Printed) where
-  this_form : (line : Option Printed) → line ≡ printed_as net (get_or forms at form.SentLoad) ws → first_of_forms net (drop at forms) ws ≡ or_else line (first_of_forms net (drop (at + 1) forms) ws)
-  this_form line is = rw (forms_at-cons forms at within, is) refl
-
-  pub has_form : (line : Printed) → Some line ≡ printed_as net (get_or forms at form.SentLoad) ws → first_of_forms net (drop at forms) ws ≡ total → Some line ≡ total
-  has_form line is so_far = sym (this_form (Some line) is) ∙ so_far
-
-  pub has_other_form : None ≡ printed_as net (get_or forms at form.SentLoad) ws → first_of_forms net (drop at forms) ws ≡ total → first_of_forms net (drop (at + 1) forms) ws ≡ total
-  has_other_form is so_far = sym (this_form None is) ∙ so_far

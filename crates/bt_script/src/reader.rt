@@ -15,8 +15,8 @@ use bt_net::Network;
 use bt_text::{fault_at, first_line};
 use std::alloc::Global;
 
-/// The bytes of a line for which there is room when a text is begun. Most lines of edits are longer.
-const LINE_BYTES: usize = 16;
+/// The bytes that are reckoned for a line of a script when room for its lines is taken. Most lines of edits are longer.
+const SCRIPT_LINE_BYTES: usize = 16;
 
 impl Script {
     /// The script that the bytes spell for this network, or the first line with a fault.
@@ -41,7 +41,7 @@ fn read_lines(alloc: Global, net: &Network, text: &[u8]) -> Result<Vec<ScriptLin
     ensures reading { Gives (λ said. said.items) result (lines_in net.now 1 false (lines text.now)) }
     ensures few { IfOk result (λ said. vec_len said ≤ MOST_LINES) }
 {
-    let mut said = Vec::with_capacity(alloc, (text.len() / LINE_BYTES).min(MOST_LINES as usize))?;
+    let mut said = Vec::with_capacity(alloc, (text.len() / SCRIPT_LINE_BYTES).min(MOST_LINES as usize))?;
     let mut rest = text;
     let mut is_open = false;
     let mut at = 1;

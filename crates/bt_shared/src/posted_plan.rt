@@ -8,7 +8,7 @@ use bt_frame::{OutOfMemory, TermNo};
 use std::alloc::Global;
 use std::marker::Model;
 
-/// A plan, and beside it where each terminal's bursts stand. Contracts see it as the plan.
+/// A plan, and beside it its bursts once more, by the terminal that sends. Contracts see it as the plan.
 #[derive(Drop)]
 pub struct PostedPlan {
     plan: Plan,
@@ -29,7 +29,7 @@ impl Model for PostedPlan {
 }
 
 impl PostedPlan {
-    /// The plan, with an index of its bursts.
+    /// The plan, with a copy of its bursts that is sorted by the terminal that sends.
     pub fn of(alloc: Global, plan: Plan) -> Result<PostedPlan, OutOfMemory>
         ensures same { IfOk result (λ posted. posted ≡ plan) }
     {

@@ -89,7 +89,8 @@ impl ShortText {
         true
     }
 
-    /// Adds a number in decimal digits, a further word behind a space, where there is room for a space, four digits and for it.
+    /// Adds a number in decimal digits, a further word behind a space, where there is room for a space and for the digits. Fewer
+    /// than four of them need the room of four.
     #[inline(always)]
     pub fn put_number(&mut self, is_further: bool, number: u64) -> bool
         ensures added { OnTrue result (self.new ≡ self.old ++ one_word is_further (decimal number)) }
@@ -106,7 +107,7 @@ impl ShortText {
         true
     }
 
-    /// The same, which takes more steps where the number has few digits.
+    /// The same, also where there is room for a space and few digits alone. It takes more steps.
     #[inline(never)]
     pub fn put_any_number(&mut self, is_further: bool, number: u64) -> bool
         ensures added { OnTrue result (self.new ≡ self.old ++ one_word is_further (decimal number)) }

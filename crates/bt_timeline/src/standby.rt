@@ -1,6 +1,6 @@
 // The lines of the standby.
 ghost use Rattle.std.specs.Prelude.{◌≡◌, ◌++◌, OnOk, OnErr};
-ghost use Rattle.bt_timeline.specs.Air.{noticed_form, noticed_line, noticed_name, standby_burst_line, unnoticed_line, unsent_line};
+ghost use Rattle.bt_timeline.specs.Air.{noticed_form, noticed_line, standby_burst_line, unnoticed_line, unsent_line};
 
 use bt_frame::OutOfMemory;
 use bt_machines::Noticed;
@@ -52,14 +52,4 @@ pub fn standby_burst_text(alloc: Global, out: &mut Vec<u8>) -> Result<(), OutOfM
     ensures unchanged { OnErr result (out.new.items ≡ out.old.items) }
 {
     print(alloc, Form::StandbyBurst, &[], out)
-}
-
-/// The printed word of what the standby does with a status.
-pub fn noticed_word(noticed: Noticed) -> &'static str
-    ensures word { result.now ≡ noticed_name noticed }
-{
-    match noticed {
-        Noticed::Noted => "noted",
-        Noticed::WrongMark => "wrongmark",
-    }
 }

@@ -5,13 +5,12 @@ use Rattle.std.specs.List.{range_with_len}
 use Rattle.std.proofs.lemmas.List.{map_push}
 use Rattle.std.proofs.lemmas.List.FromFn.{map-range_with_len_more}
 use Rattle.bt_frame.proofs.Images.{numbers_below, image_at, length-images}
-use Rattle.bt_matrix.specs.Traffic.{entry, row_sum, IsTraffic}
+use Rattle.bt_matrix.specs.Traffic.{entry, IsTraffic}
 use Rattle.bt_modes.specs.Padding.{HasLinesWithin}
 use Rattle.bt_modes.proofs.Sums.{IsSquare}
 use Rattle.bt_trans.specs.Border.{cut, overlap, bordered_cut, row_wants, column_wants, AreCells, bordered_rows, cell_at, cell_of}
 use Rattle.bt_trans.specs.Part.{total_slots}
 use Rattle.bt_trans.proofs.Borders.{IsBorderedWhole, IsBorderedWhole-cells}
-use Rattle.bt_trans.proofs.Cells.{cut-next}
 
 -- no less is not less
 not_less : (m n : ℕ) → n ≤ m → ltb m n ≡ false
@@ -67,11 +66,6 @@ IsBorderedWhole-written rows k lines inner sum is within fits sizes few limit al
     let Cells : ℕ → Type 0 = λ n. AreCells (length rows) border inner sum (row_wants rows sum) (column_wants rows sum) (entry rows) (entry (bordered_rows rows inner sum n)) in
     IsBorderedWhole-cells rows (bordered_rows rows inner sum lines) k lines inner sum is within fits sizes few limit all (IsSquare-written rows inner sum lines)
     (subst Cells whole (AreCells-written rows inner sum border))
-
--- what an entry gains is within what its row wants
-pub gain-le : (rows : List (List ℕ)) (sum up begin end : ℕ) → row_sum rows up ≤ sum
-    → overlap (cut (row_wants rows sum) up) (cut (row_wants rows sum) (up + 1)) begin end + row_sum rows up ≤ sum
-gain-le rows sum up begin end within = omega (arith, cut-next (row_wants rows sum) up)
 
 -- one entry more of a row, and one row more
 pub entries_more : (f : ℕ → ℕ) (so_far new : List ℕ) (n x : ℕ) → new ≡ so_far ++ x ∷ [] → so_far ≡ map f (range_with_len 0 n) → x ≡ f n

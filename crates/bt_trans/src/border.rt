@@ -13,7 +13,7 @@
 //     2 2 | 0
 ghost use Rattle.std.specs.Prelude.{◌≡◌, ℕ, ◌+◌, ◌-◌, ◌*◌, ◌<◌, ◌≤◌, length, map, slice_index, IfOk};
 ghost use Rattle.std.specs.List.{range_with_len};
-ghost use Rattle.bt_matrix.specs.Traffic.{entry, IsTraffic};
+ghost use Rattle.bt_matrix.specs.Traffic.{entry};
 ghost use Rattle.bt_modes.specs.Padding.{HasLinesWithin};
 ghost use Rattle.bt_trans.specs.Part.{total_slots};
 ghost use Rattle.bt_trans.specs.Border.{bordered_cut, bordered_rows, cell_of, column_wants, cut, overlap, row_wants, HasCuts, IsBordered};

@@ -2,8 +2,7 @@
 // total shared among the connections.
 ghost use Rattle.std.specs.Prelude.{◌≡◌, ◌*◌, ◌≤◌, ◌↔◌, IsTrue, MatchOption, length};
 ghost use Rattle.bt_frame.specs.declared.limits.TheConstants.{MOST_SUM};
-ghost use Rattle.bt_frame.specs.Critical.{IsOfBeams};
-ghost use Rattle.bt_matrix.specs.Traffic.{line_sum, IsLine, IsTraffic};
+ghost use Rattle.bt_matrix.specs.Traffic.{line_sum, IsLine};
 ghost use Rattle.bt_trans.specs.Part.{total_slots, IsLeastLength, IsNamed, IsReached};
 ghost use Rattle.bt_trans.specs.PartVerdict.{IsLeast};
 

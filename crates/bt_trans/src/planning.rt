@@ -1,5 +1,5 @@
 // The schedule of the least length with so many connections at once at most.
-ghost use Rattle.std.specs.Prelude.{◌≡◌, ◌+◌, ◌≤◌, length, IfOk};
+ghost use Rattle.std.specs.Prelude.{◌+◌, ◌≤◌, length, IfOk};
 ghost use Rattle.bt_trans.specs.Part.{total_slots, IsGoodPart, IsNamed};
 
 use crate::border::bordered;

@@ -1,5 +1,5 @@
 // The object of the tests: it adds numbers.
-ghost use Rattle.std.specs.Prelude.{◌≡◌, ◌≤◌, ◌^◌, [], length};
+ghost use Rattle.std.specs.Prelude.{◌≡◌, ◌≤◌, [], length};
 ghost use Rattle.bt_trials.specs.Sums.{Adds};
 
 use bt_frame::OutOfMemory;

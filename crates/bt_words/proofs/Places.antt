@@ -78,10 +78,6 @@ pub left_of-cons : (is_further : Bool) (word : List ℕ) (rest : List (List ℕ)
 left_of-cons true word rest = refl
 left_of-cons false word rest = spaced-cons word rest
 
-pub left_of-none : (is_further : Bool) → left_of is_further [] ≡ []
-left_of-none true = refl
-left_of-none false = refl
-
 -- one word more was added: what is left is left behind it
 pub one_less : (is_further : Bool) (before after word whole : List ℕ) (left rest : List (List ℕ)) → left ≡ word ∷ rest → before ++ left_of is_further left ≡ whole → after ≡ before ++ one_word is_further word
     → after ++ spaced_out rest ≡ whole

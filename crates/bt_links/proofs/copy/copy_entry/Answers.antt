@@ -1,4 +1,4 @@
-use Rattle.std.proofs.Common.{◌≡◌, ◌+◌, ◌≤◌, arith}
+use Rattle.std.proofs.Common.{arith}
 use Rattle.bt_links.proofs.Copies.{fits}
 use Rattle.bt_links.proofs.copy.copy_entry.Goals as goal
 

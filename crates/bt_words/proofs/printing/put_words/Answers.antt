@@ -1,5 +1,5 @@
 -- the word at the next place was added
-use Rattle.std.proofs.Common.{◌≡◌, ◌+◌, ◌∷◌, ◌∙◌, rules}
+use Rattle.std.proofs.Common.{◌≡◌, ◌+◌, ◌∷◌, rules}
 use Rattle.bt_words.specs.Lines.{word_bytes}
 use Rattle.bt_words.proofs.Extending.{extends_again}
 use Rattle.bt_words.proofs.Places.{left_at, next_fixed, next_open, one_less}

@@ -1,4 +1,4 @@
-use Rattle.std.proofs.Common.{sym, ◌∙◌}
+use Rattle.std.proofs.Common.{sym}
 use Rattle.bt_machines.proofs.Carried.{step-carried}
 use Rattle.bt_machines.proofs.terminal.Terminal.hear.Goals as goal
 

@@ -1,4 +1,3 @@
-use Rattle.std.proofs.Common.{◌∙◌}
 use Rattle.std.proofs.lemmas.Result.{on_ok_weaker}
 use Rattle.bt_round.specs.AirLines.{AirState}
 use Rattle.bt_round.proofs.Bridging.{bridges, burst-meets, burst-plays}
