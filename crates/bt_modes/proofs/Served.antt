@@ -25,8 +25,6 @@ pub record IsServedTo (rows now : List (List ℕ)) (modes : List Mode) (left slo
   pub filled : total_duration modes + left ≡ slots
   pub carried : (up down : ℕ) → up < length rows → down < length rows → entry rows up down ≤ slots_of modes up down + entry now up down
 
-})
-
 -- one mode more
 pub IsServedTo-mode : (rows now new : List (List ℕ)) (modes : List Mode) (mode : Mode) (left slots : ℕ) → IsServedTo rows now modes left slots
     → ServesPart now left mode new → IsServedTo rows new (modes ++ mode ∷ []) (left - mode.duration) slots
