@@ -1,5 +1,5 @@
 -- A plan more changes nothing of what was sent.
-use Rattle.std.proofs.Common.{◌≡◌, inl, inr, ℕ, List, [], ◌∷◌, All, Option, refl, sym, ap, subst}
+use Rattle.std.proofs.Common.{inl, inr, List, [], ◌∷◌, All, Option, refl, sym, ap, subst}
 use Rattle.std.proofs.lemmas.List.Elements.{All-head, All-tail}
 use Rattle.bt_demand.specs.declared.plan.Plan.{Plan}
 use Rattle.bt_air.specs.declared.order.Order.{Order}
@@ -10,7 +10,7 @@ use Rattle.bt_air.specs.declared.message.Message.TheVariants as message
 use Rattle.bt_events.specs.Event.{Opening, Event}
 use Rattle.bt_events.specs.Fits.{HasPlan, IsWorld}
 use Rattle.bt_events.specs.Laws.{IsAmong, IsCarriedAlike, IsOrdered}
-use Rattle.bt_events.specs.World.{bursts_for, log, modes_of, orders, plan_of, plans, sent}
+use Rattle.bt_events.specs.World.{bursts_for, log, modes_of, orders, plans, sent}
 use Rattle.bt_events.proofs.Banks.{plan-stays, world-planned}
 use Rattle.bt_events.proofs.Sends.{HasPlanFor, sent-some}
 use Rattle.bt_events.proofs.Standing.{messages-ordered}

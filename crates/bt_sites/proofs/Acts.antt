@@ -72,9 +72,6 @@ record Makes (o : Opening) (steps : List Step) : Type 0 where
   begun : has_begun steps ≡ true → HasLine (lines o acts) (Begun (now_of o steps))
 
 -- a superframe that began has a number
-some-now : (n : ℕ) → 0 < n + 1
-some-now n = omega arith
-
 begun-some : (o : Opening) (steps : List Step) → has_begun steps ≡ true → 0 < now_of o steps
 begun-some o [] e = cc
 begun-some o (Begins ∷ before) e = omega (arith, mark-ticked (satellite_after o before))
@@ -161,7 +158,7 @@ no-begun : false ≡ true → ⊥
 no-begun e = cc
 
 -- who has started with this step has started with this act
-or-more : (test a b : Bool) → (a ≡ true → b ≡ true) → (test || a) ≡ true → (test || b) ≡ true
+pub or-more : (test a b : Bool) → (a ≡ true → b ≡ true) → (test || a) ≡ true → (test || b) ≡ true
 or-more true a b more e = refl
 or-more false a b more e = more e
 

@@ -1,7 +1,8 @@
 -- One step more, and one event more of the world behind it.
-use Rattle.std.proofs.Common.{◌≡◌, ℕ, ◌≤◌, ◌||◌, if◌then◌else◌, Bool, true, false, List, [], ◌∷◌, ◌++◌, length, map, Option, Some, None, refl, sym, ◌∙◌, ap}
+use Rattle.std.proofs.Common.{◌≡◌, ℕ, ◌≤◌, if◌then◌else◌, Bool, true, false, List, [], ◌∷◌, ◌++◌, length, map, Option, Some, None, refl, sym, ◌∙◌, ap}
 use Rattle.std.proofs.lemmas.List.{map-append}
 use Rattle.std.proofs.lemmas.List.Folds.{list_any-append}
+use Rattle.std.proofs.lemmas.Bool.{or_left}
 use Rattle.bt_frame.specs.declared.numbers.Command.{Command}
 use Rattle.bt_frame.specs.declared.numbers.EditionNo.{EditionNo}
 use Rattle.bt_frame.specs.declared.numbers.TermNo.{TermNo}
@@ -21,6 +22,7 @@ use Rattle.bt_events.specs.Fits.{IsWorld, Meets}
 use Rattle.bt_events.specs.Ground.{terminal}
 use Rattle.bt_events.specs.Satellite.{satellite}
 use Rattle.bt_events.specs.World.{comes_to, confirms, is_told, log, orders, plans, sent, sent_with, tells}
+use Rattle.bt_sites.specs.Acts.{AreLed, AreLedEvents, has_begun, has_ticked, resets_in, starts_in}
 use Rattle.bt_sites.specs.Behind.{IsWorldBehind}
 use Rattle.bt_sites.specs.Fits.{AreSites, order_count}
 use Rattle.bt_sites.specs.Sites.{bytes_of, centre_after, plans_after, said, said_with, satellite_after, standby_after, terminal_after}
@@ -42,11 +44,18 @@ pub record HasStand (o : Opening) (steps : List Step) : Type 0 where
   pub events : List Event
   pub stands : Stands o steps events
 
+-- where what happens comes once a superframe has begun and behind the start of a terminal, so do the steps
+pub record Leads (events : List Event) (steps : List Step) : Type 0 where
+  pub begun : has_ticked events ≡ true → has_begun steps ≡ true
+  pub started : (number : TermNo) → resets_in number events ≡ true → starts_in number steps ≡ true
+  pub led : AreLedEvents events → AreLed steps
+
 -- sites that do what happens in a world
 pub record HasSitesOf (o : Opening) (events : List Event) : Type 0 where
   pub steps : List Step
   pub sites : AreSites o steps
   pub stands : Stands o steps events
+  pub leads : Leads events steps
 
 -- what happened is what the steps say
 pub record Follows (o : Opening) (steps : List Step) (past : List Happening) : Type 0 where
@@ -58,15 +67,11 @@ pub record Follows (o : Opening) (steps : List Step) (past : List Happening) : T
   pub few : length (orders o past) ≤ order_count o steps
 
 -- what was sent stays so
-either : (a b : Bool) → a ≡ true → (a || b) ≡ true
-either true b e = refl
-either false b e = cc
-
 pub sent-still : (kept : Option Status) (sent more : List Aired) → WasSent kept sent → WasSent kept (sent ++ more)
 sent-still None sent more was = tt
 sent-still (Some status) sent more was =
     list_any-append (tells status.mark.0 status.fore) sent more
-    ∙ either (is_told sent status.mark.0 status.fore) (is_told more status.mark.0 status.fore) was
+    ∙ or_left (is_told sent status.mark.0 status.fore) (is_told more status.mark.0 status.fore) was
 
 pub stands-more : (o : Opening) (steps : List Step) (events : List Event) (event : Event) → IsWorld o events → WasSent (standby_after steps) (sent o (log o events))
     → Meets o (log o events) event → Follows o steps (comes_to o (log o events) event ∷ log o events) → Stands o steps (event ∷ events)

@@ -8,7 +8,6 @@ mod Seconds
 mod Cited
 mod Events
 mod Worlds
-mod Converse
 mod Frames
 mod Marks
 mod Same
@@ -23,3 +22,5 @@ mod Stamped
 mod StampedLate
 mod StampedFrames
 mod Acts
+mod Converse
+mod LedExample

@@ -1,6 +1,6 @@
 -- Lines that were said, and who has said that it is lost.
 use Rattle.std.proofs.Common.{◌≡◌, ◌⊎◌, inl, inr, ℕ, zero, suc, ◌==◌, ◌||◌, Bool, true, false, List, [], ◌∷◌, ◌++◌, map, refl, sym, ◌∙◌, ap, subst, arith}
-use Rattle.std.proofs.lemmas.Bool.{eqb-true, or_parts}
+use Rattle.std.proofs.lemmas.Bool.{eqb-true, or_left, or_parts}
 use Rattle.bt_frame.specs.declared.numbers.Mark.{Mark}
 use Rattle.bt_frame.specs.declared.numbers.TermNo.{TermNo}
 use Rattle.bt_air.specs.declared.sent.Aired.TheVariants as sends
@@ -114,9 +114,5 @@ lost-more o number before Seconds fresh lost e = lost-same o number before Secon
 lost-more o number before StandbyStarts fresh lost e = lost-same o number before StandbyStarts (lost e)
 
 -- a terminal that starts has started
-or-itself : (a b : Bool) → a ≡ true → (a || b) ≡ true
-or-itself true b e = refl
-or-itself false b e = cc
-
 pub start-started : (number : TermNo) (before : List Act) → has_started number (Starts number ∷ before) ≡ true
-start-started number before = or-itself (number.0 == number.0) (has_started number before) (is-itself number.0)
+start-started number before = or_left (number.0 == number.0) (has_started number before) (is-itself number.0)

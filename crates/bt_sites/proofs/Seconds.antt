@@ -1,6 +1,6 @@
 -- What the standby keeps was sent, and what it names was told.
 use Rattle.std.proofs.Common.{◌≡◌, ℕ, zero, suc, ◌<◌, ◌==◌, ◌||◌, not, if◌then◌else◌, Bool, true, false, List, [], ◌∷◌, length, slice_get, Option, Some, None, IfSome, refl, sym, ◌∙◌, ap, subst, arith}
-use Rattle.std.proofs.lemmas.Bool.{and_from, and_parts, eqb-true}
+use Rattle.std.proofs.lemmas.Bool.{and_from, and_parts, eqb-true, or_left, or_right}
 use Rattle.bt_frame.proofs.OneNumber.{same_edition}
 use Rattle.bt_frame.specs.declared.numbers.EditionNo.{EditionNo}
 use Rattle.bt_frame.specs.declared.numbers.Mark.{Mark}
@@ -18,14 +18,6 @@ use Rattle.bt_sites.proofs.Follows.{WasSent}
 use Rattle.bt_sites.proofs.Knows.{is-itself}
 
 -- a status that was sent tells what it has in front
-or-first : (a b : Bool) → a ≡ true → (a || b) ≡ true
-or-first true b e = refl
-or-first false b e = cc
-
-or-second : (a b : Bool) → b ≡ true → (a || b) ≡ true
-or-second true b e = refl
-or-second false b e = e
-
 tells-itself : (status : Status) → tells status.mark.0 status.fore (sends.Status status) ≡ true
 tells-itself status = and_from (status.mark.0 == status.mark.0) (status.fore.0 == status.fore.0) (is-itself status.mark.0) (is-itself status.fore.0)
 
@@ -35,10 +27,10 @@ some-same x y e = cc
 told-at : (sent : List Aired) (number : ℕ) (status : Status) → slice_get sent number ≡ Some (sends.Status status) → is_told sent status.mark.0 status.fore ≡ true
 told-at [] number status e = cc
 told-at (x ∷ xs) zero status e =
-    or-first (tells status.mark.0 status.fore x) (is_told xs status.mark.0 status.fore)
+    or_left (tells status.mark.0 status.fore x) (is_told xs status.mark.0 status.fore)
     (subst (λ (one : Aired). tells status.mark.0 status.fore one ≡ true) (sym (some-same x (sends.Status status) e)) (tells-itself status))
 told-at (x ∷ xs) (suc number) status e =
-    or-second (tells status.mark.0 status.fore x) (is_told xs status.mark.0 status.fore) (told-at xs number status e)
+    or_right (tells status.mark.0 status.fore x) (is_told xs status.mark.0 status.fore) (told-at xs number status e)
 
 -- what is kept after a status
 kept-by : (sent : List Aired) (kept : Option Status) (status : Status) (wrong : Bool) → WasSent kept sent → WasSent (Some status) sent

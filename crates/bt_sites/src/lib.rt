@@ -12,6 +12,7 @@ mod laws;
 
 pub use laws::{
     late_sites_are_sites, late_superframes_are_safe, sites_are_a_world, sites_are_safe,
-    sites_are_stamped_sites, some_sites_change, stamped_sites_are_late_sites,
-    stamped_superframes_are_safe, worlds_are_sites,
+    sites_are_stamped_sites, some_sites_change, some_stamped_sites_change,
+    stamped_sites_are_late_sites, stamped_superframes_are_safe, worlds_are_sites,
+    worlds_are_stamped_sites,
 };
