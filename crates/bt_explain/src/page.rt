@@ -5,6 +5,9 @@ use std::alloc::Global;
 /// What stands for a byte that is not printed.
 const UNPRINTED: char = '.';
 
+/// The most bytes of no text that are shown.
+const MOST_ESCAPED: usize = 120;
+
 /// A text to which more is added. Where memory is wanting it is no whole one any more.
 #[derive(Drop)]
 pub struct Page {
@@ -71,6 +74,27 @@ impl Page {
                 letter
             });
         }
+    }
+
+    /// Bytes of no text, as far as a line goes, with a `\xHH` for each that is none of printable ASCII.
+    pub fn add_escaped(&mut self, bytes: &[u8]) {
+        for byte in bytes.iter().take(MOST_ESCAPED) {
+            if is_printed(*byte) {
+                self.add_char(char::from(*byte));
+            } else {
+                self.add("\\x");
+                self.add_digit(*byte / 16);
+                self.add_digit(*byte % 16);
+            }
+        }
+        if bytes.len() > MOST_ESCAPED {
+            self.add("..");
+        }
+    }
+
+    /// A digit of base 16.
+    fn add_digit(&mut self, digit: u8) {
+        self.add_char(char::from_digit(u32::from(digit), 16).unwrap_or(UNPRINTED));
     }
 
     /// A letter so many times.

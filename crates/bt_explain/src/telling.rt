@@ -15,7 +15,7 @@ use bt_net::Network;
 use bt_outside::Files;
 use bt_report::{
     FAULTY_JOURNAL, FAULTY_TEXT, FAULTY_WORDS, NO_NETWORK, NOT_GOOD, Program, READ_FAILED, Reason,
-    STORE_FAILED, TOO_LONG,
+    Refusal, STORE_FAILED, TOO_LONG,
 };
 use bt_text::is_word;
 use std::alloc::Global;
@@ -33,6 +33,10 @@ pub struct Done<'a> {
     pub line: &'a [u8],
     /// The status with which it ends.
     pub status: u8,
+    /// Why its words were taken as none, where they were.
+    pub refusal: &'a Option<Refusal>,
+    /// How many bytes of a line had come when its standard input failed.
+    pub begun: usize,
 }
 
 /// Says on standard error why a program ends as it does: what is known of the last line that it printed, or the sentence of

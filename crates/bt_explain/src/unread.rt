@@ -2,6 +2,7 @@
 use crate::page::Page;
 use crate::telling::{Done, add_program, is_named};
 use bt_frame::{MOST_FILE_BYTES, MOST_JOURNAL_BYTES};
+use bt_report::STANDARD_INPUT;
 use std::alloc::Global;
 use std::fs::OpenOptions;
 use std::rt::Files;
@@ -17,7 +18,9 @@ pub fn tell_unread<R: Files>(
 ) -> bool {
     add_program(done, page);
     page.add_name(name);
-    if name != "-" {
+    if name == STANDARD_INPUT && is_folder(rt, name) {
+        page.add(": standard input is closed, or a folder");
+    } else if name != "-" {
         page.add(": the file could not be read");
         add_reason(
             alloc,
@@ -36,7 +39,14 @@ pub fn tell_unread<R: Files>(
 /// Tells that the input of a session failed.
 pub fn tell_input(done: &Done<'_>, page: &mut Page) -> bool {
     add_program(done, page);
-    page.add("standard input could not be read; what was answered until then is done\n");
+    if done.begun == 0 {
+        page.add("standard input could not be read");
+    } else {
+        page.add("standard input failed in the middle of a line, whose first ");
+        page.add_number(done.begun as u64);
+        page.add(" bytes had come; that line was not played");
+    }
+    page.add("; what was answered until then is done\n");
     true
 }
 
@@ -105,6 +115,11 @@ fn without_number(reason: &str) -> &str {
         Some((text, _)) => text,
         None => reason,
     }
+}
+
+/// Whether the system says now that a folder has this name.
+fn is_folder<R: Files>(rt: &R, name: &str) -> bool {
+    matches!(fs::metadata(rt, name), Ok(metadata) if metadata.is_dir())
 }
 
 /// Whether a folder stands there, where a file of that name can be opened so. A file that is none, as a pipe, is not opened again.

@@ -6,13 +6,17 @@ use crate::page::Page;
 use crate::telling::{Done, add_program, name_of};
 use bt_frame::{BeamNo, LAST_EDITION, MOST_NUMBERED_BEAMS};
 use bt_net::Network;
-use bt_report::Program;
+use bt_report::{Program, Refusal};
 use bt_text::{is_word, number};
 use std::alloc::Global;
 
 /// Tells which word of a command line is wrong. `net` is the network that the words name, where it is one.
 pub fn tell_words(alloc: Global, done: &Done<'_>, net: Option<&Network>, page: &mut Page) -> bool {
     add_program(done, page);
+    if let Some(refusal) = done.refusal {
+        say_refusal(refusal, page);
+        return true;
+    }
     match done.words.split_first() {
         None => page.add("no command was given"),
         Some((command, _)) if !is_command(done.forms, command) => {
@@ -23,6 +27,40 @@ pub fn tell_words(alloc: Global, done: &Done<'_>, net: Option<&Network>, page: &
     page.add("\n");
     add_usages(done, page);
     true
+}
+
+/// Says why the words were taken as none.
+fn say_refusal(refusal: &Refusal, page: &mut Page) {
+    match refusal {
+        Refusal::NoText { number, bytes } => {
+            say_number(*number, page);
+            page.add(" is not UTF-8: '");
+            page.add_escaped(bytes.as_slice());
+        }
+        Refusal::OneFile {
+            number,
+            name,
+            journal,
+        } => {
+            say_number(*number, page);
+            page.add(" and the last one name one file, which cannot be a journal too: '");
+            page.add_name(name);
+            page.add("' and '");
+            page.add_name(journal);
+        }
+    }
+    page.add("'\n");
+}
+
+/// Names a word by its number, counted from 1 behind the program's name.
+fn say_number(number: usize, page: &mut Page) {
+    if number == 0 {
+        page.add("the program's own name");
+    } else {
+        page.add("word ");
+        page.add_number(number as u64);
+        page.add(" behind the program's name");
+    }
 }
 
 /// Whether a form begins with that command.

@@ -21,4 +21,4 @@ pub use status::{
     DONE, FAULTY_JOURNAL, FAULTY_TEXT, FAULTY_WORDS, NO_NETWORK, NOT_GOOD, OUT_OF_MEMORY,
     READ_FAILED, STORE_FAILED, TOO_LONG, WRITE_FAILED,
 };
-pub use words::{put_standard_input, words_after_name};
+pub use words::{Refusal, STANDARD_INPUT, put_standard_input, words_after_name};

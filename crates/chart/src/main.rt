@@ -8,8 +8,11 @@ mod pages;
 
 use bt_chart::chart_main;
 use bt_explain::{Done, KeptFiles, LastLine, tell, tell_status};
-use bt_outside::{DirFiles, StdSink};
-use bt_report::{DONE, OUT_OF_MEMORY, Program, print_text, put_standard_input, words_after_name};
+use bt_outside::{DirFiles, StdSink, Waiting, take_closed_streams};
+use bt_report::{
+    DONE, OUT_OF_MEMORY, Program, Refusal, WRITE_FAILED, print_text, put_standard_input,
+    words_after_name,
+};
 use std::alloc::{AllocError, Global};
 use std::env::Env;
 use std::process::ExitCode;
@@ -18,10 +21,15 @@ use std::process::ExitCode;
 const FILE: usize = 2;
 
 fn main(rt: HostRuntime) -> ExitCode {
+    // before any file is opened
+    if take_closed_streams(&rt).is_err() {
+        tell_status(&rt, Program::Chart, WRITE_FAILED);
+        return ExitCode::from(WRITE_FAILED);
+    }
     let alloc = rt.alloc();
-    let mut out = LastLine::new(alloc, StdSink::new(rt.stdout()));
+    let mut out = LastLine::new(alloc, StdSink::new(Waiting::new(&rt, rt.stdout())));
     let status = match asked(&rt, alloc) {
-        Ok(words) => match pages::page_of(alloc, &words) {
+        Ok((words, refusal)) => match pages::page_of(alloc, &words) {
             Ok(Some(page)) => print_text(alloc, page.as_slice(), DONE, &mut out),
             Ok(None) => {
                 let mut files = KeptFiles::new(alloc, DirFiles::new(&rt));
@@ -32,6 +40,8 @@ fn main(rt: HostRuntime) -> ExitCode {
                     words: &words,
                     line: out.line(),
                     status,
+                    refusal: &refusal,
+                    begun: 0,
                 };
                 tell(&rt, alloc, &done, &mut files);
                 return ExitCode::from(status);
@@ -44,9 +54,17 @@ fn main(rt: HostRuntime) -> ExitCode {
     ExitCode::from(status)
 }
 
-/// The words after the program's name, with standard input in the place of a `-` as the second file.
-fn asked<R: Env + Alloc<A = Global>>(rt: &R, alloc: Global) -> Result<Vec<String>, AllocError> {
-    let mut words = words_after_name(rt, alloc)?;
-    put_standard_input(alloc, &mut words, FILE)?;
-    Ok(words)
+/// The words after the program's name, with standard input in the place of a `-` as the second file; none where they are
+/// refused.
+fn asked<R: Env + Alloc<A = Global>>(
+    rt: &R,
+    alloc: Global,
+) -> Result<(Vec<String>, Option<Refusal>), AllocError> {
+    match words_after_name(rt, alloc)? {
+        Ok(mut words) => {
+            put_standard_input(alloc, &mut words, FILE)?;
+            Ok((words, None))
+        }
+        Err(refusal) => Ok((Vec::new(alloc), Some(refusal))),
+    }
 }

@@ -6,35 +6,52 @@
 #![tactic(auto)]
 
 mod dash;
+mod one_file;
 mod pages;
 
 use bt_cli::{centre_main, journal_of, live_main, live_words};
 use bt_disk::{FileDisk, LineKeeper};
 use bt_explain::{Done, KeptFiles, LastLine, tell, tell_status};
-use bt_outside::{Console, DirFiles, StdSink, StdSource};
-use bt_report::{DONE, OUT_OF_MEMORY, Program, print_text, put_standard_input, words_after_name};
+use bt_outside::{Console, DirFiles, StdSink, StdSource, Waiting, take_closed_streams};
+use bt_report::{
+    DONE, OUT_OF_MEMORY, Program, Refusal, WRITE_FAILED, print_text, put_standard_input,
+    words_after_name,
+};
 use std::alloc::{AllocError, Global};
 use std::env::Env;
 use std::io::BufReader;
 use std::process::ExitCode;
+use std::rt::Files;
 
 fn main(rt: HostRuntime) -> ExitCode {
+    // before any file is opened
+    if take_closed_streams(&rt).is_err() {
+        tell_status(&rt, Program::Nozgurt, WRITE_FAILED);
+        return ExitCode::from(WRITE_FAILED);
+    }
     let alloc = rt.alloc();
-    let mut out = LastLine::new(alloc, StdSink::new(rt.stdout()));
+    let mut out = LastLine::new(alloc, StdSink::new(Waiting::new(&rt, rt.stdout())));
     let status = match asked(&rt, alloc) {
-        Ok((words, journal)) => match pages::page_of(alloc, &words) {
+        Ok(given) => match pages::page_of(alloc, &given.words) {
             Ok(Some(page)) => print_text(alloc, page.as_slice(), DONE, &mut out),
             Ok(None) => {
+                let CommandLine {
+                    words,
+                    journal,
+                    refusal,
+                } = given;
                 let mut files = KeptFiles::new(alloc, DirFiles::new(&rt));
                 let store = LineKeeper::open(FileDisk::new(&rt, journal));
+                let mut begun = 0;
                 let status = if live_words(&words).is_some() {
-                    match BufReader::new(alloc, rt.stdin()) {
+                    match BufReader::new(alloc, Waiting::new(&rt, rt.stdin())) {
                         Ok(reader) => {
                             let mut talk = Console::new(StdSource::new(reader), out);
                             let status = live_main(
                                 &rt, alloc, &words, &mut files, &mut talk, store,
                             ).status;
-                            let (_, said) = talk.into_parts();
+                            let (heard, said) = talk.into_parts();
+                            begun = heard.begun();
                             out = said;
                             status
                         }
@@ -52,6 +69,8 @@ fn main(rt: HostRuntime) -> ExitCode {
                     words: &words,
                     line: out.line(),
                     status,
+                    refusal: &refusal,
+                    begun,
                 };
                 tell(&rt, alloc, &done, &mut files);
                 return ExitCode::from(status);
@@ -64,18 +83,49 @@ fn main(rt: HostRuntime) -> ExitCode {
     ExitCode::from(status)
 }
 
-/// The words after the program's name, with standard input in the place of a `-`, and the file of the journal that they ask for.
-/// Any other words have none, which is never opened: the top call hands the store of such words back untouched.
-fn asked<R: Env + Alloc<A = Global>>(
+/// The words of a command line, and what `main` reads off them.
+#[derive(Drop)]
+struct CommandLine {
+    /// The words after the program's name, with standard input in the place of a `-`; none where they are refused, which the
+    /// top call answers as it answers words of no command.
+    words: Vec<String>,
+    /// The file of the journal that they ask for. Any other words have none, which is never opened: the top call hands the
+    /// store of such words back untouched.
+    journal: String,
+    refusal: Option<Refusal>,
+}
+
+fn asked<R: Env + Files + Alloc<A = Global>>(
     rt: &R,
     alloc: Global,
-) -> Result<(Vec<String>, String), AllocError> {
-    let mut words = words_after_name(rt, alloc)?;
+) -> Result<CommandLine, AllocError> {
+    let mut words = match words_after_name(rt, alloc)? {
+        Ok(words) => words,
+        Err(refusal) => return Ok(refused(alloc, refusal)),
+    };
     let place = dash::place_of_dash(&words);
     put_standard_input(alloc, &mut words, place)?;
     let journal = match live_words(&words) {
         Some((_, journal)) => String::from_str(alloc, journal)?,
         None => String::from_str(alloc, journal_of(&words).unwrap_or(""))?,
     };
-    Ok((words, journal))
+    if !journal.is_empty()
+        && let Some(refusal) = one_file::shared_file(rt, alloc, &words)?
+    {
+        return Ok(refused(alloc, refusal));
+    }
+    Ok(CommandLine {
+        words,
+        journal,
+        refusal: None,
+    })
+}
+
+/// Nothing is asked for.
+fn refused(alloc: Global, refusal: Refusal) -> CommandLine {
+    CommandLine {
+        words: Vec::new(alloc),
+        journal: String::new(alloc),
+        refusal: Some(refusal),
+    }
 }
