@@ -21,6 +21,7 @@ mod live;
 mod look;
 mod make;
 mod modes;
+mod named_files;
 mod number_word;
 mod plan;
 mod replay;
@@ -38,5 +39,6 @@ pub use laws::{
 };
 pub use live::{live_main, live_words, sound_sessions_are_served};
 pub use make::{Made, make_command};
+pub use named_files::{journal_of, places_of_files};
 pub use replay::replay_command;
-pub use top::{Ended, centre_main, journal_of};
+pub use top::{Ended, centre_main};

@@ -1,7 +1,7 @@
 // The top call.
-ghost use Rattle.std.specs.Prelude.{◌≡◌, map, [], option_map};
+ghost use Rattle.std.specs.Prelude.{◌≡◌, map, []};
 ghost use Rattle.std.specs.String.{string_bytes};
-ghost use Rattle.bt_cli.specs.Request.{asked, journal_of, request_of};
+ghost use Rattle.bt_cli.specs.Request.{asked, request_of};
 ghost use Rattle.bt_cli.specs.Top.{Ends};
 
 use crate::command_line::{CommandLine, command_line_of};
@@ -105,17 +105,5 @@ fn serve<R: Threads + Wait + Sync, F: Files, O: Sink, K: Keeper + Send>(
             Ended::without_run(alloc, status, store)
         }
         _ => Ended::without_run(alloc, report(alloc, line, files, out), store),
-    }
-}
-
-/// The journal that the words name; None where they ask for none, or are no command's.
-pub fn journal_of(words: &[String]) -> Option<&str>
-    ensures journal { option_map (λ journal. journal.now) result ≡ journal_of (request_of (map string_bytes words.now)) }
-{
-    match command_line_of(words) {
-        CommandLine::RunScript { journal, .. } | CommandLine::ReplayJournal { journal, .. } => {
-            Some(journal)
-        }
-        _ => None,
     }
 }

@@ -77,12 +77,7 @@ impl LinkRow {
     }
 
     /// The link asks for so many slots more. It takes memory where the link was not in the row.
-    pub(crate) fn add(
-        &mut self,
-        from: TermNo,
-        to: TermNo,
-        units: u32,
-    ) -> Result<(), OutOfMemory>
+    pub(crate) fn add(&mut self, from: TermNo, to: TermNo, units: u32) -> Result<(), OutOfMemory>
         requires differ { from.0 ≢ to.0 }
         requires positive { 0 < units }
         requires fits { units_of self.old from to + units ≤ MOST_SUM }

@@ -41,7 +41,10 @@ fn read_lines(alloc: Global, net: &Network, text: &[u8]) -> Result<Vec<ScriptLin
     ensures reading { Gives (λ said. said.items) result (lines_in net.now 1 false (lines text.now)) }
     ensures few { IfOk result (λ said. vec_len said ≤ MOST_LINES) }
 {
-    let mut said = Vec::with_capacity(alloc, (text.len() / SCRIPT_LINE_BYTES).min(MOST_LINES as usize))?;
+    let mut said = Vec::with_capacity(
+        alloc,
+        (text.len() / SCRIPT_LINE_BYTES).min(MOST_LINES as usize),
+    )?;
     let mut rest = text;
     let mut is_open = false;
     let mut at = 1;
