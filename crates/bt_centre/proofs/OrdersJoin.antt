@@ -9,7 +9,8 @@ use Rattle.bt_net.specs.Network.{Net}
 use Rattle.bt_air.specs.declared.event.Event.{Event}
 use Rattle.bt_air.specs.declared.order.Order.{Order}
 use Rattle.bt_events.specs.Event.{RestartCentre}
-use Rattle.bt_events.specs.World.{orders as placed, wanted, with_wanted}
+use Rattle.bt_events.specs.World.{orders as placed, wanted}
+use Rattle.bt_machines.specs.CentreSteps.{with_wanted}
 use Rattle.bt_journal.specs.declared.call.Change.{Change}
 use Rattle.bt_journal.specs.declared.entry.Entry.{Entry}
 use Rattle.bt_journal.specs.Journal.{calls_of, changes_of, is_made}

@@ -14,8 +14,9 @@ use Rattle.bt_machines.specs.Last.{last_order}
 use Rattle.bt_machines.specs.Turn.{act_of, wanted_by}
 use Rattle.bt_machines.specs.declared.turn.Turn.{Turn as Sight}
 use Rattle.bt_events.specs.Event.{Tick, Second, Ordered, Deliver, Frame, ResetTerminal, Install, Happening}
-use Rattle.bt_events.specs.Fits.{newest_of}
-use Rattle.bt_events.specs.World.{kept, orders as placed, plans, sight, wanted, with_wanted}
+use Rattle.bt_machines.specs.Plans.{newest_of}
+use Rattle.bt_events.specs.World.{kept, orders as placed, plans, sight, wanted}
+use Rattle.bt_machines.specs.CentreSteps.{with_wanted}
 use Rattle.bt_journal.specs.declared.call.Call.{Call}
 use Rattle.bt_journal.specs.declared.call.Call.TheVariants as call
 use Rattle.bt_journal.specs.declared.call.Change.TheVariants as change

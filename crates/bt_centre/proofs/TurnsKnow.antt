@@ -8,7 +8,7 @@ use Rattle.bt_demand.specs.declared.plan.Plan.{Plan}
 use Rattle.bt_demand.specs.Plan.{empty_plan}
 use Rattle.bt_air.specs.declared.event.Event.{Event}
 use Rattle.bt_events.specs.Event.{RestartCentre}
-use Rattle.bt_events.specs.Fits.{newest_of}
+use Rattle.bt_machines.specs.Plans.{newest_of}
 use Rattle.bt_journal.specs.declared.call.Change.{Change}
 use Rattle.bt_journal.specs.Journal.{changes_of}
 use Rattle.bt_history.specs.Causes.{Follows}

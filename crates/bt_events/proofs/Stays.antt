@@ -7,10 +7,11 @@ use Rattle.bt_air.specs.declared.order.Order.TheVariants.{Load}
 use Rattle.bt_air.specs.declared.sent.Aired.{Aired}
 use Rattle.bt_air.specs.declared.sent.Aired.TheVariants as sends
 use Rattle.bt_air.specs.declared.message.Message.TheVariants as message
+use Rattle.bt_machines.specs.Plans.{bursts_for, modes_of}
 use Rattle.bt_events.specs.Event.{Opening, Event}
 use Rattle.bt_events.specs.Fits.{HasPlan, IsWorld}
 use Rattle.bt_events.specs.Laws.{IsAmong, IsCarriedAlike, IsOrdered}
-use Rattle.bt_events.specs.World.{bursts_for, log, modes_of, orders, plans, sent}
+use Rattle.bt_events.specs.World.{log, orders, plans, sent}
 use Rattle.bt_events.proofs.Banks.{plan-stays, world-planned}
 use Rattle.bt_events.proofs.Sends.{HasPlanFor, sent-some}
 use Rattle.bt_events.proofs.Standing.{messages-ordered}

@@ -13,3 +13,6 @@ pub mod Turn
 pub mod Centre
 pub mod Standby
 pub mod Heard
+pub mod Plans
+pub mod Says
+pub mod CentreSteps

@@ -1,7 +1,8 @@
 // The centre, a machine that wants the orders by which a new edition comes to the front, and says what its turn calls for.
-ghost use Rattle.std.specs.Prelude.{◌≡◌, ◌<◌, ◌≤◌, drop, length, reverse, slice_get, vec_len, IfOk, OnErr, IsSome, Some};
+ghost use Rattle.std.specs.Prelude.{◌≡◌, ◌<◌, ◌≤◌, drop, length, reverse, slice_get, vec_len, IfOk, OnErr, OnOk, IsSome, Some};
 ghost use Rattle.bt_frame.specs.declared.limits.TheConstants.{MOST_LEAD, MOST_PLACED};
 ghost use Rattle.bt_machines.specs.Centre.{AreNumbered, act_at, after_turn, begins_with, having_confirmed, having_lost, having_noted, having_placed, is_missing, known_to, some_missing, turn_at};
+ghost use Rattle.bt_machines.specs.CentreSteps.{orders_kept};
 ghost use Rattle.bt_machines.specs.Last.{last_order, load_of, next_of};
 ghost use Rattle.bt_machines.specs.Terminals.{has};
 
@@ -185,6 +186,25 @@ impl Centre {
         self.waited = 0;
         self.wanted = None;
         Ok(order)
+    }
+
+    /// It restarts from its orders: those that are placed, and the one that it wants where that was kept. `needs` are the
+    /// terminals that transmit in the edition of the last one.
+    pub fn restart(&mut self, kept: bool, needs: TermSet) -> Result<(), OutOfMemory>
+        ensures state { OnOk result (self.new ≡ begins_with (orders_kept self.old kept) needs) }
+        ensures unchanged { OnErr result (self.new ≡ self.old) }
+    {
+        match self.wanted {
+            Some(order) if kept => self.orders.push(order)?,
+            _ => {}
+        }
+        self.kept = None;
+        self.confirmed = TermSet(0);
+        self.asking = TermSet(0);
+        self.needs = needs;
+        self.waited = 0;
+        self.wanted = None;
+        Ok(())
     }
 
     // The orders behind a command: all that a status with this last command may not know of.

@@ -13,10 +13,12 @@
 //!
 //! Centre: which edition it knows to be in front, and the orders by which it brings a new one there. `Turn.antt` has the table of
 //! its turn; `Centre.antt` its state and what each thing that happens to it does, `Known.antt` the edition known, `Last.antt` the
-//! last order, `Terminals.antt` sets of terminals.
+//! last order, `Terminals.antt` sets of terminals, `CentreSteps.antt` the state after a step that the plans or a message give.
 //!
 //! Standby: it bridges superframes in which the centre names no edition. `Standby.antt` has its table, `Heard.antt` what it names
 //! by what it heard.
+//!
+//! What each of them says: `Says.antt`, with what a message carries; `Plans.antt` has what the plans that are installed come to.
 //!
 //! What holds of every run of a machine stands in `satellite_laws.rt`, `terminal_laws.rt`, `centre_laws.rt` and
 //! `standby_laws.rt`.

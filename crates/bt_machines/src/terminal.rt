@@ -43,6 +43,13 @@ impl Terminal {
         }
     }
 
+    /// Its number.
+    pub fn number(&self) -> TermNo
+        ensures number { result ≡ self.now.number }
+    {
+        self.number
+    }
+
     /// Loses all that the terminal holds and has heard.
     pub fn restart(&mut self)
         ensures made { self.new ≡ new_of self.old.number }

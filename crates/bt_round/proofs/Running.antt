@@ -16,8 +16,9 @@ use Rattle.bt_air.specs.Sent.{sent_as}
 use Rattle.bt_frame.specs.declared.numbers.EditionNo.{EditionNo}
 use Rattle.bt_events.specs.Event.{Opening, Event, Happening, Turn}
 use Rattle.bt_events.specs.Fits.{IsPlace, IsWorld, Meets}
+use Rattle.bt_machines.specs.Plans.{newest_of, plan_of}
 use Rattle.bt_world.specs.Life.{Life, having_had, past_of}
-use Rattle.bt_events.specs.World.{comes_to, is_told, log, plan_of, plans, sent, tells, terminals}
+use Rattle.bt_events.specs.World.{comes_to, is_told, log, plans, sent, tells, terminals}
 use Rattle.bt_round.specs.AirLines.{AirState, happened, having, mark_of, newest_in, sends_text, target_of, turn_text_by, turning, sent_by, sent_count, sent_in, sent_lines}
 use Rattle.bt_round.specs.Waiting.{deliveries, deliveries_of, receivers}
 use Rattle.bt_round.specs.Worker.{CanHear, IsHeard, IsPlanned, IsRunning, NamesOwn, numbered}

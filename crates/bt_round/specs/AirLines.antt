@@ -16,10 +16,10 @@ use Rattle.bt_air.specs.Sent.{sent_as}
 use Rattle.bt_air.specs.declared.shown.AirFrame.{AirFrame}
 use Rattle.bt_air.specs.declared.shown.Shown.TheVariants.{Delivered, Framed}
 use Rattle.bt_events.specs.Event.{Event, Tick, Turn, Second, Ordered, Deliver, Frame, ResetTerminal, RestartCentre, Install, Happening}
-use Rattle.bt_events.specs.Fits.{newest_of}
+use Rattle.bt_machines.specs.Plans.{newest_of, plan_of}
 use Rattle.bt_world.specs.Life.{Life, having_had, past_of}
 use Rattle.bt_world.specs.Shown.{IsShown}
-use Rattle.bt_events.specs.World.{comes_to, frames_shown, mark, orders, plan_of, plans, sent, sent_with, terminals, wanted}
+use Rattle.bt_events.specs.World.{comes_to, frames_shown, mark, orders, plans, sent, sent_with, terminals, wanted}
 use Rattle.bt_machines.specs.Standby.{named, step_of}
 use Rattle.bt_journal.specs.declared.call.Call.TheVariants as call
 use Rattle.bt_journal.specs.declared.entry.Entry.{Entry}

@@ -11,7 +11,8 @@ use Rattle.bt_air.specs.declared.sent.Place.{Place}
 use Rattle.bt_air.specs.declared.sent.Place.TheVariants.{Centre}
 use Rattle.bt_events.specs.Fits.{IsPlace, IsWorld}
 use Rattle.bt_world.specs.Life.{Life, past_of}
-use Rattle.bt_events.specs.World.{is_told, plan_of, plans, sent}
+use Rattle.bt_events.specs.World.{is_told, plans, sent}
+use Rattle.bt_machines.specs.Plans.{plan_of}
 use Rattle.bt_journal.specs.declared.entry.Entry.{Entry}
 use Rattle.bt_journal.specs.declared.reply.Reply.{Reply}
 use Rattle.bt_journal.specs.declared.reply.Reply.TheVariants.{Placed}

@@ -15,7 +15,8 @@ use Rattle.bt_demand.proofs.Flyable.{sent_by}
 use Rattle.bt_air.specs.declared.shown.AirFrame.{AirFrame}
 use Rattle.bt_events.specs.Air.{bursts_under, transmits, where_held}
 use Rattle.bt_events.specs.Event.{Opening, Event, Happening}
-use Rattle.bt_events.specs.World.{accepted, bursts_for, frames_shown, heard, held, log, mark, plan_of, plans, terminals}
+use Rattle.bt_events.specs.World.{accepted, frames_shown, heard, held, log, mark, plans, terminals}
+use Rattle.bt_machines.specs.Plans.{bursts_for, plan_of}
 use Rattle.bt_events.proofs.Plans.{flies-each, plan-holds, plans-flyable}
 use Rattle.bt_events.proofs.Ranges.{front-fits, world-fits}
 use Rattle.bt_world.specs.Shown.{IsFrame}

@@ -17,7 +17,8 @@ use Rattle.bt_machines.specs.Last.{last_order}
 use Rattle.bt_machines.specs.Turn.{act_of, arm_after, attempt, is_before, may_arm, wanted_by}
 use Rattle.bt_events.specs.Event.{Opening, Event, Tick, Turn, Second, Ordered, Deliver, Frame, ResetTerminal, RestartCentre, Install, Happening}
 use Rattle.bt_events.specs.Fits.{IsWorld}
-use Rattle.bt_events.specs.World.{comes_to, greatest_due, kept, log, mark, orders, sent, sent_with, sight, wanted, with_wanted}
+use Rattle.bt_events.specs.World.{comes_to, greatest_due, kept, log, mark, orders, sent, sent_with, sight, wanted}
+use Rattle.bt_machines.specs.CentreSteps.{with_wanted}
 use Rattle.bt_events.proofs.Standing.{KeepsSound, world-holds}
 use Rattle.bt_centre.specs.World.{IsSpelledWorld}
 

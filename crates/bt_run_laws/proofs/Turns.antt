@@ -8,7 +8,7 @@ use Rattle.bt_demand.specs.declared.plan.Plan.{Plan}
 use Rattle.bt_air.specs.declared.order.Order.{Order}
 use Rattle.bt_air.specs.declared.order.Order.TheVariants.{Load, Arm}
 use Rattle.bt_events.specs.Event.{Opening, Event, Ordered, Install}
-use Rattle.bt_events.specs.Fits.{IsStored, newest_of}
+use Rattle.bt_machines.specs.Plans.{IsStored, newest_of}
 use Rattle.bt_events.specs.World.{log, orders, plans, wanted}
 use Rattle.bt_events.proofs.Banks.{world-planned}
 use Rattle.bt_events.proofs.Counted.{world-counted}

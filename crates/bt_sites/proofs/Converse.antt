@@ -15,9 +15,11 @@ use Rattle.bt_air.specs.declared.sent.Place.TheVariants.{Satellite, Centre, Term
 use Rattle.bt_machines.specs.Satellite.{State as Onboard}
 use Rattle.bt_machines.specs.Centre.{State}
 use Rattle.bt_machines.specs.Standby.{named}
+use Rattle.bt_machines.specs.Plans.{newest_of, plan_of}
+use Rattle.bt_machines.specs.Says.{carried}
 use Rattle.bt_events.specs.Event.{Opening, Event, Tick, Turn, Ordered, Deliver, Second, Frame, ResetTerminal, RestartCentre, Install}
-use Rattle.bt_events.specs.Fits.{AreStored, IsWorld, Meets, newest_of}
-use Rattle.bt_events.specs.World.{carried, is_told, log, mark, plan_of, plans, sent, wanted}
+use Rattle.bt_events.specs.Fits.{AreStored, IsWorld, Meets}
+use Rattle.bt_events.specs.World.{is_told, log, mark, plans, sent, wanted}
 use Rattle.bt_sites.specs.Acts.{AreLedEvents, HasActsOf, resets_in, starts_in}
 use Rattle.bt_sites.specs.Behind.{HasSites, IsWorldBehind}
 use Rattle.bt_sites.specs.Fits.{AreSites, IsNow}

@@ -23,13 +23,15 @@ use Rattle.bt_machines.proofs.SatelliteByEvents.{state_more}
 use Rattle.bt_machines.specs.Terminal.{State as Ground, new_of, step_of as hear}
 use Rattle.bt_machines.specs.Centre.{State, after_turn}
 use Rattle.bt_machines.specs.Standby.{named}
-use Rattle.bt_events.specs.Answers.{confirmed_by, told_by}
-use Rattle.bt_events.specs.Centre.{beginning, centre, once_heard, once_placed}
+use Rattle.bt_machines.specs.CentreSteps.{beginning, once_heard, once_placed, with_wanted}
+use Rattle.bt_machines.specs.Plans.{newest_of, plan_of}
+use Rattle.bt_machines.specs.Says.{carried, sent_by_order, confirmed_by, told_by}
+use Rattle.bt_events.specs.Centre.{centre}
 use Rattle.bt_events.specs.Event.{Opening, Event, Tick, Turn, Ordered, Deliver, Second, ResetTerminal, RestartCentre, Install, Happening, Ticks, Hears, Turns as Happens_turn}
-use Rattle.bt_events.specs.Fits.{AreStored, IsWorld, Meets, newest_of}
+use Rattle.bt_events.specs.Fits.{AreStored, IsWorld, Meets}
 use Rattle.bt_events.specs.Ground.{terminal}
 use Rattle.bt_events.specs.Satellite.{satellite, to_satellite}
-use Rattle.bt_events.specs.World.{accepted, act, carried, is_told, greatest_due, log, mark, orders, plan_of, plans, sent, sent_by_hearing, sent_by_order, sent_with, terminals, wanted, with_wanted}
+use Rattle.bt_events.specs.World.{accepted, act, is_told, greatest_due, log, mark, orders, plans, sent, sent_by_hearing, sent_with, terminals, wanted}
 use Rattle.bt_sites.specs.Fits.{IsNow, WasSaid, MayStep, order_count}
 use Rattle.bt_sites.specs.Sites.{bytes_of, centre_after, centre_with, plans_after, read_of, said, satellite_after, satellite_says, satellite_with, standby_after, standby_with, terminal_after, terminal_says, terminal_with, turn_says}
 use Rattle.bt_sites.specs.Step.{Step, Begins, SatelliteHears, Starts, TerminalHears, CentreHears, Turns, Places, Installs, Restarts, StandbyStarts, StandbyHears, Seconds}

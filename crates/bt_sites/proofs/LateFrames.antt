@@ -10,26 +10,25 @@ use Rattle.bt_net.specs.Network.{IsSound}
 use Rattle.bt_demand.specs.declared.burst.Burst.{Burst}
 use Rattle.bt_demand.specs.declared.plan.Plan.{Plan}
 use Rattle.bt_demand.specs.Flyable.{IsFlyable}
-use Rattle.bt_sites.specs.Step.{Satellite, Centre, Terminal}
+use Rattle.bt_sites.specs.Step.{Satellite, Centre, Terminal, Step}
 use Rattle.bt_air.specs.Orders.{fore_at}
 use Rattle.bt_air.specs.Range.{IsWord}
 use Rattle.bt_machines.specs.declared.mode_bank.Bank.{Bank}
 use Rattle.bt_machines.specs.Orders.{StandsFor}
 use Rattle.bt_machines.specs.Satellite.{State as Onboard}
 use Rattle.bt_machines.specs.Terminal.{State as Ground, transmitted}
+use Rattle.bt_machines.specs.Plans.{IsStored, bursts_for, modes_of, plan_of}
 use Rattle.bt_events.specs.Air.{AreOfPlan, IsSafe, fore, transmits}
 use Rattle.bt_events.specs.Event.{Opening, Event, Happening}
-use Rattle.bt_events.specs.Fits.{IsStored}
 use Rattle.bt_events.specs.Ground.{terminal}
 use Rattle.bt_events.specs.Satellite.{satellite}
-use Rattle.bt_events.specs.World.{accepted, bursts_for, log, mark, modes_of, plan_of, plans, terminals}
+use Rattle.bt_events.specs.World.{accepted, log, mark, plans, terminals}
 use Rattle.bt_events.proofs.Banks.{world-banked}
 use Rattle.bt_events.proofs.Plans.{flies-each, plan-holds, plans-flyable}
 use Rattle.bt_sites.specs.Behind.{HasWorldBehind}
 use Rattle.bt_sites.specs.Fits.{AreSites, AreSmall}
 use Rattle.bt_sites.specs.Late.{AreLate, AreOnAir, IsMoment, Late, TransmitsIn, now_of, steps_of}
 use Rattle.bt_sites.specs.Sites.{plans_after, satellite_after, terminal_after}
-use Rattle.bt_sites.specs.Step.{Step}
 use Rattle.bt_sites.proofs.Moments.{Before, Behind, Goes, Moment, goes}
 use Rattle.bt_sites.proofs.Onward.{front-onward, plan-onward, sites-behind, small-behind}
 use Rattle.bt_sites.proofs.Ordered.{late-timed}

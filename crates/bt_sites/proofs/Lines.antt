@@ -4,14 +4,13 @@ use Rattle.std.proofs.lemmas.Bool.{eqb-true, or_left, or_parts}
 use Rattle.bt_frame.specs.declared.numbers.Mark.{Mark}
 use Rattle.bt_frame.specs.declared.numbers.TermNo.{TermNo}
 use Rattle.bt_air.specs.declared.sent.Aired.TheVariants as sends
-use Rattle.bt_sites.specs.Step.{Satellite, Centre, Terminal, Standby}
+use Rattle.bt_sites.specs.Step.{Satellite, Centre, Terminal, Standby, Step}
 use Rattle.bt_events.specs.Event.{Opening}
 use Rattle.bt_events.specs.World.{greatest_due}
 use Rattle.bt_sites.specs.Fits.{WasSaid}
 use Rattle.bt_sites.specs.Late.{WasSaidBy, now_of}
 use Rattle.bt_sites.specs.Sites.{bytes_of}
 use Rattle.bt_sites.specs.Stamps.{Act, Begins, Hears, HasLine, Installs, Line, MayAct, Places, Radio, Restarts, Seconds, StandbyStarts, Starts, Turns, has_started, known, late_of, made_in, reached, said_if, step_by, steps_by, where_known}
-use Rattle.bt_sites.specs.Step.{Step}
 use Rattle.bt_sites.proofs.Knows.{is-itself, known-other, known-own, max-first, said-joined}
 use Rattle.bt_sites.proofs.Same.{same-number}
 

@@ -3,17 +3,15 @@ use Rattle.std.proofs.Common.{◌≡◌, inl, inr, ℕ, ◌+◌, ◌<◌, ◌≤
 use Rattle.std.specs.Prelude.{IsSome}
 use Rattle.bt_frame.specs.declared.limits.TheConstants.{LAST_MARK}
 use Rattle.bt_frame.specs.declared.numbers.Mark.{Mark}
-use Rattle.bt_sites.specs.Step.{Site, Satellite, Centre, Terminal, Standby}
+use Rattle.bt_sites.specs.Step.{Site, Satellite, Centre, Terminal, Standby, Step, Begins, SatelliteHears, Starts, TerminalHears, CentreHears, Turns, Places, Installs, Restarts, StandbyStarts, StandbyHears, Seconds}
 use Rattle.bt_demand.specs.declared.plan.Plan.{Plan}
 use Rattle.bt_machines.specs.Satellite.{State as Onboard}
 use Rattle.bt_machines.specs.Centre.{State}
+use Rattle.bt_machines.specs.Plans.{newest_of, plan_of}
 use Rattle.bt_events.specs.Event.{Opening}
-use Rattle.bt_events.specs.Fits.{newest_of}
-use Rattle.bt_events.specs.World.{plan_of}
 use Rattle.bt_sites.specs.Fits.{AreSites, IsNow, MayStep, WasSaid, order_count}
 use Rattle.bt_sites.specs.Late.{AreLate, HasBegun, HasOrder, IsForward, IsFrom, IsMoment, Late, MayBeLate, WasSaidBy, now_of, site_of, steps_of}
 use Rattle.bt_sites.specs.Sites.{read_of, said, said_with, satellite_after}
-use Rattle.bt_sites.specs.Step.{Step, Begins, SatelliteHears, Starts, TerminalHears, CentreHears, Turns, Places, Installs, Restarts, StandbyStarts, StandbyHears, Seconds}
 use Rattle.bt_sites.proofs.Inserts.{AllAfter, AllOther, IsBefore, SaidBy, before-put, by-earlier, by-new, by-put, by-said, cut-at, ground-centre, ground-standby, ground-terminal, others-later, said-new, said-put, same-behind, same-last, sites-put, was-either, was-left, was-right}
 use Rattle.bt_sites.proofs.Moments.{Moment, moment-last, moment-now, moment-put}
 use Rattle.bt_sites.proofs.Marks.{mark-ticked, with-keeps}

@@ -7,20 +7,20 @@ use Rattle.bt_frame.specs.declared.numbers.TermNo.{TermNo}
 use Rattle.bt_demand.specs.declared.plan.Plan.{Plan}
 use Rattle.bt_air.specs.declared.sent.Aired.{Aired}
 use Rattle.bt_air.specs.declared.sent.Aired.TheVariants as sends
-use Rattle.bt_sites.specs.Step.{Site, Satellite, Centre, Terminal, Standby}
+use Rattle.bt_sites.specs.Step.{Site, Satellite, Centre, Terminal, Standby, Step, Begins, SatelliteHears, Starts, TerminalHears, CentreHears, Turns, Places, Installs, Restarts, StandbyStarts, StandbyHears, Seconds}
 use Rattle.bt_machines.specs.Satellite.{State as Onboard, status_of, ticked}
 use Rattle.bt_machines.specs.Terminal.{State as Ground, new_of}
 use Rattle.bt_air.specs.declared.order.Status.{Status}
 use Rattle.bt_machines.specs.Centre.{State, after_turn}
 use Rattle.bt_machines.specs.Standby.{named}
-use Rattle.bt_events.specs.Centre.{beginning, once_placed}
+use Rattle.bt_machines.specs.CentreSteps.{beginning, once_placed, with_wanted}
+use Rattle.bt_machines.specs.Plans.{newest_of, plan_of}
+use Rattle.bt_machines.specs.Says.{sent_by_order}
 use Rattle.bt_events.specs.Event.{Opening}
-use Rattle.bt_events.specs.Fits.{newest_of}
-use Rattle.bt_events.specs.World.{plan_of, sent_by_order, terminals, with_wanted}
+use Rattle.bt_events.specs.World.{terminals}
 use Rattle.bt_sites.specs.Fits.{MayStep, WasSaid}
 use Rattle.bt_sites.specs.Late.{site_of}
 use Rattle.bt_sites.specs.Sites.{bytes_of, centre_after, centre_with, plans_after, read_of, said, said_with, satellite_after, satellite_says, satellite_with, standby_after, standby_with, terminal_after, terminal_says, terminal_with, turn_says}
-use Rattle.bt_sites.specs.Step.{Step, Begins, SatelliteHears, Starts, TerminalHears, CentreHears, Turns, Places, Installs, Restarts, StandbyStarts, StandbyHears, Seconds}
 
 -- a site is the same after these steps and those
 abbrev pub SameFor : Opening → Site → List Step → List Step → Type 0

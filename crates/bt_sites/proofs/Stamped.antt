@@ -4,14 +4,13 @@ use Rattle.std.proofs.Math.Nat.{le-max_left, le-max_right}
 use Rattle.bt_frame.specs.declared.numbers.Mark.{Mark}
 use Rattle.bt_frame.specs.declared.numbers.TermNo.{TermNo}
 use Rattle.bt_air.specs.declared.sent.Aired.TheVariants as sends
-use Rattle.bt_sites.specs.Step.{Site, Satellite, Centre, Terminal, Standby}
+use Rattle.bt_sites.specs.Step.{Site, Satellite, Centre, Terminal, Standby, Step}
 use Rattle.bt_events.specs.Event.{Opening}
 use Rattle.bt_events.specs.World.{greatest_due}
 use Rattle.bt_sites.specs.Fits.{WasSaid}
 use Rattle.bt_sites.specs.Late.{AreLate, IsForward, WasSaidBy, now_of, site_of}
 use Rattle.bt_sites.specs.Sites.{bytes_of, satellite_after}
 use Rattle.bt_sites.specs.Stamps.{Act, Begins, Begun, Hears, HasLine, Installs, Line, MayAct, MayHear, Places, Radio, Restarts, Seconds, StandbyStarts, Starts, Turns, actor_of, begun_by, has_started, known, late_of, lines, lines_by, made_in, reached, said_if, stamp_by, stamp_of, step_by, steps_by}
-use Rattle.bt_sites.specs.Step.{Step}
 use Rattle.bt_sites.specs.Step as step
 use Rattle.bt_sites.proofs.Inserts.{ground-centre, ground-standby, ground-terminal}
 use Rattle.bt_sites.proofs.Knows.{Knows, KnowsNext, came, forward-joined, forward-later, known-own, knows-more, made-ground, next-any, now-joined, said-joined, said-later, said-now}

@@ -2,17 +2,17 @@
 use Rattle.std.specs.Prelude.{◌≡◌, ◌⊎◌, ℕ, ◌+◌, ◌<◌, ◌≤◌, true, false, List, [], ◌∷◌, ◌++◌, IsSome}
 use Rattle.bt_frame.specs.declared.limits.TheConstants.{LAST_MARK}
 use Rattle.bt_frame.specs.declared.numbers.TermNo.{TermNo}
-use Rattle.bt_sites.specs.Step.{Site, Satellite, Centre, Terminal, Standby}
+use Rattle.bt_sites.specs.Step.{Site, Satellite, Centre, Terminal, Standby, Step, Begins, SatelliteHears, Starts, TerminalHears, CentreHears, Turns, Places, Installs, Restarts, StandbyStarts, StandbyHears, Seconds}
 use Rattle.bt_demand.specs.declared.burst.Burst.{Burst}
 use Rattle.bt_demand.specs.Flyable.{IsFlyable}
 use Rattle.bt_machines.specs.Terminal.{transmitted}
 use Rattle.bt_net.specs.Terminals.{IsTerminal}
+use Rattle.bt_machines.specs.Plans.{newest_of, plan_of}
 use Rattle.bt_events.specs.Event.{Opening}
-use Rattle.bt_events.specs.Fits.{IsOpening, newest_of}
-use Rattle.bt_events.specs.World.{greatest_due, plan_of}
+use Rattle.bt_events.specs.Fits.{IsOpening}
+use Rattle.bt_events.specs.World.{greatest_due}
 use Rattle.bt_sites.specs.Fits.{AreSites, WasSaid, order_count}
 use Rattle.bt_sites.specs.Sites.{centre_after, plans_after, said, said_with, satellite_after, standby_after, terminal_after}
-use Rattle.bt_sites.specs.Step.{Step, Begins, SatelliteHears, Starts, TerminalHears, CentreHears, Turns, Places, Installs, Restarts, StandbyStarts, StandbyHears, Seconds}
 
 -- A step, and the superframe that its site takes for the present one. Lists of them have the latest first, in the order in which
 -- they were made.

@@ -13,27 +13,18 @@ use Rattle.bt_air.specs.declared.sent.Aired.{Aired}
 use Rattle.bt_air.specs.declared.sent.Aired.TheVariants as sends
 use Rattle.bt_air.specs.MessageText.{message_of}
 use Rattle.bt_air.specs.Spelling.{message_bytes}
-use Rattle.bt_machines.specs.Satellite.{State as Satellite, new_at, status_of, ticked, step_of as take}
-use Rattle.bt_machines.specs.Terminal.{State as Terminal, new_of, step_of as hear}
-use Rattle.bt_machines.specs.Centre.{State as Centre, act_at, after_turn, is_missing, known_to}
-use Rattle.bt_machines.specs.Last.{last_order, next_of}
+use Rattle.bt_machines.specs.Satellite.{State as Satellite, new_at, status_of, ticked}
+use Rattle.bt_machines.specs.Terminal.{State as Terminal, new_of}
+use Rattle.bt_machines.specs.Centre.{State as Centre, after_turn}
 use Rattle.bt_machines.specs.Terminals.{has}
 use Rattle.bt_machines.specs.Standby.{named, step_of as notice}
-use Rattle.bt_events.specs.Answers.{confirmed_by, told_by}
-use Rattle.bt_events.specs.Centre.{beginning, once_heard, once_placed}
+use Rattle.bt_machines.specs.CentreSteps.{beginning, once_placed, with_wanted}
+use Rattle.bt_machines.specs.Says.{carried, sent_by_order}
+pub use Rattle.bt_site.specs.Sites.{aired_of, satellite_with, satellite_says, terminal_with, terminal_says, centre_with}
+use Rattle.bt_site.specs.Sites.{turn_says as says_in_turn}
 use Rattle.bt_events.specs.Event.{Opening}
-use Rattle.bt_events.specs.World.{carried, greatest_due, sent_by_act, sent_by_order, sent_to_asking, terminals, with_wanted}
+use Rattle.bt_events.specs.World.{greatest_due, terminals}
 use Rattle.bt_sites.specs.Step.{Step, Begins, SatelliteHears, Starts, TerminalHears, CentreHears, Turns, Places, Installs, Restarts, StandbyStarts, StandbyHears, Seconds}
-
--- a message without its modes and bursts
-abbrev pub aired_of : Message → Aired
-aired_of (message.Load command edition modes) = sends.Load command edition
-aired_of (message.Arm command edition due) = sends.Arm command edition due
-aired_of (message.Status status) = sends.Status status
-aired_of (message.PlanFor to load edition bursts) = sends.PlanFor to load edition
-aired_of (message.Confirm from load edition) = sends.Confirm from load edition
-aired_of (message.Reference superframe in_force next) = sends.Reference superframe in_force next
-aired_of (message.Lost from) = sends.Lost from
 
 -- the message that was read, if one was
 abbrev pub if_read : Result Message AirFault → Option Message
@@ -48,37 +39,9 @@ read_of bytes = if_read (message_of bytes)
 abbrev pub bytes_of : List Plan → Aired → List ℕ
 bytes_of all one = message_bytes (carried all one)
 
--- the satellite once it has heard a message
-abbrev pub satellite_with : Satellite → Option Message → Satellite
-satellite_with s None = s
-satellite_with s (Some message) = (take s message).1
-
--- what it says then
-abbrev pub satellite_says : Satellite → Option Message → List Aired
-satellite_says s None = []
-satellite_says s (Some message) = told_by (take s message)
-
--- a terminal once it has heard a message in a superframe
-abbrev pub terminal_with : Terminal → Mark → Option Message → Terminal
-terminal_with s mark None = s
-terminal_with s mark (Some message) = (hear s mark message).1
-
--- what it says then
-abbrev pub terminal_says : TermNo → Terminal → Mark → Option Message → List Aired
-terminal_says number s mark None = []
-terminal_says number s mark (Some message) = confirmed_by number (aired_of message) (hear s mark message)
-
--- the centre once it has heard a message in a superframe
-abbrev pub centre_with : Centre → Mark → Option Message → Centre
-centre_with s mark None = s
-centre_with s mark (Some message) = once_heard s mark.0 (Some (aired_of message))
-
--- what the centre says in its turn: the reference burst, what its act calls for, and what those who ask are to have
+-- what the centre says in its turn, with the terminals, the lead and the patience of the network
 abbrev pub turn_says : Opening → Centre → List Plan → Mark → EditionNo → List Aired
-turn_says o s all mark target =
-    sends.Reference mark (known_to s mark.0) (next_of (last_order s.orders) mark.0)
-    ∷ sent_by_act s.orders (filter (λ (terminal : TermNo). is_missing s terminal) (terminals o)) (act_at s mark target o.net.lead o.net.patience)
-    ++ sent_to_asking (known_to s mark.0) s.orders all (filter (λ (terminal : TermNo). has s.asking terminal) (terminals o))
+turn_says o s all mark target = says_in_turn (terminals o) s all mark target o.net.lead o.net.patience
 
 -- what the standby keeps once it has heard a message in a superframe
 abbrev pub standby_with : Option Status → Mark → Option Message → Option Status

@@ -4,16 +4,16 @@ use Rattle.bt_frame.specs.declared.limits.TheConstants.{LAST_MARK}
 use Rattle.bt_frame.specs.declared.numbers.EditionNo.{EditionNo}
 use Rattle.bt_frame.specs.declared.numbers.Mark.{Mark}
 use Rattle.bt_frame.specs.declared.numbers.TermNo.{TermNo}
-use Rattle.bt_sites.specs.Step.{Site, Satellite, Centre, Terminal, Standby}
+use Rattle.bt_sites.specs.Step.{Site, Satellite, Centre, Terminal, Standby, Step}
 use Rattle.bt_demand.specs.declared.plan.Plan.{Plan}
 use Rattle.bt_demand.specs.Flyable.{IsFlyable}
 use Rattle.bt_net.specs.Terminals.{IsTerminal}
+use Rattle.bt_machines.specs.Plans.{newest_of, plan_of}
 use Rattle.bt_events.specs.Event.{Opening}
-use Rattle.bt_events.specs.Fits.{IsOpening, newest_of}
-use Rattle.bt_events.specs.World.{greatest_due, plan_of}
+use Rattle.bt_events.specs.Fits.{IsOpening}
+use Rattle.bt_events.specs.World.{greatest_due}
 use Rattle.bt_sites.specs.Late.{Late, now_of, steps_of}
 use Rattle.bt_sites.specs.Sites.{centre_after, plans_after, said_with}
-use Rattle.bt_sites.specs.Step.{Step}
 use Rattle.bt_sites.specs.Step as step
 
 -- A line: a superframe begins, which the satellite alone says, or the bytes of a message behind the superframe that its sayer

@@ -1,6 +1,6 @@
 use Rattle.std.proofs.Common.{Some, refl, ◌∙◌, ap}
 use Rattle.bt_air.specs.declared.sent.Place.TheVariants.{Centre}
-use Rattle.bt_events.specs.Centre.{once_heard}
+use Rattle.bt_machines.specs.CentreSteps.{once_heard}
 use Rattle.bt_events.specs.Event.{Deliver}
 use Rattle.bt_world.specs.Life.{Life, past_of}
 use Rattle.bt_events.specs.World.{plans}

@@ -5,7 +5,7 @@ use Rattle.bt_air.specs.declared.sent.Heard.{Heard}
 use Rattle.bt_air.specs.declared.shown.Shown.TheVariants as shows
 use Rattle.bt_air.specs.declared.sent.Place.TheVariants.{Terminal}
 use Rattle.bt_air.specs.declared.sent.Aired.{Aired}
-use Rattle.bt_events.specs.Answers.{planned_in}
+use Rattle.bt_machines.specs.Says.{planned_in}
 use Rattle.bt_events.specs.Event.{Deliver}
 use Rattle.bt_world.specs.Life.{Life, past_of}
 use Rattle.bt_events.specs.World.{plans}

@@ -1,6 +1,6 @@
 use Rattle.std.proofs.Common.{List, is_some, sym, ◌∙◌, ap}
 use Rattle.bt_demand.specs.declared.plan.Plan.{Plan}
-use Rattle.bt_events.specs.World.{plan_of}
+use Rattle.bt_machines.specs.Plans.{plan_of}
 use Rattle.bt_world.proofs.Started.{plans-logged}
 use Rattle.bt_world.proofs.world.WorldOver.has_plan.Goals as goal
 

@@ -6,7 +6,8 @@ use Rattle.bt_air.specs.declared.message.Message.{Message}
 use Rattle.bt_world.specs.Address.{IsAddressed}
 use Rattle.bt_air.specs.declared.sent.Aired.{Aired}
 use Rattle.bt_world.specs.Life.{Life, past_of, plans_in}
-use Rattle.bt_events.specs.World.{carried, plans, sent}
+use Rattle.bt_machines.specs.Says.{carried}
+use Rattle.bt_events.specs.World.{plans, sent}
 use Rattle.bt_world.proofs.Addressed.{all-addressed}
 use Rattle.bt_world.proofs.Kept.{kept-as}
 use Rattle.bt_world.proofs.Messages.{logged-plans, of-number, the-number, number-in-range}

@@ -1,5 +1,5 @@
 use Rattle.std.proofs.Common.{sym, ◌∙◌, ap}
-use Rattle.bt_events.specs.Fits.{newest_of}
+use Rattle.bt_machines.specs.Plans.{newest_of}
 use Rattle.bt_world.proofs.Started.{plans-logged}
 use Rattle.bt_world.proofs.world.WorldOver.newest.Goals as goal
 

@@ -3,9 +3,10 @@ use Rattle.bt_frame.specs.declared.numbers.TermSet.{TermSet}
 use Rattle.bt_air.specs.declared.order.Order.{Order}
 use Rattle.bt_machines.specs.Centre.{begins_with}
 use Rattle.bt_machines.specs.Last.{last_order}
-use Rattle.bt_events.specs.Centre.{needed_by}
+use Rattle.bt_machines.specs.CentreSteps.{needed_by}
 use Rattle.bt_events.specs.Event.{RestartCentre}
-use Rattle.bt_world.specs.Life.{Life, MayCome, having_had, life_of, plans_in, terminals_of}
+use Rattle.bt_world.specs.Life.{Life, MayCome, having_had, life_of, plans_in}
+use Rattle.bt_machines.specs.Terminals.{terminals_of}
 use Rattle.bt_world.proofs.Placed.{restart-numbered, restart-kept, same-plans}
 use Rattle.bt_world.proofs.Started.{plans-logged}
 use Rattle.bt_world.proofs.world.WorldOver.restart.Goals as goal

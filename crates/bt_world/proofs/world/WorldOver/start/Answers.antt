@@ -7,9 +7,10 @@ use Rattle.bt_machines.specs.Last.{last_order}
 use Rattle.bt_frame.specs.declared.numbers.TermSet.{TermSet}
 use Rattle.bt_machines.specs.Satellite.{new_at}
 use Rattle.bt_machines.specs.Terminal.{new_of}
-use Rattle.bt_events.specs.Centre.{needed_by}
+use Rattle.bt_machines.specs.CentreSteps.{needed_by}
 use Rattle.bt_events.specs.Fits.{IsOpening}
-use Rattle.bt_world.specs.Life.{opening_of, plans_in, terminals_of}
+use Rattle.bt_world.specs.Life.{opening_of, plans_in}
+use Rattle.bt_machines.specs.Terminals.{terminals_of}
 use Rattle.bt_events.specs.World.{greatest_due}
 use Rattle.bt_world.proofs.Started.{started}
 use Rattle.bt_world.proofs.world.WorldOver.start.Goals as goal

@@ -3,13 +3,12 @@ use Rattle.bt_frame.specs.declared.numbers.TermNo.{TermNo}
 use Rattle.bt_air.specs.declared.order.Status.{Status}
 use Rattle.bt_air.specs.declared.sent.Aired.{Aired}
 use Rattle.bt_air.specs.declared.sent.Aired.TheVariants as sends
-use Rattle.bt_machines.specs.Centre.{State, act_at, after_turn}
-use Rattle.bt_machines.specs.Centre.{is_missing as is_missing_to}
-use Rattle.bt_machines.specs.Terminals.{has}
+use Rattle.bt_machines.specs.Centre.{State, act_at, after_turn, is_missing as is_missing_to}
+use Rattle.bt_machines.specs.Terminals.{has, terminals_of}
 use Rattle.bt_machines.specs.Satellite.{State as Onboard}
 use Rattle.bt_events.specs.Event.{Turn}
-use Rattle.bt_world.specs.Life.{Life, MayCome, having_had, life_of, past_of, plans_in, terminals_of}
-use Rattle.bt_events.specs.World.{sent_by_act, sent_to_asking}
+use Rattle.bt_world.specs.Life.{Life, MayCome, having_had, life_of, past_of, plans_in}
+use Rattle.bt_machines.specs.Says.{sent_by_act, sent_to_asking}
 use Rattle.bt_world.proofs.Placed.{same-plans}
 use Rattle.bt_world.proofs.Started.{plans-logged}
 use Rattle.bt_world.proofs.Turned.{mark-few, turn-kept}

@@ -1,0 +1,6 @@
+mod Shared
+mod Indexed
+mod Lookup
+mod Needs
+mod Sending
+mod Turning
