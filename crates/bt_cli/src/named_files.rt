@@ -40,8 +40,8 @@ pub fn places_of_files(words: &[String]) -> (usize, usize) {
 /// asks for no store.
 #[rattlefmt::skip]
 fn files_of(line: CommandLine<'_>) -> NamedFiles<'_>
-    ensures journal { option_map (λ journal. journal.now) result.journal ≡ journal_of (asked line) }
-    ensures store { IsNone result.journal → AsksNoStore (asked line) }
+    ensures journal { option_map (λ journal. journal.now) result.journal ≡ journal_of (asked line.entry) }
+    ensures store { IsNone result.journal → AsksNoStore (asked line.entry) }
 {
     match line {
         CommandLine::Faulty                        => NamedFiles { first: 2, end: 3, journal: None },

@@ -12,16 +12,20 @@ mod pages;
 use bt_cli::{centre_main, journal_of, live_main, live_words};
 use bt_disk::{FileDisk, LineKeeper};
 use bt_explain::{Done, KeptFiles, LastLine, tell, tell_status};
-use bt_outside::{Console, DirFiles, StdSink, StdSource, Waiting, take_closed_streams};
+use bt_outside::{
+    Console, DirFiles, Files, Keeper, Sink, StdSink, StdSource, Waiting, take_closed_streams,
+};
 use bt_report::{
     DONE, OUT_OF_MEMORY, Program, Refusal, WRITE_FAILED, print_text, put_standard_input,
     words_after_name,
 };
 use std::alloc::{AllocError, Global};
 use std::env::Env;
-use std::io::BufReader;
+use std::io::{BufRead, BufReader};
 use std::process::ExitCode;
-use std::rt::Files;
+use std::rt;
+use std::sync::Wait;
+use std::thread::Threads;
 
 fn main(rt: HostRuntime) -> ExitCode {
     // before any file is opened
@@ -46,12 +50,12 @@ fn main(rt: HostRuntime) -> ExitCode {
                 let status = if live_words(&words).is_some() {
                     match BufReader::new(alloc, Waiting::new(&rt, rt.stdin())) {
                         Ok(reader) => {
-                            let mut talk = Console::new(StdSource::new(reader), out);
-                            let status = live_main(
-                                &rt, alloc, &words, &mut files, &mut talk, store,
-                            ).status;
-                            let (heard, said) = talk.into_parts();
-                            begun = heard.begun();
+                            let Talked {
+                                status,
+                                begun: came,
+                                out: said,
+                            } = hold_session(&rt, alloc, &words, &mut files, reader, out, store);
+                            begun = came;
                             out = said;
                             status
                         }
@@ -83,6 +87,36 @@ fn main(rt: HostRuntime) -> ExitCode {
     ExitCode::from(status)
 }
 
+/// What is left of a session: its status, how many bytes of a line had come when its input failed, and the output.
+struct Talked<O> {
+    status: u8,
+    begun: usize,
+    out: O,
+}
+
+/// Holds the session that the words ask for, over a reader and an output.
+fn hold_session<
+    R: Threads + Wait + Sync,
+    F: Files,
+    B: BufRead + Drop,
+    O: Sink + Drop,
+    K: Keeper + Drop + Send,
+>(
+    rt: &R,
+    alloc: Global,
+    words: &[String],
+    files: &mut F,
+    reader: B,
+    out: O,
+    store: K,
+) -> Talked<O> {
+    let mut talk = Console::new(StdSource::new(reader), out);
+    let status = live_main(rt, alloc, words, files, &mut talk, store).status;
+    let (heard, out) = talk.into_parts();
+    let begun = heard.begun();
+    Talked { status, begun, out }
+}
+
 /// The words of a command line, and what `main` reads off them.
 #[derive(Drop)]
 struct CommandLine {
@@ -95,7 +129,7 @@ struct CommandLine {
     refusal: Option<Refusal>,
 }
 
-fn asked<R: Env + Files + Alloc<A = Global>>(
+fn asked<R: Env + rt::Files + Alloc<A = Global>>(
     rt: &R,
     alloc: Global,
 ) -> Result<CommandLine, AllocError> {
