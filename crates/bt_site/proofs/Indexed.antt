@@ -1,5 +1,5 @@
 -- The index of the plans, with one plan more.
-use Rattle.std.proofs.Common.{◌≡◌, ℕ, ◌+◌, ◌-◌, ◌<◌, ◌≤◌, List, length, take, get_or, arith, [], ◌∷◌, ◌++◌, map, reverse, All, refl, sym, ◌∙◌, ap, subst}
+use Rattle.std.proofs.Common.{◌≡◌, ℕ, ◌+◌, ◌-◌, ◌<◌, ◌≤◌, List, length, take, get_or, arith, [], ◌∷◌, ◌++◌, map, reverse, All, sym, ◌∙◌, ap, subst}
 use Rattle.std.proofs.lemmas.List.{map-append, reverse-append, map_more, take_more, reverse-reverse, length-reverse, get_or-reverse}
 use Rattle.std.proofs.lemmas.List.Elements.{All-cons, All-more}
 use Rattle.bt_frame.specs.declared.numbers.EditionNo.{EditionNo}
@@ -63,7 +63,7 @@ newer-starts : (plan : Plan) (all : List Plan) → StartsEmpty all → (newest_o
 newer-starts plan [] starts newer = absurd starts
 newer-starts plan (before ∷ rest) starts newer = (newer, starts)
 
-mapped-end : {X Y : Type 0} (f : X → Y) (xs : List X) (x : X) → map f (reverse (x ∷ xs)) ≡ map f (reverse xs) ++ f x ∷ []
+pub mapped-end : {X Y : Type 0} (f : X → Y) (xs : List X) (x : X) → map f (reverse (x ∷ xs)) ≡ map f (reverse xs) ++ f x ∷ []
 mapped-end {X} f xs x = ap (λ (list : List X). map f list) (reverse-append (x ∷ []) xs) ∙ map-append f (reverse xs) (x ∷ [])
 
 pub indexed-installed : (old new : Planned) (index next : Index) (plan : Plan) → IsIndexed old index → (newest_of old.all).0 < plan.edition.0 → IsStored plan

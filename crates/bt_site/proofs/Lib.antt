@@ -1,6 +1,6 @@
 mod Shared
-mod Indexed
-mod Lookup
+pub mod Indexed
+pub mod Lookup
 mod Needs
-mod Sending
+pub mod Sending
 mod Turning

@@ -1,5 +1,5 @@
 -- The superframe that a site takes for the present one.
-use Rattle.std.specs.Prelude.{nat_lt, if◌then◌else◌, Bool, true, false, Option, Some, None}
+use Rattle.std.specs.Prelude.{nat_lt, if◌then◌else◌, Bool, true, Option, Some, None}
 use Rattle.bt_frame.specs.declared.numbers.Mark.{Mark}
 
 -- a superframe is later than the one that was the present one, if any was

@@ -6,6 +6,7 @@ use Rattle.bt_frame.specs.declared.numbers.TermNo.{TermNo}
 use Rattle.bt_demand.specs.declared.plan.Plan.{Plan}
 use Rattle.bt_air.specs.declared.message.Message.{Message}
 use Rattle.bt_air.specs.declared.message.Message.TheVariants as message
+use Rattle.bt_air.specs.declared.order.Status.{Status}
 use Rattle.bt_air.specs.declared.sent.Aired.{Aired}
 use Rattle.bt_air.specs.declared.sent.Aired.TheVariants as sends
 use Rattle.bt_air.specs.declared.sent.Answer.{Answer}
@@ -14,6 +15,7 @@ use Rattle.bt_machines.specs.Centre.{State as Centre, act_at, is_missing, known_
 use Rattle.bt_machines.specs.CentreSteps.{once_heard}
 use Rattle.bt_machines.specs.Last.{last_order, next_of}
 use Rattle.bt_machines.specs.Satellite.{State as Satellite, step_of as take}
+use Rattle.bt_machines.specs.Standby.{named, step_of as notice}
 use Rattle.bt_machines.specs.Says.{told_by, confirmed_by, sent_by_act, sent_to_asking}
 use Rattle.bt_machines.specs.Terminal.{State as Terminal, step_of as hear}
 use Rattle.bt_machines.specs.Terminals.{has}
@@ -72,3 +74,12 @@ turn_says everyone s all mark target lead patience =
     sends.Reference mark (known_to s mark.0) (next_of (last_order s.orders) mark.0)
     ∷ sent_by_act s.orders (filter (λ (terminal : TermNo). is_missing s terminal) everyone) (act_at s mark target lead patience)
     ++ sent_to_asking (known_to s mark.0) s.orders all (filter (λ (terminal : TermNo). has s.asking terminal) everyone)
+
+-- what the standby keeps once it has heard a message in a superframe, if it has
+abbrev pub standby_with : Option Status → Mark → Option Message → Option Status
+standby_with kept mark (Some (message.Status status)) = (notice kept mark status).1
+standby_with kept mark _ = kept
+
+-- what it says for a superframe: the second reference burst, which announces nothing
+abbrev pub standby_says : Option Status → Mark → Aired
+standby_says kept mark = sends.Reference mark (named kept mark) None

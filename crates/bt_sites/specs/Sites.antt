@@ -1,13 +1,12 @@
 -- A run of sites, as their steps say it: the state of each site by its own steps alone, and what it says by its own state.
 -- Lists of steps, of plans and of orders have the latest first; the list of what was said has the first first.
-use Rattle.std.specs.Prelude.{ℕ, ◌==◌, if◌then◌else◌, true, false, List, [], ◌∷◌, ◌++◌, map, filter, Option, Some, None, Result, Ok, Err}
+use Rattle.std.specs.Prelude.{ℕ, ◌==◌, if◌then◌else◌, true, false, List, [], ◌∷◌, ◌++◌, map, Option, Some, None, Result, Ok, Err}
 use Rattle.bt_frame.specs.declared.numbers.EditionNo.{EditionNo}
 use Rattle.bt_frame.specs.declared.numbers.Mark.{Mark}
 use Rattle.bt_frame.specs.declared.numbers.TermNo.{TermNo}
 use Rattle.bt_demand.specs.declared.plan.Plan.{Plan}
 use Rattle.bt_air.specs.declared.fault.AirFault.{AirFault}
 use Rattle.bt_air.specs.declared.message.Message.{Message}
-use Rattle.bt_air.specs.declared.message.Message.TheVariants as message
 use Rattle.bt_air.specs.declared.order.Status.{Status}
 use Rattle.bt_air.specs.declared.sent.Aired.{Aired}
 use Rattle.bt_air.specs.declared.sent.Aired.TheVariants as sends
@@ -16,11 +15,9 @@ use Rattle.bt_air.specs.Spelling.{message_bytes}
 use Rattle.bt_machines.specs.Satellite.{State as Satellite, new_at, status_of, ticked}
 use Rattle.bt_machines.specs.Terminal.{State as Terminal, new_of}
 use Rattle.bt_machines.specs.Centre.{State as Centre, after_turn}
-use Rattle.bt_machines.specs.Terminals.{has}
-use Rattle.bt_machines.specs.Standby.{named, step_of as notice}
 use Rattle.bt_machines.specs.CentreSteps.{beginning, once_placed, with_wanted}
 use Rattle.bt_machines.specs.Says.{carried, sent_by_order}
-pub use Rattle.bt_site.specs.Sites.{aired_of, satellite_with, satellite_says, terminal_with, terminal_says, centre_with}
+pub use Rattle.bt_site.specs.Sites.{aired_of, satellite_with, satellite_says, terminal_with, terminal_says, centre_with, standby_with, standby_says}
 use Rattle.bt_site.specs.Sites.{turn_says as says_in_turn}
 use Rattle.bt_events.specs.Event.{Opening}
 use Rattle.bt_events.specs.World.{greatest_due, terminals}
@@ -42,11 +39,6 @@ bytes_of all one = message_bytes (carried all one)
 -- what the centre says in its turn, with the terminals, the lead and the patience of the network
 abbrev pub turn_says : Opening → Centre → List Plan → Mark → EditionNo → List Aired
 turn_says o s all mark target = says_in_turn (terminals o) s all mark target o.net.lead o.net.patience
-
--- what the standby keeps once it has heard a message in a superframe
-abbrev pub standby_with : Option Status → Mark → Option Message → Option Status
-standby_with kept mark (Some (message.Status status)) = (notice kept mark status).1
-standby_with kept mark _ = kept
 
 -- the satellite after these steps
 abbrev pub satellite_after : Opening → List Step → Satellite
@@ -99,7 +91,7 @@ says o before (Installs plan) = []
 says o before (Restarts kept) = []
 says o before StandbyStarts = []
 says o before (StandbyHears mark bytes) = []
-says o before (Seconds mark) = sends.Reference mark (named (standby_after before) mark) None ∷ []
+says o before (Seconds mark) = standby_says (standby_after before) mark ∷ []
 
 -- the plans that a site has with a step: the centre's, where it says something
 abbrev pub plans_at : Opening → List Step → Step → List Plan

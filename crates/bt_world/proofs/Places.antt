@@ -5,9 +5,23 @@ use Rattle.std.proofs.lemmas.Option.{slice_get-get_or}
 use Rattle.bt_demand.specs.declared.plan.Plan.{Plan}
 use Rattle.bt_events.specs.Event.{Event, Tick, Turn, Second, Ordered, Deliver, Frame, ResetTerminal, RestartCentre, Install}
 use Rattle.bt_world.specs.Life.{ArePlaces, BringsNoPlan, installs, installed_by, told_in}
-use Rattle.bt_world.proofs.Indexed.{installs-more, mapped-end}
+use Rattle.bt_site.proofs.Indexed.{mapped-end}
+use Rattle.bt_site.proofs.Lookup.{mapped-at}
 use Rattle.bt_world.proofs.Kept.{last-first}
-use Rattle.bt_world.proofs.Lookup.{mapped-at}
+
+same-installs : (event : Event) (earlier : List Event) → BringsNoPlan event → installs (event ∷ earlier) ≡ installs earlier
+same-installs Tick earlier none = refl
+same-installs (Turn target) earlier none = refl
+same-installs (Second in_force) earlier none = refl
+same-installs Ordered earlier none = refl
+same-installs (Deliver number place) earlier none = refl
+same-installs Frame earlier none = refl
+same-installs (ResetTerminal terminal) earlier none = refl
+same-installs (RestartCentre kept) earlier none = refl
+same-installs (Install plan) earlier none = absurd none
+
+pub installs-more : (event : Event) (events : List Event) → BringsNoPlan event → installs (reverse (events ++ event ∷ [])) ≡ installs (reverse events)
+installs-more event events none = ap installs (last-first events event) ∙ same-installs event (reverse events) none
 
 -- what stands at a place still stands there
 found-more : (xs ys : List Event) (k : ℕ) (x : Event) → slice_get xs k ≡ Some x → slice_get (xs ++ ys) k ≡ Some x

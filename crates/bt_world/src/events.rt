@@ -1,5 +1,5 @@
 // How the events of a world are kept.
-ghost use Rattle.std.specs.Prelude.{◌≡◌, ◌<◌, ◌++◌, ◌∷◌, [], ℕ, List, length, reverse, OnErr, OnOk, Some, slice_get};
+ghost use Rattle.std.specs.Prelude.{◌≡◌, ◌<◌, ◌++◌, ◌∷◌, [], ℕ, List, length, reverse, OnOk, Some, slice_get};
 ghost use Rattle.bt_air.specs.declared.event.Event.{Event};
 ghost use Rattle.bt_world.specs.Life.{BringsNoPlan, installs};
 
@@ -16,6 +16,9 @@ pub trait Events: Drop {
     /// How many events more find room.
     ghost room: { Self → ℕ };
 
+    /// How many plans more find room.
+    ghost plan_room: { Self → ℕ };
+
     /// Nothing happened yet.
     fn none(alloc: Global) -> Self
         ensures none { told result ≡ [] };
@@ -31,10 +34,17 @@ pub trait Events: Drop {
         requires no_plan { BringsNoPlan event }
         ensures event { told self.new ≡ told self.old ++ event ∷ [] };
 
-    /// Appends an event that installs a plan.
-    fn install(&mut self, plan: Plan) -> Result<(), OutOfMemory>
-        ensures event { OnOk result (told self.new ≡ told self.old ++ Event.Install plan ∷ []) }
-        ensures err { OnErr result (told self.new ≡ told self.old) };
+    /// Makes room for an event that installs a plan.
+    fn reserve_plan(&mut self) -> Result<(), OutOfMemory>
+        ensures room { OnOk result (0 < room self.new) }
+        ensures plan_room { OnOk result (0 < plan_room self.new) }
+        ensures same { told self.new ≡ told self.old };
+
+    /// Appends an event that installs a plan, for which there is room.
+    fn install(&mut self, plan: Plan)
+        requires room { 0 < room self.old }
+        requires plan_room { 0 < plan_room self.old }
+        ensures event { told self.new ≡ told self.old ++ Event.Install plan ∷ [] };
 
     /// The plan that was installed as the one of this number, from 0.
     fn installed(&self, number: usize) -> &Plan

@@ -22,7 +22,7 @@ impl Model for KeptEvents {
 
     ghost Value = { Listed };
 
-    ghost view = { λ a. record { events = a.events.items; room = vec_capacity a.events - vec_len a.events } };
+    ghost view = { λ a. record { all = a.events.items; room = vec_capacity a.events - vec_len a.events; plan_room = vec_capacity a.places - vec_len a.places } };
 
     ghost invariant = { λ a. ArePlaces a.events.items a.places.items };
 }
@@ -30,16 +30,18 @@ impl Model for KeptEvents {
 impl KeptEvents {
     /// The events, the first first.
     pub fn into_events(self) -> Vec<Event>
-        ensures events { result.items ≡ self.events }
+        ensures events { result.items ≡ self.all }
     {
         self.events
     }
 }
 
 impl Events for KeptEvents {
-    ghost told = { λ kept. kept.events };
+    ghost told = { λ kept. kept.all };
 
     ghost room = { λ kept. kept.room };
+
+    ghost plan_room = { λ kept. kept.plan_room };
 
     fn none(alloc: Global) -> KeptEvents {
         KeptEvents {
@@ -56,13 +58,16 @@ impl Events for KeptEvents {
         self.events.push_reserved(event);
     }
 
-    fn install(&mut self, plan: Plan) -> Result<(), OutOfMemory> {
+    fn reserve_plan(&mut self) -> Result<(), OutOfMemory> {
         self.events.reserve(1)?;
         self.places.reserve(1)?;
+        Ok(())
+    }
+
+    fn install(&mut self, plan: Plan) {
         let place = self.events.len();
         self.events.push_reserved(Event::Install { plan });
         self.places.push_reserved(place);
-        Ok(())
     }
 
     fn installed(&self, number: usize) -> &Plan {

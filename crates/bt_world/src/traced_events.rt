@@ -19,21 +19,22 @@ pub struct TracedEvents {
 }
 
 impl Model for TracedEvents {
-    ghost use Rattle.std.specs.Prelude.{◌≡◌, List, reverse};
-    ghost use Rattle.bt_air.specs.declared.event.Event.{Event};
-    ghost use Rattle.bt_world.specs.Life.{installs, told_in};
+    ghost use Rattle.std.specs.Prelude.{◌≡◌, ◌-◌, reverse, vec_capacity, vec_len};
+    ghost use Rattle.bt_world.specs.Life.{Listed, installs, told_in};
 
-    ghost Value = { List Event };
+    ghost Value = { Listed };
 
-    ghost view = { λ a. told_in a.trace };
+    ghost view = { λ a. record { all = told_in a.trace; room = 1; plan_room = vec_capacity a.plans - vec_len a.plans } };
 
     ghost invariant = { λ a. a.plans.items ≡ reverse (installs (reverse (told_in a.trace))) };
 }
 
 impl Events for TracedEvents {
-    ghost told = { λ traced. traced };
+    ghost told = { λ traced. traced.all };
 
     ghost room = { λ _. 1 };
+
+    ghost plan_room = { λ traced. traced.plan_room };
 
     fn none(alloc: Global) -> TracedEvents {
         TracedEvents {
@@ -50,15 +51,17 @@ impl Events for TracedEvents {
         self.trace.push(&event, &());
     }
 
-    fn install(&mut self, plan: Plan) -> Result<(), OutOfMemory> {
-        self.plans.reserve(1)?;
+    fn reserve_plan(&mut self) -> Result<(), OutOfMemory> {
+        Ok(self.plans.reserve(1)?)
+    }
+
+    fn install(&mut self, plan: Plan) {
         let event = Event::Install { plan };
         self.trace.push(&event, &());
         match event {
             Event::Install { plan } => self.plans.push_reserved(plan),
             _ => unreachable!(),
         }
-        Ok(())
     }
 
     fn installed(&self, number: usize) -> &Plan {

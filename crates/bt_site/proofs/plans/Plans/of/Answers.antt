@@ -1,10 +1,10 @@
-use Rattle.std.proofs.Common.{◌≡◌, ◌++◌, ◌∷◌, [], take, List, map, All, ◌∙◌, ap, subst, arith, refl}
+use Rattle.std.proofs.Common.{◌≡◌, ◌++◌, ◌∷◌, [], take, List, map, All, ◌∙◌, ap, subst, arith}
 use Rattle.std.proofs.lemmas.List.{take_all}
 use Rattle.bt_frame.specs.declared.numbers.EditionNo.{EditionNo}
 use Rattle.bt_demand.specs.declared.burst.Burst.{Burst}
 use Rattle.bt_demand.specs.declared.plan.Plan.{Plan}
 use Rattle.bt_machines.specs.Plans.{IsStored}
-use Rattle.bt_site.specs.Plans.{Planned, plans_told}
+use Rattle.bt_site.specs.Plans.{Planned}
 use Rattle.bt_site.specs.Shares.{shares_of}
 use Rattle.bt_site.proofs.Indexed.{mapped-next, stored-next, indexed-first, stored-back, traced-next, told-whole}
 use Rattle.bt_site.proofs.plans.Plans.of.Goals as goal

@@ -5,7 +5,7 @@ use Rattle.bt_air.specs.declared.sent.Aired.{Aired}
 use Rattle.bt_events.specs.Event.{Deliver}
 use Rattle.bt_world.specs.Life.{Life}
 use Rattle.bt_world.proofs.Kept.{kept-as, logged-more}
-use Rattle.bt_world.proofs.Delivers.{one-delivered, told-by, satellite-kept}
+use Rattle.bt_world.proofs.Delivers.{one-delivered, satellite-kept}
 use Rattle.bt_world.proofs.world.WorldOver.deliver_to_satellite.Goals as goal
 
 pub invariant_of-self-2 : goal.invariant_of-self-2
@@ -17,7 +17,5 @@ invariant_of-self-2 g c =
     let one = one-delivered view c.args.number Satellite message c.requires c.in_ok-message.ensures.same in
     let now = logged-more inside.net inside.orders.items inside.log c.reserve.new.self c.push.new.self view (Deliver c.args.number Satellite) c.self.view_is
     c.reserve.ensures.opening c.reserve.ensures.events c.push.ensures.opening c.push.ensures.events in
-    let count = c.push.ensures.terminals ∙ c.reserve.ensures.terminals in
-    let told = told-by inside.satellite c.take-taken.new.self message c.take-taken.result c.take-taken.ensures.answer c.take-taken.ensures.state in
-    let said = c.send.ensures ∙ ap (λ (list : List Aired). list ++ option_to_list c.told_by.result) c.in_ok-reserve-2.ensures.items ∙ ap (λ (list : List Aired). inside.sent.items ++ list) (c.told_by.ensures ∙ told) in
-    satellite-kept c.answers_are_said.ensures.satellite view _ c.args.number one.0 _ _ message is c.requires now one.1 one.2 count c.take-taken.ensures.state said refl refl refl
+    let said = c.send.ensures ∙ ap (λ (list : List Aired). list ++ option_to_list c.hear-taken.result.1) c.in_ok-reserve-2.ensures.items ∙ ap (λ (list : List Aired). inside.sent.items ++ list) c.hear-taken.ensures.said in
+    satellite-kept c.answers_are_said.ensures.satellite view _ c.args.number one.0 _ _ message is c.requires now one.1 one.2 refl refl c.hear-taken.ensures.state said refl refl refl

@@ -1,7 +1,10 @@
-use Rattle.std.proofs.Common.{sym, ◌∙◌, ap}
+use Rattle.std.proofs.Common.{◌∙◌, ap}
 use Rattle.bt_machines.specs.Plans.{newest_of}
-use Rattle.bt_world.proofs.Started.{plans-logged}
+use Rattle.bt_site.specs.Plans.{Planned}
+use Rattle.bt_world.proofs.Kept.{kept-as}
 use Rattle.bt_world.proofs.world.WorldOver.newest.Goals as goal
 
 pub returns : goal.returns
-returns g c = record { newest = rw (← c.self.view_is) (c.newest.ensures ∙ ap newest_of (sym (plans-logged c.self.inside.net c.self.inside.orders.items c.self.inside.log))) }
+returns g c =
+    let is = kept-as _ _ _ c.self.view_is c.self.invariant in
+    record { newest = c.newest.ensures.newest ∙ ap (λ (p : Planned). newest_of p.all) c.plans.ensures.plans ∙ ap newest_of is.plans }

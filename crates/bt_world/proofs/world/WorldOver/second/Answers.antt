@@ -19,4 +19,4 @@ invariant_of-self-2 g c =
     let now : life_of c.self.inside.net c.self.inside.orders.items c.push.new.self ≡ having_had life event = cc in
     let at = ap (λ (s : Status). s.mark.0) c.status.ensures.status ∙ ap (λ (s : Onboard). s.mark.0) c.self.invariant.satellite ∙ c.satellite_is_said.ensures.mark life.opening (past_of life) in
     let told = c.post.ensures.items ∙ ap (λ (list : List Aired). list ++ sends.Reference c.status.result.mark c.args.in_force None ∷ []) c.reserve-2.ensures.items in
-    second-kept c.seconds_are_said.ensures.named _ _ c.args.in_force c.status.result.mark _ _ c.self.invariant may now at (c.push.ensures.terminals ∙ c.reserve.ensures.terminals) told refl refl refl refl
+    second-kept c.seconds_are_said.ensures.named _ _ c.args.in_force c.status.result.mark _ _ c.self.invariant may now at refl refl told refl refl refl refl
