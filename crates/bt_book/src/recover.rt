@@ -35,6 +35,7 @@ pub(crate) fn recover_machine<K: Keeper>(
     ensures later { K.fault_count store.old ≤ K.fault_count store.new }
     ensures fault { IfErr result (IsRecoverFault net.now (K.told store.old) (K.told store.new) (K.fault_count store.old) (K.fault_count store.new)) }
     ensures settled { OnOk result (IsSettled (K.told store.new) (K.crashes store.new)) }
+    ensures time { Elapses (K.crashes store.old) (K.crashes store.new) }
     ensures crash { LeavesSince (K.crashes store.old) (K.crashes store.new) (IsLeftOrCut net.now (K.told store.old) (K.crashes store.old)) }
 {
     let mut machine = Machine::open(alloc, net)?;
@@ -68,6 +69,7 @@ fn take_store<K: Keeper>(
     ensures later { K.fault_count store.old ≤ K.fault_count store.new }
     ensures fault { IfErr result (IsRecoverFault machine.old.net (K.told store.old) (K.told store.new) (K.fault_count store.old) (K.fault_count store.new)) }
     ensures settled { OnOk result (IsSettled (K.told store.new) (K.crashes store.new)) }
+    ensures time { Elapses (K.crashes store.old) (K.crashes store.new) }
     ensures crash { LeavesSince (K.crashes store.old) (K.crashes store.new) (IsLeftOrCut machine.old.net (K.told store.old) (K.crashes store.old)) }
 {
     // These are there for what holds of each network, that it is sound, and of the lines of changes and of marks.

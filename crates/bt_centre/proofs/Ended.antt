@@ -4,6 +4,7 @@ use Rattle.std.specs.Prelude.{IfSome}
 use Rattle.std.specs.Option.{is_some}
 use Rattle.std.proofs.Math.Seq.{take-append-add}
 use Rattle.std.proofs.lemmas.List.{append-nil, take-append-drop}
+use Rattle.bt_outside.specs.Crash.{Crashes}
 use Rattle.bt_outside.specs.declared.sink.SinkFault.{SinkFault}
 use Rattle.bt_outside.specs.declared.sink.SinkFault.TheVariants as sink
 use Rattle.bt_outside.specs.Told.{GainsPrefix, Rose, gained}
@@ -15,6 +16,7 @@ use Rattle.bt_history.specs.declared.fault.RecoverFault.{RecoverFault}
 use Rattle.bt_history.specs.declared.fault.RecoverFault.TheVariants.{StoreFault}
 use Rattle.bt_history.specs.Book.{Books}
 use Rattle.bt_history.specs.Causes.{Follows, IsGoodForItsEdition}
+use Rattle.bt_history.specs.Crash.{Last}
 use Rattle.bt_history.specs.Changes.{installs}
 use Rattle.bt_history.specs.Recovery.{MaybeRecovered}
 use Rattle.bt_history.specs.Store.{IsKept, lost_of}
@@ -27,11 +29,11 @@ use Rattle.bt_centre.specs.Lines.{total_of}
 use Rattle.bt_report.specs.Output.{Output, Prints}
 use Rattle.bt_centre.specs.Progress.{Hand, IsBegun, IsLeftAtRestart, IsLeftEarly, IsLeftOf, IsLegalHand, ItemFailed, ItemPlayed, ItemsDone, ItemsWritten, Left, PartsEnded, histories_in, start_of}
 use Rattle.bt_centre.specs.RecoverFaults.{PrintsNamed, recover_line, recover_status}
-use Rattle.bt_centre.specs.Run.{AreLegalTimes, IsRun, LeavesStore, changes_at, entries_of, first_line, lost_in, opening_on, status_after, whole_text}
+use Rattle.bt_centre.specs.Run.{AreLegalTimes, IsRun, LeavesStore, changes_at, entries_of, first_line, lost_in, opening_on, status_after, WritesPart, whole_text}
 use Rattle.bt_round.proofs.Closing.{ran_nothing}
 use Rattle.bt_centre.proofs.Going.{breaks_off, left_early, legal_times}
 use Rattle.bt_centre.proofs.Restarts.{left_at_fault}
-use Rattle.bt_centre.proofs.Played.{changes_are, gained-append, item_goes_on, items_begin, next_parts, same_histories, start_is}
+use Rattle.bt_centre.proofs.Played.{changes_are, gained-append, item_goes_further, items_begin, next_parts, same_histories, start_is}
 use Rattle.bt_centre.proofs.Times.{rose_still}
 use Rattle.bt_centre.specs.World.{IsSpelledWorld}
 
@@ -93,10 +95,8 @@ ended_early net items output begun opening old left status so is status_is = rec
 
 -- the sink failed over a text
 ended_partly : (net : Net) (items first more : List Item) (output : Output) (begun : Books) (hand : Hand) (lines : List ℕ) (left : Left) (status : ℕ) → AreGood net
-    → items ≡ first ++ more → ItemsDone net begun first hand lines → IsLeftOf hand left → Rose output.faults_before output.faults_after
-    → GainsPrefix output.before (first_line net begun.state.changes ++ lines) output.after
-    ⊎ ((more ≡ []) × GainsPrefix output.before (whole_text net begun.state.changes lines left.histories) output.after)
-    → status ≡ 6 → PartsEnded net items output begun left status
+    → items ≡ first ++ more → (so : ItemsDone net begun first hand lines) → IsLeftOf hand left → Rose output.faults_before output.faults_after
+    → WritesPart net (is_some begun.told) begun.state.changes first more output lines left.histories so.end → status ≡ 6 → PartsEnded net items output begun left status
 unfolding run_of
 ended_partly net items first more output begun hand lines left status good parts so is failed written status_is = record {
   world = world_of net begun so.end.opening hand left.events so.so_far is.world;
@@ -115,9 +115,8 @@ ended_partly net items first more output begun hand lines left status good parts
 
 -- a text was not written
 pub not_written : (net : Net) (items first more : List Item) (output : Output) (begun : Books) (hand : Hand) (lines : List ℕ) (left : Left) (why : SinkFault) (status : ℕ) → AreGood net
-    → items ≡ first ++ more → ItemsDone net begun first hand lines → IsLeftOf hand left → (why ≡ sink.Failed → Rose output.faults_before output.faults_after)
-    → (why ≡ sink.Failed → GainsPrefix output.before (first_line net begun.state.changes ++ lines) output.after
-    ⊎ ((more ≡ []) × GainsPrefix output.before (whole_text net begun.state.changes lines left.histories) output.after))
+    → items ≡ first ++ more → (so : ItemsDone net begun first hand lines) → IsLeftOf hand left → (why ≡ sink.Failed → Rose output.faults_before output.faults_after)
+    → (why ≡ sink.Failed → WritesPart net (is_some begun.told) begun.state.changes first more output lines left.histories so.end)
     → (why ≡ sink.OutOfMemory → status ≡ 1) → (why ≡ sink.Failed → status ≡ 6) → PartsEnded net items output begun left status
 not_written net items first more output begun hand lines left sink.OutOfMemory status good parts so is failed written early partly =
     ended_early net items output begun so.end.opening hand left status so.so_far (left_early net hand left so.so_far.network so.so_far.follow is) (early refl)
@@ -185,6 +184,7 @@ ended_at_restart net items index begun old left before between after f0 f1 f2 fa
       kept = is.kept;
       cut = subst (λ (n : Net). MaybeRecovered n old.book.told left.told old.book.faults left.faults) (sym so.done.so_far.network) (left_at_fault net old.book.told left.told old.book.faults left.faults fault is.failed);
       later = is.later;
+      last = λ now. subst (λ (n : Net). Last n old.book.state.changes old.book.crashes left.crashes) (sym so.done.so_far.network) is.last;
       world = is.world;
     }) early
 ended_at_restart net items index begun old left before between after f0 f1 f2 fault status good parts so later is (inr (named, printed)) =
@@ -227,7 +227,7 @@ pub not_begun : (net : Net) (items : List Item) (hand : Hand) (left : Left) (why
     → PartsEnded net items (output_of before after f0 f2) hand.book left status
 not_begun net items hand left why before after f0 f2 status good begun is failed gains early partly =
     not_written net items [] items (output_of before after f0 f2) hand.book hand [] left why status good refl (items_begin net hand begun) is failed
-    (λ so. inl (subst (λ (t : List ℕ). GainsPrefix before t after) (start_is net hand begun ∙ sym (append-nil (first_line net hand.book.state.changes))) (gains so))) early partly
+    (λ so. inl (refl, subst (λ (t : List ℕ). GainsPrefix before t after) (start_is net hand begun) (gains so))) early partly
 
 -- a part was played, and its text was not written
 pub not_shown : (net : Net) (items : List Item) (index : ℕ) (one : Item) (begun : Books) (old new : Hand) (own : List ℕ) (left : Left) (why : SinkFault) (before between after : Option (List ℕ)) (f0 f1 f2 : ℕ) (status : ℕ)
@@ -235,11 +235,22 @@ pub not_shown : (net : Net) (items : List Item) (index : ℕ) (one : Item) (begu
     → (why ≡ sink.Failed → Rose f1 f2) → (why ≡ sink.Failed → GainsPrefix between own after) → (why ≡ sink.OutOfMemory → status ≡ 1) → (why ≡ sink.Failed → status ≡ 6)
     → PartsEnded net items (output_of before after f0 f2) begun left status
 not_shown net items index one begun old new own left why before between after f0 f1 f2 status good within is so later played left_is failed gains early partly =
-    let front = first_line net begun.state.changes in
+    let further = item_goes_further net begun (take index items) one old new so.lines own so.done played in
     not_written net items (take index items ++ one ∷ []) (drop (index + 1) items) (output_of before after f0 f2) begun new (so.lines ++ own) left why status good
     (sym (take-append-drop (index + 1) items) ∙ ap (λ (l : List Item). l ++ drop (index + 1) items) (next_parts items index one within is))
-    (item_goes_on net begun (take index items) one old new so.lines own so.done played) left_is (λ so. rose_from f0 f1 f2 later (failed so))
-    (λ stopped. inl (subst (λ (t : List ℕ). GainsPrefix before t after) (append_assoc front so.lines own) (prefix_behind before between after (front ++ so.lines) own so.wrote (gains stopped)))) early partly
+    further.done left_is (λ stopped. rose_from f0 f1 f2 later (failed stopped))
+    (λ stopped. inr (inl (record {
+      whole = take index items;
+      last = one;
+      parts = refl;
+      said = so.lines;
+      own = own;
+      lines_are = refl;
+      before = so.done.end;
+      played = so.done.played;
+      goes = further.way;
+      written = subst (λ (t : Option (List ℕ)). GainsPrefix t own after) so.wrote (gains stopped);
+    }))) early partly
 
 -- the last line was not written
 pub not_totalled : (net : Net) (items : List Item) (begun : Books) (hand : Hand) (left : Left) (why : SinkFault) (before between after : Option (List ℕ)) (f0 f1 f2 : ℕ) (status : ℕ)
@@ -247,10 +258,9 @@ pub not_totalled : (net : Net) (items : List Item) (begun : Books) (hand : Hand)
     → (why ≡ sink.Failed → Rose f1 f2) → (why ≡ sink.Failed → GainsPrefix between (total_of (entries_of left.histories)) after) → (why ≡ sink.OutOfMemory → status ≡ 1) → (why ≡ sink.Failed → status ≡ 6)
     → PartsEnded net items (output_of before after f0 f2) begun left status
 not_totalled net items begun hand left why before between after f0 f1 f2 status good so later left_is failed gains early partly =
-    let front = first_line net begun.state.changes in
     let total = total_of (entries_of left.histories) in
     not_written net items items [] (output_of before after f0 f2) begun hand so.lines left why status good (sym (append-nil items)) so.done left_is (λ stopped. rose_from f0 f1 f2 later (failed stopped))
-    (λ stopped. inr (refl, prefix_behind before between after (front ++ so.lines) total so.wrote (gains stopped))) early partly
+    (λ stopped. inr (inr (refl, subst (λ (t : Option (List ℕ)). GainsPrefix t total after) so.wrote (gains stopped)))) early partly
 
 -- it was
 pub totalled : (net : Net) (items : List Item) (begun : Books) (hand : Hand) (left : Left) (before between after : Option (List ℕ)) (f0 f2 : ℕ) (status : ℕ)
@@ -263,16 +273,17 @@ totalled net items begun hand left before between after f0 f2 status good so lef
     (wrote ∙ ap (λ (t : Option (List ℕ)). gained t total) so.wrote ∙ gained-append before (front ++ so.lines) total) status_is
 
 -- the same of what is given back
-pub same_end : (net : Net) (items : List Item) (output : Output) (begun : Books) (left : Left) (told : Option (List ℕ)) (faults : ℕ) (histories : List History) (events : List Event) (status s : ℕ)
-    → told ≡ left.told → faults ≡ left.faults → histories ≡ left.histories → events ≡ left.events → status ≡ s → PartsEnded net items output begun left s
-    → PartsEnded net items output begun (record { told = told; faults = faults; histories = histories; events = events }) status
-same_end net items output begun left told faults histories events status s told_is faults_are all same status_is ended =
-    subst (λ (n : ℕ). PartsEnded net items output begun (record { told = told; faults = faults; histories = histories; events = events }) n) (sym status_is)
+pub same_end : (net : Net) (items : List Item) (output : Output) (begun : Books) (left : Left) (told : Option (List ℕ)) (faults : ℕ) (crashes : Option Crashes) (histories : List History) (events : List Event) (status s : ℕ)
+    → told ≡ left.told → faults ≡ left.faults → crashes ≡ left.crashes → histories ≡ left.histories → events ≡ left.events → status ≡ s → PartsEnded net items output begun left s
+    → PartsEnded net items output begun (record { told = told; faults = faults; crashes = crashes; histories = histories; events = events }) status
+same_end net items output begun left told faults crashes histories events status s told_is faults_are crashes_are all same status_is ended =
+    subst (λ (n : ℕ). PartsEnded net items output begun (record { told = told; faults = faults; crashes = crashes; histories = histories; events = events }) n) (sym status_is)
     (subst (λ (l : Left). PartsEnded net items output begun l s) (sym (
-    ap (λ (t : Option (List ℕ)). let l : Left = record { told = t; faults = faults; histories = histories; events = events } in l) told_is
-    ∙ ap (λ (f : ℕ). let l : Left = record { told = left.told; faults = f; histories = histories; events = events } in l) faults_are
-    ∙ ap (λ (h : List History). let l : Left = record { told = left.told; faults = left.faults; histories = h; events = events } in l) all
-    ∙ ap (λ (e : List Event). let l : Left = record { told = left.told; faults = left.faults; histories = left.histories; events = e } in l) same
+    ap (λ (t : Option (List ℕ)). let l : Left = record { told = t; faults = faults; crashes = crashes; histories = histories; events = events } in l) told_is
+    ∙ ap (λ (f : ℕ). let l : Left = record { told = left.told; faults = f; crashes = crashes; histories = histories; events = events } in l) faults_are
+    ∙ ap (λ (c : Option Crashes). let l : Left = record { told = left.told; faults = left.faults; crashes = c; histories = histories; events = events } in l) crashes_are
+    ∙ ap (λ (h : List History). let l : Left = record { told = left.told; faults = left.faults; crashes = left.crashes; histories = h; events = events } in l) all
+    ∙ ap (λ (e : List Event). let l : Left = record { told = left.told; faults = left.faults; crashes = left.crashes; histories = left.histories; events = e } in l) same
     )) ended)
 
 -- a failure of that kind

@@ -19,7 +19,7 @@ use Rattle.bt_centre.specs.declared.history.History.{History}
 use Rattle.bt_report.specs.Output.{Output}
 use Rattle.bt_centre.specs.Progress.{Hand, IsBegun, IsOpenFault, Left, PartsEnded}
 use Rattle.bt_centre.specs.RecoverFaults.{PrintsNamed}
-use Rattle.bt_centre.specs.Run.{AreFew, AreLegalTimes, EndsFrom, FramesAreSafe, IsRun, LeavesStore, PlaysItems, RunsFrom, RunsTo, Stand, at_start, lost_in, opening_on}
+use Rattle.bt_centre.specs.Run.{AreFew, AreLegalTimes, EndsFrom, FramesAreSafe, IsRun, LeavesStore, PlaysItems, RunsFrom, RunsTo, Stand, WritesPart, at_start, lost_in, opening_on}
 use Rattle.bt_report.specs.Stored.{Stored}
 use Rattle.bt_centre.proofs.Ended.{only_fault}
 use Rattle.bt_centre.proofs.Restarts.{left_unopened, named_fault, tells_marked}
@@ -99,7 +99,7 @@ ends_from net items output told given after faults begun now opening status hist
   run = run_over net (is_some told) (is_some given) opening part.first histories events part.lines tells part.run;
   left = leaves_from net told given after faults begun now histories part.run.end later part.left;
   failed = part.failed;
-  written = part.written;
+  written = subst (λ (t : Bool). WritesPart net t opening part.first part.more output part.lines histories part.run.end) tells part.written;
   status_is = part.status_is;
 })))
 ends_from net items output told given after faults begun now opening status histories events tells later (inr (inr (inr fails))) = inr (inr (inr (record {

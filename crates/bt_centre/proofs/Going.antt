@@ -6,6 +6,7 @@ use Rattle.bt_journal.specs.declared.call.Change.{Change}
 use Rattle.bt_journal.specs.declared.entry.Entry.{Entry}
 use Rattle.bt_history.specs.Book.{Books}
 use Rattle.bt_history.specs.Causes.{Follows}
+use Rattle.bt_history.specs.Crash.{Last}
 use Rattle.bt_history.specs.Machine.{Legal, State, running, state_after}
 use Rattle.bt_history.specs.Recovery.{MaybeRecovered}
 use Rattle.bt_history.specs.Store.{IsKept, RoseBy, lost_of}
@@ -33,6 +34,7 @@ left_early net hand left network follow is = record {
   kept = is.kept;
   cut = inl (inl is.told);
   later = omega (arith, is.faults);
+  last = λ now. subst (Last hand.book.net hand.book.state.changes hand.book.crashes) (sym is.crashes) now;
   world = is.world;
 }
 
@@ -45,6 +47,7 @@ left_on old hand left goes is = record {
   kept = is.kept;
   cut = inl (inl is.told);
   later = omega (arith, is.faults);
+  last = λ now. subst (Last old.book.net old.book.state.changes old.book.crashes) (sym is.crashes) (goes.ran.last now);
   world = subst (λ (o : Opening). IsSpelledWorld o (reverse left.events)) goes.world is.world;
 }
 

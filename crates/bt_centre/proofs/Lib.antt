@@ -12,6 +12,7 @@ pub mod OrdersJoin
 pub mod Lawful
 pub mod TurnsPlayed
 pub mod TurnsKnow
+pub mod Lasting
 pub mod Sessions
 pub mod SessionEnds
 pub mod Handed

@@ -25,7 +25,9 @@ use Rattle.bt_round.proofs.Running.{past-having}
 use Rattle.bt_centre.specs.declared.history.History.{History}
 use Rattle.bt_centre.specs.Joining.{HasOrders, JoinsAsTold, JoinsNone, JoinsOne, JoinsWanted, PartHasOrders, RestartJoins}
 use Rattle.bt_report.specs.Output.{Output}
-use Rattle.bt_centre.specs.Parts.{EachPart, EachPartAtEnd, EachPartOfRun}
+use Rattle.bt_centre.specs.Parts.{EachPart, EachPartAtEnd, EachPartOfRun, EachPartOfSession}
+use Rattle.bt_centre.specs.Session.{SessionEndsFrom}
+use Rattle.bt_centre.specs.Talked.{Talked}
 use Rattle.bt_centre.specs.Run.{AreLegalTimes, AreTimes, EndsFrom, IsJoining, IsRun, JoinsOrder, PlaysItem, PlaysItems, PlaysRestart, PlaysRound, Stand, at_start, changes_at, histories_at}
 use Rattle.bt_report.specs.Stored.{Stored}
 use Rattle.bt_centre.proofs.Joins.{some_same}
@@ -295,3 +297,25 @@ end_has net items output stored opening status histories events tells (inr (inr 
     run_has net (is_some stored.before) opening partly.first histories events partly.lines tells partly.run
 end_has net items output stored opening status histories events tells (inr (inr (inr until))) =
     run_has net (is_some stored.before) opening until.first histories events until.lines tells until.run
+
+-- so it is in a session
+pub session_joins : (net : Net) (talk : Talked) (stored : Stored) (opening : List Change) (status : ℕ) (histories : List History) (events : List Event) → is_some stored.before ≡ true
+    → (ends : SessionEndsFrom net talk stored opening status histories events) → EachPartOfSession RestartJoins net talk stored opening status histories events ends
+session_joins net talk stored opening status histories events tells (inl breaks) = tt
+session_joins net talk stored opening status histories events tells (inr (inl whole)) =
+    run_joins net (is_some stored.before) opening whole.session.parts histories events whole.session.lines tells whole.session.run
+session_joins net talk stored opening status histories events tells (inr (inr (inl unsaid))) =
+    run_joins net (is_some stored.before) opening unsaid.session.parts histories events unsaid.session.lines tells unsaid.session.run
+session_joins net talk stored opening status histories events tells (inr (inr (inr until))) =
+    run_joins net (is_some stored.before) opening until.session.parts histories events until.session.lines tells until.session.run
+
+-- and in a session it has them too
+pub session_has : (net : Net) (talk : Talked) (stored : Stored) (opening : List Change) (status : ℕ) (histories : List History) (events : List Event) → is_some stored.before ≡ true
+    → (ends : SessionEndsFrom net talk stored opening status histories events) → EachPartOfSession PartHasOrders net talk stored opening status histories events ends
+session_has net talk stored opening status histories events tells (inl breaks) = tt
+session_has net talk stored opening status histories events tells (inr (inl whole)) =
+    run_has net (is_some stored.before) opening whole.session.parts histories events whole.session.lines tells whole.session.run
+session_has net talk stored opening status histories events tells (inr (inr (inl unsaid))) =
+    run_has net (is_some stored.before) opening unsaid.session.parts histories events unsaid.session.lines tells unsaid.session.run
+session_has net talk stored opening status histories events tells (inr (inr (inr until))) =
+    run_has net (is_some stored.before) opening until.session.parts histories events until.session.lines tells until.session.run

@@ -1,10 +1,11 @@
 -- How a session ends, from what is left of the run and from what was said.
-use Rattle.std.proofs.Common.{◌≡◌, ℕ, ◌+◌, ◌≤◌, Bool, Result, Err, inl, inr, List, [], ◌∷◌, ◌++◌, length, reverse, Option, Some, None, refl, sym, ap, ◌∙◌, subst, arith}
+use Rattle.std.proofs.Common.{◌≡◌, ℕ, ◌≤◌, Bool, Result, Err, inl, inr, List, [], ◌∷◌, ◌++◌, length, reverse, Option, Some, None, refl, sym, ap, ◌∙◌, subst, arith}
 use Rattle.std.specs.Prelude.{IfSome, option_map}
 use Rattle.std.specs.Option.{is_some}
 use Rattle.std.proofs.lemmas.List.{append-nil}
 use Rattle.bt_outside.specs.declared.sink.SinkFault.{SinkFault}
 use Rattle.bt_outside.specs.declared.sink.SinkFault.TheVariants as sink
+use Rattle.bt_outside.specs.Crash.{Crashes}
 use Rattle.bt_outside.specs.Told.{GainsPrefix, HasCause, Rose, gained}
 use Rattle.bt_outside.specs.declared.source.Incoming.{Incoming}
 use Rattle.bt_outside.specs.declared.source.SourceFault.{SourceFault}
@@ -19,6 +20,7 @@ use Rattle.bt_history.specs.declared.fault.RecoverFault.{RecoverFault}
 use Rattle.bt_history.specs.declared.fault.RecoverFault.TheVariants.{StoreFault}
 use Rattle.bt_history.specs.Book.{Books}
 use Rattle.bt_history.specs.Causes.{Follows}
+use Rattle.bt_history.specs.Crash.{Last}
 use Rattle.bt_history.specs.Store.{IsKept, lost_of}
 use Rattle.bt_history.specs.Recovery.{IsReadable, MaybeRecovered, Recovered, marked}
 use Rattle.bt_script.specs.declared.script.Item.{Item}
@@ -36,15 +38,15 @@ use Rattle.bt_centre.specs.declared.session.InputEnd.TheVariants as ending
 use Rattle.bt_centre.specs.Answering.{GaveSince, SaysNamed, SessionDone, SessionEnded, SessionGoing, SessionHeard, StepFailed, StepPlayed, Took}
 use Rattle.bt_centre.specs.Progress.{Hand, IsBegun, IsLeftAtRestart, IsLeftEarly, IsLeftOf, IsOpenFault, ItemsDone, Left, start_of}
 use Rattle.bt_centre.specs.RecoverFaults.{recover_line, recover_status}
-use Rattle.bt_centre.specs.Run.{AreFew, AreLegalTimes, at_start, lost_in, opening_on}
-use Rattle.bt_centre.specs.Session.{AllGiven, Exchange, GoesOnFrom, IsSession, PlaysLines, SessionEndsFrom, SessionFrom, SessionTo, ShowsChanges, StopsHearing, StopsTurns, WereGiven, closing_text, heard_in, session_turns, status_behind}
+use Rattle.bt_centre.specs.Run.{AreFew, AreLegalTimes, at_start, changes_at, lost_in, opening_on}
+use Rattle.bt_centre.specs.Session.{AllGiven, Exchange, GoesOnFrom, IsSession, LastToEnd, PlaysLines, SessionEndsFrom, SessionFrom, SessionTo, ShowsChanges, StopsHearing, StopsTurns, WereGiven, closing_text, heard_in, session_turns, shown_behind, status_behind}
 use Rattle.bt_centre.specs.Talked.{Says, SaysOrNot, SaysPart, Talked, behind}
 use Rattle.bt_round.proofs.Closing.{ran_nothing}
 use Rattle.bt_centre.proofs.Going.{breaks_off, left_early}
 use Rattle.bt_centre.proofs.Ended.{AreGood, left_of, only_fault, output_of, rose_from, run_of, world_of}
 use Rattle.bt_centre.proofs.Ends.{AreFlown, AreSafe, frames_safe, leaves_from, run_over, stored_from}
 use Rattle.bt_centre.proofs.Restarts.{left_at_fault, left_unopened, named_fault, tells_marked}
-use Rattle.bt_centre.proofs.Sessions.{Came, gave_more, gave_none, heard_more, opening_is, row_is, session_begins, session_goes_on, session_turns_more, start_shown, took-nil, took_end, took_heard, took_none, took_same}
+use Rattle.bt_centre.proofs.Sessions.{Came, LastsIn, gave_more, gave_none, heard_more, last_further, opening_is, row_is, session_begins, session_goes_on, session_turns_more, start_shown, took-nil, took_end, took_heard, took_none, took_same}
 use Rattle.bt_centre.proofs.Times.{rose_since}
 
 -- what a talk tells, from the start of a session on
@@ -88,21 +90,21 @@ all_given talk (Some bytes) (Some rest) None lines is gave comes = absurd comes
 all_given talk (Some bytes) None next lines is gave comes = absurd gave
 all_given talk None now next lines is gave comes = subst (λ (c : Option (List ℕ)). IfSome c (λ bytes. given_by 4096 bytes ≡ lines)) (sym is) tt
 
--- a store that told this at the start, and the turns that were taken where memory ran out
-abbrev pub Halts : Net → Talked → Books → List Exchange → Type 0
-Halts net talk begun exchanges =
-    (start : Shown) × (turns : List Turn) × ShowsChanges net (at_start net begun.state.changes) start × StopsTurns net begun.state.changes start exchanges turns
+-- what the store told at the start, and the turns that were taken where memory ran out
+abbrev pub Halts : Net → Talked → Books → Shown → List Exchange → Type 0
+Halts net talk begun start exchanges =
+    (turns : List Turn) × ShowsChanges net (at_start net begun.state.changes) start × StopsTurns net begun.state.changes start exchanges turns
     × (talk.turns_after ≡ took talk.turns_before turns)
 
 -- behind the last answer
 pub halts_at : (net : Net) (talk : Talked) (begun : Books) (exchanges : List Exchange) (start : Shown) → ShowsChanges net (at_start net begun.state.changes) start
-    → talk.turns_after ≡ took talk.turns_before (session_turns net begun.state.changes start exchanges) → Halts net talk begun exchanges
-halts_at net talk begun exchanges start shows taken = (start, session_turns net begun.state.changes start exchanges, shows, inl refl, taken)
+    → talk.turns_after ≡ took talk.turns_before (session_turns net begun.state.changes start exchanges) → Halts net talk begun start exchanges
+halts_at net talk begun exchanges start shows taken = (session_turns net begun.state.changes start exchanges, shows, inl refl, taken)
 
 -- behind a line that was not answered
 pub halts_heard : (net : Net) (talk : Talked) (begun : Books) (exchanges : List Exchange) (start : Shown) (one : Came) → ShowsChanges net (at_start net begun.state.changes) start
-    → talk.turns_after ≡ took talk.turns_before (session_turns net begun.state.changes start exchanges ++ Heard one ∷ []) → Halts net talk begun exchanges
-halts_heard net talk begun exchanges start one shows taken = (start, session_turns net begun.state.changes start exchanges ++ Heard one ∷ [], shows, inr (inl (one, refl)), taken)
+    → talk.turns_after ≡ took talk.turns_before (session_turns net begun.state.changes start exchanges ++ Heard one ∷ []) → Halts net talk begun start exchanges
+halts_heard net talk begun exchanges start one shows taken = (session_turns net begun.state.changes start exchanges ++ Heard one ∷ [], shows, inr (inl (one, refl)), taken)
 
 -- what was asked and answered goes on from there
 goes_from : (net : Net) (begun : Books) (parts : List Item) (old : Hand) (lines : List ℕ) (left : Left) → (so : ItemsDone net begun parts old lines) → IsLeftEarly old left → GoesOnFrom so.end left.histories
@@ -117,9 +119,9 @@ goes_from net begun parts old lines left so is =
     )
 
 -- memory ran out
-pub session_early : (net : Net) (talk : Talked) (begun : Books) (exchanges : List Exchange) (old : Hand) (left : Left) (status : ℕ)
-    → SessionDone net begun exchanges old → Halts net talk begun exchanges → IsLeftEarly old left → status ≡ 1 → SessionEnded net talk begun left status
-session_early net talk begun exchanges old left status so (start, turns, shows, stops, taken) is status_is = record {
+pub session_early : (net : Net) (talk : Talked) (begun : Books) (exchanges : List Exchange) (old : Hand) (start : Shown) (left : Left) (status : ℕ)
+    → SessionDone net begun start exchanges old → Halts net talk begun start exchanges → IsLeftEarly old left → status ≡ 1 → talk.store.crashes ≡ left.crashes → SessionEnded net talk begun left status
+session_early net talk begun exchanges old start left status so (turns, shows, stops, taken) is status_is store_is = record {
   world = world_of net begun so.done.end.opening old left.events so.done.so_far is.world;
   ends = inl (record {
     off = breaks_off net begun so.done.end.opening old left status so.done.so_far is status_is;
@@ -128,6 +130,8 @@ session_early net talk begun exchanges old left status so (start, turns, shows, 
     shows = shows;
     stand = so.done.end;
     played = so.played;
+    lasts = subst (Last net (changes_at so.done.end) (shown_behind start exchanges).crashes) (sym store_is)
+        (last_further net begun so.parts old so.lines (shown_behind start exchanges).crashes left.crashes so.done so.lasts is.last);
     goes = goes_from net begun so.parts old so.lines left so.done is;
     turns = turns;
     stops = stops;
@@ -136,18 +140,24 @@ session_early net talk begun exchanges old left status so (start, turns, shows, 
 }
 
 -- memory ran out between two lines
-pub session_stopped : (net : Net) (talk : Talked) (begun : Books) (exchanges : List Exchange) (hand : Hand) (left : Left) (status : ℕ)
-    → SessionDone net begun exchanges hand → Halts net talk begun exchanges → IsLeftOf hand left → status ≡ 1 → SessionEnded net talk begun left status
-session_stopped net talk begun exchanges hand left status so halts is status_is =
-    session_early net talk begun exchanges hand left status so halts (left_early net hand left so.done.so_far.network so.done.so_far.follow is) status_is
+pub session_stopped : (net : Net) (talk : Talked) (begun : Books) (exchanges : List Exchange) (hand : Hand) (start : Shown) (left : Left) (status : ℕ)
+    → SessionDone net begun start exchanges hand → Halts net talk begun start exchanges → IsLeftOf hand left → status ≡ 1 → talk.store.crashes ≡ left.crashes → SessionEnded net talk begun left status
+session_stopped net talk begun exchanges hand start left status so halts is status_is store_is =
+    session_early net talk begun exchanges hand start left status so halts (left_early net hand left so.done.so_far.network so.done.so_far.follow is) status_is store_is
+
+-- what lasts where a session stops
+last_left : (net : Net) (talk : Talked) (begun : Books) (exchanges : List Exchange) (hand : Hand) (start : Shown) (left : Left) → (so : SessionDone net begun start exchanges hand) → IsLeftOf hand left
+    → talk.store.crashes ≡ left.crashes → LastToEnd net talk so.done.end start exchanges
+last_left net talk begun exchanges hand start left so is store_is =
+    subst (Last net (changes_at so.done.end) (shown_behind start exchanges).crashes) (sym (store_is ∙ is.crashes)) so.lasts
 
 -- the sink failed over a piece
 session_unsaid : (net : Net) (talk : Talked) (begun : Books) (exchanges : List Exchange) (hand : Hand) (turns : List Turn) (piece : List ℕ) (start shown : Shown) (left : Left) (status : ℕ) → AreGood net
     → ShowsChanges net (at_start net begun.state.changes) start
-    → SessionDone net begun exchanges hand → IsLeftOf hand left → WereGiven talk (heard_in exchanges) → session_turns net begun.state.changes start exchanges ≡ turns ++ Said piece shown ∷ []
-    → SaysPart (behind talk turns) piece → status ≡ 6 → SessionEnded net talk begun left status
+    → SessionDone net begun start exchanges hand → IsLeftOf hand left → WereGiven talk (heard_in exchanges) → session_turns net begun.state.changes start exchanges ≡ turns ++ Said piece shown ∷ []
+    → SaysPart (behind talk turns) piece → status ≡ 6 → talk.store.crashes ≡ left.crashes → SessionEnded net talk begun left status
 unfolding run_of
-session_unsaid net talk begun exchanges hand turns piece start shown left status good shows so is given last part status_is = record {
+session_unsaid net talk begun exchanges hand turns piece start shown left status good shows so is given last part status_is store_is = record {
   world = world_of net begun so.done.end.opening hand left.events so.done.so_far is.world;
   ends = inr (inr (inl (record {
     exchanges = exchanges;
@@ -161,6 +171,7 @@ session_unsaid net talk begun exchanges hand turns piece start shown left status
       played = so.played;
     };
     left = left_of net begun so.parts hand so.lines left.told left.faults left.histories so.done is.told is.faults is.histories is.kept;
+    lasts = last_left net talk begun exchanges hand start left so is store_is;
     given = given;
     turns = turns;
     piece = piece;
@@ -174,19 +185,21 @@ session_unsaid net talk begun exchanges hand turns piece start shown left status
 -- a piece was not said
 pub session_not_said : (net : Net) (talk : Talked) (begun : Books) (exchanges : List Exchange) (hand : Hand) (turns : List Turn) (piece : List ℕ) (start shown : Shown) (left : Left) (why : SinkFault) (status : ℕ) → AreGood net
     → ShowsChanges net (at_start net begun.state.changes) start → talk.turns_after ≡ took talk.turns_before turns
-    → SessionDone net begun exchanges hand → IsLeftOf hand left → WereGiven talk (heard_in exchanges) → session_turns net begun.state.changes start exchanges ≡ turns ++ Said piece shown ∷ []
-    → (why ≡ sink.Failed → SaysPart (behind talk turns) piece) → (why ≡ sink.OutOfMemory → status ≡ 1) → (why ≡ sink.Failed → status ≡ 6) → SessionEnded net talk begun left status
-session_not_said net talk begun exchanges hand turns piece start shown left sink.OutOfMemory status good shows taken so is given last part early partly =
-    session_stopped net talk begun exchanges hand left status so (start, turns, shows, inr (inr (piece, shown, last)), taken) is (early refl)
-session_not_said net talk begun exchanges hand turns piece start shown left sink.Failed status good shows taken so is given last part early partly =
-    session_unsaid net talk begun exchanges hand turns piece start shown left status good shows so is given last (part refl) (partly refl)
+    → SessionDone net begun start exchanges hand → IsLeftOf hand left → WereGiven talk (heard_in exchanges) → session_turns net begun.state.changes start exchanges ≡ turns ++ Said piece shown ∷ []
+    → (why ≡ sink.Failed → SaysPart (behind talk turns) piece) → (why ≡ sink.OutOfMemory → status ≡ 1) → (why ≡ sink.Failed → status ≡ 6) → talk.store.crashes ≡ left.crashes
+    → SessionEnded net talk begun left status
+session_not_said net talk begun exchanges hand turns piece start shown left sink.OutOfMemory status good shows taken so is given last part early partly store_is =
+    session_stopped net talk begun exchanges hand start left status so (turns, shows, inr (inr (piece, shown, last)), taken) is (early refl) store_is
+session_not_said net talk begun exchanges hand turns piece start shown left sink.Failed status good shows taken so is given last part early partly store_is =
+    session_unsaid net talk begun exchanges hand turns piece start shown left status good shows so is given last (part refl) (partly refl) store_is
 
 -- the input came to its end
 session_whole : (net : Net) (talk : Talked) (begun : Books) (exchanges : List Exchange) (hand : Hand) (start : Shown) (left : Left) (end : InputEnd) (status : ℕ) → AreGood net → ShowsChanges net (at_start net begun.state.changes) start
-    → SessionDone net begun exchanges hand → IsLeftOf hand left → StopsHearing talk (heard_in exchanges) end
-    → Says (behind talk (session_turns net begun.state.changes start exchanges)) (closing_text end left.histories) (status_behind end left.histories) status → SessionEnded net talk begun left status
+    → SessionDone net begun start exchanges hand → IsLeftOf hand left → StopsHearing talk (heard_in exchanges) end
+    → Says (behind talk (session_turns net begun.state.changes start exchanges)) (closing_text end left.histories) (status_behind end left.histories) status → talk.store.crashes ≡ left.crashes
+    → SessionEnded net talk begun left status
 unfolding run_of
-session_whole net talk begun exchanges hand start left end status good shows so is stops closing = record {
+session_whole net talk begun exchanges hand start left end status good shows so is stops closing store_is = record {
   world = world_of net begun so.done.end.opening hand left.events so.done.so_far is.world;
   ends = inr (inl (record {
     exchanges = exchanges;
@@ -200,6 +213,7 @@ session_whole net talk begun exchanges hand start left end status good shows so 
       played = so.played;
     };
     left = left_of net begun so.parts hand so.lines left.told left.faults left.histories so.done is.told is.faults is.histories is.kept;
+    lasts = last_left net talk begun exchanges hand start left so is store_is;
     end = end;
     stops = stops;
     said = closing;
@@ -208,22 +222,23 @@ session_whole net talk begun exchanges hand start left end status good shows so 
 
 -- the recovery at a restart failed
 session_at_restart : (net : Net) (talk : Talked) (begun : Books) (exchanges : List Exchange) (one : Came) (old : Hand) (start : Shown) (left : Left) (fault : RecoverFault) (status : ℕ)
-    → AreGood net → ShowsChanges net (at_start net begun.state.changes) start → SessionDone net begun exchanges old → (row_of net (open_behind net None (heard_in exchanges)) one).1 ≡ step.Plays item.Restart → WereGiven talk (heard_in exchanges ++ one ∷ [])
+    → AreGood net → ShowsChanges net (at_start net begun.state.changes) start → SessionDone net begun start exchanges old → (row_of net (open_behind net None (heard_in exchanges)) one).1 ≡ step.Plays item.Restart → WereGiven talk (heard_in exchanges ++ one ∷ [])
     → IsLeftAtRestart net old left fault → SaysNamed (behind talk (session_turns net begun.state.changes start exchanges ++ Heard one ∷ [])) restart_line fault status
-    → SessionEnded net talk begun left status
+    → talk.store.crashes ≡ left.crashes → SessionEnded net talk begun left status
 unfolding run_of
-session_at_restart net talk begun exchanges one old start left fault status good shows so asked given is (inl early) =
+session_at_restart net talk begun exchanges one old start left fault status good shows so asked given is (inl early) store_is =
     let done = so.done in
-    session_early net talk begun exchanges old left status so (halts_heard net talk begun exchanges start one shows early.1) (record {
+    session_early net talk begun exchanges old start left status so (halts_heard net talk begun exchanges start one shows early.1) (record {
       hand = old;
       goes = record { over = refl; before = refl; ran = ran_nothing old.book (subst (λ (n : Net). Follows n old.book.state.changes) (sym done.so_far.network) done.so_far.follow); world = refl };
       histories = is.histories;
       kept = is.kept;
       cut = subst (λ (n : Net). MaybeRecovered n old.book.told left.told old.book.faults left.faults) (sym done.so_far.network) (left_at_fault net old.book.told left.told old.book.faults left.faults fault is.failed);
       later = is.later;
+      last = λ now. subst (λ (n : Net). Last n old.book.state.changes old.book.crashes left.crashes) (sym done.so_far.network) is.last;
       world = is.world;
-    }) early.0
-session_at_restart net talk begun exchanges one old start left fault status good shows so asked given is (inr (named, told)) = record {
+    }) early.0 store_is
+session_at_restart net talk begun exchanges one old start left fault status good shows so asked given is (inr (named, told)) store_is = record {
   world = world_of net begun so.done.end.opening old left.events so.done.so_far is.world;
   ends = inr (inr (inr (record {
     exchanges = exchanges;
@@ -242,6 +257,9 @@ session_at_restart net talk begun exchanges one old start left fault status good
     told = old.book.told;
     faults = old.book.faults;
     left = left_of net begun so.parts old so.lines old.book.told old.book.faults left.histories so.done refl refl is.histories is.kept;
+    lasts = subst (Last net (changes_at so.done.end) (shown_behind start exchanges).crashes) (sym store_is)
+        (last_further net begun so.parts old so.lines (shown_behind start exchanges).crashes left.crashes so.done so.lasts
+        (λ now. subst (λ (n : Net). Last n old.book.state.changes old.book.crashes left.crashes) (sym so.done.so_far.network) is.last));
     fault = fault;
     failed = is.failed;
     later = is.later;
@@ -253,43 +271,44 @@ session_at_restart net talk begun exchanges one old start left fault status good
 
 -- what a line comes to could not be played
 session_not_played : (net : Net) (talk : Talked) (begun : Books) (exchanges : List Exchange) (one : Came) (stp : Step) (old : Hand) (start : Shown) (left : Left) (fault : RecoverFault) (status : ℕ)
-    → AreGood net → ShowsChanges net (at_start net begun.state.changes) start → SessionDone net begun exchanges old → stp ≡ (row_of net (open_behind net None (heard_in exchanges)) one).1 → WereGiven talk (heard_in exchanges ++ one ∷ [])
+    → AreGood net → ShowsChanges net (at_start net begun.state.changes) start → SessionDone net begun start exchanges old → stp ≡ (row_of net (open_behind net None (heard_in exchanges)) one).1 → WereGiven talk (heard_in exchanges ++ one ∷ [])
     → StepFailed net stp old left fault → SaysNamed (behind talk (session_turns net begun.state.changes start exchanges ++ Heard one ∷ [])) restart_line fault status
-    → SessionEnded net talk begun left status
-session_not_played net talk begun exchanges one (step.Plays part) old start left fault status good shows so is given (inl (memory, early)) (inl status_is) =
-    session_early net talk begun exchanges old left status so (halts_heard net talk begun exchanges start one shows status_is.1) early status_is.0
-session_not_played net talk begun exchanges one (step.Plays part) old start left fault status good shows so is given (inl (memory, early)) (inr (named, told)) = absurd (named memory)
-session_not_played net talk begun exchanges one (step.Plays part) old start left fault status good shows so is given (inr (restart, at)) told =
-    session_at_restart net talk begun exchanges one old start left fault status good shows so (sym is ∙ ap step.Plays restart) given at told
-session_not_played net talk begun exchanges one step.Nothing old start left fault status good shows so is given failed told = absurd failed
-session_not_played net talk begun exchanges one (step.Fault code) old start left fault status good shows so is given failed told = absurd failed
-session_not_played net talk begun exchanges one (step.Tells asked) old start left fault status good shows so is given (memory, is_left) (inl status_is) =
-    session_stopped net talk begun exchanges old left status so (halts_heard net talk begun exchanges start one shows status_is.1) is_left status_is.0
-session_not_played net talk begun exchanges one (step.Tells asked) old start left fault status good shows so is given (memory, is_left) (inr (named, told)) = absurd (named memory)
+    → talk.store.crashes ≡ left.crashes → SessionEnded net talk begun left status
+session_not_played net talk begun exchanges one (step.Plays part) old start left fault status good shows so is given (inl (memory, early)) (inl status_is) store_is =
+    session_early net talk begun exchanges old start left status so (halts_heard net talk begun exchanges start one shows status_is.1) early status_is.0 store_is
+session_not_played net talk begun exchanges one (step.Plays part) old start left fault status good shows so is given (inl (memory, early)) (inr (named, told)) store_is = absurd (named memory)
+session_not_played net talk begun exchanges one (step.Plays part) old start left fault status good shows so is given (inr (restart, at)) told store_is =
+    session_at_restart net talk begun exchanges one old start left fault status good shows so (sym is ∙ ap step.Plays restart) given at told store_is
+session_not_played net talk begun exchanges one step.Nothing old start left fault status good shows so is given failed told store_is = absurd failed
+session_not_played net talk begun exchanges one (step.Fault code) old start left fault status good shows so is given failed told store_is = absurd failed
+session_not_played net talk begun exchanges one (step.Tells asked) old start left fault status good shows so is given (memory, is_left) (inl status_is) store_is =
+    session_stopped net talk begun exchanges old start left status so (halts_heard net talk begun exchanges start one shows status_is.1) is_left status_is.0 store_is
+session_not_played net talk begun exchanges one (step.Tells asked) old start left fault status good shows so is given (memory, is_left) (inr (named, told)) store_is = absurd (named memory)
 
 -- the first piece was not said
 pub session_not_begun : (net : Net) (hand : Hand) (left : Left) (why : SinkFault) (coming : Option (List ℕ)) (u0 u2 : ℕ) (before after : Option (List ℕ)) (f0 f2 : ℕ) (t0 t2 : Option (List Turn)) (s : Shown) (status : ℕ)
     → AreGood net → IsBegun net hand → IsLeftOf hand left → (why ≡ sink.Failed → Rose f0 f2) → (why ≡ sink.Failed → GainsPrefix before (start_of hand ++ ready_line 0) after) → t2 ≡ t0
-    → (why ≡ sink.OutOfMemory → status ≡ 1) → (why ≡ sink.Failed → status ≡ 6) → SessionEnded net (talk_of coming u0 u2 before after f0 f2 t0 t2 s) hand.book left status
-session_not_begun net hand left why coming u0 u2 before after f0 f2 t0 t2 s status good begun is failed gains same early partly =
+    → (why ≡ sink.OutOfMemory → status ≡ 1) → (why ≡ sink.Failed → status ≡ 6) → s.crashes ≡ left.crashes → LastsIn hand
+    → SessionEnded net (talk_of coming u0 u2 before after f0 f2 t0 t2 s) hand.book left status
+session_not_begun net hand left why coming u0 u2 before after f0 f2 t0 t2 s status good begun is failed gains same early partly store_is last =
     let piece = start_of hand ++ ready_line 0 in
-    let start : Shown = record { told = hand.book.told; faults = hand.book.faults } in
-    session_not_said net (talk_of coming u0 u2 before after f0 f2 t0 t2 s) hand.book [] hand [] piece start start left why status good (start_shown net hand start begun is.kept) (same ∙ took-nil t0) (session_begins net hand begun) is
+    let start : Shown = record { told = hand.book.told; faults = hand.book.faults; crashes = hand.book.crashes } in
+    session_not_said net (talk_of coming u0 u2 before after f0 f2 t0 t2 s) hand.book [] hand [] piece start start left why status good (start_shown net hand start begun is.kept) (same ∙ took-nil t0) (session_begins net hand start begun refl last) is
     (were_given (talk_of coming u0 u2 before after f0 f2 t0 t2 s) coming coming [] refl (gave_none coming)) (ap (λ (p : List ℕ). Said p start ∷ []) (sym (opening_is net hand begun)))
-    (λ stopped. part_behind [] piece coming u0 u2 before before after f0 f0 f2 t0 t0 t2 s (took_none before t0) (omega arith) (failed stopped) (gains stopped) same) early partly
+    (λ stopped. part_behind [] piece coming u0 u2 before before after f0 f0 f2 t0 t0 t2 s (took_none before t0) (omega arith) (failed stopped) (gains stopped) same) early partly store_is
 
 -- memory ran out over the next line
 pub going_stopped : (net : Net) (talk : Talked) (begun : Books) (at : ℕ) (block : Open) (hand : Hand) (left : Left) (coming now before after : Option (List ℕ)) (t1 : Option (List Turn)) (status : ℕ)
-    → SessionGoing net begun at block hand coming now before after talk.turns_before t1 → talk.turns_after ≡ t1 → IsLeftOf hand left → status ≡ 1 → SessionEnded net talk begun left status
-going_stopped net talk begun at block hand left coming now before after t1 status so same is status_is =
-    session_stopped net talk begun so.exchanges hand left status so.said.done (halts_at net talk begun so.exchanges so.said.start so.said.shows (same ∙ so.said.taken.turn)) is status_is
+    → SessionGoing net begun at block hand coming now before after talk.turns_before t1 → talk.turns_after ≡ t1 → IsLeftOf hand left → status ≡ 1 → talk.store.crashes ≡ left.crashes → SessionEnded net talk begun left status
+going_stopped net talk begun at block hand left coming now before after t1 status so same is status_is store_is =
+    session_stopped net talk begun so.exchanges hand so.said.start left status so.said.done (halts_at net talk begun so.exchanges so.said.start so.said.shows (same ∙ so.said.taken.turn)) is status_is store_is
 
 -- memory ran out over a line that was heard
 pub going_not_taken : (net : Net) (talk : Talked) (begun : Books) (at : ℕ) (block : Open) (came : Incoming) (hand : Hand) (left : Left) (coming now before after : Option (List ℕ)) (t1 : Option (List Turn)) (status : ℕ)
-    → SessionGoing net begun at block hand coming now before after talk.turns_before t1 → talk.turns_after ≡ took t1 (heard (Some came)) → IsLeftOf hand left → status ≡ 1 → SessionEnded net talk begun left status
-going_not_taken net talk begun at block came hand left coming now before after t1 status so turn is status_is =
-    session_stopped net talk begun so.exchanges hand left status so.said.done (halts_heard net talk begun so.exchanges so.said.start (said_by came) so.said.shows
-    (took_heard (session_turns net begun.state.changes so.said.start so.exchanges) came before after after talk.turns_before t1 talk.turns_after so.said.taken refl turn).turn) is status_is
+    → SessionGoing net begun at block hand coming now before after talk.turns_before t1 → talk.turns_after ≡ took t1 (heard (Some came)) → IsLeftOf hand left → status ≡ 1 → talk.store.crashes ≡ left.crashes → SessionEnded net talk begun left status
+going_not_taken net talk begun at block came hand left coming now before after t1 status so turn is status_is store_is =
+    session_stopped net talk begun so.exchanges hand so.said.start left status so.said.done (halts_heard net talk begun so.exchanges so.said.start (said_by came) so.said.shows
+    (took_heard (session_turns net begun.state.changes so.said.start so.exchanges) came before after after talk.turns_before t1 talk.turns_after so.said.taken refl turn).turn) is status_is store_is
 
 -- a line was played, and the piece was not said to it
 pub going_not_said : (net : Net) (begun : Books) (at : ℕ) (block behind_it : Open) (came : Incoming) (stp : Step) (old new : Hand) (own piece : List ℕ) (shown : Shown) (left : Left) (why : SinkFault)
@@ -297,8 +316,8 @@ pub going_not_said : (net : Net) (begun : Books) (at : ℕ) (block behind_it : O
     → AreGood net → SessionGoing net begun at block old coming now before b1 t0 t1 → Comes 4096 now (Some came) next → b2 ≡ b1 → t2 ≡ took t1 (heard (Some came))
     → (let row : Open × Step = (behind_it, stp) in row ≡ row_of net block (said_by came)) → StepPlayed net stp old new own → IsLeftOf new left → shown.told ≡ new.book.told → piece ≡ own ++ answer_of at stp
     → f0 ≤ f1 → (why ≡ sink.Failed → Rose f1 f2) → (why ≡ sink.Failed → GainsPrefix b2 piece after) → t3 ≡ t2 → (why ≡ sink.OutOfMemory → status ≡ 1) → (why ≡ sink.Failed → status ≡ 6)
-    → SessionEnded net (talk_of coming u0 u2 before after f0 f2 t0 t3 s) begun left status
-going_not_said net begun at block behind_it came stp old new own piece shown left why coming now next u0 u2 before b1 b2 after f0 f1 f2 t0 t1 t2 t3 s status good so comes same turn row played is told_is piece_is later failed gains quiet early partly =
+    → s.crashes ≡ left.crashes → shown.crashes ≡ new.book.crashes → LastsIn new → SessionEnded net (talk_of coming u0 u2 before after f0 f2 t0 t3 s) begun left status
+going_not_said net begun at block behind_it came stp old new own piece shown left why coming now next u0 u2 before b1 b2 after f0 f1 f2 t0 t1 t2 t3 s status good so comes same turn row played is told_is piece_is later failed gains quiet early partly store_is crashes_are last =
     let one : Exchange = record { line = said_by came; piece = piece; shown = shown } in
     let lines = heard_in so.exchanges in
     let talk = talk_of coming u0 u2 before after f0 f2 t0 t3 s in
@@ -306,10 +325,10 @@ going_not_said net begun at block behind_it came stp old new own piece shown lef
     let taken = took_heard (session_turns net begun.state.changes so.said.start so.exchanges) came before b1 b2 t0 t1 t2 so.said.taken same turn in
     let kept = subst (λ (t : Option (List ℕ)). IsKept new.book.net t new.book.state.changes (lost_of new.book.history)) (sym told_is) is.kept in
     session_not_said net talk begun (so.exchanges ++ one ∷ []) new turns piece so.said.start shown left why status good so.said.shows (quiet ∙ taken.turn)
-    (session_goes_on net begun so.exchanges one stp old new own at so.said.done (row_is net block behind_it lines (said_by came) stp so.open_is row) (omega (arith, so.count)) played piece_is kept) is
+    (session_goes_on net begun so.said.start so.exchanges one stp old new own at so.said.done (row_is net block behind_it lines (said_by came) stp so.open_is row) (omega (arith, so.count)) played piece_is kept crashes_are last) is
     (subst (WereGiven talk) (sym (heard_more so.exchanges one)) (were_given talk coming next (lines ++ said_by came ∷ []) refl (gave_more coming now next lines came so.gave comes)))
     (session_turns_more net begun.state.changes so.said.start so.exchanges one)
-    (λ stopped. part_behind turns piece coming u0 u2 before b2 after f0 f1 f2 t0 t2 t3 s taken later (failed stopped) (gains stopped) quiet) early partly
+    (λ stopped. part_behind turns piece coming u0 u2 before b2 after f0 f1 f2 t0 t2 t3 s taken later (failed stopped) (gains stopped) quiet) early partly store_is
 
 -- the line of the fault is said behind the turns before
 named_behind : (net : Net) (begun : Books) (exchanges : List Exchange) (one : Came) (start : Shown) (fault : RecoverFault) (coming now : Option (List ℕ)) (u0 u1 u2 : ℕ) (before between after : Option (List ℕ)) (f0 f1 f2 : ℕ) (t0 t1 t2 : Option (List Turn)) (s : Shown) (status : ℕ)
@@ -324,14 +343,14 @@ pub going_not_played : (net : Net) (begun : Books) (at : ℕ) (block behind_it :
     (coming now next : Option (List ℕ)) (u0 u1 u2 : ℕ) (before b1 b2 after : Option (List ℕ)) (f0 f1 f2 : ℕ) (t0 t1 t2 t3 : Option (List Turn)) (s : Shown) (status : ℕ)
     → AreGood net → SessionGoing net begun at block old coming now before b1 t0 t1 → Comes 4096 now (Some came) next → b2 ≡ b1 → t2 ≡ took t1 (heard (Some came))
     → (let row : Open × Step = (behind_it, stp) in row ≡ row_of net block (said_by came)) → StepFailed net stp old left fault → f0 ≤ f1
-    → SaysNamed (talk_of next u1 u2 b2 after f1 f2 t2 t3 s) restart_line fault status → SessionEnded net (talk_of coming u0 u2 before after f0 f2 t0 t3 s) begun left status
-going_not_played net begun at block behind_it came stp old left fault coming now next u0 u1 u2 before b1 b2 after f0 f1 f2 t0 t1 t2 t3 s status good so comes same turn row failed later told =
+    → SaysNamed (talk_of next u1 u2 b2 after f1 f2 t2 t3 s) restart_line fault status → s.crashes ≡ left.crashes → SessionEnded net (talk_of coming u0 u2 before after f0 f2 t0 t3 s) begun left status
+going_not_played net begun at block behind_it came stp old left fault coming now next u0 u1 u2 before b1 b2 after f0 f1 f2 t0 t1 t2 t3 s status good so comes same turn row failed later told store_is =
     let lines = heard_in so.exchanges in
     let talk = talk_of coming u0 u2 before after f0 f2 t0 t3 s in
     session_not_played net talk begun so.exchanges (said_by came) stp old so.said.start left fault status good so.said.shows so.said.done (row_is net block behind_it lines (said_by came) stp so.open_is row)
     (were_given talk coming next (lines ++ said_by came ∷ []) refl (gave_more coming now next lines came so.gave comes)) failed
     (named_behind net begun so.exchanges (said_by came) so.said.start fault coming next u0 u1 u2 before b2 after f0 f1 f2 t0 t2 t3 s status
-    (took_heard (session_turns net begun.state.changes so.said.start so.exchanges) came before b1 b2 t0 t1 t2 so.said.taken same turn) later told)
+    (took_heard (session_turns net begun.state.changes so.said.start so.exchanges) came before b1 b2 t0 t1 t2 so.said.taken same turn) later told) store_is
 
 -- the end of the input was heard
 pub heard_over : (net : Net) (begun : Books) (at : ℕ) (block : Open) (hand : Hand) (coming now next : Option (List ℕ)) (u0 u2 : ℕ) (before b1 after : Option (List ℕ)) (f0 f2 : ℕ) (t0 t1 t2 : Option (List Turn)) (s : Shown)
@@ -340,7 +359,7 @@ pub heard_over : (net : Net) (begun : Books) (at : ℕ) (block : Open) (hand : H
 heard_over net begun at block hand coming now next u0 u2 before b1 after f0 f2 t0 t1 t2 s so comes same turn = record {
   exchanges = so.exchanges;
   stops = inl (all_given (talk_of coming u0 u2 before after f0 f2 t0 t2 s) coming now next (heard_in so.exchanges) refl so.gave comes);
-  said = record { done = so.said.done; start = so.said.start; shows = so.said.shows; taken = took_end (session_turns net begun.state.changes so.said.start so.exchanges) before b1 after t0 t1 t2 so.said.taken same turn };
+  said = record { start = so.said.start; done = so.said.done; shows = so.said.shows; taken = took_end (session_turns net begun.state.changes so.said.start so.exchanges) before b1 after t0 t1 t2 so.said.taken same turn };
 }
 
 -- as many lines were heard as are counted
@@ -358,7 +377,7 @@ pub heard_fault : (net : Net) (begun : Books) (at : ℕ) (block : Open) (hand : 
 heard_fault net begun at block hand coming now u0 u2 before b1 after f0 f2 t0 t1 t2 s so rose same turn = record {
   exchanges = so.exchanges;
   stops = (rose, were_given (talk_of coming u0 u2 before after f0 f2 t0 t2 s) coming now (heard_in so.exchanges) refl so.gave);
-  said = record { done = so.said.done; start = so.said.start; shows = so.said.shows; taken = took_same (session_turns net begun.state.changes so.said.start so.exchanges) before b1 after t0 t1 t2 so.said.taken same turn };
+  said = record { start = so.said.start; done = so.said.done; shows = so.said.shows; taken = took_same (session_turns net begun.state.changes so.said.start so.exchanges) before b1 after t0 t1 t2 so.said.taken same turn };
 }
 
 -- the hearing stopped so, also for the talk as it is later
@@ -371,26 +390,27 @@ stops_later coming u0 u1 u2 before between after f0 f1 f2 t0 t1 t2 s1 s lines en
 pub session_closed : (net : Net) (begun : Books) (hand : Hand) (left : Left) (end : InputEnd) (coming now : Option (List ℕ)) (u0 u1 u2 : ℕ) (before between after : Option (List ℕ)) (f0 f1 f2 : ℕ) (t0 t1 t2 : Option (List Turn)) (s1 s : Shown) (status : ℕ)
     → AreGood net → SessionHeard net begun (talk_of coming u0 u1 before between f0 f1 t0 t1 s1) hand end → f0 ≤ f1 → u2 ≡ u1 → IsLeftOf hand left
     → SaysOrNot (talk_of now u1 u2 between after f1 f2 t1 t2 s) (closing_text end left.histories) (status_behind end left.histories) status
-    → SessionEnded net (talk_of coming u0 u2 before after f0 f2 t0 t2 s) begun left status
-session_closed net begun hand left end coming now u0 u1 u2 before between after f0 f1 f2 t0 t1 t2 s1 s status good so later same is (inl early) =
-    session_stopped net (talk_of coming u0 u2 before after f0 f2 t0 t2 s) begun so.exchanges hand left status so.said.done (halts_at net (talk_of coming u0 u2 before after f0 f2 t0 t2 s) begun so.exchanges so.said.start so.said.shows (early.1 ∙ so.said.taken.turn)) is early.0
-session_closed net begun hand left end coming now u0 u1 u2 before between after f0 f1 f2 t0 t1 t2 s1 s status good so later same is (inr closing) =
+    → s.crashes ≡ left.crashes → SessionEnded net (talk_of coming u0 u2 before after f0 f2 t0 t2 s) begun left status
+session_closed net begun hand left end coming now u0 u1 u2 before between after f0 f1 f2 t0 t1 t2 s1 s status good so later same is (inl early) store_is =
+    session_stopped net (talk_of coming u0 u2 before after f0 f2 t0 t2 s) begun so.exchanges hand so.said.start left status so.said.done (halts_at net (talk_of coming u0 u2 before after f0 f2 t0 t2 s) begun so.exchanges so.said.start so.said.shows (early.1 ∙ so.said.taken.turn)) is early.0 store_is
+session_closed net begun hand left end coming now u0 u1 u2 before between after f0 f1 f2 t0 t1 t2 s1 s status good so later same is (inr closing) store_is =
     session_whole net (talk_of coming u0 u2 before after f0 f2 t0 t2 s) begun so.exchanges hand so.said.start left end status good so.said.shows so.said.done is
     (stops_later coming u0 u1 u2 before between after f0 f1 f2 t0 t1 t2 s1 s (heard_in so.exchanges) end same so.stops)
     (says_behind (session_turns net begun.state.changes so.said.start so.exchanges) (closing_text end left.histories) (status_behind end left.histories) status coming now u0 u1 u2 before between after f0 f1 f2 t0 t1 t2 s
-    so.said.taken later closing)
+    so.said.taken later closing) store_is
 
 -- the same of what is given back
-pub same_session_end : (net : Net) (coming : Option (List ℕ)) (u0 u2 : ℕ) (b0 b2 : Option (List ℕ)) (f0 f2 : ℕ) (t0 t2 : Option (List Turn)) (begun : Books) (left : Left) (told : Option (List ℕ)) (faults : ℕ) (histories : List History) (events : List Event) (status s : ℕ)
-    → told ≡ left.told → faults ≡ left.faults → histories ≡ left.histories → events ≡ left.events → status ≡ s → SessionEnded net (talk_of coming u0 u2 b0 b2 f0 f2 t0 t2 (record { told = left.told; faults = left.faults })) begun left s
-    → SessionEnded net (talk_of coming u0 u2 b0 b2 f0 f2 t0 t2 (record { told = told; faults = faults })) begun (record { told = told; faults = faults; histories = histories; events = events }) status
-same_session_end net coming u0 u2 b0 b2 f0 f2 t0 t2 begun left told faults histories events status s told_is faults_are all same status_is ended =
-    subst (λ (n : ℕ). SessionEnded net (talk_of coming u0 u2 b0 b2 f0 f2 t0 t2 (record { told = told; faults = faults })) begun (record { told = told; faults = faults; histories = histories; events = events }) n) (sym status_is)
-    (subst (λ (l : Left). SessionEnded net (talk_of coming u0 u2 b0 b2 f0 f2 t0 t2 (record { told = l.told; faults = l.faults })) begun l s) (sym (
-    ap (λ (t : Option (List ℕ)). let l : Left = record { told = t; faults = faults; histories = histories; events = events } in l) told_is
-    ∙ ap (λ (f : ℕ). let l : Left = record { told = left.told; faults = f; histories = histories; events = events } in l) faults_are
-    ∙ ap (λ (h : List History). let l : Left = record { told = left.told; faults = left.faults; histories = h; events = events } in l) all
-    ∙ ap (λ (e : List Event). let l : Left = record { told = left.told; faults = left.faults; histories = left.histories; events = e } in l) same
+pub same_session_end : (net : Net) (coming : Option (List ℕ)) (u0 u2 : ℕ) (b0 b2 : Option (List ℕ)) (f0 f2 : ℕ) (t0 t2 : Option (List Turn)) (begun : Books) (left : Left) (told : Option (List ℕ)) (faults : ℕ) (crashes : Option Crashes) (histories : List History) (events : List Event) (status s : ℕ)
+    → told ≡ left.told → faults ≡ left.faults → crashes ≡ left.crashes → histories ≡ left.histories → events ≡ left.events → status ≡ s → SessionEnded net (talk_of coming u0 u2 b0 b2 f0 f2 t0 t2 (record { told = left.told; faults = left.faults; crashes = left.crashes })) begun left s
+    → SessionEnded net (talk_of coming u0 u2 b0 b2 f0 f2 t0 t2 (record { told = told; faults = faults; crashes = crashes })) begun (record { told = told; faults = faults; crashes = crashes; histories = histories; events = events }) status
+same_session_end net coming u0 u2 b0 b2 f0 f2 t0 t2 begun left told faults crashes histories events status s told_is faults_are crashes_are all same status_is ended =
+    subst (λ (n : ℕ). SessionEnded net (talk_of coming u0 u2 b0 b2 f0 f2 t0 t2 (record { told = told; faults = faults; crashes = crashes })) begun (record { told = told; faults = faults; crashes = crashes; histories = histories; events = events }) n) (sym status_is)
+    (subst (λ (l : Left). SessionEnded net (talk_of coming u0 u2 b0 b2 f0 f2 t0 t2 (record { told = l.told; faults = l.faults; crashes = l.crashes })) begun l s) (sym (
+    ap (λ (t : Option (List ℕ)). let l : Left = record { told = t; faults = faults; crashes = crashes; histories = histories; events = events } in l) told_is
+    ∙ ap (λ (f : ℕ). let l : Left = record { told = left.told; faults = f; crashes = crashes; histories = histories; events = events } in l) faults_are
+    ∙ ap (λ (c : Option Crashes). let l : Left = record { told = left.told; faults = left.faults; crashes = c; histories = histories; events = events } in l) crashes_are
+    ∙ ap (λ (h : List History). let l : Left = record { told = left.told; faults = left.faults; crashes = left.crashes; histories = h; events = events } in l) all
+    ∙ ap (λ (e : List Event). let l : Left = record { told = left.told; faults = left.faults; crashes = left.crashes; histories = left.histories; events = e } in l) same
     )) ended)
 
 -- a source failed
@@ -408,7 +428,7 @@ session_over net tells other opening start exchanges histories events same sessi
   parts_are = session.parts_are;
   lines = session.lines;
   run = run_over net tells other opening session.parts histories events session.lines same session.run;
-  played = subst (λ (b : Bool). PlaysLines net b 1 None (at_start net opening) exchanges session.run.end) same session.played;
+  played = subst (λ (b : Bool). PlaysLines net b 1 None (at_start net opening) start exchanges session.run.end) same session.played;
 }
 
 -- the store told bytes before the recovery as behind it, or not, and its count of faults did not fall in it
@@ -435,7 +455,8 @@ session_ends_from net talk told given after faults begun now opening status hist
   start = breaks.start;
   shows = breaks.shows;
   stand = breaks.stand;
-  played = subst (λ (b : Bool). PlaysLines net b 1 None (at_start net opening) breaks.exchanges breaks.stand) tells breaks.played;
+  played = subst (λ (b : Bool). PlaysLines net b 1 None (at_start net opening) breaks.start breaks.exchanges breaks.stand) tells breaks.played;
+  lasts = breaks.lasts;
   goes = breaks.goes;
   turns = breaks.turns;
   stops = breaks.stops;
@@ -446,6 +467,7 @@ session_ends_from net talk told given after faults begun now opening status hist
   start = whole.start;
   session = session_over net (is_some told) (is_some given) opening whole.start whole.exchanges histories events tells whole.session;
   left = leaves_from net told given after faults begun now histories whole.session.run.end later whole.left;
+  lasts = whole.lasts;
   end = whole.end;
   stops = whole.stops;
   said = whole.said;
@@ -455,6 +477,7 @@ session_ends_from net talk told given after faults begun now opening status hist
   start = part.start;
   session = session_over net (is_some told) (is_some given) opening part.start part.exchanges histories events tells part.session;
   left = leaves_from net told given after faults begun now histories part.session.run.end later part.left;
+  lasts = part.lasts;
   given = part.given;
   turns = part.turns;
   piece = part.piece;
@@ -473,6 +496,7 @@ session_ends_from net talk told given after faults begun now opening status hist
   told = fails.told;
   faults = fails.faults;
   left = leaves_from net told given fails.told faults begun fails.faults histories fails.session.run.end later fails.left;
+  lasts = fails.lasts;
   fault = fails.fault;
   failed = fails.failed;
   later = fails.later;

@@ -23,7 +23,9 @@ use Rattle.bt_round.proofs.Installed.{newest_ascends}
 use Rattle.bt_round.proofs.Running.{past-having}
 use Rattle.bt_centre.specs.declared.history.History.{History}
 use Rattle.bt_report.specs.Output.{Output}
-use Rattle.bt_centre.specs.Parts.{EachPart, EachPartAtEnd, EachPartOfRun}
+use Rattle.bt_centre.specs.Parts.{EachPart, EachPartAtEnd, EachPartOfRun, EachPartOfSession}
+use Rattle.bt_centre.specs.Session.{SessionEndsFrom}
+use Rattle.bt_centre.specs.Talked.{Talked}
 use Rattle.bt_centre.specs.Run.{AreLegalTimes, EndsFrom, IsRun, PlaysItem, PlaysItems, PlaysRestart, PlaysRound, Stand, at_start, changes_at}
 use Rattle.bt_report.specs.Stored.{Stored}
 use Rattle.bt_centre.specs.Turns.{IsNewestOf, IsNoNewer, PartIsNoNewer, TurnsKnow}
@@ -138,3 +140,25 @@ end_no_newer net items output stored opening status histories events tells (inr 
     run_no_newer net (is_some stored.before) opening partly.first histories events partly.lines tells partly.run
 end_no_newer net items output stored opening status histories events tells (inr (inr (inr until))) =
     run_no_newer net (is_some stored.before) opening until.first histories events until.lines tells until.run
+
+-- so does each turn of a session
+pub session_knows : (net : Net) (talk : Talked) (stored : Stored) (opening : List Change) (status : ℕ) (histories : List History) (events : List Event) → is_some stored.before ≡ true
+    → (ends : SessionEndsFrom net talk stored opening status histories events) → EachPartOfSession TurnsKnow net talk stored opening status histories events ends
+session_knows net talk stored opening status histories events tells (inl breaks) = tt
+session_knows net talk stored opening status histories events tells (inr (inl whole)) =
+    run_knows net (is_some stored.before) opening whole.session.parts histories events whole.session.lines tells whole.session.run
+session_knows net talk stored opening status histories events tells (inr (inr (inl unsaid))) =
+    run_knows net (is_some stored.before) opening unsaid.session.parts histories events unsaid.session.lines tells unsaid.session.run
+session_knows net talk stored opening status histories events tells (inr (inr (inr until))) =
+    run_knows net (is_some stored.before) opening until.session.parts histories events until.session.lines tells until.session.run
+
+-- nor in a session
+pub session_no_newer : (net : Net) (talk : Talked) (stored : Stored) (opening : List Change) (status : ℕ) (histories : List History) (events : List Event) → is_some stored.before ≡ true
+    → (ends : SessionEndsFrom net talk stored opening status histories events) → EachPartOfSession PartIsNoNewer net talk stored opening status histories events ends
+session_no_newer net talk stored opening status histories events tells (inl breaks) = tt
+session_no_newer net talk stored opening status histories events tells (inr (inl whole)) =
+    run_no_newer net (is_some stored.before) opening whole.session.parts histories events whole.session.lines tells whole.session.run
+session_no_newer net talk stored opening status histories events tells (inr (inr (inl unsaid))) =
+    run_no_newer net (is_some stored.before) opening unsaid.session.parts histories events unsaid.session.lines tells unsaid.session.run
+session_no_newer net talk stored opening status histories events tells (inr (inr (inr until))) =
+    run_no_newer net (is_some stored.before) opening until.session.parts histories events until.session.lines tells until.session.run

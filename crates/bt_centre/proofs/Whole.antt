@@ -77,6 +77,7 @@ ran_whole front old new none ran = record {
   follows = ran.follows;
   rose = ran.rose;
   tells = ran.tells;
+  last = ran.last;
 }
 
 goes_whole : (times : List History) (front : List Entry) (old new : Hand) → has_fault front ≡ false → GoesOn old new → GoesOn (whole times front old) (whole times front new)
@@ -117,6 +118,7 @@ restart_whole net times front old new text live played = record {
   next = subst (λ (l : List Change). IfSome old.book.told (λ _. IsNextOpening old.book.state.changes l new.book.state.changes)) (sym (lost_front front old.book.history live.sound)) played.next;
   tells = played.tells;
   later = played.later;
+  last = played.last;
   rounds = played.rounds;
   centre = played.centre;
 }
@@ -138,6 +140,7 @@ pub left_whole : (times : List History) (front : List Entry) (hand : Hand) (left
 left_whole times front hand left live is = record {
   told = is.told;
   faults = is.faults;
+  crashes = is.crashes;
   histories = histories_whole times front hand left.histories live.over is.histories;
   events = is.events;
   world = is.world;
@@ -153,6 +156,7 @@ early_whole times front old left live is = record {
   kept = kept_whole front is.hand.book live.sound is.kept;
   cut = is.cut;
   later = is.later;
+  last = is.last;
   world = is.world;
 }
 
@@ -164,6 +168,7 @@ at_restart_whole net times front old left fault live is = record {
   failed = is.failed;
   later = is.later;
   only = is.only;
+  last = is.last;
   histories = histories_whole times front old left.histories live.over is.histories;
   events = is.events;
   world = is.world;

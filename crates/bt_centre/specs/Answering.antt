@@ -7,19 +7,19 @@ use Rattle.bt_outside.specs.Talk.{Shown, Turn, took}
 use Rattle.bt_net.specs.Network.{Net}
 use Rattle.bt_script.specs.declared.script.Item.{Item}
 use Rattle.bt_history.specs.Book.{Books}
+use Rattle.bt_history.specs.Crash.{Last}
 use Rattle.bt_history.specs.declared.fault.RecoverFault.{RecoverFault}
 use Rattle.bt_history.specs.declared.fault.RecoverFault.TheVariants.{OutOfMemory}
 use Rattle.bt_talk.specs.declared.block.Step.{Step}
 use Rattle.bt_talk.specs.declared.block.Step.TheVariants as step
 use Rattle.bt_talk.specs.Asked.{open_behind, parts_of}
 use Rattle.bt_talk.specs.Block.{Open}
-use Rattle.bt_report.specs.declared.status.TheConstants.{OUT_OF_MEMORY}
 use Rattle.bt_centre.specs.declared.session.InputEnd.{InputEnd}
 use Rattle.bt_centre.specs.declared.session.TheConstants.{MOST_LINE_BYTES}
 use Rattle.bt_centre.specs.Progress.{Hand, IsLeftOf, ItemFailed, ItemPlayed, ItemsDone, Left}
 use Rattle.bt_centre.specs.RecoverFaults.{recover_line, recover_status}
-use Rattle.bt_centre.specs.Run.{at_start, opening_on}
-use Rattle.bt_centre.specs.Session.{Exchange, PlaysLines, SessionEndsFrom, ShowsChanges, StopsHearing, heard_in, session_turns}
+use Rattle.bt_centre.specs.Run.{at_start, changes_at, opening_on}
+use Rattle.bt_centre.specs.Session.{Exchange, PlaysLines, SessionEndsFrom, ShowsChanges, StopsHearing, heard_in, session_turns, shown_behind}
 use Rattle.bt_centre.specs.Talked.{Says, SaysNothing, Talked, spoken}
 use Rattle.bt_centre.specs.Told.{IsTold}
 use Rattle.bt_centre.specs.World.{IsSpelledWorld}
@@ -47,18 +47,19 @@ pub record Took (turns : List Turn) (before after : Option (List ℕ)) (turns_be
   pub wrote : after ≡ gained before (spoken turns)
   pub turn : turns_after ≡ took turns_before turns
 
--- lines were played on the way
-pub record SessionDone (net : Net) (begun : Books) (exchanges : List Exchange) (hand : Hand) : Type 0 where
+-- lines were played on the way, and the changes made up to there last from the last piece said
+pub record SessionDone (net : Net) (begun : Books) (start : Shown) (exchanges : List Exchange) (hand : Hand) : Type 0 where
   pub parts : List Item
   pub parts_are : parts ≡ parts_of net None (heard_in exchanges)
   pub lines : List ℕ
   pub done : ItemsDone net begun parts hand lines
-  pub played : PlaysLines net (is_some begun.told) 1 None (at_start net begun.state.changes) exchanges done.end
+  pub played : PlaysLines net (is_some begun.told) 1 None (at_start net begun.state.changes) start exchanges done.end
+  pub lasts : Last net (changes_at done.end) (shown_behind start exchanges).crashes hand.book.crashes
 
 -- the same, and the first piece was said, and each of them was answered
 pub record SessionSaid (net : Net) (begun : Books) (exchanges : List Exchange) (hand : Hand) (before after : Option (List ℕ)) (turns_before turns_after : Option (List Turn)) : Type 0 where
-  pub done : SessionDone net begun exchanges hand
   pub start : Shown
+  pub done : SessionDone net begun start exchanges hand
   pub shows : ShowsChanges net (at_start net begun.state.changes) start
   pub taken : Took (session_turns net begun.state.changes start exchanges) before after turns_before turns_after
 

@@ -1,6 +1,7 @@
 pub mod Answering
 pub mod Handed
 pub mod Joining
+pub mod Lasting
 pub mod Lines
 pub mod Parts
 pub mod Progress

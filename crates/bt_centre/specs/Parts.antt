@@ -10,6 +10,8 @@ use Rattle.bt_centre.specs.declared.history.History.{History}
 use Rattle.bt_report.specs.Output.{Output}
 use Rattle.bt_centre.specs.Run.{EndsFrom, IsRun, PlaysItem, PlaysItems, Stand, at_start}
 use Rattle.bt_report.specs.Stored.{Stored}
+use Rattle.bt_centre.specs.Session.{SessionEndsFrom}
+use Rattle.bt_centre.specs.Talked.{Talked}
 
 -- this holds of each of the parts that were played: of where the run stood before it, of the part and its text, of where it stood behind
 -- it, and of how it came there
@@ -37,3 +39,16 @@ EachPartAtEnd IsSo net items output stored opening status histories events (inr 
     EachPartOfRun IsSo net (is_some stored.before) opening partly.first histories events partly.lines partly.run
 EachPartAtEnd IsSo net items output stored opening status histories events (inr (inr (inr until))) =
     EachPartOfRun IsSo net (is_some stored.before) opening until.first histories events until.lines until.run
+
+-- of each part that the lines of a session asked, however it ended; where memory ran out, the parts are those of the lines that were played,
+-- and nothing is said of them here
+abbrev pub EachPartOfSession : ((net : Net) → (tells : Bool) → (before : Stand) → (one : Item) → (text : List ℕ) → (after : Stand) → PlaysItem net tells before one text after → Type 0)
+    → (net : Net) → (talk : Talked) → (stored : Stored) → (opening : List Change) → (status : ℕ) → (histories : List History) → (events : List Event)
+    → SessionEndsFrom net talk stored opening status histories events → Type 0
+EachPartOfSession IsSo net talk stored opening status histories events (inl breaks) = Unit {0}
+EachPartOfSession IsSo net talk stored opening status histories events (inr (inl whole)) =
+    EachPartOfRun IsSo net (is_some stored.before) opening whole.session.parts histories events whole.session.lines whole.session.run
+EachPartOfSession IsSo net talk stored opening status histories events (inr (inr (inl unsaid))) =
+    EachPartOfRun IsSo net (is_some stored.before) opening unsaid.session.parts histories events unsaid.session.lines unsaid.session.run
+EachPartOfSession IsSo net talk stored opening status histories events (inr (inr (inr until))) =
+    EachPartOfRun IsSo net (is_some stored.before) opening until.session.parts histories events until.session.lines until.session.run

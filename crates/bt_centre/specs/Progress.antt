@@ -2,6 +2,7 @@
 use Rattle.std.specs.Prelude.{◌≡◌, ◌≢◌, ◌⊎◌, ℕ, ◌+◌, ◌≤◌, ◌++◌, Bool, true, false, List, [], ◌∷◌, length, reverse, All, AllPairs, Option, IfSome}
 use Rattle.std.specs.List.{HoldsAt}
 use Rattle.std.specs.Option.{is_some}
+use Rattle.bt_outside.specs.Crash.{Crashes}
 use Rattle.bt_outside.specs.Told.{gained}
 use Rattle.bt_net.specs.Network.{Net}
 use Rattle.bt_air.specs.declared.event.Event.{Event}
@@ -12,6 +13,7 @@ use Rattle.bt_history.specs.declared.fault.RecoverFault.TheVariants.{OutOfMemory
 use Rattle.bt_history.specs.Book.{Books}
 use Rattle.bt_history.specs.Causes.{Follows}
 use Rattle.bt_history.specs.Changes.{edition, newest, orders}
+use Rattle.bt_history.specs.Crash.{Last}
 use Rattle.bt_history.specs.Machine.{Legal, running, state_after}
 use Rattle.bt_history.specs.Recovery.{IsRecoverFault, MaybeRecovered}
 use Rattle.bt_history.specs.Store.{IsKept, IsNextOpening, RoseBy, lost_of}
@@ -22,7 +24,7 @@ use Rattle.bt_timeline.specs.Timeline.{restart_line, round_line, start_line}
 use Rattle.bt_centre.specs.declared.history.History.{History}
 use Rattle.bt_round.specs.AirLines.{AirState, mark_of, restarting}
 use Rattle.bt_round.specs.Desks.{IsNotOlder, Sight}
-use Rattle.bt_round.specs.Rounds.{BookRan, RoundDone, newest_at}
+use Rattle.bt_round.specs.Rounds.{BookRan, LastOn, RoundDone, newest_at}
 use Rattle.bt_report.specs.Output.{Output}
 use Rattle.bt_centre.specs.Run.{AreFew, AreTimes, EndsFrom, JoinsOrder, PlaysItems, Stand, at_start, first_line, lost_in, opening_on}
 use Rattle.bt_centre.specs.World.{IsSpelledWorld}
@@ -135,7 +137,7 @@ pub record BeganAgain (book : Books) (air : AirState) (over : List History) (rou
   pub rounds_are : new.rounds ≡ rounds
   pub centre : CentreBegan book.state.changes air new.air text
 
--- the store was read again, the time is over, and the centre restarted
+-- the store was read again, over which the changes last; the time is over, and the centre restarted
 pub record RestartPlayed (net : Net) (old new : Hand) (text : List ℕ) : Type 0 where
   pub over : new.over ≡ histories_in old
   pub before : new.before ≡ length new.book.state.changes
@@ -147,6 +149,7 @@ pub record RestartPlayed (net : Net) (old new : Hand) (text : List ℕ) : Type 0
   pub next : IfSome old.book.told (λ _. IsNextOpening old.book.state.changes (lost_of old.book.history) new.book.state.changes)
   pub tells : is_some new.book.told ≡ is_some old.book.told
   pub later : old.book.faults ≤ new.book.faults
+  pub last : Last net old.book.state.changes old.book.crashes new.book.crashes
   pub rounds : new.rounds ≡ old.rounds
   pub centre : CentreBegan new.book.state.changes old.air new.air text
 
@@ -155,10 +158,11 @@ abbrev pub ItemPlayed : Net → Item → Hand → Hand → List ℕ → Type 0
 ItemPlayed net (item.Round round) old new text = RoundPlayed net round old new text
 ItemPlayed net item.Restart old new text = RestartPlayed net old new text
 
--- What is left of a run: what its store tells, with its count of faults, the histories, and the events.
+-- What is left of a run: what its store tells, with its count of faults and what a crash may leave, the histories, and the events.
 pub record Left : Type 0 where
   pub told : Option (List ℕ)
   pub faults : ℕ
+  pub crashes : Option Crashes
   pub histories : List History
   pub events : List Event
 
@@ -166,6 +170,7 @@ pub record Left : Type 0 where
 pub record IsLeftOf (hand : Hand) (left : Left) : Type 0 where
   pub told : left.told ≡ hand.book.told
   pub faults : left.faults ≡ hand.book.faults
+  pub crashes : left.crashes ≡ hand.book.crashes
   pub histories : left.histories ≡ histories_in hand
   pub events : left.events ≡ hand.air.life.events
   pub world : IsSpelledWorld hand.air.life.opening (reverse left.events)
@@ -175,11 +180,12 @@ pub record IsLeftOf (hand : Hand) (left : Left) : Type 0 where
 pub record IsLeftBehind (book : Books) (air : AirState) (over : List History) (left : Left) : Type 0 where
   pub told : left.told ≡ book.told
   pub faults : left.faults ≡ book.faults
+  pub crashes : left.crashes ≡ book.crashes
   pub histories : left.histories ≡ over
   pub world : IsSpelledWorld air.life.opening (reverse left.events)
 
 -- what is left where memory ran out over a part: the histories, with what was asked and answered meanwhile, the store that keeps that,
--- and the events of a world
+-- with the changes from before it, which last on, and the events of a world
 pub record IsLeftEarly (old : Hand) (left : Left) : Type 0 where
   pub hand : Hand
   pub goes : GoesOn old hand
@@ -187,15 +193,17 @@ pub record IsLeftEarly (old : Hand) (left : Left) : Type 0 where
   pub kept : IsKept hand.book.net hand.book.told hand.book.state.changes (lost_of hand.book.history)
   pub cut : MaybeRecovered hand.book.net hand.book.told left.told hand.book.faults left.faults
   pub later : hand.book.faults ≤ left.faults
+  pub last : LastOn old.book.net old.book.state.changes old.book.crashes left.crashes
   pub world : IsSpelledWorld old.air.life.opening (reverse left.events)
 
 -- the recovery at a restart failed: the run stopped before it, and the store is left as the fault says. A store that tells its bytes
--- can only have failed.
+-- can only have failed. The changes last over it.
 pub record IsLeftAtRestart (net : Net) (old : Hand) (left : Left) (fault : RecoverFault) : Type 0 where
   pub named : fault ≢ OutOfMemory
   pub failed : IsRecoverFault net old.book.told left.told old.book.faults left.faults fault
   pub later : old.book.faults ≤ left.faults
   pub only : IfSome old.book.told (λ _. fault ≡ StoreFault)
+  pub last : Last net old.book.state.changes old.book.crashes left.crashes
   pub histories : left.histories ≡ histories_in old
   pub events : left.events ≡ old.air.life.events
   pub world : IsSpelledWorld old.air.life.opening (reverse left.events)

@@ -277,13 +277,29 @@ pub record RunsWhole (net : Net) (items : List Item) (output : Output) (stored :
   pub written : output.after ≡ gained output.before (whole_text net opening lines histories)
   pub status_is : status ≡ status_after histories
 
--- a first part was written of the lines of the parts that were run; or of their whole text with the last line, where no part
--- is left
-abbrev pub WritesPart : Output → List Item → List ℕ → List ℕ → Type 0
-WritesPart output more lines text = GainsPrefix output.before lines output.after ⊎ ((more ≡ []) × GainsPrefix output.before text output.after)
+-- the first line was written, then the whole text of the parts that were run but for the last of them, and then a first part of its text
+pub record WritesLast (net : Net) (tells : Bool) (opening : List Change) (items : List Item) (output : Output) (lines : List ℕ) (end : Stand) : Type 0 where
+  pub whole : List Item
+  pub last : Item
+  pub parts : items ≡ whole ++ last ∷ []
+  pub said : List ℕ
+  pub own : List ℕ
+  pub lines_are : lines ≡ said ++ own
+  pub before : Stand
+  pub played : PlaysItems net tells (at_start net opening) whole said before
+  pub goes : PlaysItem net tells before last own end
+  pub written : GainsPrefix (gained output.before (first_line net opening ++ said)) own output.after
 
--- the sink failed over the text of a part, or over the first or the last line: the parts up to that one were run, and a first part of
--- their text was written
+-- What was written where the sink failed: a first part of the first line, before any part was run; or all but for the text of the last
+-- part that was run; or, where no part is left, the text of all and a first part of the last line.
+abbrev pub WritesPart : Net → (tells : Bool) → List Change → (first more : List Item) → Output → List ℕ → List History → Stand → Type 0
+WritesPart net tells opening first more output lines histories end =
+    ((first ≡ []) × GainsPrefix output.before (first_line net opening) output.after)
+    ⊎ WritesLast net tells opening first output lines end
+    ⊎ ((more ≡ []) × GainsPrefix (gained output.before (first_line net opening ++ lines)) (total_of (entries_of histories)) output.after)
+
+-- the sink failed over the text of a part, or over the first or the last line: the parts up to that one were run, and what was to be
+-- written before it was written whole
 pub record RunsPartly (net : Net) (items : List Item) (output : Output) (stored : Stored) (opening : List Change) (status : ℕ) (histories : List History) (events : List Event) : Type 0 where
   pub first : List Item
   pub more : List Item
@@ -292,7 +308,7 @@ pub record RunsPartly (net : Net) (items : List Item) (output : Output) (stored 
   pub run : IsRun net (is_some stored.before) opening first histories events lines
   pub left : LeavesStore net stored histories run.end
   pub failed : HasFailed output
-  pub written : WritesPart output more (first_line net opening ++ lines) (whole_text net opening lines histories)
+  pub written : WritesPart net (is_some stored.before) opening first more output lines histories run.end
   pub status_is : status ≡ WRITE_FAILED
 
 -- The recovery at a restart failed: the parts before it were run, and their text was written without the last line, then the line

@@ -7,6 +7,7 @@ use Rattle.bt_outside.specs.Talk.{Shown, Turn, Heard, Said, took}
 use Rattle.bt_net.specs.Network.{Net}
 use Rattle.bt_air.specs.declared.event.Event.{Event}
 use Rattle.bt_journal.specs.declared.call.Change.{Change}
+use Rattle.bt_history.specs.Crash.{Last}
 use Rattle.bt_history.specs.declared.fault.RecoverFault.{RecoverFault}
 use Rattle.bt_history.specs.declared.fault.RecoverFault.TheVariants.{OutOfMemory, StoreFault}
 use Rattle.bt_history.specs.Recovery.{IsRecoverFault}
@@ -48,6 +49,11 @@ abbrev pub turns_in : List Exchange → List Turn
 turns_in [] = []
 turns_in (first ∷ exchanges) = Heard first.line ∷ Said first.piece first.shown ∷ turns_in exchanges
 
+-- what the store told when the last of these was said, or before them
+abbrev pub shown_behind : Shown → List Exchange → Shown
+shown_behind before [] = before
+shown_behind before (first ∷ exchanges) = shown_behind first.shown exchanges
+
 -- the store told the changes that were made up to there, and maybe a first part of the one that it lost
 abbrev pub ShowsChanges : Net → Stand → Shown → Type 0
 ShowsChanges net stand shown = IsKept net shown.told (changes_at stand) (lost_of stand.history)
@@ -60,13 +66,18 @@ PlaysStep net tells before (step.Fault code) text after = (text ≡ []) × (afte
 PlaysStep net tells before (step.Tells one) text after = IsTold net (changes_at before) before.air.waiting one text × (after ≡ before)
 
 -- lines one after the other, the first of them line `at`: each is played, and the piece said to it is the text of that with its answer
--- behind, while the store told all changes that were made up to there
-abbrev pub PlaysLines : Net → (tells : Bool) → (at : ℕ) → Open → Stand → List Exchange → Stand → Type 0
-PlaysLines net tells at block before [] after = after ≡ before
-PlaysLines net tells at block before (first ∷ exchanges) after =
+-- behind, while the store told all changes that were made up to there. The changes that were made before a line last from the piece said
+-- before it, when the store told this, up to its own.
+abbrev pub PlaysLines : Net → (tells : Bool) → (at : ℕ) → Open → Stand → Shown → List Exchange → Stand → Type 0
+PlaysLines net tells at block before shown [] after = after ≡ before
+PlaysLines net tells at block before shown (first ∷ exchanges) after =
     (between : Stand) × (own : List ℕ) × PlaysStep net tells before (row_of net block first.line).1 own between
-    × PlaysLines net tells (at + 1) (row_of net block first.line).0 between exchanges after × (first.piece ≡ own ++ answer_of at (row_of net block first.line).1)
-    × ShowsChanges net between first.shown
+    × PlaysLines net tells (at + 1) (row_of net block first.line).0 between first.shown exchanges after × (first.piece ≡ own ++ answer_of at (row_of net block first.line).1)
+    × ShowsChanges net between first.shown × Last net (changes_at before) shown.crashes first.shown.crashes
+
+-- the changes made up to there last from the last piece said, or that over which the sink or memory failed, to the end of the talk
+abbrev pub LastToEnd : Net → Talked → Stand → Shown → List Exchange → Type 0
+LastToEnd net talk stand start exchanges = Last net (changes_at stand) (shown_behind start exchanges).crashes talk.store.crashes
 
 -- A session of these exchanges, from these changes on: it is a run of the parts that its lines ask, and what is said to each line is the
 -- text of what it plays, with its answer behind.
@@ -76,7 +87,7 @@ pub record IsSession (net : Net) (tells : Bool) (opening : List Change) (start :
   pub parts_are : parts ≡ parts_of net None (heard_in exchanges)
   pub lines : List ℕ
   pub run : IsRun net tells opening parts histories events lines
-  pub played : PlaysLines net tells 1 None (at_start net opening) exchanges run.end
+  pub played : PlaysLines net tells 1 None (at_start net opening) start exchanges run.end
 
 -- the first line of a session, and that the first line may come
 abbrev pub opening_text : Net → List Change → List ℕ
@@ -123,6 +134,7 @@ pub record SessionWhole (net : Net) (talk : Talked) (stored : Stored) (opening :
   pub start : Shown
   pub session : IsSession net (is_some stored.before) opening start exchanges histories events
   pub left : LeavesStore net stored histories session.run.end
+  pub lasts : LastToEnd net talk session.run.end start exchanges
   pub end : InputEnd
   pub stops : StopsHearing talk (heard_in exchanges) end
   pub said : Says (behind talk (session_turns net opening start exchanges)) (closing_text end histories) (status_behind end histories) status
@@ -134,6 +146,7 @@ pub record SessionUnsaid (net : Net) (talk : Talked) (stored : Stored) (opening 
   pub start : Shown
   pub session : IsSession net (is_some stored.before) opening start exchanges histories events
   pub left : LeavesStore net stored histories session.run.end
+  pub lasts : LastToEnd net talk session.run.end start exchanges
   pub given : WereGiven talk (heard_in exchanges)
   pub turns : List Turn
   pub piece : List ℕ
@@ -155,6 +168,7 @@ pub record SessionToRestart (net : Net) (talk : Talked) (stored : Stored) (openi
   pub told : Option (List ℕ)
   pub faults : ℕ
   pub left : LeavesStore net (record stored { after = told; faults_after = faults }) histories session.run.end
+  pub lasts : LastToEnd net talk session.run.end start exchanges
   pub fault : RecoverFault
   pub failed : IsRecoverFault net told stored.after faults stored.faults_after fault
   pub later : faults ≤ stored.faults_after
@@ -181,7 +195,8 @@ pub record SessionBreaksOff (net : Net) (talk : Talked) (stored : Stored) (openi
   pub start : Shown
   pub shows : ShowsChanges net (at_start net opening) start
   pub stand : Stand
-  pub played : PlaysLines net (is_some stored.before) 1 None (at_start net opening) exchanges stand
+  pub played : PlaysLines net (is_some stored.before) 1 None (at_start net opening) start exchanges stand
+  pub lasts : LastToEnd net talk stand start exchanges
   pub goes : GoesOnFrom stand histories
   pub turns : List Turn
   pub stops : StopsTurns net opening start exchanges turns

@@ -18,7 +18,7 @@ whole times front hand = record { over = times; before = hand.before; book = pre
 
 -- what is left, behind these times, and with these entries in front
 abbrev pub whole_left : List History → List Entry → Left → Left
-whole_left times front left = record { told = left.told; faults = left.faults; histories = times ++ map (with_front front) left.histories; events = left.events }
+whole_left times front left = record { told = left.told; faults = left.faults; crashes = left.crashes; histories = times ++ map (with_front front) left.histories; events = left.events }
 
 -- whether one of these entries tells of a fault of the store
 abbrev pub has_fault : List Entry → Bool

@@ -8,12 +8,14 @@
 //! what is said, and what a session is. `Progress`, `Answering`, `Handed` and `Whole` are for bodies alone. `specs/Joining.antt` and
 //! `specs/Turns.antt` are promises too: which order joins the world at a restart, and what a turn knows of the plans that
 //! are installed; `joining_laws.rt` and `turn_laws.rt` have what holds of that in all runs, each of their parts by
-//! `specs/Parts.antt`.
+//! `specs/Parts.antt`. `specs/Lasting.antt` is one: what a crash leaves of what was answered in a session, of which
+//! `lasting_laws.rt` has what holds in all sessions.
 #![tactic(auto)]
 
 mod fault;
 mod history;
 mod joining_laws;
+mod lasting_laws;
 mod live;
 mod log;
 mod open;
@@ -35,6 +37,7 @@ pub use bt_world::TracedEvents;
 pub use fault::print_fault;
 pub use history::{Histories, History, SessionHistories};
 pub use joining_laws::orders_join_as_told;
+pub use lasting_laws::answered_lines_survive;
 pub use say::say_text;
 pub use script::{RunEnd, run_script};
 pub use session::{InputEnd, MOST_ANSWERS, MOST_LINE_BYTES, SessionEnd, run_session};

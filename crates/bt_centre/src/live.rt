@@ -2,6 +2,7 @@
 // the events of its world, but for the plans that were installed.
 ghost use Rattle.std.specs.Prelude.{◌≡◌, ◌<◌, ◌++◌, ◌∷◌, [], length, IfErr, IfOk, OnOk};
 ghost use Rattle.bt_history.specs.Causes.{Follows};
+ghost use Rattle.bt_history.specs.Crash.{Last};
 ghost use Rattle.bt_history.specs.Store.{IsKept, lost_of};
 ghost use Rattle.bt_script.specs.Named.{IsItemFor, IsRoundFor};
 ghost use Rattle.bt_script.specs.declared.script.Item.TheVariants as item;
@@ -72,8 +73,9 @@ impl<K: Keeper> Model for LiveRemains<K> {
     ghost view = { λ a. record {
       told = K.told a.store;
       faults = K.fault_count a.store;
+      crashes = K.crashes a.store;
       histories = a.histories;
-      events = a.events;
+      events = a.events.all;
     } };
 
     ghost invariant = { λ a. IsTally (entries_of a.histories) a.tally };
@@ -100,11 +102,13 @@ impl<K: Keeper> Live<K> {
         left_behind(run.stop(rt), log)
     }
 
-    /// The store. It tells the changes of the book, and maybe a first part of the one that it lost.
+    /// The store. It tells the changes of the book, and maybe a first part of the one that it lost. A crash now leaves them at least.
     pub(crate) fn store(&self) -> &K
         ensures told { K.told result.now ≡ self.now.book.told }
         ensures faults { K.fault_count result.now ≡ self.now.book.faults }
+        ensures crashes { K.crashes result.now ≡ self.now.book.crashes }
         ensures kept { IsKept self.now.book.net self.now.book.told self.now.book.state.changes (lost_of self.now.book.history) }
+        ensures last { Last self.now.book.net self.now.book.state.changes self.now.book.crashes self.now.book.crashes }
     {
         self.run.station.book.store()
     }
@@ -154,6 +158,7 @@ impl<K: Keeper> LiveRemains<K> {
     pub(crate) fn store(&self) -> &K
         ensures told { K.told result.now ≡ self.now.told }
         ensures faults { K.fault_count result.now ≡ self.now.faults }
+        ensures crashes { K.crashes result.now ≡ self.now.crashes }
     {
         &self.store
     }
@@ -163,8 +168,9 @@ impl<K: Keeper> LiveRemains<K> {
         ensures status { result.status ≡ status }
         ensures told { K.told result.store ≡ self.told }
         ensures faults { K.fault_count result.store ≡ self.faults }
+        ensures crashes { K.crashes result.store ≡ self.crashes }
         ensures histories { result.histories ≡ self.histories }
-        ensures events { result.events ≡ self.events }
+        ensures events { result.events.all ≡ self.events }
     {
         let LiveRemains {
             store,

@@ -60,6 +60,7 @@ impl<K: Keeper, E: Events> Model for Remains<K, E> {
     ghost view = { λ a. record {
       told = K.told a.store;
       faults = K.fault_count a.store;
+      crashes = K.crashes a.store;
       histories = a.histories.items;
       events = E.told a.events;
     } };
@@ -141,6 +142,7 @@ impl<K: Keeper> Remains<K, KeptEvents> {
         ensures status { result.status ≡ status }
         ensures told { K.told result.store ≡ self.told }
         ensures faults { K.fault_count result.store ≡ self.faults }
+        ensures crashes { K.crashes result.store ≡ self.crashes }
         ensures histories { result.histories ≡ self.histories }
         ensures events { result.events.items ≡ self.events }
     {

@@ -36,7 +36,7 @@ pub(crate) fn play_items<R: Threads + Wait + Sync, G: Gate + Sync, O: Sink, K: K
     ensures written { IfOk result (λ on. ItemsWritten net.now playing.book items.now on (O.told out.old) (O.told out.new)) }
     ensures ended { IfErr result (λ end. PartsEnded net.now items.now
         (record { before = O.told out.old; after = O.told out.new; faults_before = O.fault_count out.old; faults_after = O.fault_count out.new })
-        playing.book (record { told = K.told end.store; faults = K.fault_count end.store; histories = end.histories; events = end.events.items }) end.status) }
+        playing.book (record { told = K.told end.store; faults = K.fault_count end.store; crashes = K.crashes end.store; histories = end.histories; events = end.events.items }) end.status) }
     ensures later { O.fault_count out.old ≤ O.fault_count out.new }
 {
     installed_plans_are_good();

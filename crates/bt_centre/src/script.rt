@@ -85,7 +85,7 @@ fn run_from<R: Threads + Wait + Sync, G: Gate + Sync, O: Sink, K: Keeper + Send>
     requires terminals { All (IsItemFor net.now) script.now.items }
     ensures ended { PartsEnded net.now script.now.items
         (record { before = O.told out.old; after = O.told out.new; faults_before = O.fault_count out.old; faults_after = O.fault_count out.new })
-        playing.book (record { told = K.told result.store; faults = K.fault_count result.store; histories = result.histories; events = result.events.items }) result.status }
+        playing.book (record { told = K.told result.store; faults = K.fault_count result.store; crashes = K.crashes result.store; histories = result.histories; events = result.events.items }) result.status }
 {
     installed_plans_are_good();
     match play_items(rt, alloc, net, gate, script.items.as_slice(), playing, out) {

@@ -3,6 +3,7 @@ ghost use Rattle.std.specs.Prelude.{◌≡◌, ◌≤◌, ◌<◌, ◌++◌, [],
 ghost use Rattle.bt_outside.specs.Told.{GainsPrefix, Rose, gained};
 ghost use Rattle.bt_outside.specs.Input.{said_by};
 ghost use Rattle.bt_outside.specs.Talk.{said, took};
+ghost use Rattle.bt_history.specs.Crash.{Last};
 ghost use Rattle.bt_history.specs.Store.{IsKept, lost_of};
 ghost use Rattle.bt_timeline.specs.Timeline.{restart_line};
 ghost use Rattle.bt_talk.specs.Answers.{answer_of, ready_line};
@@ -55,7 +56,7 @@ impl<K> SessionEnd<K> {
         ensures status { result.status ≡ status }
         ensures store { result.store ≡ store }
         ensures histories { result.histories ≡ [] }
-        ensures events { result.events ≡ [] }
+        ensures events { result.events.all ≡ [] }
     {
         SessionEnd {
             status,
@@ -98,10 +99,10 @@ pub fn run_session<R: Threads + Wait + Sync, G: Gate + Sync, T: Talk<K>, K: Keep
           output = record { before = T.told talk.old; after = T.told talk.new; faults_before = T.fault_count talk.old; faults_after = T.fault_count talk.new };
           turns_before = T.turns talk.old;
           turns_after = T.turns talk.new;
-          store = record { told = K.told result.store; faults = K.fault_count result.store };
+          store = record { told = K.told result.store; faults = K.fault_count result.store; crashes = K.crashes result.store };
         })
         (record { before = K.told store; after = K.told result.store; faults_before = K.fault_count store; faults_after = K.fault_count result.store })
-        result.status result.histories result.events }
+        result.status result.histories result.events.all }
 {
     frames_are_safe();
     match open(rt, alloc, net, store) {
@@ -131,9 +132,9 @@ fn session_from<R: Threads + Wait + Sync, G: Gate + Sync, T: Talk<K>, K: Keeper 
           output = record { before = T.told talk.old; after = T.told talk.new; faults_before = T.fault_count talk.old; faults_after = T.fault_count talk.new };
           turns_before = T.turns talk.old;
           turns_after = T.turns talk.new;
-          store = record { told = K.told result.store; faults = K.fault_count result.store };
+          store = record { told = K.told result.store; faults = K.fault_count result.store; crashes = K.crashes result.store };
         })
-        playing.book (record { told = K.told result.store; faults = K.fault_count result.store; histories = result.histories; events = result.events }) result.status }
+        playing.book (record { told = K.told result.store; faults = K.fault_count result.store; crashes = K.crashes result.store; histories = result.histories; events = result.events.all }) result.status }
 {
     installed_plans_are_good();
     match play_lines(rt, alloc, net, gate, playing, talk) {
@@ -165,7 +166,7 @@ fn play_lines<R: Threads + Wait + Sync, G: Gate + Sync, T: Talk<K>, K: Keeper + 
           output = record { before = T.told talk.old; after = T.told talk.new; faults_before = T.fault_count talk.old; faults_after = T.fault_count talk.new };
           turns_before = T.turns talk.old;
           turns_after = T.turns talk.new;
-          store = record { told = on.0.book.told; faults = on.0.book.faults };
+          store = record { told = on.0.book.told; faults = on.0.book.faults; crashes = on.0.book.crashes };
         })
         on.0 on.1) }
     ensures ended { IfErr result (λ end. SessionEnded net.now
@@ -176,9 +177,9 @@ fn play_lines<R: Threads + Wait + Sync, G: Gate + Sync, T: Talk<K>, K: Keeper + 
           output = record { before = T.told talk.old; after = T.told talk.new; faults_before = T.fault_count talk.old; faults_after = T.fault_count talk.new };
           turns_before = T.turns talk.old;
           turns_after = T.turns talk.new;
-          store = record { told = K.told end.store; faults = K.fault_count end.store };
+          store = record { told = K.told end.store; faults = K.fault_count end.store; crashes = K.crashes end.store };
         })
-        playing.book (record { told = K.told end.store; faults = K.fault_count end.store; histories = end.histories; events = end.events }) end.status) }
+        playing.book (record { told = K.told end.store; faults = K.fault_count end.store; crashes = K.crashes end.store; histories = end.histories; events = end.events.all }) end.status) }
     ensures later { T.fault_count talk.old ≤ T.fault_count talk.new }
 {
     installed_plans_are_good();
@@ -247,11 +248,12 @@ fn say_opening<T: Talk<K>, K: Keeper>(
     ensures cause { IsErrOf result SinkFault.Failed → Rose (T.fault_count talk.old) (T.fault_count talk.new) }
     ensures later { T.fault_count talk.old ≤ T.fault_count talk.new }
     ensures turn { OnOk result (T.turns talk.new ≡ took (T.turns talk.old) (said (start_of playing.now ++ ready_line 0)
-        (record { told = playing.now.book.told; faults = playing.now.book.faults }))) }
+        (record { told = playing.now.book.told; faults = playing.now.book.faults; crashes = playing.now.book.crashes }))) }
     ensures no_turn { OnErr result (T.turns talk.new ≡ T.turns talk.old) }
     ensures input { T.coming talk.new ≡ T.coming talk.old }
     ensures input_faults { T.unheard talk.new ≡ T.unheard talk.old }
     ensures shows { IsKept playing.now.book.net playing.now.book.told playing.now.book.state.changes (lost_of playing.now.book.history) }
+    ensures last { Last playing.now.book.net playing.now.book.state.changes playing.now.book.crashes playing.now.book.crashes }
 {
     let store = playing.store();
     match opening_text(alloc, playing) {
@@ -301,11 +303,12 @@ fn say_both<T: Talk<K>, K: Keeper>(
     ensures cause { IsErrOf result SinkFault.Failed → Rose (T.fault_count talk.old) (T.fault_count talk.new) }
     ensures later { T.fault_count talk.old ≤ T.fault_count talk.new }
     ensures turn { OnOk result (T.turns talk.new ≡ took (T.turns talk.old) (said (text.items ++ answer.now)
-        (record { told = playing.now.book.told; faults = playing.now.book.faults }))) }
+        (record { told = playing.now.book.told; faults = playing.now.book.faults; crashes = playing.now.book.crashes }))) }
     ensures no_turn { OnErr result (T.turns talk.new ≡ T.turns talk.old) }
     ensures input { T.coming talk.new ≡ T.coming talk.old }
     ensures input_faults { T.unheard talk.new ≡ T.unheard talk.old }
     ensures shows { IsKept playing.now.book.net playing.now.book.told playing.now.book.state.changes (lost_of playing.now.book.history) }
+    ensures last { Last playing.now.book.net playing.now.book.state.changes playing.now.book.crashes playing.now.book.crashes }
 {
     let store = playing.store();
     if text.extend_from_slice(answer).is_err() {
@@ -329,7 +332,7 @@ fn say_no_restart<T: Talk<K>, K: Keeper>(
           output = record { before = T.told talk.old; after = T.told talk.new; faults_before = T.fault_count talk.old; faults_after = T.fault_count talk.new };
           turns_before = T.turns talk.old;
           turns_after = T.turns talk.new;
-          store = record { told = remains.now.told; faults = remains.now.faults };
+          store = record { told = remains.now.told; faults = remains.now.faults; crashes = remains.now.crashes };
         })
         restart_line fault result }
     ensures later { T.fault_count talk.old ≤ T.fault_count talk.new }
@@ -352,7 +355,7 @@ fn say_closing<T: Talk<K>, K: Keeper>(
           output = record { before = T.told talk.old; after = T.told talk.new; faults_before = T.fault_count talk.old; faults_after = T.fault_count talk.new };
           turns_before = T.turns talk.old;
           turns_after = T.turns talk.new;
-          store = record { told = remains.now.told; faults = remains.now.faults };
+          store = record { told = remains.now.told; faults = remains.now.faults; crashes = remains.now.crashes };
         })
         (closing_text end remains.now.histories) (status_behind end remains.now.histories) result }
     ensures input_faults { T.unheard talk.new ≡ T.unheard talk.old }

@@ -5,8 +5,10 @@ ghost use Rattle.bt_net.specs.Network.{Net};
 ghost use Rattle.bt_air.specs.declared.event.Event.{Event};
 ghost use Rattle.bt_centre.specs.declared.history.History.{History};
 ghost use Rattle.bt_report.specs.Output.{Output};
-ghost use Rattle.bt_centre.specs.Parts.{EachPartAtEnd};
+ghost use Rattle.bt_centre.specs.Parts.{EachPartAtEnd, EachPartOfSession};
 ghost use Rattle.bt_centre.specs.Run.{RunsFrom, at_start};
+ghost use Rattle.bt_centre.specs.Session.{SessionFrom};
+ghost use Rattle.bt_centre.specs.Talked.{Talked};
 ghost use Rattle.bt_report.specs.Stored.{Stored};
 ghost use Rattle.bt_centre.specs.Turns.{IsNewestOf, PartIsNoNewer, TurnsKnow};
 ghost use Rattle.bt_journal.specs.declared.call.Change.{Change};
@@ -15,7 +17,8 @@ ghost use Rattle.bt_script.specs.declared.script.Script.{Script};
 /// In every run over a store that tells its bytes, each turn knows of the newest plan that was installed before it asked,
 /// by whomever: with the answer, the newest edition of the world is that plan's, and it is the one to bring to the front
 /// where the centre goes back to none. The world opens with the newest plan of the changes; before and behind each part
-/// that was run it has none newer than theirs. Of a run that want of memory ended no part is told.
+/// that was run it has none newer than theirs. So it is in every session. Of a run or a session that want of memory ended no part
+/// is told.
 pub fn turns_know_the_newest_install()
     ensures runs { (net : Net) (script : Script) (output : Output) (stored : Stored) (status : ℕ) (histories : List History)
         (events : List Event) → is_some stored.before ≡ true
@@ -25,5 +28,12 @@ pub fn turns_know_the_newest_install()
         (events : List Event) → is_some stored.before ≡ true
         → (run : RunsFrom net script output stored status histories events)
         → EachPartAtEnd PartIsNoNewer net script.items output stored run.opening status histories events run.ends }
+    ensures sessions { (net : Net) (talk : Talked) (stored : Stored) (status : ℕ) (histories : List History) (events : List Event)
+        → is_some stored.before ≡ true → (session : SessionFrom net talk stored status histories events)
+        → EachPartOfSession TurnsKnow net talk stored session.opening status histories events session.ends }
+    ensures no_newer_in_sessions { (net : Net) (talk : Talked) (stored : Stored) (status : ℕ) (histories : List History)
+        (events : List Event) → is_some stored.before ≡ true
+        → (session : SessionFrom net talk stored status histories events)
+        → EachPartOfSession PartIsNoNewer net talk stored session.opening status histories events session.ends }
     ensures start { (net : Net) (opening : List Change) → IsNewestOf opening (at_start net opening).air }
 {}

@@ -64,11 +64,11 @@ pub fn live_main<R: Threads + Wait + Sync, F: Files, T: Talk<K>, K: Keeper + Sen
           output = record { before = T.told talk.old; after = T.told talk.new; faults_before = T.fault_count talk.old; faults_after = T.fault_count talk.new };
           turns_before = T.turns talk.old;
           turns_after = T.turns talk.new;
-          store = record { told = K.told result.store; faults = K.fault_count result.store };
+          store = record { told = K.told result.store; faults = K.fault_count result.store; crashes = K.crashes result.store };
         })
         (record { before = K.told store; after = K.told result.store; faults_before = K.fault_count store; faults_after = K.fault_count result.store })
         (live_words (map string_bytes words.now))
-        (record { status = result.status; histories = result.histories; events = result.events }) }
+        (record { status = result.status; histories = result.histories; events = result.events.all }) }
 {
     match live_words(words) {
         Some((net, _)) => live_on(rt, alloc, net, files, talk, store),
@@ -96,10 +96,10 @@ fn live_on<R: Threads + Wait + Sync, F: Files, T: Talk<K>, K: Keeper + Send>(
           output = record { before = T.told talk.old; after = T.told talk.new; faults_before = T.fault_count talk.old; faults_after = T.fault_count talk.new };
           turns_before = T.turns talk.old;
           turns_after = T.turns talk.new;
-          store = record { told = K.told result.store; faults = K.fault_count result.store };
+          store = record { told = K.told result.store; faults = K.fault_count result.store; crashes = K.crashes result.store };
         })
         (record { before = K.told store; after = K.told result.store; faults_before = K.fault_count store; faults_after = K.fault_count result.store })
-        net.now (record { status = result.status; histories = result.histories; events = result.events }) }
+        net.now (record { status = result.status; histories = result.histories; events = result.events.all }) }
 {
     match load_network(alloc, files, net) {
         Ok(network) => {
@@ -124,7 +124,7 @@ fn say_faulty_words<T: Talk<K>, K: Keeper>(alloc: Global, talk: &mut T, store: &
           output = record { before = T.told talk.old; after = T.told talk.new; faults_before = T.fault_count talk.old; faults_after = T.fault_count talk.new };
           turns_before = T.turns talk.old;
           turns_after = T.turns talk.new;
-          store = record { told = K.told store.now; faults = K.fault_count store.now };
+          store = record { told = K.told store.now; faults = K.fault_count store.now; crashes = K.crashes store.now };
         })
         SaysFaultyWords result }
 {
@@ -144,7 +144,7 @@ fn say_stop<T: Talk<K>, K: Keeper>(alloc: Global, stop: Stop, talk: &mut T, stor
           output = record { before = T.told talk.old; after = T.told talk.new; faults_before = T.fault_count talk.old; faults_after = T.fault_count talk.new };
           turns_before = T.turns talk.old;
           turns_after = T.turns talk.new;
-          store = record { told = K.told store.now; faults = K.fault_count store.now };
+          store = record { told = K.told store.now; faults = K.fault_count store.now; crashes = K.crashes store.now };
         })
         stop result }
 {

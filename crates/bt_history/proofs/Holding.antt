@@ -157,6 +157,7 @@ survives_same old new are asked told now was will before after net state still h
     let changes = old.state.changes in
     let still_runs : new.state.stopped ≡ false → old.state.stopped ≡ false = λ runs. sym (ap (λ (s : State). s.stopped) state) ∙ runs in
     record {
+      time = subst (λ (c : Option Crashes). Elapses was c) (sym still) (elapses_nowhere was);
       running = λ runs. subst (λ (c : Option Crashes). LeavesSince was c (TellsNext old.net changes (asked_for asked))) (sym still)
           (leaves_nowhere was (TellsNext old.net changes (asked_for asked))
           (leaves_only_weaker was (TellsNext old.net changes (lost_of old.history)) (TellsNext old.net changes (asked_for asked))
@@ -188,6 +189,7 @@ survives_step old new are one reply told now was will before after sound holds o
     let endures = crash.asked (inl done.made) in
     let more = stored_gains old.net are told now changes one sound stored on runs spelled gains.0 in
     record {
+      time = endures.time;
       running = λ _. subst (λ (l : List Change). LeavesSince was will (TellsNext old.net changes l)) (sym (asks_one one))
           (append_tells old.net are told was will changes one sound stored on runs spelled endures.crash);
       stopped = λ halted. absurd (let bad : false ≡ true = sym can.runs ∙ halted in cc);
@@ -201,6 +203,7 @@ survives_step old new are one reply told now was will before after sound holds o
     let here : Stores old.net changes one StoreFault told now before after = subst (λ (r : Reply). Stores old.net changes one r told now before after) lost.told stores in
     let endures = crash.asked (inr (ap is_lost lost.told)) in
     record {
+      time = endures.time;
       running = λ _. subst (λ (l : List Change). LeavesSince was will (TellsNext old.net changes l)) (sym (asks_one one))
           (append_tells old.net are told was will changes one sound stored on runs here.spelled endures.crash);
       stopped = λ halted. absurd (let bad : false ≡ true = sym can.runs ∙ halted in cc);

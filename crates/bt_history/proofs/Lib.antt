@@ -19,6 +19,7 @@ pub mod Spelled
 pub mod Stored
 pub mod NextOpening
 pub mod Holding
+pub mod Lasting
 mod GoodPlans
 pub mod Shares
 pub mod Occupied

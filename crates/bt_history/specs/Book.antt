@@ -1,7 +1,7 @@
 -- What contracts see of a book, and its calls as steps of an object that a turn lock hands round.
 use Rattle.std.specs.Prelude.{◌≡◌, false, true, ℕ, List, Option}
 use Rattle.std.proofs.Common.{subst, sym}
-use Rattle.bt_outside.specs.Crash.{Crashes, LeavesOnly, LeavesSince}
+use Rattle.bt_outside.specs.Crash.{Crashes, Elapses, LeavesOnly, LeavesSince}
 use Rattle.bt_net.specs.Network.{Net}
 use Rattle.bt_shared.specs.declared.object.TurnEntry as line
 use Rattle.bt_journal.specs.declared.call.Call.{Call}
@@ -22,10 +22,11 @@ pub record Books : Type 0 where
   pub faults : ℕ
   pub crashes : Option Crashes
 
--- What a crash leaves of a call. From its start on, its end included, it leaves bytes that tell the changes from before it, or
+-- What a crash leaves of a call, over which time goes on. From its start on, its end included, it leaves bytes that tell the changes from before it, or
 -- these and the one that the call asks for; of a book that was stopped before it, these or these and the lost one. At its end,
 -- where the book is not stopped, the bytes tell just the changes.
 pub record Survives (old : Books) (asked : Call) (new : Books) : Type 0 where
+  pub time : Elapses old.crashes new.crashes
   pub running : old.state.stopped ≡ false → LeavesSince old.crashes new.crashes (TellsNext old.net old.state.changes (asked_for asked))
   pub stopped : old.state.stopped ≡ true → LeavesSince old.crashes new.crashes (TellsNext old.net old.state.changes (lost_of old.history))
   pub at_end : new.state.stopped ≡ false → LeavesOnly new.crashes (λ left. Recovered new.net left new.state.changes)

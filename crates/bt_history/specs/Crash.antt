@@ -1,6 +1,6 @@
 -- What a crash leaves of the store of a book: the changes that the next opening has.
-use Rattle.std.specs.Prelude.{◌⊎◌, ℕ, List, [], ◌∷◌, Option, IsSomeAnd}
-use Rattle.bt_outside.specs.Crash.{CouldBeLeft, Crashes}
+use Rattle.std.specs.Prelude.{◌⊎◌, ℕ, List, [], ◌∷◌, ◌++◌, Option, IsSomeAnd}
+use Rattle.bt_outside.specs.Crash.{CouldBeLeft, Crashes, Elapses, LeavesSince}
 use Rattle.bt_net.specs.Network.{Net}
 use Rattle.bt_journal.specs.declared.call.Call.{Call}
 use Rattle.bt_journal.specs.declared.call.Call.TheVariants as call
@@ -12,6 +12,16 @@ use Rattle.bt_history.specs.Store.{IsNextOpening}
 -- from the bytes the next opening has these changes, or these and the one that may be there or not
 abbrev pub TellsNext : Net → List Change → List Change → List ℕ → Type 0
 TellsNext net changes maybe bytes = (next : List Change) × Recovered net bytes next × IsNextOpening changes maybe next
+
+-- from the bytes the next opening has these changes at least, first of all
+abbrev pub TellsAtLeast : Net → List Change → List ℕ → Type 0
+TellsAtLeast net changes bytes = (more : List Change) × Recovered net bytes (changes ++ more)
+
+-- These changes last from one moment to another: time goes on, and a crash at any moment from the one on, up to the other, leaves bytes
+-- from which the next opening has them at least. Nothing more is said where crashes are not told.
+pub record Last (net : Net) (changes : List Change) (old new : Option Crashes) : Type 0 where
+  pub time : Elapses old new
+  pub crash : LeavesSince old new (TellsAtLeast net changes)
 
 -- the change that a call asks for, if any
 abbrev pub asked_for : Call → List Change

@@ -13,6 +13,7 @@ ghost use Rattle.bt_shared.specs.Legal as line_legal;
 ghost use Rattle.bt_history.specs.Book.{Books, book_steps, journal_entry};
 ghost use Rattle.bt_history.specs.Changes.{installs, newest, plans};
 ghost use Rattle.bt_history.specs.Causes.{Follows, IsGoodForItsEdition};
+ghost use Rattle.bt_history.specs.Crash.{Last};
 ghost use Rattle.bt_history.specs.Store.{RoseBy, lost_of};
 ghost use Rattle.bt_history.specs.Machine.{State, state_after, state_from, Legal, NamesBeams, Step};
 
@@ -58,7 +59,7 @@ pub fn locked_books_are_legal()
 {}
 
 /// A book that a turn lock handed round is in the state that its calls led to from the one at the start, and its changes
-/// follow where those at the start do.
+/// follow where those at the start do. The changes at the start last, where they last at the start.
 pub fn locked_books_go_on()
     ensures state { (start end : Books) (log : List (line.TurnEntry Call Reply)) → line_legal.Legal book_steps start log end
         → end.state ≡ state_from start.state (map journal_entry log) }
@@ -66,6 +67,8 @@ pub fn locked_books_go_on()
         → line_legal.Legal book_steps start log end → Follows start.net end.state.changes }
     ensures tells { (start end : Books) (log : List (line.TurnEntry Call Reply)) → line_legal.Legal book_steps start log end
         → is_some end.told ≡ is_some start.told }
+    ensures last { (start end : Books) (log : List (line.TurnEntry Call Reply)) → Last start.net start.state.changes start.crashes start.crashes
+        → line_legal.Legal book_steps start log end → Last start.net start.state.changes start.crashes end.crashes }
 {}
 
 /// Each call that a turn lock makes on a book is answered by a step of the machine, from the state that the calls before it

@@ -6,7 +6,7 @@ use Rattle.bt_outside.specs.Talk.{Shown, Turn, Heard, Said}
 
 -- what the one store of a trace showed
 abbrev pub shown_by : {K : Type 0} → (K → Shown) → List (Unit {0} × K) → Shown
-shown_by shown [] = record { told = None; faults = 0 }
+shown_by shown [] = record { told = None; faults = 0; crashes = None }
 shown_by shown (one ∷ _) = shown one.1
 
 -- the turn that is kept so, where stores show this

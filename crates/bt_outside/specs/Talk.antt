@@ -1,12 +1,14 @@
 -- A talk over a store: what was heard and what was said, in order, and what the store told when a piece was said.
 use Rattle.std.specs.Prelude.{ℕ, List, [], ◌∷◌, ◌++◌, Option, Some, None}
 use Rattle.bt_outside.specs.declared.source.Incoming.{Incoming}
+use Rattle.bt_outside.specs.Crash.{Crashes}
 use Rattle.bt_outside.specs.Input.{said_by}
 
--- what a store tells at a moment: its bytes, and how often it failed
+-- what a store tells at a moment: its bytes, how often it failed, and what a crash may leave
 pub record Shown : Type 0 where
   pub told : Option (List ℕ)
   pub faults : ℕ
+  pub crashes : Option Crashes
 
 -- a turn: a line that came, or None where what came is no line; or a piece that was written whole, and what the store told then
 pub data Turn : Type 0 where

@@ -41,7 +41,7 @@ impl<K: Keeper, T: Talk<K>> KeptTalk<K, T> {
 
     /// The turns so far.
     pub fn turns(&self) -> &[KeptTurn<K>]
-        ensures turns { Some (map (turn_of (λ (store : _). record { told = K.told store; faults = K.fault_count store })) result.now) ≡ ⟦<KeptTalk<K, T> as Talk<K>>⟧.turns self.now }
+        ensures turns { Some (map (turn_of (λ (store : _). record { told = K.told store; faults = K.fault_count store; crashes = K.crashes store })) result.now) ≡ ⟦<KeptTalk<K, T> as Talk<K>>⟧.turns self.now }
     {
         self.turns.as_slice()
     }
@@ -66,7 +66,7 @@ impl<K: Keeper, T: Talk<K>> Talk<K> for KeptTalk<K, T> {
 
     ghost unheard = { λ kept. T.unheard kept.talk };
 
-    ghost turns = { λ kept. Some (map (turn_of (λ (store : _). record { told = K.told store; faults = K.fault_count store })) kept.turns.items) };
+    ghost turns = { λ kept. Some (map (turn_of (λ (store : _). record { told = K.told store; faults = K.fault_count store; crashes = K.crashes store })) kept.turns.items) };
 
     fn hear(&mut self, alloc: Global, limit: usize) -> Result<Option<Incoming>, SourceFault> {
         let Some(came) = self.talk.hear(alloc, limit)? else {

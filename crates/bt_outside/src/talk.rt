@@ -41,7 +41,7 @@ pub trait Talk<K: Keeper>: Sink {
         ensures out_of_memory { IsErrOf result SinkFault.OutOfMemory → Self.told self.new ≡ Self.told self.old }
         ensures cause { HasCause SinkFault.Failed (Self.fault_count self.old) (Self.fault_count self.new) result }
         ensures turn { OnOk result (turns self.new ≡ took (turns self.old) (said piece.now
-            (record { told = K.told store.now; faults = K.fault_count store.now }))) }
+            (record { told = K.told store.now; faults = K.fault_count store.now; crashes = K.crashes store.now }))) }
         ensures no_turn { OnErr result (turns self.new ≡ turns self.old) }
         ensures input { coming self.new ≡ coming self.old }
         ensures input_faults { unheard self.new ≡ unheard self.old };

@@ -16,6 +16,7 @@ use Rattle.bt_journal.specs.declared.reply.Reply.{Reply}
 use Rattle.bt_journal.specs.Journal.{calls_of}
 use Rattle.bt_history.specs.Book.{Books, book_steps, journal_entry, lock_entry}
 use Rattle.bt_history.specs.Causes.{Follows}
+use Rattle.bt_history.specs.Crash.{Last}
 use Rattle.bt_history.specs.Machine.{Legal, state_after, state_from}
 use Rattle.bt_script.specs.declared.script.Round.{Round}
 use Rattle.bt_round.specs.declared.seats.TheConstants.{DESKS, SEATS}
@@ -205,6 +206,8 @@ pub record Laws : Type 0 where
   pub rose : (start end : Books) (log : List (line.TurnEntry Call Reply)) → line_legal.Legal book_steps start log end → RoseBy (length (lost_of (map journal_entry log))) start.faults end.faults
   pub follow : (start end : Books) (log : List (line.TurnEntry Call Reply)) → Follows start.net start.state.changes → line_legal.Legal book_steps start log end → Follows start.net end.state.changes
   pub tells : (start end : Books) (log : List (line.TurnEntry Call Reply)) → line_legal.Legal book_steps start log end → is_some end.told ≡ is_some start.told
+  pub last : (start end : Books) (log : List (line.TurnEntry Call Reply)) → Last start.net start.state.changes start.crashes start.crashes → line_legal.Legal book_steps start log end
+      → Last start.net start.state.changes start.crashes end.crashes
 
 -- nothing was asked of a book
 pub ran_nothing : (book : Books) → Follows book.net book.state.changes → BookRan book book
@@ -218,6 +221,7 @@ ran_nothing book follow = record {
   follows = follow;
   rose = inl (omega arith);
   tells = refl;
+  last = λ now. now;
 }
 
 -- a book comes back from its line with a history that goes on by the line's
@@ -236,4 +240,5 @@ comes_back laws start end log follow legal stored =
       follows = laws.follow start end log follow legal;
       rose = laws.rose start end log legal;
       tells = laws.tells start end log legal;
+      last = λ now. laws.last start end log now legal;
     }

@@ -1,6 +1,7 @@
 -- What a round does: the lines of its workers, with their entries and their texts.
-use Rattle.std.specs.Prelude.{◌≡◌, ℕ, ◌<◌, ◌++◌, List, length, map, All, AllPairs}
+use Rattle.std.specs.Prelude.{◌≡◌, ℕ, ◌<◌, ◌++◌, List, length, map, All, AllPairs, Option}
 use Rattle.std.specs.Option.{is_some}
+use Rattle.bt_outside.specs.Crash.{Crashes}
 use Rattle.bt_net.specs.Network.{Net}
 use Rattle.bt_journal.specs.declared.call.Change.{Change}
 use Rattle.bt_journal.specs.declared.entry.Entry.{Entry}
@@ -8,6 +9,7 @@ use Rattle.bt_journal.specs.Journal.{calls_of}
 use Rattle.bt_history.specs.Causes.{Follows}
 use Rattle.bt_history.specs.Book.{Books}
 use Rattle.bt_history.specs.Changes.{newest}
+use Rattle.bt_history.specs.Crash.{Last}
 use Rattle.bt_history.specs.Machine.{state_after, state_from, Legal}
 use Rattle.bt_history.specs.Store.{RoseBy, lost_of}
 use Rattle.bt_script.specs.declared.script.Round.{Round}
@@ -16,8 +18,12 @@ use Rattle.bt_round.specs.Boards.{IsShownBetween}
 use Rattle.bt_round.specs.Desks.{IsNotOlder, Sight, asked_by, desks_text, shown_to, shows_of}
 use Rattle.bt_round.specs.Planning.{PlaysPlans, planner_text}
 
+-- these changes last on from one moment to another, where they last at the first of them
+abbrev pub LastOn : Net → List Change → Option Crashes → Option Crashes → Type 0
+LastOn net changes old new = Last net changes old old → Last net changes old new
+
 -- a book before and after a round: its history has gained entries, by steps of the machine, and the count of its store's faults rose by as
--- many changes as the store lost; it tells its bytes as before, or does not
+-- many changes as the store lost; it tells its bytes as before, or does not; and its changes from before last on
 pub record BookRan (old new : Books) : Type 0 where
   pub net : new.net ≡ old.net
   pub entries : List Entry
@@ -28,6 +34,7 @@ pub record BookRan (old new : Books) : Type 0 where
   pub follows : Follows old.net new.state.changes
   pub rose : RoseBy (length (lost_of entries)) old.faults new.faults
   pub tells : is_some new.told ≡ is_some old.told
+  pub last : LastOn old.net old.state.changes old.crashes new.crashes
 
 -- the edition of the newest plan of a book
 abbrev pub newest_at : Books → ℕ

@@ -150,3 +150,22 @@ returns-clause-crash g c =
     let new = g.K.Keeper.crashes c.put_mark.new.store in
     left_by_mark net told bytes piece old cut new state.changes tells gives owed (elapses_further old read cut c.read_all.ensures.time c.cut_tail.ensures.time) c.put_mark.ensures.time since
     (subst (λ (held : Option (List ℕ)). LeavesSince cut new (λ left. GainsPrefix held piece (Some left))) cut_is c.put_mark.ensures.crash)
+
+-- time goes on over each of the three calls
+pub returns-in_err-cut_tail-clause-time : goal.returns-in_err-cut_tail-clause-time
+returns-in_err-cut_tail-clause-time g c =
+    elapses_further (g.K.Keeper.crashes c.args.store.now) (g.K.Keeper.crashes c.read_all.new.self) (g.K.Keeper.crashes c.cut_tail.new.store) c.read_all.ensures.time c.cut_tail.ensures.time
+
+pub returns-in_err-put_mark-clause-time : goal.returns-in_err-put_mark-clause-time
+returns-in_err-put_mark-clause-time g c =
+    let old = g.K.Keeper.crashes c.args.store.now in
+    let read = g.K.Keeper.crashes c.read_all.new.self in
+    let cut = g.K.Keeper.crashes c.cut_tail.new.store in
+    elapses_further old cut (g.K.Keeper.crashes c.put_mark.new.store) (elapses_further old read cut c.read_all.ensures.time c.cut_tail.ensures.time) c.put_mark.ensures.time
+
+pub returns-clause-time : goal.returns-clause-time
+returns-clause-time g c =
+    let old = g.K.Keeper.crashes c.args.store.now in
+    let read = g.K.Keeper.crashes c.read_all.new.self in
+    let cut = g.K.Keeper.crashes c.cut_tail.new.store in
+    elapses_further old cut (g.K.Keeper.crashes c.put_mark.new.store) (elapses_further old read cut c.read_all.ensures.time c.cut_tail.ensures.time) c.put_mark.ensures.time

@@ -13,6 +13,6 @@ pub returns : goal.returns
 returns g c =
     let log = c.args.log in
     let inside = c.remains.inside in
-    ap (λ (h : List History). let left : Left = record { told = g.K.Keeper.told inside.store; faults = g.K.Keeper.fault_count inside.store; histories = h; events = inside.events } in left)
+    ap (λ (h : List History). let left : Left = record { told = g.K.Keeper.told inside.store; faults = g.K.Keeper.fault_count inside.store; crashes = g.K.Keeper.crashes inside.store; histories = h; events = inside.events.all } in left)
     (c.stop-histories.ensures.times ∙ ap (λ (h : List History). log.times ++ map (with_front log.front) h) (sym c.take_only.ensures.taken))
     ∙ ap (whole_left log.times log.front) c.remains.view_is

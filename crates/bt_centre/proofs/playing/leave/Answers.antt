@@ -17,11 +17,12 @@ returns g c = λ rounds.
     let over : List History = c.args.over.items in
     let time_of : List Entry → History = λ entries. record { before = c.args.before; entries = entries } in
     let hand_of : Books → AirState → Hand = λ book air. record { over = over; before = c.args.before; book = book; air = air; rounds = rounds } in
-    let left : Left = record { told = g.K.Keeper.told c.into_parts-store.result.0; faults = g.K.Keeper.fault_count c.into_parts-store.result.0; histories = c.push_reserved.new.self.items; events = g.E.Events.told c.into_told.result } in
+    let left : Left = record { told = g.K.Keeper.told c.into_parts-store.result.0; faults = g.K.Keeper.fault_count c.into_parts-store.result.0; crashes = g.K.Keeper.crashes c.into_parts-store.result.0; histories = c.push_reserved.new.self.items; events = g.E.Events.told c.into_told.result } in
     subst (λ (book : Books). IsLeftOf (hand_of book c.args.station.centre) left) c.book_and_centre-book.ensures.book
     (subst (λ (air : AirState). IsLeftOf (hand_of now.0 air) left) c.book_and_centre-book.ensures.centre (record {
       told = parts.told;
       faults = parts.faults;
+      crashes = parts.crashes;
       histories = c.push_reserved.ensures.items ∙ ap (λ (entries : List Entry). over ++ time_of entries ∷ []) (c.of.ensures.same ∙ parts.history);
       events = c.into_told.ensures.events;
       world = subst (λ (events : List Event). IsSpelledWorld now.1.life.opening (reverse events)) (sym c.into_told.ensures.events) (record { world = c.into_told.ensures.world; stored = c.into_told.ensures.stored; few = c.into_told.ensures.few });

@@ -17,7 +17,7 @@ loop-item-init g c = record {
 
 pub returns-in-Err-clause-ended : goal.returns-in-Err-clause-ended
 returns-in-Err-clause-ended g c =
-    same_end c.args.net.now c.args.items.now _ c.args.playing.book c.stop.result _ _ _ _ _ c.unwritten.result c.end.ensures.told c.end.ensures.faults c.end.ensures.histories c.end.ensures.events c.end.ensures.status
+    same_end c.args.net.now c.args.items.now _ c.args.playing.book c.stop.result _ _ _ _ _ _ c.unwritten.result c.end.ensures.told c.end.ensures.faults c.end.ensures.crashes c.end.ensures.histories c.end.ensures.events c.end.ensures.status
     (not_begun c.args.net.now c.args.items.now c.args.playing c.stop.result c.in-Err.fault _ _ _ _ c.unwritten.result (c.installed_plans_are_good.ensures.good c.args.net.now) c.requires.begun c.stop.ensures
     (λ is. c.in-Err.ensures.cause (err_is c.in-Err.fault is)) (λ is. c.in-Err.ensures.failed (err_is c.in-Err.fault is)) c.unwritten.ensures.memory c.unwritten.ensures.failed)
 
@@ -26,7 +26,7 @@ returns-in-Err-write-clause-ended g c =
     let end = c.end-in-Err-write.ensures in
     let at = c.loop-item.invariant in
     let why = c.in-Err-write.fault in
-    same_end c.args.net.now c.args.items.now _ c.args.playing.book c.stop-in-Err-write.result _ _ _ _ _ c.unwritten-in-Err-write.result end.told end.faults end.histories end.events end.status
+    same_end c.args.net.now c.args.items.now _ c.args.playing.book c.stop-in-Err-write.result _ _ _ _ _ _ c.unwritten-in-Err-write.result end.told end.faults end.crashes end.histories end.events end.status
     (not_shown c.args.net.now c.args.items.now c.loop-item.item-index c.item-item.result c.args.playing.book c.loop-item.playing c.in-Ok.next c.in-Ok.text.items c.stop-in-Err-write.result why
     _ _ _ _ _ _ c.unwritten-in-Err-write.result (c.installed_plans_are_good.ensures.good c.args.net.now) c.loop-item-test.true c.item-item.is at.written at.later c.in-Ok.ensures.played c.stop-in-Err-write.ensures
     (λ is. c.in-Err-write.ensures.cause.failed (err_is why is))
@@ -37,7 +37,7 @@ pub returns-in-Err-play_item-clause-ended : goal.returns-in-Err-play_item-clause
 returns-in-Err-play_item-clause-ended g c =
     let end = c.end-in-Err-play_item.ensures in
     let at = c.loop-item.invariant in
-    same_end c.args.net.now c.args.items.now _ c.args.playing.book c.in-Err-play_item.remains _ _ _ _ _ c.print_restart_fault.result end.told end.faults end.histories end.events end.status
+    same_end c.args.net.now c.args.items.now _ c.args.playing.book c.in-Err-play_item.remains _ _ _ _ _ _ c.print_restart_fault.result end.told end.faults end.crashes end.histories end.events end.status
     (not_played c.args.net.now c.args.items.now c.loop-item.item-index c.item-item.result c.args.playing.book c.loop-item.playing c.in-Err-play_item.remains _ _ _ _ _ _ c.in-Err-play_item.fault
     c.print_restart_fault.result (c.installed_plans_are_good.ensures.good c.args.net.now) c.loop-item-test.true c.item-item.is at.written at.later c.in-Err-play_item.ensures.failed c.print_restart_fault.ensures.printed)
 

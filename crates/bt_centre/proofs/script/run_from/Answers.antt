@@ -18,7 +18,7 @@ returns-in-Ok-write_total g c =
     let same : c.remains.inside.histories.items ≡ left.histories = ap (λ (l : Left). l.histories) c.remains.view_is in
     let written = subst (λ (l : List Item). ItemsWritten net c.args.playing.book l hand (g.O.Sink.told c.args.out.now) (g.O.Sink.told c.play_items.new.out)) c.as_slice.ensures.same c.in-Ok.ensures.written in
     record {
-      ended = same_end net items _ c.args.playing.book left _ _ _ _ _ c.status_after-status.result c.end.ensures.told c.end.ensures.faults
+      ended = same_end net items _ c.args.playing.book left _ _ _ _ _ _ c.status_after-status.result c.end.ensures.told c.end.ensures.faults c.end.ensures.crashes
           c.end.ensures.histories c.end.ensures.events c.end.ensures.status
           (totalled net items c.args.playing.book hand left _ _ _ _ _ c.status_after-status.result (c.installed_plans_are_good.ensures.good net) written c.stop-remains.ensures
           (c.in-Ok-write_total.ensures.ok ∙ ap (λ (h : List History). gained (g.O.Sink.told c.play_items.new.out) (total_of (entries_of h))) (c.as_slice-in-Ok.ensures.value ∙ same))
@@ -36,7 +36,7 @@ returns-in-Err-write_total g c =
     let end = c.end-in-Err-write_total.ensures in
     let written = subst (λ (l : List Item). ItemsWritten net c.args.playing.book l hand (g.O.Sink.told c.args.out.now) (g.O.Sink.told c.play_items.new.out)) c.as_slice.ensures.same c.in-Ok.ensures.written in
     record {
-      ended = same_end net items _ c.args.playing.book left _ _ _ _ _ c.unwritten.result end.told end.faults
+      ended = same_end net items _ c.args.playing.book left _ _ _ _ _ _ c.unwritten.result end.told end.faults end.crashes
           end.histories end.events end.status
           (not_totalled net items c.args.playing.book hand left why _ _ _ _ _ _ c.unwritten.result (c.installed_plans_are_good.ensures.good net) written c.play_items.ensures.later c.stop-remains.ensures
           (λ is. c.in-Err-write_total.ensures.cause (err_is why is))

@@ -14,9 +14,9 @@ use Rattle.bt_centre.proofs.session.play_lines.Goals as goal
 pub returns-in-Err-clause-ended : goal.returns-in-Err-clause-ended
 returns-in-Err-clause-ended g c =
     let end = c.end.ensures in
-    same_session_end c.args.net.now _ _ _ _ _ _ _ _ _ c.args.playing.book c.stop.result _ _ _ _ _ c.unwritten.result end.told end.faults end.histories end.events end.status
+    same_session_end c.args.net.now _ _ _ _ _ _ _ _ _ c.args.playing.book c.stop.result _ _ _ _ _ _ c.unwritten.result end.told end.faults end.crashes end.histories end.events end.status
     (session_not_begun c.args.net.now c.args.playing c.stop.result c.in-Err.fault _ _ _ _ _ _ _ _ _ _ c.unwritten.result (c.installed_plans_are_good.ensures.good c.args.net.now) c.requires.begun c.stop.ensures
-    (λ is. c.in-Err.ensures.cause (err_is c.in-Err.fault is)) (λ is. c.in-Err.ensures.failed (err_is c.in-Err.fault is)) c.in-Err.ensures.no_turn c.unwritten.ensures.memory c.unwritten.ensures.failed)
+    (λ is. c.in-Err.ensures.cause (err_is c.in-Err.fault is)) (λ is. c.in-Err.ensures.failed (err_is c.in-Err.fault is)) c.in-Err.ensures.no_turn c.unwritten.ensures.memory c.unwritten.ensures.failed refl c.say_opening.ensures.last)
 
 pub loop-at-init : goal.loop-at-init
 loop-at-init g c =
@@ -29,8 +29,8 @@ loop-at-init g c =
       names = subst (IsOpenFor c.args.net.now) closed tt;
       going = subst (λ (b : Open). SessionGoing c.args.net.now c.args.playing.book 1 b c.args.playing (g.T.Talk.coming c.args.talk.now) (g.T.Talk.coming c.say_opening.new.talk) (g.T.Sink.told c.args.talk.now) (g.T.Sink.told c.say_opening.new.talk)
           (g.T.Talk.turns c.args.talk.now) (g.T.Talk.turns c.say_opening.new.talk)) closed
-          (going_first c.args.net.now c.args.playing (record { told = c.args.playing.book.told; faults = c.args.playing.book.faults }) c.requires.begun _ _ _ _ _ _ c.say_opening.ensures.input (search rules)
-          (where_ok c.say_opening.result (search rules) c.say_opening.ensures.turn) c.say_opening.ensures.shows);
+          (going_first c.args.net.now c.args.playing (record { told = c.args.playing.book.told; faults = c.args.playing.book.faults; crashes = c.args.playing.book.crashes }) c.requires.begun _ _ _ _ _ _ c.say_opening.ensures.input (search rules)
+          (where_ok c.say_opening.result (search rules) c.say_opening.ensures.turn) c.say_opening.ensures.shows refl c.say_opening.ensures.last);
     }
 
 pub returns-in-Ok-None-clause-heard : goal.returns-in-Ok-None-clause-heard
@@ -49,15 +49,15 @@ returns-in-Err-Failed-clause-heard g c =
 pub returns-in-Err-OutOfMemory-clause-ended : goal.returns-in-Err-OutOfMemory-clause-ended
 returns-in-Err-OutOfMemory-clause-ended g c =
     let end = c.end-in-Err-OutOfMemory.ensures in
-    same_session_end c.args.net.now _ _ _ _ _ _ _ _ _ c.args.playing.book c.stop-in-Err-OutOfMemory.result _ _ _ _ _ 1 end.told end.faults end.histories end.events end.status
-    (going_stopped c.args.net.now _ c.args.playing.book c.loop-at.at c.loop-at.block c.loop-at.playing c.stop-in-Err-OutOfMemory.result _ _ _ _ _ 1 c.loop-at.invariant.going c.in-Err-OutOfMemory.ensures.no_turn c.stop-in-Err-OutOfMemory.ensures refl)
+    same_session_end c.args.net.now _ _ _ _ _ _ _ _ _ c.args.playing.book c.stop-in-Err-OutOfMemory.result _ _ _ _ _ _ 1 end.told end.faults end.crashes end.histories end.events end.status
+    (going_stopped c.args.net.now _ c.args.playing.book c.loop-at.at c.loop-at.block c.loop-at.playing c.stop-in-Err-OutOfMemory.result _ _ _ _ _ 1 c.loop-at.invariant.going c.in-Err-OutOfMemory.ensures.no_turn c.stop-in-Err-OutOfMemory.ensures refl refl)
 
 pub returns-in-Err-take-clause-ended : goal.returns-in-Err-take-clause-ended
 returns-in-Err-take-clause-ended g c =
     let end = c.end-in-Err-take.ensures in
-    same_session_end c.args.net.now _ _ _ _ _ _ _ _ _ c.args.playing.book c.stop-in-Err-take.result _ _ _ _ _ 1 end.told end.faults end.histories end.events end.status
+    same_session_end c.args.net.now _ _ _ _ _ _ _ _ _ c.args.playing.book c.stop-in-Err-take.result _ _ _ _ _ _ 1 end.told end.faults end.crashes end.histories end.events end.status
     (going_not_taken c.args.net.now _ c.args.playing.book c.loop-at.at c.loop-at.block c.in-Ok-Some.came c.loop-at.playing c.stop-in-Err-take.result _ _ _ _ _ 1 c.loop-at.invariant.going
-    (subst (λ (o : Option Incoming). g.T.Talk.turns c.hear.new.self ≡ took (g.T.Talk.turns c.loop-at.talk) (heard o)) c.in-Ok-Some.field-0-is c.in-Ok-Some.ensures.turn) c.stop-in-Err-take.ensures refl)
+    (subst (λ (o : Option Incoming). g.T.Talk.turns c.hear.new.self ≡ took (g.T.Talk.turns c.loop-at.talk) (heard o)) c.in-Ok-Some.field-0-is c.in-Ok-Some.ensures.turn) c.stop-in-Err-take.ensures refl refl)
 
 pub returns-in-Err-say_both-clause-ended : goal.returns-in-Err-say_both-clause-ended
 returns-in-Err-say_both-clause-ended g c =
@@ -67,13 +67,13 @@ returns-in-Err-say_both-clause-ended g c =
     let text = c.in-Ok-play_step.text.items in
     let comes = subst (λ (o : Option Incoming). Comes 4096 (g.T.Talk.coming c.loop-at.talk) o (g.T.Talk.coming c.hear.new.self)) c.in-Ok-Some.field-0-is c.in-Ok-Some.ensures.next in
     let turn = subst (λ (o : Option Incoming). g.T.Talk.turns c.hear.new.self ≡ took (g.T.Talk.turns c.loop-at.talk) (heard o)) c.in-Ok-Some.field-0-is c.in-Ok-Some.ensures.turn in
-    same_session_end c.args.net.now _ _ _ _ _ _ _ _ _ c.args.playing.book c.stop-in-Err-say_both.result _ _ _ _ _ c.unwritten-in-Err-say_both.result end.told end.faults end.histories end.events end.status
+    same_session_end c.args.net.now _ _ _ _ _ _ _ _ _ c.args.playing.book c.stop-in-Err-say_both.result _ _ _ _ _ _ c.unwritten-in-Err-say_both.result end.told end.faults end.crashes end.histories end.events end.status
     (going_not_said c.args.net.now c.args.playing.book c.loop-at.at c.loop-at.block c.in-Ok.taken.0 c.in-Ok-Some.came c.in-Ok.taken.1 c.loop-at.playing c.in-Ok-play_step.next text
-    (text ++ c.as_slice.result.now) (record { told = c.in-Ok-play_step.next.book.told; faults = c.in-Ok-play_step.next.book.faults }) c.stop-in-Err-say_both.result why _ _ _ _ _ _ _ _ _ _ _ _ _ _ _ _ _ c.unwritten-in-Err-say_both.result (c.installed_plans_are_good.ensures.good c.args.net.now)
+    (text ++ c.as_slice.result.now) (record { told = c.in-Ok-play_step.next.book.told; faults = c.in-Ok-play_step.next.book.faults; crashes = c.in-Ok-play_step.next.book.crashes }) c.stop-in-Err-say_both.result why _ _ _ _ _ _ _ _ _ _ _ _ _ _ _ _ _ c.unwritten-in-Err-say_both.result (c.installed_plans_are_good.ensures.good c.args.net.now)
     at.going comes c.hear.ensures.output turn c.in-Ok.ensures.row c.in-Ok-play_step.ensures.played c.stop-in-Err-say_both.ensures refl
     (ap (λ (a : List ℕ). text ++ a) (c.as_slice.ensures.value ∙ c.in-Ok.ensures.answer))
     (omega (arith, at.later, c.hear.ensures.output_faults)) (λ is. c.in-Err-say_both.ensures.cause (err_is why is)) (λ is. c.in-Err-say_both.ensures.failed (err_is why is)) c.in-Err-say_both.ensures.no_turn
-    c.unwritten-in-Err-say_both.ensures.memory c.unwritten-in-Err-say_both.ensures.failed)
+    c.unwritten-in-Err-say_both.ensures.memory c.unwritten-in-Err-say_both.ensures.failed refl refl c.say_both.ensures.last)
 
 pub returns-in-Err-play_step-clause-ended : goal.returns-in-Err-play_step-clause-ended
 returns-in-Err-play_step-clause-ended g c =
@@ -81,10 +81,10 @@ returns-in-Err-play_step-clause-ended g c =
     let at = c.loop-at.invariant in
     let comes = subst (λ (o : Option Incoming). Comes 4096 (g.T.Talk.coming c.loop-at.talk) o (g.T.Talk.coming c.hear.new.self)) c.in-Ok-Some.field-0-is c.in-Ok-Some.ensures.next in
     let turn = subst (λ (o : Option Incoming). g.T.Talk.turns c.hear.new.self ≡ took (g.T.Talk.turns c.loop-at.talk) (heard o)) c.in-Ok-Some.field-0-is c.in-Ok-Some.ensures.turn in
-    same_session_end c.args.net.now _ _ _ _ _ _ _ _ _ c.args.playing.book c.in-Err-play_step.remains _ _ _ _ _ c.say_no_restart-status.result end.told end.faults end.histories end.events end.status
+    same_session_end c.args.net.now _ _ _ _ _ _ _ _ _ c.args.playing.book c.in-Err-play_step.remains _ _ _ _ _ _ c.say_no_restart-status.result end.told end.faults end.crashes end.histories end.events end.status
     (going_not_played c.args.net.now c.args.playing.book c.loop-at.at c.loop-at.block c.in-Ok.taken.0 c.in-Ok-Some.came c.in-Ok.taken.1 c.loop-at.playing c.in-Err-play_step.remains
     c.in-Err-play_step.fault _ _ _ _ _ _ _ _ _ _ _ _ _ _ _ _ _ _ c.say_no_restart-status.result (c.installed_plans_are_good.ensures.good c.args.net.now)
-    at.going comes c.hear.ensures.output turn c.in-Ok.ensures.row c.in-Err-play_step.ensures.failed (omega (arith, at.later, c.hear.ensures.output_faults)) c.say_no_restart-status.ensures.said)
+    at.going comes c.hear.ensures.output turn c.in-Ok.ensures.row c.in-Err-play_step.ensures.failed (omega (arith, at.later, c.hear.ensures.output_faults)) c.say_no_restart-status.ensures.said refl)
 
 pub loop-at-preserved : goal.loop-at-preserved
 loop-at-preserved g c =
@@ -99,8 +99,8 @@ loop-at-preserved g c =
       last = omega (arith, c.loop-at-test.true);
       names = c.in-Ok.ensures.terminals;
       going = going_more c.args.net.now c.args.playing.book c.loop-at.at c.loop-at.block c.in-Ok.taken.0 c.in-Ok-Some.came c.in-Ok.taken.1 c.loop-at.playing c.in-Ok-play_step.next text
-          (text ++ c.as_slice.result.now) (record { told = c.in-Ok-play_step.next.book.told; faults = c.in-Ok-play_step.next.book.faults }) _ _ _ _ _ _ _ _ _ _ _ _ at.going comes c.hear.ensures.output turn c.in-Ok.ensures.row c.in-Ok-play_step.ensures.played
-          (ap (λ (a : List ℕ). text ++ a) (c.as_slice.ensures.value ∙ c.in-Ok.ensures.answer)) (search rules) (search rules) c.say_both.ensures.shows c.say_both.ensures.input;
+          (text ++ c.as_slice.result.now) (record { told = c.in-Ok-play_step.next.book.told; faults = c.in-Ok-play_step.next.book.faults; crashes = c.in-Ok-play_step.next.book.crashes }) _ _ _ _ _ _ _ _ _ _ _ _ at.going comes c.hear.ensures.output turn c.in-Ok.ensures.row c.in-Ok-play_step.ensures.played
+          (ap (λ (a : List ℕ). text ++ a) (c.as_slice.ensures.value ∙ c.in-Ok.ensures.answer)) (search rules) (search rules) c.say_both.ensures.shows c.say_both.ensures.input refl c.say_both.ensures.last;
     }
 
 pub returns-clause-heard : goal.returns-clause-heard

@@ -17,7 +17,7 @@ returns-in-Err g c =
       output = record { before = g.T.Sink.told c.args.talk.now; after = g.T.Sink.told c.say_stop-status.new.talk; faults_before = g.T.Sink.fault_count c.args.talk.now; faults_after = g.T.Sink.fault_count c.say_stop-status.new.talk };
       turns_before = g.T.Talk.turns c.args.talk.now;
       turns_after = g.T.Talk.turns c.say_stop-status.new.talk;
-      store = record { told = g.K.Keeper.told c.unbegun.result.store; faults = g.K.Keeper.fault_count c.unbegun.result.store };
+      store = record { told = g.K.Keeper.told c.unbegun.result.store; faults = g.K.Keeper.fault_count c.unbegun.result.store; crashes = g.K.Keeper.crashes c.unbegun.result.store };
     } in
     let failed = Rose (g.F.Files.fault_count c.args.files.now) (g.F.Files.fault_count c.load_network.new.files) in
     let P : ℕ → Type 0 = λ status. SaysOneOf talk (StopsAtLoad network_file (g.F.Files.told c.args.files.now) failed c.args.net.now) status in
@@ -29,6 +29,6 @@ returns-in-Err g c =
           store = record { bytes = ap g.K.Keeper.told c.unbegun.ensures.store; faults = ap g.K.Keeper.fault_count c.unbegun.ensures.store };
         },
         subst P (sym c.unbegun.ensures.status) (said_stop talk (StopsAtLoad network_file (g.F.Files.told c.args.files.now) failed c.args.net.now) c.in-Err.stop _ c.in-Err.ensures.stops
-            (subst (λ (st : _). SaysStop (record talk { store = record { told = g.K.Keeper.told st; faults = g.K.Keeper.fault_count st } }) c.in-Err.stop c.say_stop-status.result) (sym c.unbegun.ensures.store) c.say_stop-status.ensures.said)),
+            (subst (λ (st : _). SaysStop (record talk { store = record { told = g.K.Keeper.told st; faults = g.K.Keeper.fault_count st; crashes = g.K.Keeper.crashes st } }) c.in-Err.stop c.say_stop-status.result) (sym c.unbegun.ensures.store) c.say_stop-status.ensures.said)),
       );
     }

@@ -42,7 +42,7 @@ returns-in-Ok g c =
     let h = c.close-book.ensures.history in
     let all = c.locked_books_are_legal.ensures in
     let on = c.locked_books_go_on.ensures in
-    let laws : Laws = record { legal = all.legal; state = all.state; from = on.state; net = all.net; rose = all.rose; follow = on.follow; tells = on.tells } in
+    let laws : Laws = record { legal = all.legal; state = all.state; from = on.state; net = all.net; rose = all.rose; follow = on.follow; tells = on.tells; last = on.last } in
     let follow : Follows start.net start.state.changes = subst (λ (b : Books). Follows b.net b.state.changes) (sym is) (subst (λ (n : Net). Follows n station.book.state.changes) (sym c.requires.network) c.requires.follows) in
     let ran : BookRan start c.close-book.result = comes_back laws start c.close-book.result h.0 follow h.1.legal h.1.stored in
     let back : BookRan station.book c.close-book.result = subst (λ (b : Books). BookRan b c.close-book.result) is ran in
