@@ -10,6 +10,8 @@ use Rattle.bt_report.specs.Outcome.{Outcome}
 use Rattle.bt_chart.specs.Request.{Request, Faulty, ChartPlan, ChartRun, ChartLadder}
 use Rattle.bt_chart.specs.Plans.{ChooseAPart, ChooseNone, part_file}
 use Rattle.bt_chart.specs.Runs.{AreTerminals, DrawsRun, FindsStranger, chosen_file, output_files}
+use Rattle.bt_chart.specs.declared.run.Drawing.{Drawing}
+use Rattle.bt_chart.specs.declared.run.Drawing.TheVariants as drawing
 use Rattle.bt_chart.specs.Top.{AreTold, Charts, ChartsBy, Command, Draws, IsOneBy, IsOneChart, NeedsBy, command_of}
 
 -- names are all of terminals, or not
@@ -38,10 +40,10 @@ record IsLawfulCommand {Value : Type 0} (loads : Loader Value) (after : Value �
   same : (value : Value) (a b : Outcome) → after value a → after value b → AreAlike choice a b
 
 -- the output of a run, and any picture of it
-run_lawful : (net output : List ℕ) (names : List (List ℕ)) → IsLawfulCommand (output_files net output names) (λ (both : Net × List Printed). DrawsRun) AnyGood
-run_lawful net output names = record {
+run_lawful : (so : Drawing) (net output : List ℕ) (names : List (List ℕ)) → IsLawfulCommand (output_files net output names) (λ (both : Net × List Printed). DrawsRun so) AnyGood
+run_lawful so net output names = record {
   lawful = then_lawful (chosen_file net names) (λ network. file (output_file network) output) (chosen_lawful net names) (λ network. file_lawful (output_file network) output);
-  same = λ both a b one other. done_alike a b (ap (λ (o : Outcome). o.status) one.1) (ap (λ (o : Outcome). o.status) other.1);
+  same = λ both a b one other. done_alike a b (ap (λ (o : Outcome). o.status) one.2) (ap (λ (o : Outcome). o.status) other.2);
 }
 
 abbrev LawsBy : Command → Type 1
@@ -53,8 +55,8 @@ laws_of (ChartPlan net plan words) = record {
   lawful = then_lawful (part_file net words) (λ network. file (plan_file network) plan) (part_lawful net words) (λ network. file_lawful (plan_file network) plan);
   same = λ both a b one other. one ∙ sym other;
 }
-laws_of (ChartRun net output view names) = run_lawful net output names
-laws_of (ChartLadder net output view names) = run_lawful net output names
+laws_of (ChartRun net output view names) = run_lawful drawing.Rows net output names
+laws_of (ChartLadder net output view names) = run_lawful drawing.Ladder net output names
 
 same_by : (asked : Command) → LawsBy asked → (told : List ℕ → Option (List ℕ)) → NeedsBy asked told → (a b : Outcome) → ChartsBy asked told ⊥ a → ChartsBy asked told ⊥ b → IsOneBy asked a b
 same_by (Draws Value loads after choice) laws told of_files = Loads-same choice loads laws.lawful told of_files after after laws.same

@@ -6,11 +6,14 @@ use Rattle.bt_net.specs.Network.{Net}
 use Rattle.bt_net.specs.Terminals.{terminal_of}
 use Rattle.bt_picture.specs.Picture.{Picture, picture_text}
 use Rattle.bt_run_lines.specs.declared.printed.Printed.{Printed}
+use Rattle.bt_run_chart.specs.Titles.{IsLadder, IsOfRun}
 use Rattle.bt_report.specs.declared.status.TheConstants.{DONE}
 use Rattle.bt_load.specs.Kinds.{network_file, output_file}
 use Rattle.bt_load.specs.Loaders.{Loader, and_then, file, tested}
 use Rattle.bt_report.specs.Faults.{SaysFaultyWords}
 use Rattle.bt_report.specs.Outcome.{Outcome, text_alone}
+use Rattle.bt_chart.specs.declared.run.Drawing.{Drawing}
+use Rattle.bt_chart.specs.declared.run.Drawing.TheVariants as drawing
 
 -- whether the word is the name of a terminal
 abbrev pub is_terminal : Net → List ℕ → Bool
@@ -24,9 +27,14 @@ AreTerminals names net = list_all (is_terminal net) names ≡ true
 abbrev pub FindsStranger : List (List ℕ) → Net → Outcome → Type 0
 FindsStranger names net outcome = (list_all (is_terminal net) names ≡ false) × SaysFaultyWords outcome
 
--- the text of a picture, and nothing else
-abbrev pub DrawsRun : Outcome → Type 0
-DrawsRun outcome = (picture : Picture) × (outcome ≡ text_alone (picture_text picture) DONE)
+-- a picture of a run that is drawn so
+abbrev pub IsDrawnSo : Drawing → Picture → Type 0
+IsDrawnSo drawing.Rows picture = IsOfRun picture
+IsDrawnSo drawing.Ladder picture = IsLadder picture
+
+-- the text of such a picture, and nothing else
+abbrev pub DrawsRun : Drawing → Outcome → Type 0
+DrawsRun so outcome = (picture : Picture) × IsDrawnSo so picture × (outcome ≡ text_alone (picture_text picture) DONE)
 
 -- a network is loaded that has terminals of these names
 abbrev pub chosen_file : List ℕ → List (List ℕ) → Loader Net

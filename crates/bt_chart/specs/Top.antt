@@ -9,6 +9,7 @@ use Rattle.bt_load.specs.Loaders.{Loader, Loads, nothing}
 use Rattle.bt_chart.specs.Plans.{DrawsPlan, plan_files}
 use Rattle.bt_chart.specs.Request.{Request, Faulty, ChartPlan, ChartRun, ChartLadder}
 use Rattle.bt_chart.specs.Runs.{DrawsRun, output_files}
+use Rattle.bt_chart.specs.declared.run.Drawing.TheVariants as drawing
 
 -- A command: the value that it loads, its loads, the outcomes that it then has, and which of these may stand for one another.
 pub data Command : Type 1 where
@@ -17,12 +18,12 @@ pub data Command : Type 1 where
 abbrev pub command : {Value : Type 0} → Loader Value → (Value → Outcome → Type 0) → Choice → Command
 command {Value} loads after choice = Draws Value loads after choice
 
--- THE TABLE: what is loaded for a command, what it draws of the value that is loaded, and whether one picture is right, or any.
+-- THE TABLE: what is loaded for a command, what it draws of the value that is loaded, and whether one picture is right, or any of its kind.
 abbrev pub command_of : Request → Command
 command_of Faulty = command nothing (λ none. SaysFaultyWords) Exactly
 command_of (ChartPlan net plan words) = command (plan_files net plan words) (λ both. DrawsPlan words both.0 both.1) Exactly
-command_of (ChartRun net output view names) = command (output_files net output names) (λ both. DrawsRun) AnyGood
-command_of (ChartLadder net output view names) = command (output_files net output names) (λ both. DrawsRun) AnyGood
+command_of (ChartRun net output view names) = command (output_files net output names) (λ both. DrawsRun drawing.Rows) AnyGood
+command_of (ChartLadder net output view names) = command (output_files net output names) (λ both. DrawsRun drawing.Ladder) AnyGood
 
 -- the outcomes of a command: its loads stop with them, or it has them with the value that they give
 abbrev pub ChartsBy : Command → (List ℕ → Option (List ℕ)) → Type 0 → Outcome → Type 0
@@ -48,6 +49,6 @@ AreTold told request = NeedsBy (command_of request) told
 abbrev pub IsOneBy : Command → Outcome → Outcome → Type 0
 IsOneBy (Draws Value loads after choice) a b = AreAlike choice a b
 
--- the same outcome; of a run any picture may stand in another's place
+-- the same outcome; of a run any picture of its kind may stand in another's place
 abbrev pub IsOneChart : Request → Outcome → Outcome → Type 0
 IsOneChart request a b = IsOneBy (command_of request) a b

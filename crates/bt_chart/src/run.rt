@@ -1,5 +1,5 @@
 // `run` and `ladder NET OUTPUT [all] [FIRST-LAST] [NAME ..]`.
-ghost use Rattle.std.specs.Prelude.{◌≡◌, All, IfOk, map};
+ghost use Rattle.std.specs.Prelude.{◌≡◌, All, IfOk, OnOk, map};
 ghost use Rattle.std.specs.List.{list_all};
 ghost use Rattle.std.specs.String.{string_bytes};
 ghost use Rattle.bt_net.specs.Terminals.{IsTerminal};
@@ -7,7 +7,8 @@ ghost use Rattle.bt_outside.specs.Told.{Rose};
 ghost use Rattle.bt_report.specs.Printing.{CameTo};
 ghost use Rattle.bt_load.specs.Kinds.{output_file};
 ghost use Rattle.bt_load.specs.Loaders.{Loads, file};
-ghost use Rattle.bt_chart.specs.Runs.{DrawsRun, is_terminal, output_files};
+ghost use Rattle.bt_picture.specs.Drawn.{IsPictureBehind};
+ghost use Rattle.bt_chart.specs.Runs.{DrawsRun, IsDrawnSo, is_terminal, output_files};
 
 use bt_frame::{OutOfMemory, TermNo};
 use bt_load::{load_network, load_output};
@@ -37,7 +38,7 @@ pub fn chart_run<F: Files>(
     view: View,
     names: &[String],
 ) -> Result<Report, Stop>
-    ensures { CameTo (Loads (output_files net.now output.now (map string_bytes names.now)) (λ both. DrawsRun) (F.told files.old) (Rose (F.fault_count files.old) (F.fault_count files.new))) result }
+    ensures { CameTo (Loads (output_files net.now output.now (map string_bytes names.now)) (λ both. DrawsRun drawing) (F.told files.old) (Rose (F.fault_count files.old) (F.fault_count files.new))) result }
 {
     let net = load_network(alloc, files, net)?;
     if !are_terminals(&net, names) {
@@ -86,7 +87,7 @@ fn chart_output<F: Files>(
     view: View,
     names: &[String],
 ) -> Result<Report, Stop>
-    ensures { CameTo (Loads (file (output_file net.now) output.now) (λ printed. DrawsRun) (F.told files.old) (Rose (F.fault_count files.old) (F.fault_count files.new))) result }
+    ensures { CameTo (Loads (file (output_file net.now) output.now) (λ printed. DrawsRun drawing) (F.told files.old) (Rose (F.fault_count files.old) (F.fault_count files.new))) result }
 {
     let chosen = terminals_named(alloc, net, names)?;
     let text = load_output(alloc, files, output, net)?;
@@ -95,12 +96,27 @@ fn chart_output<F: Files>(
         chosen: &chosen,
         view,
     };
-    match drawing {
-        Drawing::Rows => run_picture(alloc, net, &text, asked, &mut picture)?,
-        Drawing::Ladder => ladder_picture(alloc, net, &text, asked, &mut picture)?,
-    }
+    draw_run(alloc, net, drawing, &text, asked, &mut picture)?;
     Ok(Report {
         text: picture,
         status: DONE,
     })
+}
+
+/// Appends the picture of what a run printed, drawn so.
+fn draw_run(
+    alloc: Global,
+    net: &Network,
+    drawing: Drawing,
+    text: &[u8],
+    asked: Asked<'_>,
+    out: &mut Vec<u8>,
+) -> Result<(), OutOfMemory>
+    requires { All (IsTerminal net.now) asked.chosen.now }
+    ensures { OnOk result (IsPictureBehind (IsDrawnSo drawing) out.old.items out.new.items) }
+{
+    match drawing {
+        Drawing::Rows => run_picture(alloc, net, text, asked, out),
+        Drawing::Ladder => ladder_picture(alloc, net, text, asked, out),
+    }
 }

@@ -1,23 +1,27 @@
 // Writing what was drawn.
 ghost use Rattle.std.specs.Prelude.{OnOk};
-ghost use Rattle.bt_picture.specs.Drawn.{AddsParts, IsPictureBehind};
+ghost use Rattle.bt_picture.specs.Drawn.{AddsParts, BeginsWith, IsPictureBehind};
+ghost use Rattle.bt_picture.specs.Picture.{drawn};
 
 use crate::drawing::{Drawing, Drawn, Label, Pen};
 use crate::{Shape, write_alone, write_foot, write_head, write_titled};
 use bt_words::Word;
 use std::alloc::Global;
 
-/// Appends a picture of that size, in twips, of all that was drawn. Want of memory leaves a first part of it.
+/// Appends a picture of that size, in twips: its title, and over it all that was drawn. Want of memory leaves a first part
+/// of it.
 pub fn write_picture(
     alloc: Global,
     width: u64,
     height: u64,
+    title: Shape<'_>,
     pen: &Pen<'_>,
     out: &mut Vec<u8>,
 ) -> Drawn
-    ensures picture { OnOk result (IsPictureBehind out.old.items out.new.items) }
+    ensures picture { OnOk result (IsPictureBehind (BeginsWith (drawn title.entry)) out.old.items out.new.items) }
 {
     write_head(alloc, width, height, out)?;
+    write_alone(alloc, title, out)?;
     write_drawings(alloc, pen.drawings.as_slice(), out)?;
     write_foot(out)?;
     Ok(())

@@ -2,6 +2,7 @@
 ghost use Rattle.std.specs.Prelude.{All, OnOk};
 ghost use Rattle.bt_net.specs.Terminals.{IsTerminal};
 ghost use Rattle.bt_picture.specs.Drawn.{IsPictureBehind};
+ghost use Rattle.bt_run_chart.specs.Titles.{IsLadder};
 
 use crate::folding::folded;
 use crate::ladder_marks::{draw_notes, draw_rules, write_names};
@@ -10,19 +11,14 @@ use crate::lanes::Lanes;
 use crate::rungs::Ladder;
 use crate::step::Step;
 use crate::view::Asked;
-use crate::whole::{asked_steps, write_heading};
+use crate::whole::{asked_steps, write_heading, write_titled_picture};
 use bt_frame::OutOfMemory;
 use bt_net::Network;
-use bt_picture::{Drawn, Pen, Style, write_picture};
+use bt_picture::{Drawn, Pen, Style};
 use std::alloc::Global;
 
-// The lines above the ladder, with how far from the top they stand.
-const HEADING: [(u64, Style, &str); 3] = [
-    (
-        480,
-        Style::Title,
-        "What the run printed, from top to bottom",
-    ),
+// The lines below the title, with how far from the top they stand.
+const HEADING: [(u64, Style, &str); 2] = [
     (
         820,
         Style::Text,
@@ -47,7 +43,7 @@ pub fn ladder_picture(
     out: &mut Vec<u8>,
 ) -> Result<(), OutOfMemory>
     requires chosen { All (IsTerminal net.now) asked.chosen.now }
-    ensures picture { OnOk result (IsPictureBehind out.old.items out.new.items) }
+    ensures picture { OnOk result (IsPictureBehind IsLadder out.old.items out.new.items) }
 {
     let steps = asked_steps(alloc, net, text, asked.view)?;
     if !asked.view.folds {
@@ -65,14 +61,15 @@ fn write_ladder(
     asked: Asked<'_>,
     out: &mut Vec<u8>,
 ) -> Result<(), OutOfMemory>
-    ensures { OnOk result (IsPictureBehind out.old.items out.new.items) }
+    ensures { OnOk result (IsPictureBehind IsLadder out.old.items out.new.items) }
 {
     let lanes = Lanes::of(alloc, steps, asked.chosen)?;
     let ladder = Ladder::of(alloc, net, lanes, steps)?;
     let mut pen = Pen::new(alloc);
     draw_ladder(&ladder, &mut pen)?;
     let height = ladder.bottom().saturating_add(300);
-    write_picture(alloc, ladder.width(), height, &pen, out)
+    let title = "What the run printed, from top to bottom";
+    write_titled_picture(alloc, ladder.width(), height, title, &pen, out)
 }
 
 // Draws a ladder: what is drawn later lies upon the rest.

@@ -10,7 +10,8 @@
 //! (`ladder_ways.rt`, `ladder_marks.rt`).
 //!
 //! The crate stands on read lines (`bt_run_lines`) and on what is drawn by a pen (`bt_picture`), whose `specs/Drawn.antt`
-//! says what is promised: what is written is a picture. What is drawn in it is not claimed.
+//! says what is promised: what is written is a picture; and `specs/Titles.antt` of which title. What else is drawn in it is not
+//! claimed.
 #![tactic(auto)]
 
 mod air;

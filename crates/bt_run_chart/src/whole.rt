@@ -2,6 +2,7 @@
 ghost use Rattle.std.specs.Prelude.{All, OnOk};
 ghost use Rattle.bt_net.specs.Terminals.{IsTerminal};
 ghost use Rattle.bt_picture.specs.Drawn.{IsPictureBehind};
+ghost use Rattle.bt_run_chart.specs.Titles.{IsOfRun, IsTitled};
 
 use crate::air::{draw_air, draw_silences};
 use crate::folding::folded;
@@ -19,12 +20,12 @@ use crate::totals::draw_totals;
 use crate::view::{Asked, View};
 use bt_frame::{OutOfMemory, TermNo};
 use bt_net::Network;
-use bt_picture::{Anchor, Drawn, Pen, Style, place, write_picture};
+use bt_picture::{Anchor, Drawn, Pen, Point, Shape, Style, place, write_picture};
+use bt_words::Word;
 use std::alloc::Global;
 
-// The lines above lanes, and those above totals, with how far from the top they stand.
-const ROWS_HEADING: [(u64, Style, &str); 3] = [
-    (480, Style::Title, "What the run printed"),
+// The lines below the title above lanes, and that above totals, with how far from the top they stand.
+const ROWS_HEADING: [(u64, Style, &str); 2] = [
     (
         820,
         Style::Text,
@@ -37,14 +38,11 @@ const ROWS_HEADING: [(u64, Style, &str); 3] = [
     ),
 ];
 
-const TOTALS_HEADING: [(u64, Style, &str); 2] = [
-    (480, Style::Title, "What the run printed, by superframes"),
-    (
-        820,
-        Style::Text,
-        "Of each kind of message, how many were sent / how often one came to a station, refused or not; above them the edition in front on board at the end.",
-    ),
-];
+const TOTALS_HEADING: [(u64, Style, &str); 1] = [(
+    820,
+    Style::Text,
+    "Of each kind of message, how many were sent / how often one came to a station, refused or not; above them the edition in front on board at the end.",
+)];
 
 // Twips from the left to the right edge of a picture.
 const WIDTH: u64 = 20_000;
@@ -67,22 +65,65 @@ pub fn run_picture(
     out: &mut Vec<u8>,
 ) -> Result<(), OutOfMemory>
     requires chosen { All (IsTerminal net.now) asked.chosen.now }
-    ensures picture { OnOk result (IsPictureBehind out.old.items out.new.items) }
+    ensures picture { OnOk result (IsPictureBehind IsOfRun out.old.items out.new.items) }
 {
     let steps = asked_steps(alloc, net, text, asked.view)?;
     let mut pen = Pen::new(alloc);
-    let height = draw_run(alloc, net, steps.as_slice(), asked, &mut pen)?;
-    write_picture(alloc, WIDTH, height, &pen, out)
+    let drawn = draw_run(alloc, net, steps.as_slice(), asked, &mut pen)?;
+    if drawn.is_counted {
+        write_counted(alloc, drawn.height, &pen, out)
+    } else {
+        write_steps(alloc, drawn.height, &pen, out)
+    }
 }
 
-// Draws a run, and says how high its picture is.
+// Appends the picture of a run that was drawn step by step.
+fn write_steps(alloc: Global, height: u64, pen: &Pen<'_>, out: &mut Vec<u8>) -> Drawn
+    ensures { OnOk result (IsPictureBehind IsOfRun out.old.items out.new.items) }
+{
+    write_titled_picture(alloc, WIDTH, height, "What the run printed", pen, out)
+}
+
+// Appends the picture of a run that was counted by superframes.
+fn write_counted(alloc: Global, height: u64, pen: &Pen<'_>, out: &mut Vec<u8>) -> Drawn
+    ensures { OnOk result (IsPictureBehind IsOfRun out.old.items out.new.items) }
+{
+    let title = "What the run printed, by superframes";
+    write_titled_picture(alloc, WIDTH, height, title, pen, out)
+}
+
+/// Appends a picture of that size, in twips, of that title.
+pub fn write_titled_picture(
+    alloc: Global,
+    width: u64,
+    height: u64,
+    title: &str,
+    pen: &Pen<'_>,
+    out: &mut Vec<u8>,
+) -> Drawn
+    ensures { OnOk result (IsPictureBehind (IsTitled title.now) out.old.items out.new.items) }
+{
+    let words = [Word::Text(title)];
+    let at = Point { x: 320, y: 480 };
+    let label = Shape::Label(at, Anchor::Start, Style::Title, &words);
+    write_picture(alloc, width, height, label, pen, out)
+}
+
+// A run that was drawn: whether it is counted by superframes, and how high its picture is.
+#[derive(Clone, Copy)]
+struct DrawnRun {
+    is_counted: bool,
+    height: u64,
+}
+
+// Draws a run below its title.
 fn draw_run<'a>(
     alloc: Global,
     net: &'a Network,
     steps: &[Step],
     asked: Asked<'_>,
     pen: &mut Pen<'a>,
-) -> Result<u64, OutOfMemory> {
+) -> Result<DrawnRun, OutOfMemory> {
     if !asked.view.folds {
         return draw_steps(alloc, net, steps, steps, asked.chosen, pen);
     }
@@ -98,10 +139,14 @@ fn draw_steps<'a>(
     whole: &[Step],
     chosen: &[TermNo],
     pen: &mut Pen<'a>,
-) -> Result<u64, OutOfMemory> {
+) -> Result<DrawnRun, OutOfMemory> {
     if is_long(steps) {
         write_heading(&TOTALS_HEADING, pen)?;
-        return draw_totals(alloc, whole, pen);
+        let height = draw_totals(alloc, whole, pen)?;
+        return Ok(DrawnRun {
+            is_counted: true,
+            height,
+        });
     }
     write_heading(&ROWS_HEADING, pen)?;
     let lanes = Lanes::of(alloc, steps, chosen)?;
@@ -110,9 +155,13 @@ fn draw_steps<'a>(
     if is_silent(steps) {
         write_silence(&layout, pen)?;
     }
-    Ok(match layout.staves.last() {
+    let height = match layout.staves.last() {
         Some(stave) => layout.heights.bottom(stave).saturating_add(300),
         None => TOP,
+    };
+    Ok(DrawnRun {
+        is_counted: false,
+        height,
     })
 }
 
@@ -209,7 +258,7 @@ pub fn asked_steps(
     }
 }
 
-/// Says how the picture is read.
+/// Says below the title how the picture is read.
 pub fn write_heading(lines: &[(u64, Style, &'static str)], pen: &mut Pen<'_>) -> Drawn {
     for (y, style, text) in lines {
         let words = pen.phrase(text, &[])?;

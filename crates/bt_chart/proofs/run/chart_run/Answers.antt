@@ -12,5 +12,5 @@ returns g c =
     let net = c.in_ok-net.net in
     let output = c.args.output.now in
     let names = map string_bytes c.args.names.now in
-    came_then (chosen_file c.args.net.now names) (λ network. file (output_file network) output) (λ both. DrawsRun) (g.F.Files.told c.args.files.now) (g.F.Files.told c.load_network.new.files) _ _ _ net
+    came_then (chosen_file c.args.net.now names) (λ network. file (output_file network) output) (λ both. DrawsRun c.args.drawing) (g.F.Files.told c.args.files.now) (g.F.Files.told c.load_network.new.files) _ _ _ net
     (file_sooner (output_file net) output) c.in_ok-net.ensures.same c.in_ok-net.ensures.later (c.in_ok-net.ensures.loaded, search rules) c.chart_output.result c.chart_output.ensures
