@@ -4,28 +4,19 @@ use crate::telling::Done;
 use crate::words::{has_count, is_form_of};
 use bt_text::is_word;
 
-/// The letter of the codes of a file, by what the form of a command calls it; a point where it names no file.
-fn letter_of(name: &[u8]) -> u8 {
-    if is_word(name, b"MATRIX") {
-        b'X'
-    } else if is_word(name, b"MODES") {
-        b'M'
-    } else if is_word(name, b"NET") {
-        b'N'
-    } else if is_word(name, b"TRAFFIC") {
-        b'T'
-    } else if is_word(name, b"PLAN") {
-        b'P'
-    } else if is_word(name, b"DELAYS") {
-        b'G'
-    } else if is_word(name, b"SCRIPT") {
-        b'S'
-    } else if is_word(name, b"JOURNAL") {
-        b'J'
-    } else if is_word(name, b"OUTPUT") {
-        b'O'
-    } else {
-        b'.'
+/// What the form of a command calls the file of a letter of codes.
+fn called(letter: u8) -> &'static str {
+    match letter {
+        b'X' => "MATRIX",
+        b'M' => "MODES",
+        b'N' => "NET",
+        b'T' => "TRAFFIC",
+        b'P' => "PLAN",
+        b'G' => "DELAYS",
+        b'S' => "SCRIPT",
+        b'J' => "JOURNAL",
+        b'O' => "OUTPUT",
+        _ => "",
     }
 }
 
@@ -36,7 +27,7 @@ pub fn file_of<'a>(done: &Done<'a>, letter: u8) -> Option<&'a str> {
     let _command = names.next();
     for file in files {
         let (_, name) = names.next()?;
-        if letter_of(name) == letter {
+        if is_word(name, called(letter).as_bytes()) {
             return Some(file.as_str());
         }
     }

@@ -45,6 +45,11 @@ pub fn line_at(text: &[u8], number: u32) -> Option<Line<'_>> {
     }
 }
 
+/// What stands in line `number` of a text; no bytes where nothing stands there.
+pub fn bytes_at(text: &[u8], number: u32) -> &[u8] {
+    line_at(text, number).map_or(b"".as_slice(), |line| line.bytes)
+}
+
 /// The word of that number, from 0, of a line; no bytes where it has none.
 pub fn word_of(line: &[u8], index: usize) -> &[u8] {
     let mut at: usize = 0;
@@ -59,10 +64,7 @@ pub fn word_of(line: &[u8], index: usize) -> &[u8] {
 
 /// The number that the word of that number is, where it is one of 32 bits.
 pub fn number_at(line: &[u8], index: usize) -> Option<u32> {
-    match number(word_of(line, index)) {
-        Some(number) => u32::try_from(number).ok(),
-        None => None,
-    }
+    u32::try_from(number(word_of(line, index))?).ok()
 }
 
 /// Where the word of that number begins in a line, and how many bytes it has; the end where there is none.

@@ -4,6 +4,7 @@
 //         link t0 t99 50
 //                 ^^^
 //         hint: did you mean 't9'?
+use crate::bytes::place_of;
 use crate::page::Page;
 use std::alloc::Global;
 
@@ -57,6 +58,12 @@ impl Cause {
         self.bytes = bytes;
     }
 
+    /// The word that is meant, by its number, from 0, in its line.
+    pub fn mark_word(&mut self, line: &[u8], index: usize) {
+        let (at, bytes) = place_of(line, index);
+        self.mark(at, bytes);
+    }
+
     /// Says why.
     pub fn say(&mut self, why: &str) {
         self.why.add(why);
@@ -66,6 +73,12 @@ impl Cause {
     pub fn say_at(&mut self, at: usize, bytes: usize, why: &str) {
         self.mark(at, bytes);
         self.why.add(why);
+    }
+
+    /// Says why, of the word of that number of a line.
+    pub fn say_of_word(&mut self, line: &[u8], index: usize, why: &str) {
+        self.mark_word(line, index);
+        self.say(why);
     }
 
     /// Appends the sentence.

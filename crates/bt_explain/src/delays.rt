@@ -1,5 +1,5 @@
 // What is wrong with a line of delays, where its words have a form.
-use crate::bytes::{line_at, place_of, word_of};
+use crate::bytes::{bytes_at, word_of};
 use crate::cause::{Cause, add_other_line};
 use crate::fault::Fault;
 use crate::lines::Lines;
@@ -15,8 +15,7 @@ pub fn find_delay(fault: &Fault<'_>, cause: &mut Cause) {
         ),
         b'3' => find_number(fault, cause),
         b'4' => {
-            let (at, bytes) = place_of(fault.line, 1);
-            cause.say_at(at, bytes, "this terminal had a delay before");
+            cause.say_of_word(fault.line, 1, "this terminal had a delay before");
             ask_delay_before(fault, cause);
         }
         b'5' => find_undelayed(fault, cause),
@@ -26,16 +25,16 @@ pub fn find_delay(fault: &Fault<'_>, cause: &mut Cause) {
 
 fn find_number(fault: &Fault<'_>, cause: &mut Cause) {
     if fault.at == 2 {
-        let (at, bytes) = place_of(fault.line, 1);
-        cause.say_at(at, bytes, "a guard at each end leaves no tick of the slot");
-        if let Some(line) = line_at(fault.text, 1) {
-            add_other_line(1, line.bytes, &mut cause.note);
-        }
+        cause.say_of_word(
+            fault.line,
+            1,
+            "a guard at each end leaves no tick of the slot",
+        );
+        add_other_line(1, bytes_at(fault.text, 1), &mut cause.note);
     } else {
-        let (at, bytes) = place_of(fault.line, 2);
-        cause.say_at(
-            at,
-            bytes,
+        cause.say_of_word(
+            fault.line,
+            2,
             "with this change the delay would leave 0 to 10000000",
         );
     }

@@ -9,7 +9,7 @@ use crate::plan::{find_behind_end, find_plan, say_wanting};
 use crate::script::find_script;
 use crate::telling::{Done, add_program};
 use crate::traffic::find_link;
-use crate::walk::{Look, find_in_form, find_misfit};
+use crate::walk::{find_in_form, find_misfit};
 use bt_net::Network;
 use std::alloc::Global;
 
@@ -65,7 +65,7 @@ pub fn tell_line(
         digit,
         text: named.text,
         at,
-        line: bytes_of(found),
+        line: found.map_or(b"".as_slice(), |line| line.bytes),
         net: named.net,
         beams: named.beams,
     };
@@ -75,18 +75,9 @@ pub fn tell_line(
     }
     add_heading(done, named.file, Some(at), code, page);
     cause.add_why(page);
-    if let Some(line) = found {
-        cause.add_line(line.bytes, page);
-    }
+    cause.add_line(fault.line, page);
     cause.add_hint(page);
     true
-}
-
-fn bytes_of(line: Option<Line<'_>>) -> &[u8] {
-    match line {
-        Some(line) => line.bytes,
-        None => &[],
-    }
 }
 
 /// Finds out why a line is at fault, or that it is wanting.
@@ -105,24 +96,16 @@ fn find(alloc: Global, fault: &Fault<'_>, line: Option<Line<'_>>, cause: &mut Ca
 
 /// Looks at the line by itself: its bytes, its form, its names and its numbers.
 fn find_in_line(alloc: Global, fault: &Fault<'_>, line: Line<'_>, cause: &mut Cause) {
-    let (letter, at) = (fault.letter, fault.at);
     if fault.digit == b'1' {
         find_behind_end(fault, cause);
         if !cause.is_found() {
             find_bytes(fault, line, cause);
         }
         if !cause.is_found() {
-            find_misfit(
-                alloc,
-                letter,
-                at,
-                fault.line,
-                &Look::shape(fault.beams),
-                cause,
-            );
+            find_misfit(alloc, fault, cause);
         }
     } else {
-        find_in_form(alloc, letter, at, fault.line, &look_of(fault), cause);
+        find_in_form(alloc, fault, cause);
     }
 }
 
@@ -139,15 +122,6 @@ fn find_in_text(alloc: Global, fault: &Fault<'_>, cause: &mut Cause) {
     }
 }
 
-/// What is looked at in a line that has its shape: its names, and its numbers.
-fn look_of<'a>(fault: &Fault<'a>) -> Look<'a> {
-    Look {
-        beams: fault.beams,
-        net: fault.net,
-        has_ranges: fault.digit == b'3' || fault.letter == b'X',
-    }
-}
-
 /// What is said of a line of which no more was found out.
 fn usual(letter: u8) -> &'static str {
     match letter {
@@ -157,7 +131,6 @@ fn usual(letter: u8) -> &'static str {
         b'X' => "this is no line that a matrix has in this place",
         b'G' => "this is no line that delays have in this place",
         b'S' => "this is no line of a script",
-        b'O' => "no run prints this line",
         b'J' => "this is the line of no change",
         _ => "this line is at fault",
     }

@@ -1,5 +1,5 @@
 // Demands and sizes that do not fit.
-use crate::bytes::{number_at, place_of, word_of};
+use crate::bytes::{bytes_at, number_at, word_of};
 use crate::cause::{Cause, add_other_line};
 use crate::fault::{Named, add_heading};
 use crate::lines::Lines;
@@ -68,13 +68,10 @@ pub fn tell_size(alloc: Global, done: &Done<'_>, matrix: Named<'_>, page: &mut P
     } else {
         cause.say(" beams, and there are more transponders than that");
     }
-    let line = crate::bytes::line_at(matrix.text, 1);
-    let (at, bytes) = line.map_or((0, 0), |line| place_of(line.bytes, 0));
-    cause.mark(at, bytes);
+    let line = bytes_at(matrix.text, 1);
+    cause.mark_word(line, 0);
     add_heading(done, matrix.file, Some(1), b"X3", page);
     cause.add_why(page);
-    if let Some(line) = line {
-        cause.add_line(line.bytes, page);
-    }
+    cause.add_line(line, page);
     true
 }

@@ -3,6 +3,7 @@ use bt_frame::{
     LAST_BEAM, LAST_COMMAND, LAST_EDITION, LAST_MARK, LAST_MESSAGE, LAST_TEXT_SLOT, MOST_BEAMS,
     MOST_BURST_SLOTS, MOST_DESKS, MOST_TERMINALS, MOST_TEXT_SLOTS, MOST_UNITS,
 };
+use bt_text::is_word;
 use bt_timing::{LEAST_CHANGE, LEAST_SLOT_TICKS, MOST_DELAY, MOST_HALF, MOST_SLOT_TICKS};
 
 /// What may stand at a place of a line.
@@ -22,7 +23,17 @@ pub enum Place {
     EachWithin(u32, u32),
 }
 
+impl Place {
+    /// Whether this word alone may stand here.
+    pub fn is_alone(self, word: &[u8]) -> bool {
+        matches!(self, Place::Word(text) if is_word(word, text.as_bytes()))
+    }
+}
+
 use Place::*;
+
+/// Forms of a line, of each what stands at its places.
+pub type Forms = &'static [&'static [Place]];
 
 /// What the values of a mode are at most in a text: whether they are beams, the verdict says.
 const MOST_VALUE: u32 = 255;
@@ -33,154 +44,105 @@ const BEAMS: u32 = MOST_BEAMS as u32;
 
 const TERMINALS: u32 = MOST_TERMINALS as u32;
 
-/// The form of that number, from 0, that line `at` of a text may have; the letter is that of the text's codes.
-pub fn form_of(letter: u8, at: u32, index: usize) -> Option<&'static [Place]> {
-    match letter {
-        b'X' => matrix_form(at, index),
-        b'M' => schedule_form(at, index),
-        b'T' => traffic_form(index),
-        b'P' => plan_form(at, index),
-        b'G' => delay_form(at, index),
-        b'S' => script_form(index),
-        b'J' => journal_form(index),
-        _ => None,
+/// The forms that line `at` of a text may have; the letter is that of the text's codes.
+#[rattlefmt::skip]
+pub fn forms_of(letter: u8, at: u32) -> Forms {
+    match (letter, at) {
+        (b'X', 1)             => SIZE,
+        (b'X', _)             => ROW,
+        (b'T', _)             => LINK,
+        (b'P', 1)             => EDITION,
+        (b'P', 2) | (b'M', 1) => LENGTH,
+        (b'P', 3) | (b'M', 2) => CRITICAL,
+        (b'P', _)             => BURSTS,
+        (b'M', _)             => MODES,
+        (b'G', 1)             => SLOT,
+        (b'G', 2)             => HALF,
+        (b'G', _)             => DELAYS,
+        (b'S', _)             => SCRIPT,
+        (b'J', _)             => JOURNAL,
+        _                     => &[],
     }
 }
+
+const SIZE: Forms = &[&[Number(1, BEAMS)]];
+
+const ROW: Forms = &[&[EachNumber(0, MOST_UNITS)]];
+
+const LINK: Forms = &[&[Word("link"), Name, Name, Number(1, MOST_UNITS)]];
+
+const EDITION: Forms = &[&[Word("plan"), Within(0, LAST_EDITION)]];
+
+const LENGTH: Forms = &[&[Word("length"), Within(0, MOST_TEXT_SLOTS)]];
 
 #[rattlefmt::skip]
-fn matrix_form(at: u32, index: usize) -> Option<&'static [Place]> {
-    match (at, index) {
-        (1, 0) => Some(&[Number(1, BEAMS)]),
-        (1, _) => None,
-        (_, 0) => Some(&[EachNumber(0, MOST_UNITS)]),
-        _      => None,
-    }
-}
-
-fn schedule_form(at: u32, index: usize) -> Option<&'static [Place]> {
-    match at {
-        1 => length_form(index),
-        2 => critical_form(index),
-        _ => match index {
-            0 => mode_form(),
-            1 => Some(&[Word("end")]),
-            _ => None,
-        },
-    }
-}
-
-fn length_form(index: usize) -> Option<&'static [Place]> {
-    match index {
-        0 => Some(&[Word("length"), Within(0, MOST_TEXT_SLOTS)]),
-        _ => None,
-    }
-}
+const CRITICAL: Forms = &[
+    &[Word("critical"), Word("row"),    Within(0, LAST_BEAM)],
+    &[Word("critical"), Word("column"), Within(0, LAST_BEAM)],
+];
 
 #[rattlefmt::skip]
-fn critical_form(index: usize) -> Option<&'static [Place]> {
-    match index {
-        0 => Some(&[Word("critical"), Word("row"),    Within(0, LAST_BEAM)]),
-        1 => Some(&[Word("critical"), Word("column"), Within(0, LAST_BEAM)]),
-        _ => None,
-    }
-}
+const BURSTS: Forms = &[
+    &[Word("burst"), Within(0, LAST_TEXT_SLOT), Within(1, MOST_BURST_SLOTS), Name, Name],
+    MODE,
+    END,
+];
 
-fn mode_form() -> Option<&'static [Place]> {
-    Some(&[
-        Word("mode"),
-        Within(0, MOST_TEXT_SLOTS),
-        EachWithin(0, MOST_VALUE),
-    ])
-}
+const MODES: Forms = &[MODE, END];
 
-fn traffic_form(index: usize) -> Option<&'static [Place]> {
-    match index {
-        0 => Some(&[Word("link"), Name, Name, Number(1, MOST_UNITS)]),
-        _ => None,
-    }
-}
+const MODE: &[Place] = &[
+    Word("mode"),
+    Within(0, MOST_TEXT_SLOTS),
+    EachWithin(0, MOST_VALUE),
+];
 
-fn plan_form(at: u32, index: usize) -> Option<&'static [Place]> {
-    match at {
-        1 => edition_form(index),
-        2 => length_form(index),
-        3 => critical_form(index),
-        _ => match index {
-            0 => Some(&[
-                Word("burst"),
-                Within(0, LAST_TEXT_SLOT),
-                Within(1, MOST_BURST_SLOTS),
-                Name,
-                Name,
-            ]),
-            1 => mode_form(),
-            2 => Some(&[Word("end")]),
-            _ => None,
-        },
-    }
-}
+const END: &[Place] = &[Word("end")];
 
-fn edition_form(index: usize) -> Option<&'static [Place]> {
-    match index {
-        0 => Some(&[Word("plan"), Within(0, LAST_EDITION)]),
-        _ => None,
-    }
-}
+const SLOT: Forms = &[&[Word("slot"), Number(LEAST_SLOT_TICKS, MOST_SLOT_TICKS)]];
+
+const HALF: Forms = &[&[Word("half"), Number(0, MOST_HALF)]];
 
 #[rattlefmt::skip]
-fn delay_form(at: u32, index: usize) -> Option<&'static [Place]> {
-    match (at, index) {
-        (1, 0) => Some(&[Word("slot"), Number(LEAST_SLOT_TICKS, MOST_SLOT_TICKS)]),
-        (1, _) => None,
-        (2, 0) => Some(&[Word("half"), Number(0, MOST_HALF)]),
-        (2, _) => None,
-        (_, 0) => Some(&[Word("delay"), Name, Number(0, MOST_DELAY)]),
-        (_, 1) => Some(&[Word("late"),  Name, Number(LEAST_CHANGE, MOST_DELAY)]),
-        (_, 2) => Some(&[Word("early"), Name, Number(LEAST_CHANGE, MOST_DELAY)]),
-        _      => None,
-    }
-}
+const DELAYS: Forms = &[
+    &[Word("delay"), Name, Number(0, MOST_DELAY)],
+    &[Word("late"),  Name, Number(LEAST_CHANGE, MOST_DELAY)],
+    &[Word("early"), Name, Number(LEAST_CHANGE, MOST_DELAY)],
+];
 
 #[rattlefmt::skip]
-fn script_form(index: usize) -> Option<&'static [Place]> {
-    match index {
-        0  => Some(&[Word("round")]),
-        1  => Some(&[Word("restart")]),
-        2  => Some(&[Word("desk"), Number(1, DESKS), Word("add"),  Name, Name, Number(1, MOST_UNITS)]),
-        3  => Some(&[Word("desk"), Number(1, DESKS), Word("drop"), Name, Name, Number(1, MOST_UNITS)]),
-        4  => Some(&[Word("desk"), Number(1, DESKS), Word("move"), Name, Name, Name, Name, Number(1, MOST_UNITS)]),
-        5  => Some(&[Word("desk"), Number(1, DESKS), Word("show"), Name]),
-        6  => Some(&[Word("plan")]),
-        7  => Some(&[Word("tick")]),
-        8  => Some(&[Word("turn")]),
-        9  => Some(&[Word("back"), Number(0, LAST_EDITION)]),
-        10 => Some(&[Word("ahead")]),
-        11 => Some(&[Word("flow")]),
-        12 => Some(&[Word("lose"), Word("all")]),
-        13 => Some(&[Word("lose"), Word("sat")]),
-        14 => Some(&[Word("lose"), Word("centre")]),
-        15 => Some(&[Word("lose"), Name]),
-        16 => Some(&[Word("deliver"), Number(0, LAST_MESSAGE), Word("sat")]),
-        17 => Some(&[Word("deliver"), Number(0, LAST_MESSAGE), Word("centre")]),
-        18 => Some(&[Word("deliver"), Number(0, LAST_MESSAGE), Name]),
-        19 => Some(&[Word("frame")]),
-        20 => Some(&[Word("reset"), Name]),
-        21 => Some(&[Word("standby"), Word("hears"), Number(0, LAST_MESSAGE)]),
-        22 => Some(&[Word("standby"), Word("burst")]),
-        _  => None,
-    }
-}
+const SCRIPT: Forms = &[
+    &[Word("round")],
+    &[Word("restart")],
+    &[Word("desk"), Number(1, DESKS), Word("add"),  Name, Name, Number(1, MOST_UNITS)],
+    &[Word("desk"), Number(1, DESKS), Word("drop"), Name, Name, Number(1, MOST_UNITS)],
+    &[Word("desk"), Number(1, DESKS), Word("move"), Name, Name, Name, Name, Number(1, MOST_UNITS)],
+    &[Word("desk"), Number(1, DESKS), Word("show"), Name],
+    &[Word("plan")],
+    &[Word("tick")],
+    &[Word("turn")],
+    &[Word("back"), Number(0, LAST_EDITION)],
+    &[Word("ahead")],
+    &[Word("flow")],
+    &[Word("lose"), Word("all")],
+    &[Word("lose"), Word("sat")],
+    &[Word("lose"), Word("centre")],
+    &[Word("lose"), Name],
+    &[Word("deliver"), Number(0, LAST_MESSAGE), Word("sat")],
+    &[Word("deliver"), Number(0, LAST_MESSAGE), Word("centre")],
+    &[Word("deliver"), Number(0, LAST_MESSAGE), Name],
+    &[Word("frame")],
+    &[Word("reset"), Name],
+    &[Word("standby"), Word("hears"), Number(0, LAST_MESSAGE)],
+    &[Word("standby"), Word("burst")],
+];
 
 #[rattlefmt::skip]
-fn journal_form(index: usize) -> Option<&'static [Place]> {
-    match index {
-        0 => Some(&[Word("edit"), Within(1, LAST_EDITION), Word("add"),  Name, Name, Within(1, MOST_UNITS)]),
-        1 => Some(&[Word("edit"), Within(1, LAST_EDITION), Word("drop"), Name, Name, Within(1, MOST_UNITS)]),
-        2 => Some(&[Word("edit"), Within(1, LAST_EDITION), Word("move"), Name, Name, Name, Name, Within(1, MOST_UNITS)]),
-        3 => Some(&[Word("load"), Within(1, LAST_COMMAND), Within(0, LAST_EDITION)]),
-        4 => Some(&[Word("arm"), Within(1, LAST_COMMAND), Within(0, LAST_EDITION), Within(1, LAST_MARK)]),
-        5 => Some(&[Word("journal"), Word("2"), Within(1, BEAMS), Within(1, TERMINALS)]),
-        6 => Some(&[Word("plan"), Within(0, LAST_EDITION), Word("length"), Within(0, MOST_TEXT_SLOTS), Word("critical")]),
-        _ => None,
-    }
-}
+const JOURNAL: Forms = &[
+    &[Word("edit"), Within(1, LAST_EDITION), Word("add"),  Name, Name, Within(1, MOST_UNITS)],
+    &[Word("edit"), Within(1, LAST_EDITION), Word("drop"), Name, Name, Within(1, MOST_UNITS)],
+    &[Word("edit"), Within(1, LAST_EDITION), Word("move"), Name, Name, Name, Name, Within(1, MOST_UNITS)],
+    &[Word("load"), Within(1, LAST_COMMAND), Within(0, LAST_EDITION)],
+    &[Word("arm"), Within(1, LAST_COMMAND), Within(0, LAST_EDITION), Within(1, LAST_MARK)],
+    &[Word("journal"), Word("2"), Within(1, BEAMS), Within(1, TERMINALS)],
+    &[Word("plan"), Within(0, LAST_EDITION), Word("length"), Within(0, MOST_TEXT_SLOTS), Word("critical")],
+];

@@ -1,5 +1,5 @@
 // What is wrong with a line of a journal, where its words have a form.
-use crate::bytes::{number_at, place_of, word_of};
+use crate::bytes::{number_at, word_of};
 use crate::cause::Cause;
 use crate::fault::Fault;
 use crate::lines::Lines;
@@ -49,8 +49,7 @@ fn find_stranger_of(alloc: Global, net: &Network, line: &[u8], cause: &mut Cause
     for index in 3..behind {
         let name = word_of(line, index);
         if net.terminal_named(name).is_none() {
-            let (at, bytes) = place_of(line, index);
-            cause.say_at(at, bytes, "no terminal has this name");
+            cause.say_of_word(line, index, "no terminal has this name");
             return ask_terminal(alloc, net, name, &mut cause.hint);
         }
     }
@@ -79,8 +78,7 @@ fn find_edit(fault: &Fault<'_>, cause: &mut Cause) {
     if number_at(fault.line, 1) == Some(next) {
         say_refused(fault.line, cause);
     } else {
-        let (at, bytes) = place_of(fault.line, 1);
-        cause.say_at(at, bytes, "the edit that follows here makes edition ");
+        cause.say_of_word(fault.line, 1, "the edit that follows here makes edition ");
         cause.why.add_number(u64::from(next));
     }
 }
@@ -89,8 +87,7 @@ fn find_edit(fault: &Fault<'_>, cause: &mut Cause) {
 fn say_refused(line: &[u8], cause: &mut Cause) {
     let kind = word_of(line, 2);
     if word_of(line, 3) == word_of(line, 4) {
-        let (at, bytes) = place_of(line, 4);
-        cause.say_at(at, bytes, "both ends of this link are one terminal");
+        cause.say_of_word(line, 4, "both ends of this link are one terminal");
     } else if is_word(kind, b"add") {
         cause.say(
             "the book would refuse this edit here: a beam would be asked for more slots than a frame has",

@@ -2,13 +2,15 @@
 //! and what may help.
 //!
 //! It looks again at what a program read and at the last line that it printed, and finds by itself what is wrong there. It
-//! stands on the words of texts (`bt_text`), on networks (`bt_net`), on the outside (`bt_outside`) and on statuses (`bt_report`).
+//! stands on the words of texts (`bt_text`), on networks (`bt_net`), on the outside (`bt_outside`), on statuses (`bt_report`), on
+//! the forms of printed lines (`bt_words`) and on what a session tells of its own (`bt_talk`).
 //! No function here promises anything but that it is safe and returns: what standard error says is claimed nowhere. The outside
 //! that is remembered here, an output (`last_line.rt`) and files (`kept_files.rt`), keeps what the outside promises.
 //!
 //! `telling.rt` is where a program asks; `fault.rt` goes by the code. `cause.rt` is what is said, `page.rt` the text of it.
 #![tactic(auto)]
 
+mod alarm;
 mod asked;
 mod bytes;
 mod cause;
@@ -34,6 +36,7 @@ mod verdict;
 mod walk;
 mod words;
 
+pub use alarm::Alarming;
 pub use kept_files::KeptFiles;
 pub use last_line::LastLine;
 pub use telling::{Done, tell, tell_status};

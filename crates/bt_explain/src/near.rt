@@ -2,6 +2,7 @@
 use crate::page::Page;
 use bt_frame::{BeamNo, TermNo};
 use bt_net::Network;
+use bt_text::is_word;
 use std::alloc::Global;
 use strsim::levenshtein;
 
@@ -114,4 +115,12 @@ fn name_beams(net: &Network, page: &mut Page) {
             page.add(net.beam_name(BeamNo(number as u8)));
         }
     }
+}
+
+/// Whether a beam has this name.
+pub fn is_beam(net: &Network, word: &[u8]) -> bool {
+    (0..net.beam_count()).any(|number| is_word(
+        word,
+        net.beam_name(BeamNo(number as u8)).as_bytes(),
+    ))
 }

@@ -1,4 +1,5 @@
 // What is wrong with a network's file.
+use crate::bytes::bytes_at;
 use crate::cause::Cause;
 use crate::fault::{Named, add_heading};
 use crate::json::{Spot, find_near_name, find_spot, inside, name_in};
@@ -44,7 +45,7 @@ fn tell_json(
     add_heading(done, named.file, at, code, page);
     cause.add_why(page);
     if let Some(at) = at {
-        add_line_of(named.text, at, cause, page);
+        cause.add_line(bytes_at(named.text, at), page);
     }
 }
 
@@ -156,7 +157,7 @@ fn tell_place(
     }
     cause.add_why(page);
     if let Some(spot) = spot {
-        add_line_of(named.text, spot.line, cause, page);
+        cause.add_line(bytes_at(named.text, spot.line), page);
     }
 }
 
@@ -174,12 +175,6 @@ fn ask_near_name<'a>(
         cause.hint.add("'?");
     }
     found
-}
-
-fn add_line_of(text: &[u8], at: u32, cause: &Cause, page: &mut Page) {
-    if let Some(line) = crate::bytes::line_at(text, at) {
-        cause.add_line(line.bytes, page);
-    }
 }
 
 /// Says what is wrong at a place, whose value is this; no bytes where nothing stands there.

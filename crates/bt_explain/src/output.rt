@@ -2,70 +2,24 @@
 use crate::cause::Cause;
 use crate::fault::Fault;
 use crate::lines::Words;
-use crate::near::Near;
+use crate::near::{Near, is_beam};
 use crate::walk::say_number;
-use bt_frame::{BeamNo, LAST_EDITION};
+use bt_frame::LAST_EDITION;
 use bt_net::Network;
 use bt_text::{is_word, number};
+use bt_words::{Form, Token, forms_from, tokens_of};
 use memchr::memchr;
 use std::alloc::Global;
 
-/// The words of the lines that a run and a session print.
-const WORDS: [&str; 79] = [
-    "start",
-    "edition",
-    "plan",
-    "mark",
-    "round",
-    "restart",
-    "total",
-    "done",
-    "refused",
-    "store",
-    "desk",
-    "stopped",
-    "fault",
-    "shows",
-    "length",
-    "modes",
-    "bursts",
-    "burst",
-    "nothing",
-    "new",
-    "tick",
-    "last",
-    "turn",
-    "newest",
-    "back",
-    "not",
-    "installed",
-    "ahead",
-    "order",
-    "load",
-    "arm",
-    "flow",
-    "got",
-    "sat",
-    "centre",
-    "lost",
-    "deliver",
-    "sent",
-    "frame",
-    "fore",
-    "over",
-    "air",
-    "reset",
-    "standby",
-    "hears",
-    "noted",
-    "wrongmark",
-    "notforme",
-    "status",
-    "armed",
-    "none",
-    "due",
-    "confirm",
-    "reference",
+/// The words with which the lines of a run and of a session begin: the table has the forms of each, and their words.
+const HEADS: [&str; 24] = [
+    "start", "round", "restart", "total", "desk", "plan", "burst", "tick", "turn", "back", "ahead",
+    "order", "flow", "got", "lost", "deliver", "frame", "air", "reset", "standby", "sent", "fault",
+    "ready", "lines",
+];
+
+/// The words at places of the table that it leaves open: what the satellite or a terminal does with a message that is for it.
+const ANSWERS: [&str; 10] = [
     "accepted",
     "stale",
     "busy",
@@ -76,21 +30,6 @@ const WORDS: [&str; 79] = [
     "stored",
     "older",
     "inuse",
-    "E1",
-    "E2",
-    "E3",
-    "E4",
-    "E5",
-    "E9",
-    "E10",
-    "ready",
-    "lines",
-    "S1",
-    "S2",
-    "S3",
-    "S4",
-    "S5",
-    "input",
 ];
 
 /// Looks for the first word that no line of a run has.
@@ -117,24 +56,25 @@ fn is_number(word: &[u8]) -> bool {
 
 /// Whether a word stands in some line of a run.
 fn is_spoken(word: &[u8]) -> bool {
-    WORDS.iter().any(|spoken| is_word(word, spoken.as_bytes()))
+    HEADS.iter().any(|head| {
+        forms_from(head.as_bytes())
+            .iter()
+            .any(|form| has_word(*form, word))
+    }) || ANSWERS
+        .iter()
+        .any(|answer| is_word(word, answer.as_bytes()))
+}
+
+/// Whether a line of this form has this word, whatever stands at its open places.
+fn has_word(form: Form, word: &[u8]) -> bool {
+    tokens_of(form).iter().any(
+        |token| matches!(*token, Token::Text(text) if is_word(word, text.as_bytes())),
+    )
 }
 
 /// Whether a terminal or a beam has this name.
 fn is_named(net: Option<&Network>, word: &[u8]) -> bool {
-    match net {
-        Some(net) => net.terminal_named(word).is_some() || is_beam(net, word),
-        None => false,
-    }
-}
-
-fn is_beam(net: &Network, word: &[u8]) -> bool {
-    for number in 0..net.beam_count() {
-        if is_word(word, net.beam_name(BeamNo(number as u8)).as_bytes()) {
-            return true;
-        }
-    }
-    false
+    net.is_some_and(|net| net.terminal_named(word).is_some() || is_beam(net, word))
 }
 
 /// Says that a word is none of a run's lines.
@@ -157,8 +97,21 @@ fn say_word(alloc: Global, at: usize, word: &[u8], cause: &mut Cause) {
 
 fn ask_spoken(alloc: Global, word: &[u8], cause: &mut Cause) {
     let mut near = Near::to(word);
-    for spoken in &WORDS {
-        near.look(alloc, *spoken);
+    for head in &HEADS {
+        for form in forms_from(head.as_bytes()) {
+            look_at_words(alloc, *form, &mut near);
+        }
+    }
+    for answer in &ANSWERS {
+        near.look(alloc, *answer);
     }
     near.ask(&mut cause.hint);
+}
+
+fn look_at_words(alloc: Global, form: Form, near: &mut Near<'_>) {
+    for token in tokens_of(form) {
+        if let Token::Text(text) = *token {
+            near.look(alloc, text);
+        }
+    }
 }

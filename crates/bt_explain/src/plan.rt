@@ -1,5 +1,5 @@
 // What is wrong with a line of a plan, of a schedule or of a matrix, where its words have a form.
-use crate::bytes::{Line, line_at, number_at, place_of, word_of};
+use crate::bytes::{bytes_at, number_at, word_of};
 use crate::cause::{Cause, add_other_line};
 use crate::fault::Fault;
 use bt_text::is_word;
@@ -20,10 +20,7 @@ pub fn find_behind_end(fault: &Fault<'_>, cause: &mut Cause) {
 
 /// The line above; no bytes where there is none.
 fn line_above<'a>(fault: &Fault<'a>) -> &'a [u8] {
-    match line_at(fault.text, fault.at.saturating_sub(1)) {
-        Some(Line { bytes, .. }) => bytes,
-        None => &[],
-    }
+    bytes_at(fault.text, fault.at.saturating_sub(1))
 }
 
 /// Finds out why a line of a plan or of a schedule is at fault that has a form.
@@ -38,8 +35,7 @@ pub fn find_plan(fault: &Fault<'_>, cause: &mut Cause) {
             &mut cause.note,
         );
     } else if is_word(word_of(fault.line, 0), b"critical") {
-        let (at, bytes) = place_of(fault.line, 2);
-        cause.say_at(at, bytes, "beams are counted from 0, and there are ");
+        cause.say_of_word(fault.line, 2, "beams are counted from 0, and there are ");
         cause.why.add_number(u64::from(fault.beams));
     } else if is_word(word_of(fault.line, 0), b"mode") {
         cause.say("a mode stands behind a burst; all modes stand in front of the bursts");
@@ -66,8 +62,5 @@ pub fn say_wanting(letter: u8, at: u32, cause: &mut Cause) {
 
 /// How many beams the matrix has whose text this is; 0 where its first line is no number.
 pub fn beams_of(matrix: &[u8]) -> u32 {
-    match line_at(matrix, 1) {
-        Some(Line { bytes, .. }) => number_at(bytes, 0).unwrap_or(0),
-        None => 0,
-    }
+    number_at(bytes_at(matrix, 1), 0).unwrap_or(0)
 }

@@ -1,10 +1,13 @@
-// What is wrong with a line of a script, where its words have a form.
-use crate::bytes::place_of;
+// What is wrong with a line of a script, where its words have a form; and what may help where its first word is none of a script.
+use crate::bytes::word_of;
 use crate::cause::Cause;
 use crate::fault::Fault;
+use crate::form::forms_of;
 use crate::lines::{Lines, Words};
 use bt_frame::MOST_DIGITS;
-use bt_text::number;
+use bt_talk::help_text;
+use bt_text::{is_word, number};
+use std::alloc::Global;
 
 /// Finds out why a line of a script is at fault that has a form.
 pub fn find_script(fault: &Fault<'_>, cause: &mut Cause) {
@@ -27,10 +30,9 @@ fn find_long_number(line: &[u8], cause: &mut Cause) {
 
 /// Says why no round is open at a line.
 fn find_round(fault: &Fault<'_>, cause: &mut Cause) {
-    let (at, bytes) = place_of(fault.line, 0);
-    cause.say_at(
-        at,
-        bytes,
+    cause.say_of_word(
+        fault.line,
+        0,
         "this stands in a round, and no round is open here",
     );
     if stands_above(fault, b"restart") {
@@ -53,4 +55,39 @@ fn stands_above(fault: &Fault<'_>, wanted: &[u8]) -> bool {
         }
     }
     false
+}
+
+/// Helps where a line of a script begins with a word of another place.
+pub fn ask_slip(alloc: Global, word: &[u8], cause: &mut Cause) {
+    if is_of_desk(word) {
+        cause.hint.clear();
+        cause.hint.add("put 'desk D' in front");
+    } else if begins_session_line(alloc, word) {
+        cause.hint.clear();
+        cause.hint.add("only a session has this line");
+    }
+}
+
+/// Whether a word stands behind the number of a desk.
+fn is_of_desk(word: &[u8]) -> bool {
+    forms_of(b'S', 1).iter().any(|form| match *form {
+        [first, _, own, ..] => first.is_alone(b"desk") && own.is_alone(word),
+        _ => false,
+    })
+}
+
+/// Whether a line of a session begins with this word, by what a session tells of its lines. Where memory is wanting, none does.
+fn begins_session_line(alloc: Global, word: &[u8]) -> bool {
+    match help_text(alloc) {
+        Ok(help) => Lines::of(help.as_slice()).any(|(_, line)| is_word(told_first(line), word)),
+        Err(_) => false,
+    }
+}
+
+/// The first word of the line that a line of help tells of: a colon stands behind the last.
+fn told_first(line: &[u8]) -> &[u8] {
+    match word_of(line, 0) {
+        [word @ .., b':'] => word,
+        word => word,
+    }
 }

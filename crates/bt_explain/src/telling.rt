@@ -117,10 +117,7 @@ fn is_read_before(done: &Done<'_>, name: &str) -> bool {
 
 /// Whether the file of a letter has this name.
 pub fn is_named(done: &Done<'_>, letter: u8, name: &str) -> bool {
-    match file_of(done, letter) {
-        Some(file) => file == name,
-        None => false,
-    }
+    file_of(done, letter).is_some_and(|file| file == name)
 }
 
 /// Keeps the journal, where a line of it is at fault and it was not read as a file.
@@ -218,18 +215,12 @@ fn explain_verdict<F>(
 
 /// The network that the words name, where it is one.
 fn network_of<F>(alloc: Global, done: &Done<'_>, files: &KeptFiles<F>) -> Option<Network> {
-    match kept_of(done, files, b'N') {
-        Some(bytes) => Network::read(alloc, bytes).ok(),
-        None => None,
-    }
+    Network::read(alloc, kept_of(done, files, b'N')?).ok()
 }
 
 /// What the file of a letter held.
 fn kept_of<'a, F>(done: &Done<'_>, files: &'a KeptFiles<F>, letter: u8) -> Option<&'a [u8]> {
-    match file_of(done, letter) {
-        Some(file) => files.kept(file),
-        None => None,
-    }
+    files.kept(file_of(done, letter)?)
 }
 
 /// How many beams there are, by the network or by the matrix; 0 where that is not known.
@@ -252,5 +243,6 @@ pub fn name_of(program: Program) -> &'static str {
     match program {
         Program::Nozgurt => "nozgurt",
         Program::Chart => "chart",
+        Program::Station => "station",
     }
 }

@@ -1,5 +1,5 @@
 // What is wrong with a line of traffic, where its words have their form.
-use crate::bytes::{place_of, word_of};
+use crate::bytes::word_of;
 use crate::cause::{Cause, add_other_line};
 use crate::fault::Fault;
 use crate::lines::Lines;
@@ -8,10 +8,7 @@ use crate::lines::Lines;
 pub fn find_link(fault: &Fault<'_>, cause: &mut Cause) {
     match fault.digit {
         b'3' => cause.say("with this link a beam would be asked for more than 1048576 slots"),
-        b'4' => {
-            let (at, bytes) = place_of(fault.line, 2);
-            cause.say_at(at, bytes, "both ends of this link are one terminal");
-        }
+        b'4' => cause.say_of_word(fault.line, 2, "both ends of this link are one terminal"),
         b'5' => {
             cause.say("this link stood in a line before");
             ask_line_before(fault, cause);

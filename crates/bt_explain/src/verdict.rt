@@ -1,5 +1,5 @@
 // What a verdict says, looked up in the files: which modes, which bursts, which slot.
-use crate::bytes::{number_at, place_of, word_of};
+use crate::bytes::{line_at, number_at, word_of};
 use crate::cause::{Cause, add_other_line};
 use crate::fault::{Named, add_heading};
 use crate::lines::Lines;
@@ -63,8 +63,7 @@ fn find_plan<'a>(
             Some(mode)
         }
         b'2' => {
-            let (at, bytes) = (5, 1);
-            cause.say_at(at, bytes, "this mode is held for no slot");
+            cause.say_at(5, 1, "this mode is held for no slot");
             nth_line(plan.text, b"mode", first)
         }
         b'3' => find_sum(first, plan, cause),
@@ -93,20 +92,18 @@ fn nth_line<'a>(text: &'a [u8], word: &[u8], number: u32) -> Option<At<'a>> {
 fn find_no_permutation(mode: &[u8], beams: u32, cause: &mut Cause) {
     for up in 0..beams {
         let index = (up as usize).saturating_add(2);
-        let down = word_of(mode, index);
-        let (at, bytes) = place_of(mode, index);
         if number_at(mode, index).unwrap_or(beams) >= beams {
-            cause.say_at(
-                at,
-                bytes,
+            cause.say_of_word(
+                mode,
+                index,
                 "no beam has this number: they are counted from 0, and there are ",
             );
             return cause.why.add_number(u64::from(beams));
         }
-        if stands_before(mode, index, down) {
-            return cause.say_at(
-                at,
-                bytes,
+        if stands_before(mode, index, word_of(mode, index)) {
+            return cause.say_of_word(
+                mode,
+                index,
                 "this downlink beam stands in the mode already: two uplink beams would come down in it",
             );
         }
@@ -125,11 +122,11 @@ fn stands_before(mode: &[u8], index: usize, word: &[u8]) -> bool {
 
 /// Says that the modes do not fill the length.
 fn find_sum<'a>(sum: u32, plan: Named<'a>, cause: &mut Cause) -> Option<At<'a>> {
-    cause.say_at(7, 1, "the modes are held for ");
+    cause.say("the modes are held for ");
     cause.why.add_number(u64::from(sum));
     cause.say(" slots together, and this is the length");
     let length = nth_line(plan.text, b"length", 0)?;
-    cause.mark(7, word_of(length.line, 1).len());
+    cause.mark_word(length.line, 1);
     Some(length)
 }
 
@@ -140,9 +137,9 @@ fn find_length<'a>(verdict: &[u8], plan: Named<'a>, cause: &mut Cause) -> Option
     let length = nth_line(plan.text, b"length", 0)?;
     let is_length = number_at(length.line, 1) != Some(sum);
     if is_length {
-        cause.say_at(
-            7,
-            word_of(length.line, 1).len(),
+        cause.say_of_word(
+            length.line,
+            1,
             "the length is to be the greatest line sum, ",
         );
         cause.why.add_number(u64::from(sum));
@@ -209,8 +206,7 @@ fn say_beam_of_both(net: &Network, one: &[u8], other: &[u8], cause: &mut Cause) 
     );
     let is_up = is_same(from, beam_of(net, word_of(one, 3)));
     let (index, beam) = if is_up { (3, from) } else { (4, to) };
-    let (at, bytes) = place_of(other, index);
-    cause.mark(at, bytes);
+    cause.mark_word(other, index);
     cause.say(if is_up {
         " both go up in beam "
     } else {
@@ -256,13 +252,9 @@ fn find_asked<'a>(
         say_want("this connection", want, "the modes give it ", have, cause);
         let (up, down) = (number_at(verdict, 1)?, number_at(verdict, 2)?);
         let at = up.saturating_add(2);
-        let line = crate::bytes::line_at(asked.text, at)?;
-        let (begin, bytes) = place_of(line.bytes, down as usize);
-        cause.mark(begin, bytes);
-        Some(At {
-            at,
-            line: line.bytes,
-        })
+        let line = line_at(asked.text, at)?.bytes;
+        cause.mark_word(line, down as usize);
+        Some(At { at, line })
     }
 }
 
@@ -279,8 +271,7 @@ fn say_want(what: &str, want: u32, whose: &str, have: u32, cause: &mut Cause) {
 fn link_line<'a>(text: &'a [u8], from: &[u8], to: &[u8], cause: &mut Cause) -> Option<At<'a>> {
     for (at, line) in Lines::of(text) {
         if word_of(line, 1) == from && word_of(line, 2) == to {
-            let (begin, bytes) = place_of(line, 3);
-            cause.mark(begin, bytes);
+            cause.mark_word(line, 3);
             return Some(At { at, line });
         }
     }

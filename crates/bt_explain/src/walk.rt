@@ -1,57 +1,52 @@
 // A line beside the forms that it may have: how far it goes along them, and what does not fit.
 use crate::bytes::word_of;
 use crate::cause::Cause;
-use crate::form::{Place, form_of};
+use crate::fault::Fault;
+use crate::form::{Forms, Place, forms_of};
 use crate::near::{Near, name_terminals};
 use crate::page::Page;
+use crate::script::ask_slip;
 use bt_net::{Network, is_name};
 use bt_text::{WordReader, is_word, number};
 use std::alloc::Global;
 
-/// The most forms of a line.
-const MOST_FORMS: usize = 40;
-
 /// The most words of a place that are said one by one.
 const MOST_SAID: usize = 5;
 
-/// The words with which the lines begin that only a session has.
-const SESSION_WORDS: [&str; 9] = [
-    "go",
-    "forget",
-    "state",
-    "capacity",
-    "room",
-    "demand",
-    "installed",
-    "waiting",
-    "help",
-];
-
 /// What is looked at beside the shape of a line.
 #[derive(Clone, Copy)]
-pub struct Look<'a> {
+struct Look<'a> {
     /// How many beams there are.
-    pub beams: u32,
+    beams: u32,
     /// The network whose terminals the names are to be; None where any names will do.
-    pub net: Option<&'a Network>,
+    net: Option<&'a Network>,
     /// The ranges that other codes have.
-    pub has_ranges: bool,
+    has_ranges: bool,
 }
 
 impl Look<'_> {
     /// The shape alone.
-    pub fn shape(beams: u32) -> Look<'static> {
+    fn shape(beams: u32) -> Look<'static> {
         Look {
             beams,
             net: None,
             has_ranges: false,
         }
     }
+
+    /// What is looked at in a line that has its shape: its names, and its numbers.
+    fn of<'a>(fault: &Fault<'a>) -> Look<'a> {
+        Look {
+            beams: fault.beams,
+            net: fault.net,
+            has_ranges: fault.digit == b'3' || fault.letter == b'X',
+        }
+    }
 }
 
 /// What does not fit.
 #[derive(Clone, Copy)]
-pub enum Misfit {
+enum Misfit {
     /// All fits.
     Nothing,
     /// The line ends, and this is wanting.
@@ -64,20 +59,20 @@ pub enum Misfit {
 
 /// How far a line goes along a form.
 #[derive(Drop)]
-pub struct Walk<'a> {
+struct Walk<'a> {
     words: WordReader<'a>,
     /// How many words fit.
-    pub fit: usize,
+    fit: usize,
     /// Where the first word begins that does not.
-    pub at: usize,
+    at: usize,
     /// That word.
-    pub word: &'a [u8],
-    pub misfit: Misfit,
+    word: &'a [u8],
+    misfit: Misfit,
 }
 
 impl<'a> Walk<'a> {
     /// Along a form from its first place on.
-    pub fn along(line: &'a [u8], form: &'static [Place], look: &Look<'_>) -> Walk<'a> {
+    fn along(line: &'a [u8], form: &'static [Place], look: &Look<'_>) -> Walk<'a> {
         let mut walk = Walk {
             words: WordReader::of(line),
             fit: 0,
@@ -92,7 +87,7 @@ impl<'a> Walk<'a> {
         walk
     }
 
-    pub fn is_whole(&self) -> bool {
+    fn is_whole(&self) -> bool {
         matches!(self.misfit, Misfit::Nothing)
     }
 
@@ -163,34 +158,25 @@ fn is_known(word: &[u8], net: Option<&Network>) -> bool {
 }
 
 fn is_within(word: &[u8], least: u32, most: u32, has_range: bool) -> bool {
-    match number(word) {
-        Some(number) => { !has_range || u64::from(least) <= number && number <= u64::from(most) }
-        None => false,
-    }
+    number(word).is_some_and(|number| {
+        !has_range || u64::from(least) <= number && number <= u64::from(most)
+    })
 }
 
-/// The form that a line has, whatever its names and numbers are; None where it has none.
-pub fn form_in(letter: u8, at: u32, line: &[u8], beams: u32) -> Option<&'static [Place]> {
-    for index in 0..MOST_FORMS {
-        match form_of(letter, at, index) {
-            Some(form) => {
-                if Walk::along(line, form, &Look::shape(beams)).is_whole() {
-                    return Some(form);
-                }
-            }
-            None => return None,
+/// The one of these forms that a line has, whatever its names and numbers are; None where it has none.
+fn form_in(forms: Forms, line: &[u8], beams: u32) -> Option<&'static [Place]> {
+    for form in forms {
+        if Walk::along(line, form, &Look::shape(beams)).is_whole() {
+            return Some(*form);
         }
     }
     None
 }
 
 /// The walk along the form that fits best, the first of these.
-pub fn best_walk<'a>(letter: u8, at: u32, line: &'a [u8], look: &Look<'_>) -> Option<Walk<'a>> {
+fn best_walk<'a>(forms: Forms, line: &'a [u8], look: &Look<'_>) -> Option<Walk<'a>> {
     let mut best: Option<Walk<'a>> = None;
-    for index in 0..MOST_FORMS {
-        let Some(form) = form_of(letter, at, index) else {
-            return best;
-        };
+    for form in forms {
         let walk = Walk::along(line, form, look);
         if is_better(&walk, &best) {
             best = Some(walk);
@@ -207,22 +193,19 @@ fn is_better(walk: &Walk<'_>, best: &Option<Walk<'_>>) -> bool {
 }
 
 /// Says what does not fit of the form that fits best.
-pub fn find_misfit(
-    alloc: Global,
-    letter: u8,
-    at: u32,
-    line: &[u8],
-    look: &Look<'_>,
-    cause: &mut Cause,
-) {
-    if let Some(walk) = best_walk(letter, at, line, look) {
-        let choices = choices_of(alloc, letter, at, line, walk.fit);
-        say_misfit(alloc, &walk, choices.as_slice(), look, cause);
+pub fn find_misfit(alloc: Global, fault: &Fault<'_>, cause: &mut Cause) {
+    let forms = forms_of(fault.letter, fault.at);
+    let look = Look::shape(fault.beams);
+    if let Some(walk) = best_walk(forms, fault.line, &look) {
+        let choices = choices_of(alloc, forms, fault.line, walk.fit);
+        say_misfit(alloc, &walk, choices.as_slice(), &look, cause);
         match walk.misfit {
-            Misfit::Wrong(_) if letter == b'S' && walk.fit == 0 => ask_slip(walk.word, cause),
-            Misfit::Behind if is_word(word_of(line, 0), b"mode") => {
+            Misfit::Wrong(_) if fault.letter == b'S' && walk.fit == 0 => {
+                ask_slip(alloc, walk.word, cause)
+            }
+            Misfit::Behind if is_word(word_of(fault.line, 0), b"mode") => {
                 cause.hint.add("a mode has ");
-                add_place(Place::EachWithin(0, 0), look.beams, &mut cause.hint);
+                add_place(Place::EachWithin(0, 0), fault.beams, &mut cause.hint);
             }
             _ => {}
         }
@@ -230,28 +213,20 @@ pub fn find_misfit(
 }
 
 /// Says what does not fit of the form that a line has by its shape.
-pub fn find_in_form(
-    alloc: Global,
-    letter: u8,
-    at: u32,
-    line: &[u8],
-    look: &Look<'_>,
-    cause: &mut Cause,
-) {
-    if let Some(form) = form_in(letter, at, line, look.beams) {
-        let walk = Walk::along(line, form, look);
-        let choices = choices_of(alloc, letter, at, line, walk.fit);
-        say_misfit(alloc, &walk, choices.as_slice(), look, cause);
+pub fn find_in_form(alloc: Global, fault: &Fault<'_>, cause: &mut Cause) {
+    let forms = forms_of(fault.letter, fault.at);
+    if let Some(form) = form_in(forms, fault.line, fault.beams) {
+        let look = Look::of(fault);
+        let walk = Walk::along(fault.line, form, &look);
+        let choices = choices_of(alloc, forms, fault.line, walk.fit);
+        say_misfit(alloc, &walk, choices.as_slice(), &look, cause);
     }
 }
 
-/// What may stand behind so many words of a line, each once.
-fn choices_of(alloc: Global, letter: u8, at: u32, line: &[u8], fit: usize) -> Vec<Place> {
+/// What may stand behind so many words of a line of one of these forms, each once.
+fn choices_of(alloc: Global, forms: Forms, line: &[u8], fit: usize) -> Vec<Place> {
     let mut choices: Vec<Place> = Vec::new(alloc);
-    for index in 0..MOST_FORMS {
-        let Some(form) = form_of(letter, at, index) else {
-            return choices;
-        };
+    for form in forms {
         if let Some(place) = form.get(fit)
             && Walk::along(line, form, &Look::shape(0)).fit >= fit
             && !is_last(*place, choices.as_slice())
@@ -405,36 +380,6 @@ fn add_others(choices: &[Place], hint: &mut Page) {
         add_choices(choices, 0, hint);
         hint.add(" may stand here");
     }
-}
-
-/// Helps where a line of a script begins with a word of another place.
-fn ask_slip(word: &[u8], cause: &mut Cause) {
-    let slip = slip_of(word);
-    if !slip.is_empty() {
-        cause.hint.clear();
-        cause.hint.add(slip);
-    }
-}
-
-fn slip_of(word: &[u8]) -> &'static str {
-    if begins_session_line(word) {
-        "only a session has this line"
-    } else if is_word(word, b"add")
-        || is_word(word, b"drop")
-        || is_word(word, b"move")
-        || is_word(word, b"show")
-    {
-        "put 'desk D' in front"
-    } else {
-        ""
-    }
-}
-
-/// Whether a line that only a session has begins with this word.
-fn begins_session_line(word: &[u8]) -> bool {
-    SESSION_WORDS
-        .iter()
-        .any(|first| is_word(word, first.as_bytes()))
 }
 
 /// Says why a word is no name.

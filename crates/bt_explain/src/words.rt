@@ -1,10 +1,10 @@
 // Words that are none of a command: which of them, and what is wanted.
 use crate::bytes::word_of;
 use crate::lines::Words;
-use crate::near::{Near, ask_beam, ask_terminal};
+use crate::near::{Near, ask_beam, ask_terminal, is_beam};
 use crate::page::Page;
 use crate::telling::{Done, add_program, name_of};
-use bt_frame::{BeamNo, LAST_EDITION, MOST_NUMBERED_BEAMS};
+use bt_frame::{LAST_EDITION, LAST_MARK, MOST_DESKS, MOST_NUMBERED_BEAMS};
 use bt_net::Network;
 use bt_report::{Program, Refusal};
 use bt_text::{is_word, number};
@@ -103,6 +103,8 @@ fn say_behind(
         say_counts(done.forms, command, behind.len(), page);
     } else if has_empty {
         page.add("one of the words is empty");
+    } else if done.program == Program::Station {
+        say_site(command, behind, page);
     } else if done.program == Program::Chart && command == "plan" {
         say_part(alloc, behind, net, page);
     } else if done.program == Program::Chart {
@@ -111,8 +113,23 @@ fn say_behind(
         say_edition(0, "edition", behind, page);
     } else if command == "installed" {
         say_edition(1, "plan of edition", behind, page);
+    } else if command == "edits" {
+        say_desk(page);
     } else {
         say_numbers(behind, page);
+    }
+}
+
+/// Says that the second word behind a command of a site is no superframe, or the name of no terminal.
+fn say_site(command: &str, behind: &[String], page: &mut Page) {
+    if command == "satellite" {
+        page.add("MARK is to be 0 to ");
+        page.add_number(u64::from(LAST_MARK));
+        page.add(", in digits without a 0 in front");
+    } else if let [_, name, ..] = behind {
+        page.add("no terminal of the network is called '");
+        page.add_name(name);
+        page.add("'");
     }
 }
 
@@ -254,17 +271,13 @@ fn say_part(alloc: Global, behind: &[String], net: Option<&Network>, page: &mut 
         return;
     };
     for word in words {
-        if !is_beam(net, word) {
+        if !is_beam(net, word.as_bytes()) {
             page.add(": '");
             page.add_name(word);
             page.add("'");
             return ask_part(alloc, net, word, page);
         }
     }
-}
-
-fn is_beam(net: &Network, word: &str) -> bool {
-    (0..net.beam_count()).any(|beam| net.beam_name(BeamNo(beam as u8)) == word)
 }
 
 /// Names the slots of the frame for a word that has a `-`, and asks for a beam for another.
@@ -310,18 +323,21 @@ fn say_edition(least: u64, what: &str, behind: &[String], page: &mut Page) {
     }
 }
 
+/// Says that DESK is no desk: the one word of `edits` that is a number.
+fn say_desk(page: &mut Page) {
+    page.add("DESK is to be 1 to ");
+    page.add_number(u64::from(MOST_DESKS));
+    page.add(", in digits without a 0 in front");
+}
+
 fn is_edition(least: u64, word: &str) -> bool {
-    match number(word.as_bytes()) {
-        Some(number) => least <= number && number <= u64::from(LAST_EDITION),
-        None => false,
-    }
+    number(word.as_bytes()).is_some_and(|number| least <= number
+        && number <= u64::from(LAST_EDITION))
 }
 
 fn is_small(word: &str) -> bool {
-    match number(word.as_bytes()) {
-        Some(number) => 1 <= number && number <= u64::from(MOST_NUMBERED_BEAMS),
-        None => false,
-    }
+    number(word.as_bytes()).is_some_and(|number| 1 <= number
+        && number <= u64::from(MOST_NUMBERED_BEAMS))
 }
 
 /// Appends the forms of the command, or of all where there is no such one.

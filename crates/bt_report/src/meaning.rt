@@ -14,46 +14,66 @@ pub enum Program {
     Nozgurt,
     /// The program that draws.
     Chart,
+    /// The program that is a site.
+    Station,
+}
+
+/// Whose meaning a row is.
+#[derive(Clone, Copy)]
+enum Whose {
+    /// That of each program.
+    Each,
+    /// That of the centre and of the program that draws, which read texts.
+    Readers,
+    /// That of this program alone.
+    Only(Program),
 }
 
 /// A row of the table.
 #[derive(Clone, Copy)]
 struct Meaning {
     status: u8,
-    /// The program whose meaning this is; None where both have it.
-    of: Option<Program>,
+    of: Whose,
     /// When the program ends so.
     when: &'static str,
     /// What is the last line on the output then, where the status says which.
     line: &'static str,
 }
 
-const BOTH: Option<Program> = None;
+const EACH: Whose = Whose::Each;
 
-const NOZGURT: Option<Program> = Some(Program::Nozgurt);
+const READERS: Whose = Whose::Readers;
 
-const CHART: Option<Program> = Some(Program::Chart);
+const NOZGURT: Whose = Whose::Only(Program::Nozgurt);
+
+const CHART: Whose = Whose::Only(Program::Chart);
+
+const STATION: Whose = Whose::Only(Program::Station);
 
 /// The table: a row for each status and each of its causes.
 #[rattlefmt::skip]
-const MEANINGS: [Meaning; 18] = [
+const MEANINGS: [Meaning; 22] = [
     Meaning { status: DONE,           of: NOZGURT, when: "done",                                 line: "" },
     Meaning { status: DONE,           of: CHART,   when: "the picture was drawn",                line: "" },
-    Meaning { status: OUT_OF_MEMORY,  of: BOTH,    when: "memory ran out",                       line: "" },
-    Meaning { status: FAULTY_WORDS,   of: BOTH,    when: "the words are none of a command",      line: "fault words" },
+    Meaning { status: DONE,           of: STATION, when: "the input came to its end",            line: "" },
+    Meaning { status: OUT_OF_MEMORY,  of: EACH,    when: "memory ran out",                       line: "" },
+    Meaning { status: FAULTY_WORDS,   of: EACH,    when: "the words are none of a command",      line: "fault words" },
     Meaning { status: FAULTY_WORDS,   of: NOZGURT, when: "a journal lacks the edition or plan",  line: "fault words" },
     Meaning { status: FAULTY_WORDS,   of: CHART,   when: "a NAME is that of no terminal",        line: "fault words" },
+    Meaning { status: FAULTY_WORDS,   of: STATION, when: "MARK or NAME stands for nothing",      line: "fault words" },
     Meaning { status: NO_NETWORK,     of: NOZGURT, when: "a network file is no network",         line: "fault CODE PLACE" },
     Meaning { status: NO_NETWORK,     of: CHART,   when: "the network file is no network",       line: "fault CODE PLACE" },
-    Meaning { status: FAULTY_TEXT,    of: BOTH,    when: "a file leaves its text's grammar",     line: "fault CODE LINE" },
+    Meaning { status: NO_NETWORK,     of: STATION, when: "the network file is no network",       line: "fault CODE PLACE" },
+    Meaning { status: FAULTY_TEXT,    of: READERS, when: "a file leaves its text's grammar",     line: "fault CODE LINE" },
     Meaning { status: FAULTY_TEXT,    of: NOZGURT, when: "the transponders do not suit a size",  line: "fault X3" },
     Meaning { status: FAULTY_TEXT,    of: NOZGURT, when: "the traffic does not fit the frame",   line: "fault T6 row BEAM SUM" },
-    Meaning { status: READ_FAILED,    of: BOTH,    when: "a file could not be read",             line: "fault read NAME" },
-    Meaning { status: WRITE_FAILED,   of: BOTH,    when: "the output could not be written",      line: "" },
+    Meaning { status: READ_FAILED,    of: EACH,    when: "a file could not be read",             line: "fault read NAME" },
+    Meaning { status: READ_FAILED,    of: STATION, when: "the input failed",                     line: "fault input" },
+    Meaning { status: WRITE_FAILED,   of: EACH,    when: "the output could not be written",      line: "" },
     Meaning { status: STORE_FAILED,   of: NOZGURT, when: "the journal failed",                   line: "fault store, or the whole run" },
     Meaning { status: FAULTY_JOURNAL, of: NOZGURT, when: "a line of the journal is wrong",       line: "fault CODE LINE" },
     Meaning { status: NOT_GOOD,       of: NOZGURT, when: "check, timing: it is not good",        line: "the verdict's line" },
-    Meaning { status: TOO_LONG,       of: BOTH,    when: "a file is over 4,194,304 bytes long",  line: "fault too long NAME" },
+    Meaning { status: TOO_LONG,       of: EACH,    when: "a file is over 4,194,304 bytes long",  line: "fault too long NAME" },
     Meaning { status: TOO_LONG,       of: NOZGURT, when: "the journal is over 67,108,864",       line: "fault too long store, or NAME" },
 ];
 
@@ -83,8 +103,9 @@ impl Meaning {
     /// Whether it is one of this program.
     fn is_of(&self, program: Program) -> bool {
         match self.of {
-            Some(of) => of == program,
-            None => true,
+            Whose::Each => true,
+            Whose::Readers => program != Program::Station,
+            Whose::Only(of) => of == program,
         }
     }
 }

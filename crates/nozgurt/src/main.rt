@@ -11,7 +11,7 @@ mod pages;
 
 use bt_cli::{centre_main, journal_of, live_main, live_words};
 use bt_disk::{FileDisk, LineKeeper};
-use bt_explain::{Done, KeptFiles, LastLine, tell, tell_status};
+use bt_explain::{Alarming, Done, KeptFiles, LastLine, tell, tell_status};
 use bt_outside::{
     Console, DirFiles, Files, Keeper, Sink, StdSink, StdSource, Waiting, take_closed_streams,
 };
@@ -54,7 +54,15 @@ fn main(rt: HostRuntime) -> ExitCode {
                                 status,
                                 begun: came,
                                 out: said,
-                            } = hold_session(&rt, alloc, &words, &mut files, reader, out, store);
+                            } = hold_session(
+                                &rt,
+                                alloc,
+                                &words,
+                                &mut files,
+                                reader,
+                                out,
+                                Alarming::new(&rt, Program::Nozgurt, store),
+                            );
                             begun = came;
                             out = said;
                             status
