@@ -21,7 +21,7 @@ use Rattle.bt_cli.specs.Fitting.{Fits, NamesOverload, asked_files, fitting_file,
 
 -- ---- from call to call
 
-fitting_sooner : (network : Net) (traffic : List ℕ) → StopsSooner (fitting_file network traffic)
+pub fitting_sooner : (network : Net) (traffic : List ℕ) → StopsSooner (fitting_file network traffic)
 fitting_sooner network traffic = tested_sooner (Fits network) (NamesOverload network) (file (demand_file network) traffic) (file_sooner (demand_file network) traffic)
 
 -- the demand's load, from an earlier start
@@ -57,7 +57,9 @@ never_both net links a (line, sum, is, over, says) fits =
     let most = fits line is.on_matrix in
     absurd (omega (arith, most, over, is.reached))
 
+pub fitting_lawful : Lines → (network : Net) (traffic : List ℕ) → IsLawful (fitting_file network traffic)
+fitting_lawful lines network traffic =
+    tested_lawful (Fits network) (NamesOverload network) (file (demand_file network) traffic) (file_lawful (demand_file network) traffic) (overload_same lines network) (never_both network)
+
 pub asked_lawful : Lines → (net traffic : List ℕ) → IsLawful (asked_files net traffic)
-asked_lawful lines net traffic =
-    then_lawful (file network_file net) (λ network. fitting_file network traffic) (file_lawful network_file net)
-    (λ network. tested_lawful (Fits network) (NamesOverload network) (file (demand_file network) traffic) (file_lawful (demand_file network) traffic) (overload_same lines network) (never_both network))
+asked_lawful lines net traffic = then_lawful (file network_file net) (λ network. fitting_file network traffic) (file_lawful network_file net) (λ network. fitting_lawful lines network traffic)

@@ -11,6 +11,8 @@ use Rattle.bt_history.specs.declared.fault.RecoverFault.TheVariants.{J1, J2, Sto
 use Rattle.bt_history.specs.Changes.{IsDemandAfter}
 use Rattle.bt_plan.specs.PlanSpelling.{plan_spelling}
 use Rattle.bt_timeline.specs.Replayed.{link_lines}
+use Rattle.bt_export.specs.Edits.{TellsEdits, block_lines, surplus}
+use Rattle.bt_export.specs.Metrics.{TellsMetrics, metrics_lines}
 use Rattle.bt_look.specs.Compact.{compact_lines}
 use Rattle.bt_look.specs.Installed.{TellsInstalled, plan_asked}
 use Rattle.bt_look.specs.State.{TellsState, state_lines}
@@ -20,8 +22,11 @@ use Rattle.bt_report.specs.Outcome.{Outcome, text_alone}
 use Rattle.bt_load.specs.Kinds.{journal_file, network_file}
 use Rattle.bt_load.specs.Loaders.{file}
 use Rattle.bt_load.proofs.OneLoad.{IsLawful, file_lawful, then_lawful}
-use Rattle.bt_cli.specs.Looks.{NamesLine, PrintsCompact, PrintsDemand, PrintsInstalled, PrintsJournalState, PrintsOrNone, PrintsText, journal_files}
+use Rattle.bt_cli.specs.Edits.{PrintsEdits, edits_files}
+use Rattle.bt_cli.specs.Fitting.{fitting_file}
+use Rattle.bt_cli.specs.Looks.{NamesLine, PrintsCompact, PrintsDemand, PrintsInstalled, PrintsJournalState, PrintsMetrics, PrintsOrNone, PrintsText, journal_files}
 use Rattle.bt_cli.specs.Replay.{NamesRecoverFault}
+use Rattle.bt_cli.proofs.LoadsAsked.{Lines, fitting_lawful}
 use Rattle.bt_cli.proofs.OneDemand.{none_behind, one_demand}
 use Rattle.bt_cli.proofs.OneJournal.{Comes, HasChanges, Laws, one_coming}
 
@@ -137,3 +142,49 @@ compact_same laws net bytes a b first second =
     one_coming laws (λ x y. x ≡ y) (λ x y same. same) (CompactOf net) (compact_printed net) net first.sound bytes a b
     (look_comes (CompactOf net) Prints net bytes a first.short (compact_changes net bytes a first.short) first.comes)
     (look_comes (CompactOf net) Prints net bytes b second.short (compact_changes net bytes b second.short) second.comes)
+
+-- ---- `metrics`
+
+abbrev MetricsOf : Net → List Change → Outcome → Type 0
+MetricsOf net changes outcome = outcome ≡ text_alone (metrics_lines net changes) DONE
+
+metrics_changes : (net : Net) (bytes : List ℕ) (outcome : Outcome) → length bytes ≤ MOST_JOURNAL_BYTES → PrintsText (TellsMetrics net bytes) outcome → HasChanges (MetricsOf net) net bytes outcome
+metrics_changes net bytes outcome short (text, tells, is) = record { changes = tells.changes; told = tells.told; short = short; done = is ∙ ap (λ (t : List ℕ). text_alone t DONE) tells.spelled }
+
+pub metrics_same : Laws → (net : Net) (bytes : List ℕ) (a b : Outcome) → PrintsMetrics net bytes a → PrintsMetrics net bytes b → a ≡ b
+metrics_same laws net bytes a b first second =
+    let Prints : Outcome → Type 0 = PrintsText (TellsMetrics net bytes) in
+    one_coming laws (λ x y. x ≡ y) (λ x y same. same) (MetricsOf net) (λ changes x y one other. one ∙ sym other) net first.sound bytes a b
+    (look_comes (MetricsOf net) Prints net bytes a first.short (metrics_changes net bytes a first.short) first.comes)
+    (look_comes (MetricsOf net) Prints net bytes b second.short (metrics_changes net bytes b second.short) second.comes)
+
+-- ---- `edits`
+
+pub edits_lawful : Lines → (net journal traffic : List ℕ) → IsLawful (edits_files net journal traffic)
+edits_lawful lines net journal traffic =
+    then_lawful (journal_files net journal) (λ both. fitting_file both.0 traffic) (journal_lawful net journal) (λ both. fitting_lawful lines both.0 traffic)
+
+abbrev EditsOf : Net → ℕ → List Link → List Change → Outcome → Type 0
+EditsOf net desk want changes outcome = (have : List Link) × IsDemandAfter changes have × (outcome ≡ text_alone (block_lines net desk (surplus have want) (surplus want have)) DONE)
+
+edits_changes : (net : Net) (bytes : List ℕ) (desk : ℕ) (want : List Link) (outcome : Outcome) → length bytes ≤ MOST_JOURNAL_BYTES → PrintsText (TellsEdits net bytes desk want) outcome
+    → HasChanges (EditsOf net desk want) net bytes outcome
+edits_changes net bytes desk want outcome short (text, tells, is) = record {
+  changes = tells.changes;
+  told = tells.told;
+  short = short;
+  done = (tells.have, tells.demand, is ∙ ap (λ (t : List ℕ). text_alone t DONE) tells.spelled);
+}
+
+edits_printed : (net : Net) (desk : ℕ) (want : List Link) (changes : List Change) (a b : Outcome) → EditsOf net desk want changes a → EditsOf net desk want changes b → a ≡ b
+edits_printed net desk want changes a b (have, one, is) (have', other, is') =
+    is
+    ∙ (ap (λ (l : List Link). text_alone (block_lines net desk (surplus l want) (surplus want l)) DONE) (one_demand changes None have have' one other)
+    ∙ sym is')
+
+pub edits_same : Laws → (desk : ℕ) (net : Net) (bytes : List ℕ) (want : List Link) (a b : Outcome) → PrintsEdits desk net bytes want a → PrintsEdits desk net bytes want b → a ≡ b
+edits_same laws desk net bytes want a b first second =
+    let Prints : Outcome → Type 0 = PrintsText (TellsEdits net bytes desk want) in
+    one_coming laws (λ x y. x ≡ y) (λ x y same. same) (EditsOf net desk want) (edits_printed net desk want) net first.sound bytes a b
+    (look_comes (EditsOf net desk want) Prints net bytes a first.short (edits_changes net bytes desk want a first.short) first.comes)
+    (look_comes (EditsOf net desk want) Prints net bytes b second.short (edits_changes net bytes desk want b second.short) second.comes)

@@ -15,4 +15,5 @@ pub mod Complete
 pub mod Command
 pub mod Replay
 pub mod Looks
+pub mod Edits
 pub mod Top

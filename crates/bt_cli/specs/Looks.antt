@@ -1,4 +1,4 @@
--- Looks at a journal, `state NET JOURNAL`, `demand NET JOURNAL [EDITION]`, `installed NET JOURNAL [EDITION]` and `compact NET JOURNAL`:
+-- Looks at a journal, `state NET JOURNAL`, `demand NET JOURNAL [EDITION]`, `installed NET JOURNAL [EDITION]`, `compact NET JOURNAL` and `metrics NET JOURNAL`:
 -- the network is loaded, then the bytes of the journal, which stay as they are, and what these tell is printed.
 use Rattle.std.specs.Prelude.{◌≡◌, ◌⊎◌, ℕ, ◌≤◌, List, length, Option, Some, None}
 use Rattle.bt_frame.specs.declared.limits.TheConstants.{MOST_JOURNAL_BYTES}
@@ -9,6 +9,7 @@ use Rattle.bt_history.specs.declared.fault.RecoverFault.TheVariants.{StoreFault,
 use Rattle.bt_look.specs.Installed.{TellsInstalled}
 use Rattle.bt_look.specs.Look.{IsLookFault, TellsCompact, TellsDemand}
 use Rattle.bt_look.specs.State.{TellsState}
+use Rattle.bt_export.specs.Metrics.{TellsMetrics}
 use Rattle.bt_report.specs.declared.status.TheConstants.{DONE}
 use Rattle.bt_report.specs.Faults.{SaysFaultyWords}
 use Rattle.bt_report.specs.Outcome.{Outcome, text_alone}
@@ -54,6 +55,10 @@ PrintsInstalled asked net bytes = Looks (PrintsOrNone (TellsInstalled net bytes 
 -- the journal with the fewest edits of the demand
 abbrev pub PrintsCompact : Net → List ℕ → Outcome → Type 0
 PrintsCompact net bytes = Looks (PrintsText (TellsCompact net bytes)) net bytes
+
+-- the state as gauges for a monitor
+abbrev pub PrintsMetrics : Net → List ℕ → Outcome → Type 0
+PrintsMetrics net bytes = Looks (PrintsText (TellsMetrics net bytes)) net bytes
 
 -- ---- for bodies alone
 

@@ -1,6 +1,6 @@
 -- Words of a command that are numbers.
 use Rattle.std.specs.Prelude.{ℕ, ◌-◌, ◌^◌, ◌&&◌, if◌then◌else◌, nat_le, List, Option, Some, None, option_and_then, option_map}
-use Rattle.bt_frame.specs.declared.limits.TheConstants.{LAST_EDITION, MOST_NUMBERED_BEAMS}
+use Rattle.bt_frame.specs.declared.limits.TheConstants.{LAST_EDITION, MOST_DESKS, MOST_NUMBERED_BEAMS}
 use Rattle.bt_frame.specs.declared.numbers.EditionNo.{EditionNo}
 use Rattle.bt_text.specs.Text.{number_of}
 use Rattle.bt_trans.specs.declared.part.TheConstants.{MOST_PART_BEAMS}
@@ -20,6 +20,10 @@ seed_of word = option_and_then (within 0 (2 ^ 64 - 1)) (number_of word)
 -- the number of transponders that a word is, where a schedule is made for so few
 abbrev pub transponders_of : List ℕ → Option ℕ
 transponders_of word = option_and_then (within 1 MOST_PART_BEAMS) (number_of word)
+
+-- the desk that a word is
+abbrev pub desk_of : List ℕ → Option ℕ
+desk_of word = option_and_then (within 1 MOST_DESKS) (number_of word)
 
 -- the edition of a number
 abbrev pub edition_numbered : ℕ → EditionNo

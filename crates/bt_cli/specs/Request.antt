@@ -2,7 +2,7 @@
 use Rattle.std.specs.Prelude.{ℕ, ◌&&◌, if◌then◌else◌, nat_lt, length, codes, Bool, List, [], ◌∷◌, Option, Some, None}
 use Rattle.std.specs.Str.{bytes_eq}
 use Rattle.bt_frame.specs.declared.numbers.EditionNo.{EditionNo}
-use Rattle.bt_cli.specs.NumberWords.{beam_count_of, edition_of, seed_of, transponders_of}
+use Rattle.bt_cli.specs.NumberWords.{beam_count_of, desk_of, edition_of, seed_of, transponders_of}
 use Rattle.bt_cli.specs.declared.command_line.CommandLine.{CommandLine}
 use Rattle.bt_cli.specs.declared.command_line.CommandLine.TheVariants as command_line
 
@@ -23,6 +23,8 @@ pub data Request : Type 0 where
   TellDemand : List ℕ → List ℕ → Option EditionNo → Request
   TellInstalled : List ℕ → List ℕ → Option EditionNo → Request
   TellCompact : List ℕ → List ℕ → Request
+  TellEdits : List ℕ → List ℕ → List ℕ → ℕ → Request
+  TellMetrics : List ℕ → List ℕ → Request
 
 -- `check MATRIX MODES`; a word that names a file is not empty
 abbrev pub check_request : List ℕ → List ℕ → Request
@@ -104,19 +106,34 @@ installed_at_request net journal None = Faulty
 abbrev pub compact_request : List ℕ → List ℕ → Request
 compact_request net journal = if nat_lt 0 (length net) && nat_lt 0 (length journal) then TellCompact net journal else Faulty
 
+-- `metrics NET JOURNAL`
+abbrev pub metrics_request : List ℕ → List ℕ → Request
+metrics_request net journal = if nat_lt 0 (length net) && nat_lt 0 (length journal) then TellMetrics net journal else Faulty
+
+-- `edits NET JOURNAL TRAFFIC`, of that desk
+abbrev pub edits_request : List ℕ → List ℕ → List ℕ → ℕ → Request
+edits_request net journal traffic desk = if are_words net journal traffic then TellEdits net journal traffic desk else Faulty
+
+-- `edits NET JOURNAL TRAFFIC DESK`, where the last word is a desk
+abbrev pub edits_by_request : List ℕ → List ℕ → List ℕ → Option ℕ → Request
+edits_by_request net journal traffic (Some desk) = edits_request net journal traffic desk
+edits_by_request net journal traffic None = Faulty
+
 -- what a look at a journal with two words asks for
 abbrev pub look_with_two : List ℕ → List ℕ → List ℕ → Request
 look_with_two command net journal =
     if bytes_eq command (codes "state") then state_request net journal
     else (if bytes_eq command (codes "demand") then demand_request net journal None
     else (if bytes_eq command (codes "installed") then installed_request net journal None
-    else (if bytes_eq command (codes "compact") then compact_request net journal else Faulty)))
+    else (if bytes_eq command (codes "compact") then compact_request net journal
+    else (if bytes_eq command (codes "metrics") then metrics_request net journal else Faulty))))
 
--- and with three, of which the last is an edition
+-- and with three, of which the last is an edition, or a traffic that desk 1 is to bring about
 abbrev pub look_with_three : List ℕ → List ℕ → List ℕ → List ℕ → Request
-look_with_three command net journal edition =
-    if bytes_eq command (codes "demand") then demand_at_request net journal (edition_of 0 edition)
-    else (if bytes_eq command (codes "installed") then installed_at_request net journal (edition_of 1 edition) else Faulty)
+look_with_three command net journal last =
+    if bytes_eq command (codes "demand") then demand_at_request net journal (edition_of 0 last)
+    else (if bytes_eq command (codes "installed") then installed_at_request net journal (edition_of 1 last)
+    else (if bytes_eq command (codes "edits") then edits_request net journal last 1 else Faulty))
 
 -- what a command with one word asks for
 abbrev pub asked_with_one : List ℕ → List ℕ → Request
@@ -140,7 +157,9 @@ asked_with_three command first second third =
 
 -- what a command with four words asks for
 abbrev pub asked_with_four : List ℕ → List ℕ → List ℕ → List ℕ → List ℕ → Request
-asked_with_four command first second third fourth = if bytes_eq command (codes "timing") then timing_request first second third fourth else Faulty
+asked_with_four command first second third fourth =
+    if bytes_eq command (codes "timing") then timing_request first second third fourth
+    else (if bytes_eq command (codes "edits") then edits_by_request first second third (desk_of fourth) else Faulty)
 
 -- what the words ask for
 abbrev pub request_of : List (List ℕ) → Request
@@ -174,6 +193,8 @@ asked (command_line.TellState net journal) = TellState net.now journal.now
 asked (command_line.TellDemand net journal edition) = TellDemand net.now journal.now edition
 asked (command_line.TellInstalled net journal edition) = TellInstalled net.now journal.now edition
 asked (command_line.TellCompact net journal) = TellCompact net.now journal.now
+asked (command_line.TellEdits net journal traffic desk) = TellEdits net.now journal.now traffic.now desk.number
+asked (command_line.TellMetrics net journal) = TellMetrics net.now journal.now
 
 -- the name of its command
 abbrev pub name_of : CommandLine → Option (List ℕ)
@@ -192,6 +213,8 @@ name_of (command_line.TellState _ _) = Some (codes "state")
 name_of (command_line.TellDemand _ _ _) = Some (codes "demand")
 name_of (command_line.TellInstalled _ _ _) = Some (codes "installed")
 name_of (command_line.TellCompact _ _) = Some (codes "compact")
+name_of (command_line.TellEdits _ _ _ _) = Some (codes "edits")
+name_of (command_line.TellMetrics _ _) = Some (codes "metrics")
 
 -- the journal that is asked for, where one is
 abbrev pub journal_of : Request → Option (List ℕ)

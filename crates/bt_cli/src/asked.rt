@@ -51,7 +51,7 @@ pub fn load_asked<F: Files>(
 
 /// The demand in a file, where it fits, with its matrix.
 #[tactic(auto, using(crate::proofs::LoadsAsked::overload_stops))]
-fn load_fitting<F: Files>(
+pub(crate) fn load_fitting<F: Files>(
     alloc: Global,
     files: &mut F,
     net: &Network,

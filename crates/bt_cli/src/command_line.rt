@@ -1,9 +1,9 @@
 // What the words after the program's name ask for.
-ghost use Rattle.std.specs.Prelude.{◌≡◌, Some, map, codes, IfSome};
+ghost use Rattle.std.specs.Prelude.{◌≡◌, Some, map, codes, IfSome, option_map};
 ghost use Rattle.std.specs.String.{string_bytes};
-ghost use Rattle.bt_cli.specs.Request.{asked, asked_with_four, asked_with_one, asked_with_three, asked_with_two, capacity_request, check_plan_request, check_request, compact_request, demand_at_request, demand_request, first_word, installed_at_request, installed_request, look_with_three, look_with_two, make_request, modes_request, name_of, part_request, plan_request, replay_request, request_of, run_request, state_request, timing_request, trans_request};
+ghost use Rattle.bt_cli.specs.Request.{asked, asked_with_four, asked_with_one, asked_with_three, asked_with_two, capacity_request, check_plan_request, check_request, compact_request, demand_at_request, demand_request, edits_by_request, edits_request, first_word, installed_at_request, installed_request, look_with_three, look_with_two, make_request, metrics_request, modes_request, name_of, part_request, plan_request, replay_request, request_of, run_request, state_request, timing_request, trans_request};
 
-use crate::number_word::{BeamCount, Transponders, edition_of, seed_of};
+use crate::number_word::{AskingDesk, BeamCount, Transponders, edition_of, seed_of};
 use bt_frame::EditionNo;
 
 /// A command line: a command with its words.
@@ -86,6 +86,18 @@ pub enum CommandLine<'a> {
         net: &'a str,
         journal: &'a str,
     },
+    /// `edits NET JOURNAL TRAFFIC [DESK]`.
+    TellEdits {
+        net: &'a str,
+        journal: &'a str,
+        traffic: &'a str,
+        desk: AskingDesk,
+    },
+    /// `metrics NET JOURNAL`.
+    TellMetrics {
+        net: &'a str,
+        journal: &'a str,
+    },
 }
 
 /// The command line that the words are.
@@ -151,6 +163,8 @@ fn look_with_two<'a>(command: &str, net: &'a str, journal: &'a str) -> CommandLi
         installed_of(net, journal, None)
     } else if command == "compact" {
         compact_of(net, journal)
+    } else if command == "metrics" {
+        metrics_of(net, journal)
     } else {
         CommandLine::Faulty
     }
@@ -170,20 +184,22 @@ fn with_three<'a>(command: &str, first: &'a str, second: &'a str, third: &'a str
     }
 }
 
-/// The command line of that look at a journal with three words, of which the last is an edition.
+/// The command line of that look at a journal with three words, of which the last is an edition, or a traffic.
 fn look_with_three<'a>(
     command: &str,
     net: &'a str,
     journal: &'a str,
-    edition: &str,
+    last: &'a str,
 ) -> CommandLine<'a>
-    ensures asked { asked result ≡ look_with_three command.now net.now journal.now edition.now }
+    ensures asked { asked result ≡ look_with_three command.now net.now journal.now last.now }
     ensures named { IfSome (name_of result) (λ name. command.now ≡ name) }
 {
     if command == "demand" {
-        demand_at(net, journal, edition_of(0, edition))
+        demand_at(net, journal, edition_of(0, last))
     } else if command == "installed" {
-        installed_at(net, journal, edition_of(1, edition))
+        installed_at(net, journal, edition_of(1, last))
+    } else if command == "edits" {
+        edits_of(net, journal, last, Some(AskingDesk::first()))
     } else {
         CommandLine::Faulty
     }
@@ -202,6 +218,8 @@ fn with_four<'a>(
 {
     if command == "timing" {
         timing_of(first, second, third, fourth)
+    } else if command == "edits" {
+        edits_of(first, second, third, AskingDesk::of(fourth))
     } else {
         CommandLine::Faulty
     }
@@ -348,6 +366,54 @@ fn compact_of<'a>(net: &'a str, journal: &'a str) -> CommandLine<'a>
         CommandLine::Faulty
     } else {
         CommandLine::TellCompact { net, journal }
+    }
+}
+
+fn metrics_of<'a>(net: &'a str, journal: &'a str) -> CommandLine<'a>
+    ensures asked { asked result ≡ metrics_request net.now journal.now }
+    ensures named { IfSome (name_of result) (λ name. name ≡ codes "metrics") }
+{
+    if net.is_empty() || journal.is_empty() {
+        CommandLine::Faulty
+    } else {
+        CommandLine::TellMetrics { net, journal }
+    }
+}
+
+/// The edits of that desk, where its word is one.
+fn edits_of<'a>(
+    net: &'a str,
+    journal: &'a str,
+    traffic: &'a str,
+    desk: Option<AskingDesk>,
+) -> CommandLine<'a>
+    ensures asked { asked result ≡ edits_by_request net.now journal.now traffic.now (option_map (λ desk. desk.number) desk) }
+    ensures named { IfSome (name_of result) (λ name. name ≡ codes "edits") }
+{
+    match desk {
+        Some(desk) => edits_by(net, journal, traffic, desk),
+        None => CommandLine::Faulty,
+    }
+}
+
+fn edits_by<'a>(
+    net: &'a str,
+    journal: &'a str,
+    traffic: &'a str,
+    desk: AskingDesk,
+) -> CommandLine<'a>
+    ensures asked { asked result ≡ edits_request net.now journal.now traffic.now desk.number }
+    ensures named { IfSome (name_of result) (λ name. name ≡ codes "edits") }
+{
+    if net.is_empty() || journal.is_empty() || traffic.is_empty() {
+        CommandLine::Faulty
+    } else {
+        CommandLine::TellEdits {
+            net,
+            journal,
+            traffic,
+            desk,
+        }
     }
 }
 

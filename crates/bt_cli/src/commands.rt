@@ -11,7 +11,8 @@ use crate::capacity::tell_capacity;
 use crate::check::check_files;
 use crate::check_plan::check_plan_files;
 use crate::command_line::{CommandLine, command_line_of};
-use crate::look::{tell_compact, tell_demand, tell_installed, tell_state};
+use crate::edits::tell_edits;
+use crate::look::{tell_compact, tell_demand, tell_installed, tell_metrics, tell_state};
 use crate::make::drawn_report;
 use crate::modes::plan_modes;
 use crate::plan::plan_files;
@@ -73,6 +74,13 @@ fn answer<F: Files>(alloc: Global, line: CommandLine<'_>, files: &mut F) -> Resu
             edition,
         } => tell_installed(alloc, files, net, journal, edition),
         CommandLine::TellCompact { net, journal } => tell_compact(alloc, files, net, journal),
+        CommandLine::TellEdits {
+            net,
+            journal,
+            traffic,
+            desk,
+        } => tell_edits(alloc, files, net, journal, traffic, desk.as_desk_no()),
+        CommandLine::TellMetrics { net, journal } => tell_metrics(alloc, files, net, journal),
         CommandLine::PlanDrawn { beams, seed } => drawn_report(alloc, beams, seed),
         CommandLine::RunScript { .. } | CommandLine::ReplayJournal { .. } => unreachable!(),
     }

@@ -15,6 +15,7 @@ mod check;
 mod check_plan;
 mod command_line;
 mod commands;
+mod edits;
 mod fit;
 mod laws;
 mod live;

@@ -1,4 +1,5 @@
-// Looks at a journal: `state NET JOURNAL`, `demand NET JOURNAL [EDITION]`, `installed NET JOURNAL [EDITION]` and `compact NET JOURNAL`.
+// Looks at a journal: `state NET JOURNAL`, `demand NET JOURNAL [EDITION]`, `installed NET JOURNAL [EDITION]`, `compact NET JOURNAL`
+// and `metrics NET JOURNAL`.
 ghost use Rattle.std.specs.Prelude.{◌≡◌, ◌≤◌, IfErr, IfOk, length};
 ghost use Rattle.bt_frame.specs.declared.limits.TheConstants.{MOST_JOURNAL_BYTES};
 ghost use Rattle.bt_outside.specs.Told.{Rose};
@@ -8,10 +9,11 @@ ghost use Rattle.bt_report.specs.Outcome.{Says};
 ghost use Rattle.bt_report.specs.Printing.{CameTo};
 ghost use Rattle.bt_report.specs.Report.{StopIs};
 ghost use Rattle.bt_load.specs.Loaders.{Loads};
-ghost use Rattle.bt_cli.specs.Looks.{IsOfLines, PrintsCompact, PrintsDemand, PrintsInstalled, PrintsJournalState, journal_files};
+ghost use Rattle.bt_cli.specs.Looks.{IsOfLines, PrintsCompact, PrintsDemand, PrintsInstalled, PrintsJournalState, PrintsMetrics, journal_files};
 ghost use Rattle.bt_cli.specs.Replay.{NamesRecoverFault};
 
 use bt_book::RecoverFault;
+use bt_export::metrics_of_journal;
 use bt_frame::EditionNo;
 use bt_load::{load_journal, load_network};
 use bt_look::{compact_journal, demand_of_journal, installed_of_journal, state_text};
@@ -76,15 +78,28 @@ pub fn tell_compact<F: Files>(
     compact_report(alloc, looked)
 }
 
+/// The state of the journal in a file on the network in another, as gauges.
+pub fn tell_metrics<F: Files>(
+    alloc: Global,
+    files: &mut F,
+    net: &str,
+    journal: &str,
+) -> Result<Report, Stop>
+    ensures { CameTo (Loads (journal_files net.now journal.now) (λ both. PrintsMetrics both.0 both.1) (F.told files.old) (Rose (F.fault_count files.old) (F.fault_count files.new))) result }
+{
+    let looked = load_looked(alloc, files, net, journal)?;
+    metrics_report(alloc, looked)
+}
+
 /// A network, and the bytes of a journal.
 #[derive(Drop)]
-struct Looked {
-    net: Network,
-    bytes: Vec<u8>,
+pub(crate) struct Looked {
+    pub net: Network,
+    pub bytes: Vec<u8>,
 }
 
 /// The network and the bytes of the journal in two files.
-fn load_looked<F: Files>(
+pub(crate) fn load_looked<F: Files>(
     alloc: Global,
     files: &mut F,
     net: &str,
@@ -164,8 +179,22 @@ fn compact_report(alloc: Global, looked: Looked) -> Result<Report, Stop>
     }
 }
 
+/// The text of the gauges, where both are at hand.
+fn metrics_report(alloc: Global, looked: Looked) -> Result<Report, Stop>
+    requires short { length looked.bytes.items ≤ MOST_JOURNAL_BYTES }
+    ensures { CameTo (PrintsMetrics looked.net looked.bytes.items) result }
+{
+    let Looked { net, bytes } = looked;
+    // This is there for what holds of each network: it is sound.
+    let _beams = net.beam_count();
+    match metrics_of_journal(alloc, &net, bytes) {
+        Ok(text) => Ok(Report { text, status: DONE }),
+        Err(fault) => Err(fault_stop(alloc, fault)),
+    }
+}
+
 /// The report that names the line at fault of a journal.
-fn fault_stop(alloc: Global, fault: RecoverFault) -> Stop
+pub(crate) fn fault_stop(alloc: Global, fault: RecoverFault) -> Stop
     requires lines { IsOfLines fault }
     ensures stop { StopIs (NamesRecoverFault fault) result }
 {

@@ -59,5 +59,7 @@ fn files_of(line: CommandLine<'_>) -> NamedFiles<'_>
         CommandLine::TellDemand { .. }             => NamedFiles { first: 2, end: 3, journal: None },
         CommandLine::TellInstalled { .. }          => NamedFiles { first: 2, end: 3, journal: None },
         CommandLine::TellCompact { .. }            => NamedFiles { first: 2, end: 3, journal: None },
+        CommandLine::TellEdits { .. }              => NamedFiles { first: 2, end: 4, journal: None },
+        CommandLine::TellMetrics { .. }            => NamedFiles { first: 2, end: 3, journal: None },
     }
 }

@@ -1,11 +1,12 @@
 // Words of a command that are numbers.
 ghost use Rattle.std.specs.Prelude.{◌≡◌, option_map};
 ghost use Rattle.bt_frame.specs.Range.{IsWithin};
-ghost use Rattle.bt_frame.specs.declared.limits.TheConstants.{MOST_NUMBERED_BEAMS};
+ghost use Rattle.bt_frame.specs.declared.limits.TheConstants.{MOST_DESKS, MOST_NUMBERED_BEAMS};
 ghost use Rattle.bt_trans.specs.declared.part.TheConstants.{MOST_PART_BEAMS};
-ghost use Rattle.bt_cli.specs.NumberWords.{beam_count_of, edition_of, seed_of, transponders_of};
+ghost use Rattle.bt_cli.specs.NumberWords.{beam_count_of, desk_of, edition_of, seed_of, transponders_of};
 
 use bt_frame::{EditionNo, LAST_EDITION, MOST_NUMBERED_BEAMS};
+use bt_script::DeskNo;
 use bt_text::number;
 use bt_trans::MOST_PART_BEAMS;
 
@@ -50,6 +51,44 @@ impl Transponders {
                 count: count as u32,
             }),
             _ => None,
+        }
+    }
+}
+
+/// Which desk asks.
+#[derive(Clone, Copy)]
+pub struct AskingDesk {
+    pub number: u32,
+    ghost in_range: { IsWithin 1 MOST_DESKS number },
+}
+
+impl AskingDesk {
+    /// The desk of a command that names none.
+    pub fn first() -> AskingDesk
+        ensures number { result.number ≡ 1 }
+    {
+        AskingDesk { number: 1 }
+    }
+
+    /// The desk that a word is; None where there is no such desk, or the word is no number.
+    pub fn of(word: &str) -> Option<AskingDesk>
+        ensures desk { option_map (λ desk. desk.number) result ≡ desk_of word.now }
+    {
+        match number(word.as_bytes()) {
+            Some(number @ 1..=16) => Some(AskingDesk {
+                number: number as u32,
+            }),
+            _ => None,
+        }
+    }
+
+    /// It, as a line of a script names it.
+    pub fn as_desk_no(self) -> DeskNo
+        ensures number { result ≡ self.number }
+    {
+        match DeskNo::new(u64::from(self.number)) {
+            Some(desk) => desk,
+            None => unreachable!(),
         }
     }
 }

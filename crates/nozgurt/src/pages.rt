@@ -153,12 +153,33 @@ commands that look at a journal
       example: nozgurt demand examples/two-beams.net
                examples/calm-change.journal 1
 
+  edits NET JOURNAL TRAFFIC [DESK]
+      Prints the block of edits that brings the demand of the journal in the file
+      JOURNAL to that in the file TRAFFIC, on the network in the file NET: `round`,
+      `desk D drop FROM TO UNITS` for each link that is to lose slots, then
+      `desk D add FROM TO UNITS` for each that is to gain some, and `go`; where no
+      link differs, nothing. Drops stand first, so that each add finds room. DESK,
+      the D of the lines, is 1 to 16; without it D is 1. The file stays as it is.
+      `nozgurt edits NET JOURNAL TRAFFIC | nozgurt live NET JOURNAL` makes them.
+      example: nozgurt demand examples/two-beams.net examples/calm-change.journal 1 |
+               nozgurt edits examples/two-beams.net examples/calm-change.journal -
+
   installed NET JOURNAL [EDITION]
       Prints the burst time plan that is installed of an edition, by the journal
       in the file JOURNAL on the network in the file NET, as `check`, `timing`
       and `chart plan` read it. EDITION is 1 to 4294967295; without it the plan
       is the newest. The file stays as it is.
       example: nozgurt installed examples/two-beams.net
+               examples/calm-change.journal
+
+  metrics NET JOURNAL
+      Prints the state of the journal in the file JOURNAL on the network in the
+      file NET as gauges in the text format of Prometheus: the last edition; the
+      newest plan with its slots, modes and bursts; the bytes of the journal's
+      changes, and how many more the network allows; and of each beam, by `beam`
+      and `way`, the slots that are asked and free, as `state` has them. The file
+      stays as it is.
+      example: nozgurt metrics examples/two-beams.net
                examples/calm-change.journal
 
   state NET JOURNAL
@@ -193,7 +214,7 @@ const LETTERS: &str = "  The letter of a CODE names the file that is at fault: N
 ";
 
 /// The forms of the commands: of each its word, and the names of the words behind it.
-pub const FORMS: [&str; 15] = [
+pub const FORMS: [&str; 17] = [
     "capacity NET TRAFFIC",
     "check MATRIX MODES",
     "check NET TRAFFIC PLAN",
@@ -207,7 +228,9 @@ pub const FORMS: [&str; 15] = [
     "run NET SCRIPT JOURNAL",
     "compact NET JOURNAL",
     "demand NET JOURNAL [EDITION]",
+    "edits NET JOURNAL TRAFFIC [DESK]",
     "installed NET JOURNAL [EDITION]",
+    "metrics NET JOURNAL",
     "state NET JOURNAL",
 ];
 

@@ -1,5 +1,9 @@
 -- what is asked is what the command line says
+use Rattle.std.proofs.Common.{ℕ, subst}
 use Rattle.bt_outside.specs.Told.{Rose}
+use Rattle.bt_report.specs.Printing.{CameTo}
+use Rattle.bt_load.specs.Loaders.{Loads}
+use Rattle.bt_cli.specs.Edits.{PrintsEdits, edits_files}
 use Rattle.bt_cli.proofs.ByCommand.{came_at}
 use Rattle.bt_cli.proofs.commands.answer.Goals as goal
 
@@ -34,6 +38,17 @@ returns-in-TellDemand g c =
 pub returns-in-TellCompact : goal.returns-in-TellCompact
 returns-in-TellCompact g c =
     came_at (g.F.Files.told c.args.files.now) (Rose (g.F.Files.fault_count c.args.files.now) (g.F.Files.fault_count c.tell_compact.new.files)) c.args.line _ c.in-TellCompact.is c.tell_compact.result c.tell_compact.ensures
+
+pub returns-in-TellEdits : goal.returns-in-TellEdits
+returns-in-TellEdits g c =
+    came_at (g.F.Files.told c.args.files.now) (Rose (g.F.Files.fault_count c.args.files.now) (g.F.Files.fault_count c.tell_edits.new.files)) c.args.line _ c.in-TellEdits.is c.tell_edits.result
+    (subst (λ (desk : ℕ). CameTo (Loads (edits_files c.in-TellEdits.net.now c.in-TellEdits.journal.now c.in-TellEdits.traffic.now) (λ all. PrintsEdits desk all.0.0 all.0.1 all.1)
+    (g.F.Files.told c.args.files.now) (Rose (g.F.Files.fault_count c.args.files.now) (g.F.Files.fault_count c.tell_edits.new.files))) c.tell_edits.result)
+    c.as_desk_no.ensures.number c.tell_edits.ensures)
+
+pub returns-in-TellMetrics : goal.returns-in-TellMetrics
+returns-in-TellMetrics g c =
+    came_at (g.F.Files.told c.args.files.now) (Rose (g.F.Files.fault_count c.args.files.now) (g.F.Files.fault_count c.tell_metrics.new.files)) c.args.line _ c.in-TellMetrics.is c.tell_metrics.result c.tell_metrics.ensures
 
 pub returns-in-TellState : goal.returns-in-TellState
 returns-in-TellState g c =
