@@ -1,4 +1,10 @@
-# Completes the words of nozgurt and chart: commands, then files by what stands in their place.
+# Completes the words of nozgurt, chart and station: commands, then files by what stands in their place, and beams.
+
+# The beams of a network's file.
+_nozgurt_beams() {
+    tr -d '\n' 2>/dev/null <"$1" | sed -n 's/.*"beams"[[:space:]]*:[[:space:]]*\[\([^]]*\)\].*/\1/p' | tr -d '",'
+}
+
 _nozgurt() {
     local program=${COMP_WORDS[0]##*/} word=${COMP_WORDS[COMP_CWORD]} place words='' suffixes='' suffix
     place=$program:$COMP_CWORD
@@ -22,4 +28,4 @@ _nozgurt() {
         mapfile -t COMPREPLY < <(compgen -f -- "$word")
     fi
 }
-complete -F _nozgurt nozgurt chart
+complete -F _nozgurt nozgurt chart station

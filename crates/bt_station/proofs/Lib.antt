@@ -1,0 +1,5 @@
+pub mod Words
+pub mod Statuses
+pub mod Confirms
+pub mod Turns
+pub mod Requests

@@ -1,0 +1,13 @@
+pub mod Asked
+pub mod Lines
+pub mod Satellite
+pub mod Terminal
+pub mod Standby
+pub mod Station
+pub mod Talked
+pub mod Turns
+pub mod Ready
+pub mod Going
+pub mod Top
+pub mod CommandLine
+pub mod Stops
