@@ -11,7 +11,7 @@ use bt_cli::{
 };
 use bt_outside::{Console, MemSource};
 use bt_report::WRITE_FAILED;
-use bt_sheet::{CaseFault, Part, Result, Shelf, number_of};
+use bt_sheet::{CaseFault, Part, Result, Shelf, number_of, owned_words};
 use std::alloc::Global;
 use std::sync::Wait;
 use std::thread::Threads;
@@ -597,13 +597,4 @@ fn words_of(alloc: Global, command: &str, first: &str, second: &str) -> Result<V
         String::from_str(alloc, second)?,
     ]?;
     Ok(words)
-}
-
-/// The words, each with bytes of its own.
-fn owned_words(alloc: Global, words: &[&str]) -> Result<Vec<String>> {
-    let mut owned = Vec::new(alloc);
-    for word in words {
-        owned.push(String::from_str(alloc, word)?)?;
-    }
-    Ok(owned)
 }

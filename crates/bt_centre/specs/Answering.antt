@@ -15,7 +15,7 @@ use Rattle.bt_talk.specs.declared.block.Step.TheVariants as step
 use Rattle.bt_talk.specs.Asked.{open_behind, parts_of}
 use Rattle.bt_talk.specs.Block.{Open}
 use Rattle.bt_centre.specs.declared.session.InputEnd.{InputEnd}
-use Rattle.bt_centre.specs.declared.session.TheConstants.{MOST_LINE_BYTES}
+use Rattle.bt_frame.specs.declared.limits.TheConstants.{MOST_SESSION_LINE_BYTES}
 use Rattle.bt_centre.specs.Progress.{Hand, IsLeftOf, ItemFailed, ItemPlayed, ItemsDone, Left}
 use Rattle.bt_centre.specs.RecoverFaults.{recover_line, recover_status}
 use Rattle.bt_centre.specs.Run.{at_start, changes_at, opening_on}
@@ -65,7 +65,7 @@ pub record SessionSaid (net : Net) (begun : Books) (exchanges : List Exchange) (
 
 -- an input gave these between two moments
 abbrev pub GaveSince : Option (List ℕ) → Option (List ℕ) → List (Option (List ℕ)) → Type 0
-GaveSince (Some bytes) (Some rest) lines = given_by MOST_LINE_BYTES bytes ≡ lines ++ given_by MOST_LINE_BYTES rest
+GaveSince (Some bytes) (Some rest) lines = given_by MOST_SESSION_LINE_BYTES bytes ≡ lines ++ given_by MOST_SESSION_LINE_BYTES rest
 GaveSince (Some bytes) None lines = ⊥
 GaveSince None (Some rest) lines = ⊥
 GaveSince None None lines = Unit {0}

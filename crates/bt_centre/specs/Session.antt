@@ -26,7 +26,7 @@ use Rattle.bt_report.specs.Stored.{Stored}
 use Rattle.bt_centre.specs.declared.history.History.{History}
 use Rattle.bt_centre.specs.declared.session.InputEnd.{InputEnd}
 use Rattle.bt_centre.specs.declared.session.InputEnd.TheVariants as ending
-use Rattle.bt_centre.specs.declared.session.TheConstants.{MOST_ANSWERS, MOST_LINE_BYTES}
+use Rattle.bt_frame.specs.declared.limits.TheConstants.{MOST_ANSWERS, MOST_SESSION_LINE_BYTES}
 use Rattle.bt_centre.specs.Lines.{total_of}
 use Rattle.bt_centre.specs.RecoverFaults.{recover_line, recover_status}
 use Rattle.bt_centre.specs.Run.{BreaksEarly, BreaksOff, FramesAreSafe, IsOpening, IsRun, LeavesStore, PlaysItem, RunsNone, Stand, at_start, changes_at, entries_of, first_line, has_lost, opening_on}
@@ -117,11 +117,11 @@ status_behind end histories = if has_lost histories then STORE_FAILED else input
 
 -- these are the first lines that the input gives, where its bytes are told
 abbrev pub WereGiven : Talked → List (Option (List ℕ)) → Type 0
-WereGiven talk lines = IfSome talk.coming (λ bytes. (more : List (Option (List ℕ))) × (given_by MOST_LINE_BYTES bytes ≡ lines ++ more))
+WereGiven talk lines = IfSome talk.coming (λ bytes. (more : List (Option (List ℕ))) × (given_by MOST_SESSION_LINE_BYTES bytes ≡ lines ++ more))
 
 -- these are all that it gives
 abbrev pub AllGiven : Talked → List (Option (List ℕ)) → Type 0
-AllGiven talk lines = IfSome talk.coming (λ bytes. given_by MOST_LINE_BYTES bytes ≡ lines)
+AllGiven talk lines = IfSome talk.coming (λ bytes. given_by MOST_SESSION_LINE_BYTES bytes ≡ lines)
 
 -- why no line was heard behind these: none was left, or as many were heard as are counted; or the input failed
 abbrev pub StopsHearing : Talked → List (Option (List ℕ)) → InputEnd → Type 0

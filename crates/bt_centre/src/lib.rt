@@ -40,5 +40,5 @@ pub use joining_laws::orders_join_as_told;
 pub use lasting_laws::answered_lines_survive;
 pub use say::say_text;
 pub use script::{RunEnd, run_script};
-pub use session::{InputEnd, MOST_ANSWERS, MOST_LINE_BYTES, SessionEnd, run_session};
+pub use session::{InputEnd, SessionEnd, run_session};
 pub use turn_laws::turns_know_the_newest_install;

@@ -1,6 +1,7 @@
 // The run of a session: between its lines the book hands its entries over, so that no bytes of them are kept; nor are any of
 // the events of its world, but for the plans that were installed.
 ghost use Rattle.std.specs.Prelude.{◌≡◌, ◌<◌, ◌++◌, ◌∷◌, [], length, IfErr, IfOk, OnOk};
+ghost use Rattle.bt_frame.specs.declared.limits.TheConstants.{MOST_ANSWERS};
 ghost use Rattle.bt_history.specs.Causes.{Follows};
 ghost use Rattle.bt_history.specs.Crash.{Last};
 ghost use Rattle.bt_history.specs.Store.{IsKept, lost_of};
@@ -211,7 +212,7 @@ pub(crate) fn play_step<R: Threads + Wait + Sync, G: Gate + Sync, K: Keeper + Se
     step: &Step,
     live: Live<K>,
 ) -> Result<(Live<K>, Vec<u8>), (LiveRemains<K>, RecoverFault)>
-    requires few { live.rounds < 9223372036854775808 }
+    requires few { live.rounds < MOST_ANSWERS }
     requires network { live.book.net ≡ net.now }
     requires air_network { live.air.life.opening.net ≡ net.now }
     requires terminals { IsStepFor net.now step.now }
@@ -238,7 +239,7 @@ fn live_item<R: Threads + Wait + Sync, G: Gate + Sync, K: Keeper + Send>(
     item: &Item,
     live: Live<K>,
 ) -> Result<(Live<K>, Vec<u8>), (LiveRemains<K>, RecoverFault)>
-    requires few { live.rounds < 9223372036854775808 }
+    requires few { live.rounds < MOST_ANSWERS }
     requires network { live.book.net ≡ net.now }
     requires air_network { live.air.life.opening.net ≡ net.now }
     requires terminals { IsItemFor net.now item.now }
@@ -264,7 +265,7 @@ fn live_round<R: Threads + Wait + Sync, G: Gate + Sync, K: Keeper + Send>(
     round: &Round,
     live: Live<K>,
 ) -> Result<(Live<K>, Vec<u8>), LiveRemains<K>>
-    requires few { live.rounds < 9223372036854775808 }
+    requires few { live.rounds < MOST_ANSWERS }
     requires network { live.book.net ≡ net.now }
     requires air_network { live.air.life.opening.net ≡ net.now }
     requires terminals { IsRoundFor net.now round.now }

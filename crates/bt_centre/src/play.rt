@@ -1,5 +1,6 @@
 // Playing a part of a script.
 ghost use Rattle.std.specs.Prelude.{◌≡◌, ◌+◌, ◌<◌, IfErr, IfOk};
+ghost use Rattle.bt_frame.specs.declared.limits.TheConstants.{MOST_ANSWERS};
 ghost use Rattle.bt_history.specs.Causes.{Follows};
 ghost use Rattle.bt_script.specs.Named.{IsItemFor, IsRoundFor};
 ghost use Rattle.bt_centre.specs.Progress.{IsLeftEarly, ItemFailed, ItemPlayed, RoundPlayed};
@@ -32,7 +33,7 @@ pub(crate) fn play_item<
     item: &Item,
     playing: Playing<K, E>,
 ) -> Result<(Playing<K, E>, Vec<u8>), (Remains<K, E>, RecoverFault)>
-    requires few { playing.rounds < 9223372036854775808 }
+    requires few { playing.rounds < MOST_ANSWERS }
     requires network { playing.book.net ≡ net.now }
     requires air_network { playing.air.life.opening.net ≡ net.now }
     requires terminals { IsItemFor net.now item.now }
@@ -63,7 +64,7 @@ pub(crate) fn play_round<
     round: &Round,
     playing: Playing<K, E>,
 ) -> Result<(Playing<K, E>, Vec<u8>), Remains<K, E>>
-    requires few { playing.rounds < 9223372036854775808 }
+    requires few { playing.rounds < MOST_ANSWERS }
     requires network { playing.book.net ≡ net.now }
     requires air_network { playing.air.life.opening.net ≡ net.now }
     requires terminals { IsRoundFor net.now round.now }

@@ -19,7 +19,7 @@ use crate::open::open;
 use crate::playing::Playing;
 use crate::say::{say_fault, say_restart_fault, say_text};
 use bt_book::{RecoverFault, installed_plans_are_good};
-use bt_frame::OutOfMemory;
+use bt_frame::{MOST_ANSWERS, MOST_SESSION_LINE_BYTES, OutOfMemory};
 use bt_net::Network;
 use bt_outside::{Incoming, Keeper, SinkFault, SourceFault, Talk};
 use bt_report::{DONE, OUT_OF_MEMORY, READ_FAILED, STORE_FAILED, unwritten};
@@ -30,12 +30,6 @@ use bt_world::{Events, TracedEvents, frames_are_safe};
 use std::alloc::Global;
 use std::sync::Wait;
 use std::thread::Threads;
-
-/// A line of a session has no more bytes, its newline left out.
-pub const MOST_LINE_BYTES: usize = 4_096;
-
-/// A session has fewer lines: 2 ^ 63, so that its rounds can be counted.
-pub const MOST_ANSWERS: u64 = 9_223_372_036_854_775_808;
 
 /// What a session gives back.
 #[derive(Drop)]
@@ -188,7 +182,7 @@ fn play_lines<R: Threads + Wait + Sync, G: Gate + Sync, T: Talk<K>, K: Keeper + 
     }
     let mut block = Block::closed();
     for at in 1..MOST_ANSWERS {
-        let came = match talk.hear(alloc, MOST_LINE_BYTES) {
+        let came = match talk.hear(alloc, MOST_SESSION_LINE_BYTES) {
             Ok(Some(came)) => came,
             Ok(None) => return Ok((playing, InputEnd::Over)),
             Err(SourceFault::Failed) => return Ok((playing, InputEnd::Failed)),

@@ -9,6 +9,7 @@ use Rattle.bt_demand.specs.declared.demand.Link.{Link}
 use Rattle.bt_demand.specs.declared.plan.Plan.{Plan}
 use Rattle.bt_demand.specs.Plan.{IsGoodPlan}
 use Rattle.bt_demand.specs.Traffic.{matrix_of}
+use Rattle.bt_cut.specs.Cutting.{IsCutting}
 use Rattle.bt_cut.specs.Made.{IsMade}
 use Rattle.bt_words.specs.Lines.{line_of}
 use Rattle.bt_report.specs.declared.status.TheConstants.{DONE}
@@ -43,13 +44,14 @@ summary beams seed links plan =
     line_of (make_words beams seed) ++ line_of (links_words links)
     ++ line_of (length_words plan.schedule.length plan.schedule.critical) ++ line_of (counts_words plan)
 
--- the summary of this plan, which is a good one of edition 1 for the demand that is drawn, with few modes and the first of the
--- heaviest lines
+-- the summary of this plan, which is a good one of edition 1 for the demand that is drawn, with few modes, the bursts that these are
+-- cut into, and the first of the heaviest lines
 pub record Summarizes (beams seed : ℕ) (plan : Plan) (outcome : Outcome) : Type 0 where
   pub links : List Link
   pub drawn : IsMade (numbered_network beams) seed links
   pub edition : plan.edition.0 ≡ 1
   pub good : IsGoodPlan (numbered_network beams) links plan
+  pub cut : IsCutting (numbered_network beams) links plan.schedule.modes plan.bursts
   pub heaviest : IsHeaviest (matrix_of (numbered_network beams) links) plan.schedule.critical plan.schedule.length
   pub few : HasFewModes (matrix_of (numbered_network beams) links) plan.schedule
   pub printed : outcome ≡ text_alone (summary beams seed links plan) DONE

@@ -1,6 +1,6 @@
 // What a drawn demand and its plan come to.
-ghost use Rattle.std.specs.Prelude.{◌≡◌, ◌++◌, ◌≤◌, All, IfOk, OnOk, length};
-ghost use Rattle.bt_frame.specs.declared.limits.TheConstants.{MOST_SUM};
+ghost use Rattle.std.specs.Prelude.{◌≡◌, ◌++◌, ◌*◌, ◌≤◌, All, IfOk, OnOk, length};
+ghost use Rattle.bt_frame.specs.declared.limits.TheConstants.{MOST_SUM, MOST_TERMINALS};
 ghost use Rattle.bt_demand.specs.Rows.{all_links};
 ghost use Rattle.bt_demand.specs.Traffic.{AreOfNetwork};
 ghost use Rattle.bt_words.specs.Lines.{line_of};
@@ -76,7 +76,7 @@ fn add_length(
 
 /// How many links there are.
 fn link_count(rows: &[LinkRow]) -> u64
-    requires few { length (all_links rows.now) ≤ 4096 }
+    requires few { length (all_links rows.now) ≤ MOST_TERMINALS * MOST_TERMINALS }
     ensures { result ≡ length (all_links rows.now) }
 {
     let mut count = 0;
@@ -88,7 +88,7 @@ fn link_count(rows: &[LinkRow]) -> u64
 
 /// The slots that all links ask for together.
 fn units_in_all(rows: &[LinkRow]) -> u64
-    requires few { length (all_links rows.now) ≤ 4096 }
+    requires few { length (all_links rows.now) ≤ MOST_TERMINALS * MOST_TERMINALS }
     requires small { All (λ link. link.units ≤ MOST_SUM) (all_links rows.now) }
     ensures { result ≡ units_in_all (all_links rows.now) }
 {

@@ -6,6 +6,7 @@ ghost use Rattle.bt_demand.specs.Plan.{IsGoodPlan};
 ghost use Rattle.bt_demand.specs.Apart.{AreBetweenTerminals};
 ghost use Rattle.bt_demand.specs.Traffic.{matrix_of, AreOfNetwork, HasSumsTo};
 ghost use Rattle.bt_modes.specs.Few.{HasFewModes};
+ghost use Rattle.bt_cut.specs.Cutting.{IsCutting};
 
 use crate::cut;
 use bt_demand::{Demand, Plan, traffic_of};
@@ -25,6 +26,7 @@ pub fn make_plan(
     requires terminals { AreOfNetwork net.now demand.now }
     requires fits { HasSumsTo MOST_SLOTS (matrix_of net.now demand.now) }
     ensures edition { IfOk result (λ plan. plan.edition ≡ edition) }
+    ensures bursts { IfOk result (λ plan. IsCutting net.now demand.now plan.schedule.modes plan.bursts) }
     ensures terminals { IfOk result (λ plan. AreBetweenTerminals net.now plan.bursts) }
     ensures good { IfOk result (λ plan. IsGoodPlan net.now demand.now plan) }
     ensures heaviest { IfOk result (λ plan. IsHeaviest (matrix_of net.now demand.now) plan.schedule.critical plan.schedule.length) }
@@ -46,6 +48,7 @@ pub fn make_plan_for(
     requires fits { HasSumsTo MOST_SLOTS (matrix_of net.now demand.now) }
     requires matrix { matrix.now ≡ matrix_of net.now demand.now }
     ensures edition { IfOk result (λ plan. plan.edition ≡ edition) }
+    ensures bursts { IfOk result (λ plan. IsCutting net.now demand.now plan.schedule.modes plan.bursts) }
     ensures terminals { IfOk result (λ plan. AreBetweenTerminals net.now plan.bursts) }
     ensures good { IfOk result (λ plan. IsGoodPlan net.now demand.now plan) }
     ensures heaviest { IfOk result (λ plan. IsHeaviest (matrix_of net.now demand.now) plan.schedule.critical plan.schedule.length) }

@@ -107,3 +107,12 @@ pub const MOST_CALLERS: u32 = 64;
 
 /// The most readers of a board.
 pub const MOST_READERS: u32 = 64;
+
+/// The most bytes of a line of a session, its newline left out.
+pub const MOST_SESSION_LINE_BYTES: usize = 4_096;
+
+/// The most bytes of a line that a station hears, its newline left out: the longest message has a line.
+pub const MOST_STATION_LINE_BYTES: usize = 17 + 2 * MOST_MESSAGE_BYTES;
+
+/// A session and a station hear fewer lines: 2 ^ 63, so that lines and rounds can be counted.
+pub const MOST_ANSWERS: u64 = 9_223_372_036_854_775_808;

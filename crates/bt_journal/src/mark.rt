@@ -1,14 +1,13 @@
 // The mark of a journal, a line that says of which network the journal is: `journal 2 BEAMS TERMINALS`.
-ghost use Rattle.std.specs.Prelude.{◌≡◌, ◌≢◌, ℕ, IfOk, IfSome, IfNone};
+ghost use Rattle.std.specs.Prelude.{◌≡◌, ◌≢◌, ◌++◌, ◌∷◌, ℕ, IfOk, IfSome, IfNone, OnOk, decimal};
 ghost use Rattle.bt_text.specs.Text.{words};
 ghost use Rattle.bt_journal.specs.Mark.{mark_line, mark_of, IsMarkOf};
 ghost use Rattle.bt_journal.specs.LineReading.{sizes_in, mark_in};
 
 use crate::reader::{number_from, text_of};
-use crate::writer::write_number;
 use bt_frame::{MOST_BEAMS, MOST_TERMINALS, OutOfMemory};
 use bt_net::Network;
-use bt_text::WordReader;
+use bt_text::{WordReader, number_text};
 use std::alloc::Global;
 
 /// The mark of the network's journal, its newline included, as `read_mark` reads it.
@@ -20,6 +19,14 @@ pub fn mark_text(alloc: Global, net: &Network) -> Result<Vec<u8>, OutOfMemory>
     write_number(alloc, net.terminal_count(), &mut mark)?;
     mark.push(b'\n')?;
     Ok(mark)
+}
+
+// Appends a number, behind a space.
+fn write_number(alloc: Global, number: u32, text: &mut Vec<u8>) -> Result<(), OutOfMemory>
+    ensures { OnOk result (text.new.items ≡ text.old.items ++ 32 ∷ decimal number) }
+{
+    text.push(b' ')?;
+    number_text(alloc, u64::from(number), text)
 }
 
 /// The beams and the terminals that a mark says, which ends with its newline; none where the line is no mark.

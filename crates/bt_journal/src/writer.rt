@@ -6,13 +6,13 @@
 //     plan EDITION length LENGTH .. end                   the text of the plan, a space in the place of each newline in it
 //     load COMMAND EDITION
 //     arm COMMAND EDITION DUE                             the superframe of the change
-ghost use Rattle.std.specs.Prelude.{◌≡◌, ◌++◌, ◌∷◌, IfOk, OnOk, codes, decimal, map};
+ghost use Rattle.std.specs.Prelude.{◌≡◌, [], ◌++◌, ◌∷◌, IfOk, OnErr, OnOk, codes, decimal, map};
 ghost use Rattle.std.specs.Bool.{OnTrue};
 ghost use Rattle.bt_text.specs.Text.{spaced};
 ghost use Rattle.bt_net.specs.Terminals.{name_at, IsBetweenTerminals};
 ghost use Rattle.bt_plan.specs.PlanSpelling.{plan_lines, IsPlanInRange};
 ghost use Rattle.bt_journal.specs.Journal.{NamesTerminals};
-ghost use Rattle.bt_journal.specs.JournalLines.{edit_words, order_words, change_parts, change_line, IsChangeInRange};
+ghost use Rattle.bt_journal.specs.JournalLines.{edit_words, order_words, change_line, IsChangeInRange};
 ghost use Rattle.bt_journal.specs.LineReading.{space_for_newline};
 
 use crate::{Change, Edit};
@@ -21,7 +21,7 @@ use bt_demand::Plan;
 use bt_frame::{EditionNo, OutOfMemory, TermNo};
 use bt_net::Network;
 use bt_plan::plan_text;
-use bt_text::{ShortText, number_text};
+use bt_text::ShortText;
 use std::alloc::Global;
 
 /// The bytes for which there is room when the text of a line is begun. Most lines of edits are no longer.
@@ -43,7 +43,8 @@ pub fn change_text(
     Ok(line)
 }
 
-/// Appends the line of a change, its newline included. `edition` is that of `change_text`.
+/// Appends the line of a change, its newline included. `edition` is that of `change_text`. Where memory runs out the text is as
+/// it was.
 pub fn write_change(
     alloc: Global,
     net: &Network,
@@ -53,36 +54,22 @@ pub fn write_change(
 ) -> Result<(), OutOfMemory>
     requires range { IsChangeInRange net.now edition.0 change.now }
     ensures line { OnOk result (text.new.items ≡ text.old.items ++ change_line net.now edition.0 change.now) }
-{
-    write_words(alloc, net, edition, change, text)?;
-    text.push(b'\n')?;
-    Ok(())
-}
-
-// Appends the words of a change, with a space between each two.
-fn write_words(
-    alloc: Global,
-    net: &Network,
-    edition: EditionNo,
-    change: &Change,
-    text: &mut Vec<u8>,
-) -> Result<(), OutOfMemory>
-    requires { IsChangeInRange net.now edition.0 change.now }
-    ensures { OnOk result (text.new.items ≡ text.old.items ++ spaced (change_parts net.now edition.0 change.now)) }
+    ensures unchanged { OnErr result (text.new.items ≡ text.old.items) }
 {
     match change {
         Change::Edit(edit) => write_edit(net, edition, *edit, text),
         Change::Install(plan) => {
-            let line = install_text(alloc, net, plan)?;
+            let mut line = install_text(alloc, net, plan)?;
+            line.push(b'\n')?;
             text.extend_from_slice(line.as_slice())?;
             Ok(())
         }
-        Change::Order(order) => write_order(alloc, *order, text),
+        Change::Order(order) => write_order(*order, text),
     }
 }
 
-// Appends the words of an edit. They are put together in room of a fixed size, and appended at once: they have 93 bytes at most,
-// so that they always have room there.
+// Appends the line of an edit. It is put together in room of a fixed size, and appended at once: it has 94 bytes at most, so that
+// it always has room there.
 fn write_edit(
     net: &Network,
     edition: EditionNo,
@@ -90,11 +77,12 @@ fn write_edit(
     text: &mut Vec<u8>,
 ) -> Result<(), OutOfMemory>
     requires { NamesTerminals net.now edit }
-    ensures { OnOk result (text.new.items
-        ≡ text.old.items ++ spaced (codes "edit" ∷ decimal edition.0 ∷ edit_words net.now edit)) }
+    ensures line { OnOk result (text.new.items
+        ≡ text.old.items ++ (spaced (codes "edit" ∷ decimal edition.0 ∷ edit_words net.now edit) ++ 10 ∷ [])) }
+    ensures unchanged { OnErr result (text.new.items ≡ text.old.items) }
 {
     let mut line = ShortText::new();
-    if !put_edit(net, edition, edit, &mut line) {
+    if !put_edit(net, edition, edit, &mut line) || !line.put_byte(b'\n') {
         return Err(OutOfMemory);
     }
     text.extend_from_slice(line.as_slice())?;
@@ -144,37 +132,38 @@ fn put_link(net: &Network, from: TermNo, to: TermNo, line: &mut ShortText) -> bo
         && line.put_word(true, net.name_of(to).as_bytes())
 }
 
-// Appends a number, behind a space.
-pub(crate) fn write_number(
-    alloc: Global,
-    number: u32,
-    text: &mut Vec<u8>,
-) -> Result<(), OutOfMemory>
-    ensures { OnOk result (text.new.items ≡ text.old.items ++ 32 ∷ decimal number) }
+// Appends the line of an order in the same way. It has fewer bytes.
+fn write_order(order: Order, text: &mut Vec<u8>) -> Result<(), OutOfMemory>
+    ensures line { OnOk result (text.new.items ≡ text.old.items ++ (spaced (order_words order) ++ 10 ∷ [])) }
+    ensures unchanged { OnErr result (text.new.items ≡ text.old.items) }
 {
-    text.push(b' ')?;
-    number_text(alloc, u64::from(number), text)
+    let mut line = ShortText::new();
+    if !put_order(order, &mut line) || !line.put_byte(b'\n') {
+        return Err(OutOfMemory);
+    }
+    text.extend_from_slice(line.as_slice())?;
+    Ok(())
 }
 
-// Appends an order.
-fn write_order(alloc: Global, order: Order, text: &mut Vec<u8>) -> Result<(), OutOfMemory>
-    ensures { OnOk result (text.new.items ≡ text.old.items ++ spaced (order_words order)) }
+// Adds the words of an order to a short text, with a space between each two, where there is room for them.
+fn put_order(order: Order, line: &mut ShortText) -> bool
+    ensures { OnTrue result (line.new ≡ line.old ++ spaced (order_words order)) }
 {
     match order {
         Order::Load { command, edition } => {
-            text.extend_from_slice(b"load")?;
-            write_number(alloc, command.0, text)?;
-            write_number(alloc, edition.0, text)
+            line.put_word(false, b"load")
+                && line.put_number(true, u64::from(command.0))
+                && line.put_number(true, u64::from(edition.0))
         }
         Order::Arm {
             command,
             edition,
             due,
         } => {
-            text.extend_from_slice(b"arm")?;
-            write_number(alloc, command.0, text)?;
-            write_number(alloc, edition.0, text)?;
-            write_number(alloc, due.0, text)
+            line.put_word(false, b"arm")
+                && line.put_number(true, u64::from(command.0))
+                && line.put_number(true, u64::from(edition.0))
+                && line.put_number(true, u64::from(due.0))
         }
     }
 }

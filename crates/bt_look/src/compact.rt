@@ -1,6 +1,6 @@
 // The journal with the fewest edits that comes to a demand.
-ghost use Rattle.std.specs.Prelude.{◌≡◌, ◌≤◌, ◌++◌, All, IfErr, IfOk, OnOk, length};
-ghost use Rattle.bt_frame.specs.declared.limits.TheConstants.{LAST_EDITION};
+ghost use Rattle.std.specs.Prelude.{◌≡◌, ◌*◌, ◌≤◌, ◌++◌, All, IfErr, IfOk, OnOk, length};
+ghost use Rattle.bt_frame.specs.declared.limits.TheConstants.{LAST_EDITION, MOST_TERMINALS};
 ghost use Rattle.bt_frame.specs.Range.{IsWithin};
 ghost use Rattle.bt_demand.specs.Rows.{all_links};
 ghost use Rattle.bt_demand.specs.Traffic.{matrix_of, AreOfNetwork, HasSumsTo};
@@ -56,7 +56,7 @@ fn add_rows(
     text: &mut Vec<u8>,
 ) -> Result<(), OutOfMemory>
     requires spelled { All (IsSpelled net.now) (all_links rows.now) }
-    requires few { length (all_links rows.now) ≤ 4096 }
+    requires few { length (all_links rows.now) ≤ MOST_TERMINALS * MOST_TERMINALS }
     ensures { OnOk result (text.new.items ≡ text.old.items ++ journal_lines net.now (adds_of (all_links rows.now))) }
 {
     let mut edition = 0;

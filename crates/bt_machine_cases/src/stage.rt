@@ -1,8 +1,9 @@
-// The lines of messages and machines: each goes to the file of what it acts on. `docs/cases.md` says what they mean.
+// The lines of messages, machines and stations: each goes to the file of what it acts on. `docs/cases.md` says what they mean.
 use crate::air::put_message;
 use crate::centre::{new_centre, show_centre};
 use crate::satellite::show_satellite;
 use crate::standby::show_standby;
+use crate::station::put_station;
 use crate::terminal::show_terminal;
 use crate::world::Flight;
 use bt_frame::{Mark, TermNo};
@@ -50,6 +51,9 @@ impl Machines {
                 self.put_install(alloc, shelf.text(traffic)?, shelf.text(plan)?, out)
             }
             ["switch", slot] => self.put_mode(slot, out),
+            ["station", heard, words @ ..] => {
+                put_station(alloc, shelf, shelf.text(heard)?, words, out)
+            }
             words => self.show_machines(alloc, words, out),
         }
     }

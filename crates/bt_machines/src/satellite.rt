@@ -57,6 +57,13 @@ impl Satellite {
         }
     }
 
+    /// The modes of the foreground, in the order in which the switch takes them.
+    pub fn modes(&self) -> &[Mode]
+        ensures modes { result.now ≡ self.now.fore.modes }
+    {
+        self.fore.modes.as_slice()
+    }
+
     /// The mode that the switch takes in a slot of the frame, or None past the end of the foreground's modes.
     pub fn mode_at(&self, slot: u32) -> Option<&Mode>
         ensures past { IsNone result ↔ (total_duration self.now.fore.modes ≤ slot) }

@@ -1,7 +1,8 @@
 // The switching schedule of the least length.
-ghost use Rattle.std.specs.Prelude.{◌≡◌, ◌<◌, IfOk};
+ghost use Rattle.std.specs.Prelude.{◌≡◌, ◌+◌, ◌<◌, ◌≤◌, [], length, vec_len, IfOk};
 ghost use Rattle.bt_matrix.specs.Good.{IsGood, total_duration};
 ghost use Rattle.bt_matrix.specs.Traffic.{IsHeaviest};
+ghost use Rattle.bt_matrix.specs.Walk.{positive_entries};
 ghost use Rattle.bt_modes.specs.Decomposition.{DecomposesTo};
 ghost use Rattle.bt_modes.specs.Few.{HasFewModes};
 
@@ -35,6 +36,9 @@ pub fn schedule(alloc: Global, matrix: &Dense) -> Result<Schedule, OutOfMemory>
 pub fn modes_of(alloc: Global, padded: Padded<Crosslinked>) -> Result<Vec<Mode>, OutOfMemory>
     ensures modes { IfOk result (λ modes. DecomposesTo padded.matrix.rows modes.items) }
     ensures filled { IfOk result (λ modes. total_duration modes.items ≡ padded.sum) }
+    ensures few { 0 < padded.sum → IfOk result (λ modes.
+        vec_len modes + length padded.matrix.rows ≤ positive_entries padded.matrix.rows + 1) }
+    ensures none { padded.sum ≡ 0 → IfOk result (λ modes. modes.items ≡ []) }
 {
     modes_on::<Brand>(alloc, padded, Blank::new(1))
 }
@@ -50,6 +54,9 @@ fn modes_on<L: Ledger>(
     requires some { 0 < blank.parts }
     ensures modes { IfOk result (λ modes. DecomposesTo padded.matrix.rows modes.items) }
     ensures filled { IfOk result (λ modes. total_duration modes.items ≡ padded.sum) }
+    ensures few { 0 < padded.sum → IfOk result (λ modes.
+        vec_len modes + length padded.matrix.rows ≤ positive_entries padded.matrix.rows + 1) }
+    ensures none { padded.sum ≡ 0 → IfOk result (λ modes. modes.items ≡ []) }
 {
     let mut steps = Steps::<L>::open(blank);
     decompose(alloc, padded, &mut steps)

@@ -29,6 +29,8 @@ pub struct KeptTalk<K, T> {
 impl<K: Keeper, T: Talk<K>> KeptTalk<K, T> {
     /// The same talk, whose turns are kept from here on.
     pub fn new(alloc: Global, talk: T) -> KeptTalk<K, T>
+        ensures told { ⟦<KeptTalk<K, T> as Sink>⟧.told result ≡ T.told talk }
+        ensures faults { ⟦<KeptTalk<K, T> as Sink>⟧.fault_count result ≡ T.fault_count talk }
         ensures turns { ⟦<KeptTalk<K, T> as Talk<K>>⟧.turns result ≡ Some [] }
         ensures coming { ⟦<KeptTalk<K, T> as Talk<K>>⟧.coming result ≡ T.coming talk }
         ensures unheard { ⟦<KeptTalk<K, T> as Talk<K>>⟧.unheard result ≡ T.unheard talk }

@@ -26,6 +26,6 @@ pub use matrix_reader::read_matrix;
 pub use plan_reader::read_plan;
 pub use plan_writer::plan_text;
 pub use schedule_reader::read_schedule;
-pub use schedule_writer::schedule_text;
+pub use schedule_writer::{schedule_text, write_mode};
 pub use text_fault::{TextCode, TextFault};
 pub use traffic_reader::read_demand;

@@ -58,9 +58,9 @@ fn write_critical(alloc: Global, critical: Critical, text: &mut Vec<u8>) -> Resu
     Ok(())
 }
 
-// Appends `mode D P0 P1 ..`.
-fn write_mode(alloc: Global, mode: &Mode, text: &mut Vec<u8>) -> Result<(), OutOfMemory>
-    ensures { OnOk result (text.new.items ≡ text.old.items ++ mode_line mode.now ++ 10 ∷ []) }
+/// Appends the line of a mode: `mode D P0 P1 ..`.
+pub fn write_mode(alloc: Global, mode: &Mode, text: &mut Vec<u8>) -> Result<(), OutOfMemory>
+    ensures added { OnOk result (text.new.items ≡ text.old.items ++ mode_line mode.now ++ 10 ∷ []) }
 {
     text.extend_from_slice(b"mode")?;
     write_next(alloc, u64::from(mode.duration), text)?;

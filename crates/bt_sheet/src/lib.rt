@@ -23,4 +23,4 @@ pub use fault::{CaseFault, Result};
 pub use files::{Shelf, set_files};
 pub use sheet::Sheet;
 pub use tally::Tally;
-pub use words::{byte_of, number_of};
+pub use words::{byte_of, number_of, owned_words};

@@ -45,6 +45,13 @@ impl SatelliteSite {
         self.satellite.status()
     }
 
+    /// The modes of the plan in front, in the order in which the switch takes them.
+    pub fn modes(&self) -> &[Mode]
+        ensures modes { result.now ≡ self.now.fore.modes }
+    {
+        self.satellite.modes()
+    }
+
     /// The mode that the switch takes in a slot of the frame, or None past the end of the plan in front.
     pub fn mode_at(&self, slot: u32) -> Option<&Mode>
         ensures past { IsNone result ↔ (total_duration self.now.fore.modes ≤ slot) }

@@ -9,7 +9,7 @@ use Rattle.bt_outside.specs.declared.sink.SinkFault.TheVariants as sink
 use Rattle.bt_outside.specs.declared.source.Incoming.{Incoming}
 use Rattle.bt_outside.specs.Input.{Comes, given_by, said_by}
 use Rattle.bt_outside.specs.Talk.{Shown, Turn, Heard, Said, heard, said, took}
-use Rattle.bt_station.specs.declared.asked.TheConstants.{MOST_LINE_BYTES}
+use Rattle.bt_frame.specs.declared.limits.TheConstants.{MOST_STATION_LINE_BYTES}
 use Rattle.bt_station.specs.declared.station.Station.{Station}
 use Rattle.bt_station.specs.declared.talk.InputEnd.{InputEnd}
 use Rattle.bt_station.specs.declared.talk.InputEnd.TheVariants as ending
@@ -97,7 +97,7 @@ turns_more net shown n s lines one is =
     ap (λ (l : List Turn). Said (opening_of s) shown ∷ l) (from_more net shown 1 n s lines one (omega (arith, is)))
     ∙ sym (append_assoc (turns_of net shown s lines) (Heard one ∷ []) (Said (answer net n (after_all net s lines) one) shown ∷ []))
 
-gave_more : (coming now next : Option (List ℕ)) (lines : List Came) (came : Incoming) → GaveSince coming now lines → Comes MOST_LINE_BYTES now (Some came) next → GaveSince coming next (lines ++ said_by came ∷ [])
+gave_more : (coming now next : Option (List ℕ)) (lines : List Came) (came : Incoming) → GaveSince coming now lines → Comes MOST_STATION_LINE_BYTES now (Some came) next → GaveSince coming next (lines ++ said_by came ∷ [])
 gave_more (Some bytes) (Some rest) (Some left) lines came gave comes =
     gave ∙ ap (λ (l : List Came). lines ++ l) comes ∙ sym (append_assoc lines (said_by came ∷ []) _)
 gave_more None None None lines came gave comes = tt
@@ -112,15 +112,15 @@ gave_none None = tt
 
 -- lines were given
 abbrev pub Given : Option (List ℕ) → List Came → Type 0
-Given coming lines = IfSome coming (λ bytes. (more : List Came) × (given_by MOST_LINE_BYTES bytes ≡ lines ++ more))
+Given coming lines = IfSome coming (λ bytes. (more : List Came) × (given_by MOST_STATION_LINE_BYTES bytes ≡ lines ++ more))
 
 pub were_given : (coming now : Option (List ℕ)) (lines : List Came) → GaveSince coming now lines → Given coming lines
-were_given (Some bytes) (Some rest) lines gave = (given_by MOST_LINE_BYTES rest, gave)
+were_given (Some bytes) (Some rest) lines gave = (given_by MOST_STATION_LINE_BYTES rest, gave)
 were_given None now lines gave = tt
 were_given (Some bytes) None lines gave = absurd gave
 
 -- and nothing is left
-all_given : (coming now next : Option (List ℕ)) (lines : List Came) → GaveSince coming now lines → Comes MOST_LINE_BYTES now None next → IfSome coming (λ bytes. given_by MOST_LINE_BYTES bytes ≡ lines)
+all_given : (coming now next : Option (List ℕ)) (lines : List Came) → GaveSince coming now lines → Comes MOST_STATION_LINE_BYTES now None next → IfSome coming (λ bytes. given_by MOST_STATION_LINE_BYTES bytes ≡ lines)
 all_given (Some bytes) (Some rest) (Some left) lines gave (none, nothing) = gave ∙ ap (λ (l : List Came). lines ++ l) none ∙ append-nil lines
 all_given (Some bytes) (Some rest) None lines gave comes = absurd comes
 all_given (Some bytes) None next lines gave comes = absurd gave
@@ -151,7 +151,7 @@ taken_at net shown start at s coming now before after t0 t1 so = record { wrote 
 
 -- with one line more, heard and answered
 pub going_more : (net : Net) (shown : Shown) (start : Station) (at : ℕ) (old new : Station) (came : Incoming) (piece : List ℕ) (coming now next left before b1 b2 final : Option (List ℕ)) (t0 t1 t2 t3 : Option (List Turn))
-    → IsGoing net shown start at old coming now before b1 t0 t1 → Comes MOST_LINE_BYTES now (Some came) next → b2 ≡ b1 → t2 ≡ took t1 (heard (Some came))
+    → IsGoing net shown start at old coming now before b1 t0 t1 → Comes MOST_STATION_LINE_BYTES now (Some came) next → b2 ≡ b1 → t2 ≡ took t1 (heard (Some came))
     → new ≡ after net old (said_by came) → piece ≡ answer net at old (said_by came) → final ≡ gained b2 piece → t3 ≡ took t2 (said piece shown) → left ≡ next
     → IsGoing net shown start (at + 1) new coming left before final t0 t3
 going_more net shown start at old new came piece coming now next left before b1 b2 final t0 t1 t2 t3 so comes same turn new_is piece_is wrote answered same_left =
@@ -172,7 +172,7 @@ going_more net shown start at old new came piece coming now next left before b1 
 
 -- the input came to its end
 pub heard_over : (net : Net) (talk : Talked) (start : Station) (at : ℕ) (s : Station) (now next b1 : Option (List ℕ)) (t1 : Option (List Turn))
-    → IsGoing net talk.store start at s talk.coming now talk.output.before b1 talk.turns_before t1 → Comes MOST_LINE_BYTES now None next
+    → IsGoing net talk.store start at s talk.coming now talk.output.before b1 talk.turns_before t1 → Comes MOST_STATION_LINE_BYTES now None next
     → talk.output.after ≡ b1 → talk.turns_after ≡ took t1 (heard None) → HasHeard net talk start ending.Over
 heard_over net talk start at s now next b1 t1 so comes same turn =
     let all = end_heard (turns_of net talk.store start so.lines) talk.output.before b1 talk.output.after talk.turns_before t1 talk.turns_after
@@ -215,7 +215,7 @@ broken_off net talk start at s now b1 t1 status so same turn status_is =
 
 -- it ran out over the answer to a line that was heard
 pub unanswered : (net : Net) (talk : Talked) (start : Station) (at : ℕ) (s : Station) (came : Incoming) (now next b1 : Option (List ℕ)) (t1 : Option (List Turn)) (status : ℕ)
-    → IsGoing net talk.store start at s talk.coming now talk.output.before b1 talk.turns_before t1 → Comes MOST_LINE_BYTES now (Some came) next
+    → IsGoing net talk.store start at s talk.coming now talk.output.before b1 talk.turns_before t1 → Comes MOST_STATION_LINE_BYTES now (Some came) next
     → talk.output.after ≡ b1 → talk.turns_after ≡ took t1 (heard (Some came)) → status ≡ 1 → StationEnds net talk start status
 unanswered net talk start at s came now next b1 t1 status so comes same turn status_is =
     let one = said_by came in
@@ -264,7 +264,7 @@ opening_unsaid net talk start why status same rose gains kept early partly =
 
 -- the answer to a line was not
 pub answer_unsaid : (net : Net) (talk : Talked) (start : Station) (at : ℕ) (s : Station) (came : Incoming) (piece : List ℕ) (now next b1 b2 : Option (List ℕ)) (t1 t2 : Option (List Turn)) (why : SinkFault) (status : ℕ)
-    → IsGoing net talk.store start at s talk.coming now talk.output.before b1 talk.turns_before t1 → Comes MOST_LINE_BYTES now (Some came) next → b2 ≡ b1 → t2 ≡ took t1 (heard (Some came))
+    → IsGoing net talk.store start at s talk.coming now talk.output.before b1 talk.turns_before t1 → Comes MOST_STATION_LINE_BYTES now (Some came) next → b2 ≡ b1 → t2 ≡ took t1 (heard (Some came))
     → piece ≡ answer net at s (said_by came) → talk.turns_after ≡ t2
     → (why ≡ sink.Failed → Rose talk.output.faults_before talk.output.faults_after) → (why ≡ sink.Failed → GainsPrefix b2 piece talk.output.after)
     → (why ≡ sink.OutOfMemory → talk.output.after ≡ b2) → (why ≡ sink.OutOfMemory → status ≡ 1) → (why ≡ sink.Failed → status ≡ 6) → StationEnds net talk start status

@@ -4,7 +4,7 @@ use Rattle.bt_net.specs.Network.{Net}
 use Rattle.bt_outside.specs.Told.{gained}
 use Rattle.bt_outside.specs.Input.{given_by}
 use Rattle.bt_outside.specs.Talk.{Shown, Turn, took}
-use Rattle.bt_station.specs.declared.asked.TheConstants.{MOST_LINE_BYTES}
+use Rattle.bt_frame.specs.declared.limits.TheConstants.{MOST_STATION_LINE_BYTES}
 use Rattle.bt_station.specs.declared.station.Station.{Station}
 use Rattle.bt_station.specs.declared.talk.InputEnd.{InputEnd}
 use Rattle.bt_station.specs.Talked.{Talked, Took, spoken}
@@ -12,7 +12,7 @@ use Rattle.bt_station.specs.Turns.{StopsHearing, after_all, turns_of}
 
 -- an input gave these between two moments
 abbrev pub GaveSince : Option (List ℕ) → Option (List ℕ) → List (Option (List ℕ)) → Type 0
-GaveSince (Some bytes) (Some rest) lines = given_by MOST_LINE_BYTES bytes ≡ lines ++ given_by MOST_LINE_BYTES rest
+GaveSince (Some bytes) (Some rest) lines = given_by MOST_STATION_LINE_BYTES bytes ≡ lines ++ given_by MOST_STATION_LINE_BYTES rest
 GaveSince (Some bytes) None lines = ⊥
 GaveSince None (Some rest) lines = ⊥
 GaveSince None None lines = Unit {0}

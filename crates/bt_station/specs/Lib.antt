@@ -11,3 +11,4 @@ pub mod Going
 pub mod Top
 pub mod CommandLine
 pub mod Stops
+pub mod Acts

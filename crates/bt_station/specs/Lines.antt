@@ -1,9 +1,12 @@
 -- The lines that a station says.
-use Rattle.std.specs.Prelude.{ℕ, codes, decimal, flat_map, List, [], ◌∷◌, ◌++◌}
+use Rattle.std.specs.Prelude.{ℕ, codes, decimal, flat_map, map, List, [], ◌∷◌, ◌++◌}
 use Rattle.hex.specs.Hex.{encode_lower}
+use Rattle.bt_frame.specs.declared.mode.Mode.{Mode}
 use Rattle.bt_frame.specs.declared.numbers.Mark.{Mark}
+use Rattle.bt_text.specs.Text.{ended}
 use Rattle.bt_net.specs.Network.{Net}
 use Rattle.bt_demand.specs.declared.burst.Burst.{Burst}
+use Rattle.bt_plan.specs.ScheduleSpelling.{mode_line}
 use Rattle.bt_air.specs.declared.sent.Aired.{Aired}
 use Rattle.bt_air.specs.Spelling.{message_bytes}
 use Rattle.bt_machines.specs.Says.{carried}
@@ -23,6 +26,10 @@ radio_line stamp one = line_of (codes "radio" ∷ decimal stamp.0 ∷ encode_low
 -- the lines of what is said in a superframe
 abbrev pub radio_lines : Mark → List Aired → List ℕ
 radio_lines stamp said = flat_map (radio_line stamp) said
+
+-- modes, each as a plan has it: `mode DURATION P0 P1 ..`
+abbrev pub mode_lines : List Mode → List ℕ
+mode_lines modes = ended (map mode_line modes)
 
 -- the line of that number is none of the grammar: `fault S1 N`
 abbrev pub fault_line : ℕ → List ℕ

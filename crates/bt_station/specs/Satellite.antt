@@ -18,7 +18,7 @@ use Rattle.bt_words.specs.declared.form.Form.TheVariants as form
 use Rattle.bt_words.specs.Filled.{form_line}
 use Rattle.bt_station.specs.declared.asked.Asked.{Asked}
 use Rattle.bt_station.specs.declared.asked.Asked.TheVariants as asked
-use Rattle.bt_station.specs.Lines.{mark_line, radio_line, radio_lines}
+use Rattle.bt_station.specs.Lines.{mark_line, mode_lines, radio_line, radio_lines}
 
 -- the satellite, and how many frames of its superframe it has shown
 pub record SatelliteAt : Type 0 where
@@ -67,15 +67,15 @@ begun_lines status = mark_line status.mark ++ radio_line status.mark (sends.Stat
 abbrev pub tick_lines : State → List ℕ
 tick_lines s = if nat_lt s.mark.0 LAST_MARK then begun_lines (status_of (ticked s)) else last_tick_line
 
--- the next frame of its superframe, with the edition in front; once all were shown, that they are over
-abbrev pub frame_line : Net → SatelliteAt → List ℕ
-frame_line net s =
-    if nat_lt s.shown net.frames then form_line form.Frame (frame_name s.site.mark s.shown ∷ decimal s.site.fore.edition.0 ∷ [])
+-- the next frame of its superframe, with the edition in front and its modes; once all were shown, that they are over
+abbrev pub frame_lines : Net → SatelliteAt → List ℕ
+frame_lines net s =
+    if nat_lt s.shown net.frames then form_line form.Frame (frame_name s.site.mark s.shown ∷ decimal s.site.fore.edition.0 ∷ []) ++ mode_lines s.site.fore.modes
     else over_line s.site.mark
 
 -- what it says to what line `at` asks
 abbrev pub satellite_answer : Net → ℕ → SatelliteAt → Asked → List ℕ
 satellite_answer net at s asked.Tick = tick_lines s.site
 satellite_answer net at s (asked.Radio stamp message) = heard_by_satellite net at s.site message
-satellite_answer net at s asked.Frame = frame_line net s
+satellite_answer net at s asked.Frame = frame_lines net s
 satellite_answer net at s _ = []

@@ -8,8 +8,7 @@ use Rattle.bt_report.specs.declared.status.TheConstants.{DONE, OUT_OF_MEMORY, RE
 use Rattle.bt_station.specs.declared.station.Station.{Station}
 use Rattle.bt_station.specs.declared.talk.InputEnd.{InputEnd}
 use Rattle.bt_station.specs.declared.talk.InputEnd.TheVariants as ending
-use Rattle.bt_station.specs.declared.talk.TheConstants.{MOST_ANSWERS}
-use Rattle.bt_station.specs.declared.asked.TheConstants.{MOST_LINE_BYTES}
+use Rattle.bt_frame.specs.declared.limits.TheConstants.{MOST_ANSWERS, MOST_STATION_LINE_BYTES}
 use Rattle.bt_station.specs.Lines.{input_fault_line}
 use Rattle.bt_station.specs.Station.{after, answer, opening_of}
 use Rattle.bt_station.specs.Talked.{Talked, Took, TookPart}
@@ -40,11 +39,11 @@ input_status ending.Failed = READ_FAILED
 
 -- these are the first lines that the input gives, where its bytes are told
 abbrev pub WereGiven : Talked → List (Option (List ℕ)) → Type 0
-WereGiven talk lines = IfSome talk.coming (λ bytes. (more : List (Option (List ℕ))) × (given_by MOST_LINE_BYTES bytes ≡ lines ++ more))
+WereGiven talk lines = IfSome talk.coming (λ bytes. (more : List (Option (List ℕ))) × (given_by MOST_STATION_LINE_BYTES bytes ≡ lines ++ more))
 
 -- these are all that it gives
 abbrev pub AllGiven : Talked → List (Option (List ℕ)) → Type 0
-AllGiven talk lines = IfSome talk.coming (λ bytes. given_by MOST_LINE_BYTES bytes ≡ lines)
+AllGiven talk lines = IfSome talk.coming (λ bytes. given_by MOST_STATION_LINE_BYTES bytes ≡ lines)
 
 -- why no line was heard behind these: none was left, or as many were heard as are counted; or the input failed
 abbrev pub StopsHearing : Talked → List (Option (List ℕ)) → InputEnd → Type 0

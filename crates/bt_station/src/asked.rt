@@ -9,20 +9,18 @@
 ghost use Rattle.std.specs.Prelude.{◌≡◌, ◌≤◌, IfOk, IfSome, Ok, option_and_then, length};
 ghost use Rattle.std.specs.Option.{option_map};
 ghost use Rattle.hex.specs.Hex.{decode_of};
+ghost use Rattle.bt_frame.specs.declared.limits.TheConstants.{MOST_STATION_LINE_BYTES};
 ghost use Rattle.bt_text.specs.Text.{words};
 ghost use Rattle.bt_air.specs.Range.{IsInRange, IsMark};
 ghost use Rattle.bt_station.specs.Asked.{alone, asked_by, asked_of, begins, begun_in, frame_in, number_in, radio_in, read_of, said_in, shows, with_one, with_two};
 ghost use Rattle.bt_station.specs.Ready.{IsHeard};
 
 use bt_air::{AirFault, Message, decode, messages_have_one_spelling};
-use bt_frame::{LAST_MARK, MOST_DIGITS, MOST_MESSAGE_BYTES, Mark, OutOfMemory};
+use bt_frame::{LAST_MARK, MOST_DIGITS, Mark, OutOfMemory};
 use bt_net::Network;
 use bt_text::{WordReader, is_word, number_of_digits};
 use hex::FromHexError;
 use std::alloc::Global;
-
-/// A line that a station hears has no more bytes, its newline left out: the longest message has a line.
-pub const MOST_LINE_BYTES: usize = 17 + 2 * MOST_MESSAGE_BYTES;
 
 /// What a line asks.
 #[derive(Drop)]
@@ -49,7 +47,7 @@ pub(crate) fn read_line(
     net: &Network,
     line: &[u8],
 ) -> Result<Option<Asked>, OutOfMemory>
-    requires short { length line.now ≤ MOST_LINE_BYTES }
+    requires short { length line.now ≤ MOST_STATION_LINE_BYTES }
     ensures asked { IfOk result (λ asked. asked ≡ asked_of net.now line.now) }
     ensures heard { IfOk result (λ asked. IfSome asked IsHeard) }
 {
@@ -62,7 +60,7 @@ pub(crate) fn read_line(
 
 /// What the words of a line ask.
 fn read_words(alloc: Global, net: &Network, line: &[u8]) -> Result<Option<Asked>, OutOfMemory>
-    requires short { length line.now ≤ MOST_LINE_BYTES }
+    requires short { length line.now ≤ MOST_STATION_LINE_BYTES }
     ensures asked { IfOk result (λ asked. asked ≡ asked_by net.now (words line.now)) }
     ensures heard { IfOk result (λ asked. IfSome asked IsHeard) }
 {
@@ -120,7 +118,7 @@ fn with_two(
     first: &[u8],
     second: &[u8],
 ) -> Result<Option<Asked>, OutOfMemory>
-    requires short { length second.now ≤ MOST_LINE_BYTES }
+    requires short { length second.now ≤ MOST_STATION_LINE_BYTES }
     ensures asked { IfOk result (λ asked. asked ≡ with_two net.now name.now first.now second.now) }
     ensures heard { IfOk result (λ asked. IfSome asked IsHeard) }
 {
@@ -169,7 +167,7 @@ fn frame_in(net: &Network, mark: &[u8], number: &[u8]) -> Option<Asked>
 
 /// `radio N HEX`.
 fn radio_in(alloc: Global, stamp: &[u8], digits: &[u8]) -> Result<Option<Asked>, OutOfMemory>
-    requires short { length digits.now ≤ MOST_LINE_BYTES }
+    requires short { length digits.now ≤ MOST_STATION_LINE_BYTES }
     ensures asked { IfOk result (λ asked. asked ≡ radio_in stamp.now digits.now) }
     ensures heard { IfOk result (λ asked. IfSome asked IsHeard) }
 {
@@ -188,7 +186,7 @@ fn radio_in(alloc: Global, stamp: &[u8], digits: &[u8]) -> Result<Option<Asked>,
 
 /// The message that the bytes are which these digits write.
 fn read(alloc: Global, digits: &[u8], bytes: &[u8]) -> Result<Option<Message>, OutOfMemory>
-    requires short { length digits.now ≤ MOST_LINE_BYTES }
+    requires short { length digits.now ≤ MOST_STATION_LINE_BYTES }
     requires digits { decode_of digits.now ≡ Ok bytes.now }
     ensures message { IfOk result (λ message. message ≡ read_of bytes.now) }
     ensures in_range { IfOk result (λ message. IfSome message IsInRange) }

@@ -3,10 +3,10 @@ ghost use Rattle.std.specs.Prelude.{◌≡◌, ◌≤◌, ◌++◌, IfOk, IfSome
 ghost use Rattle.bt_air.specs.Range.{IsInRange, IsMark, IsStatus};
 ghost use Rattle.bt_machines.specs.Satellite.{status_of};
 ghost use Rattle.bt_station.specs.Ready.{IsHeard};
-ghost use Rattle.bt_station.specs.Satellite.{begun_lines, frame_line, having_heard, having_shown, having_ticked, heard_by_satellite, satellite_after, satellite_answer, satellite_in, taken_line, tick_lines};
+ghost use Rattle.bt_station.specs.Satellite.{begun_lines, frame_lines, having_heard, having_shown, having_ticked, heard_by_satellite, satellite_after, satellite_answer, satellite_in, taken_line, tick_lines};
 
 use crate::asked::Asked;
-use crate::say::{add_mark, add_radio};
+use crate::say::{add_mark, add_modes, add_radio};
 use bt_air::{Aired, Message, Status, Taken};
 use bt_frame::{LAST_MARK, Mark, OutOfMemory};
 use bt_net::Network;
@@ -106,9 +106,9 @@ impl SatelliteAtWork {
         }
     }
 
-    /// The next frame of its superframe is shown.
+    /// The next frame of its superframe is shown, with the modes in front.
     fn show(&mut self, alloc: Global, net: &Network, out: &mut Vec<u8>) -> Result<(), OutOfMemory>
-        ensures said { OnOk result (out.new.items ≡ out.old.items ++ frame_line net.now self.old) }
+        ensures said { OnOk result (out.new.items ≡ out.old.items ++ frame_lines net.now self.old) }
         ensures state { OnOk result (self.new ≡ having_shown net.now self.old) }
         ensures site { self.new.site ≡ self.old.site }
     {
@@ -121,7 +121,8 @@ impl SatelliteAtWork {
             Word::number(status.fore.0),
         ];
         self.shown += 1;
-        print(alloc, Form::Frame, &words, out)
+        print(alloc, Form::Frame, &words, out)?;
+        add_modes(alloc, self.site.modes(), out)
     }
 }
 

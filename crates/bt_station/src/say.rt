@@ -5,12 +5,13 @@ ghost use Rattle.bt_machines.specs.Says.{carried};
 ghost use Rattle.bt_net.specs.Terminals.{name_at};
 ghost use Rattle.bt_timeline.specs.Timeline.{burst_lines};
 ghost use Rattle.bt_words.specs.declared.form.Form.TheVariants as form;
-ghost use Rattle.bt_station.specs.Lines.{burst_frame_lines, fault_line, input_fault_line, mark_line, radio_line};
+ghost use Rattle.bt_station.specs.Lines.{burst_frame_lines, fault_line, input_fault_line, mark_line, mode_lines, radio_line};
 
 use bt_air::{Aired, Message, encode};
 use bt_demand::{Burst, Bursts};
-use bt_frame::{Mark, Modes, OutOfMemory, TermNo};
+use bt_frame::{Mark, Mode, Modes, OutOfMemory, TermNo};
 use bt_net::Network;
+use bt_plan::write_mode;
 use bt_words::{Form, Word, add_line, print};
 use std::alloc::Global;
 
@@ -141,6 +142,16 @@ fn add_bursts(
             Word::Text(name_at(net, burst.to)),
         ];
         print(alloc, Form::Air, &words, out)?;
+    }
+    Ok(())
+}
+
+/// Appends the lines of modes, as a plan has them.
+pub(crate) fn add_modes(alloc: Global, modes: &[Mode], out: &mut Vec<u8>) -> Result<(), OutOfMemory>
+    ensures added { OnOk result (out.new.items ≡ out.old.items ++ mode_lines modes.now) }
+{
+    for mode in modes {
+        write_mode(alloc, mode, out)?;
     }
     Ok(())
 }

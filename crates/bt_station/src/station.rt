@@ -1,11 +1,12 @@
 // A station: the satellite, a terminal or the standby, at work.
 ghost use Rattle.std.specs.Prelude.{◌≡◌, ◌≤◌, IfOk, IfSome, vec_len};
+ghost use Rattle.bt_frame.specs.declared.limits.TheConstants.{MOST_STATION_LINE_BYTES};
 ghost use Rattle.bt_outside.specs.Input.{IsShort, said_by};
 ghost use Rattle.std.specs.Prelude.{Some};
 ghost use Rattle.bt_station.specs.Ready.{IsHeard, IsReady};
 ghost use Rattle.bt_station.specs.Station.{after, answer, asked_after, asked_answer, came, opening_of};
 
-use crate::asked::{Asked, MOST_LINE_BYTES, read_line};
+use crate::asked::{Asked, read_line};
 use crate::satellite::SatelliteAtWork;
 use crate::say::fault_text;
 use crate::standby::StandbyAtWork;
@@ -44,7 +45,7 @@ impl Station {
         came: &Incoming,
     ) -> Result<(Station, Vec<u8>), OutOfMemory>
         requires ready { IsReady net.now self }
-        requires short { IsShort MOST_LINE_BYTES (Some came.now) }
+        requires short { IsShort MOST_STATION_LINE_BYTES (Some came.now) }
         ensures state { IfOk result (λ on. on.0 ≡ after net.now self (said_by came.now)) }
         ensures answer { IfOk result (λ on. on.1.items ≡ answer net.now at self (said_by came.now)) }
         ensures ready { IfOk result (λ on. IsReady net.now on.0) }
@@ -88,7 +89,7 @@ impl Station {
 
 /// What a line asks that came, if it is one and of the grammar.
 fn asked_in(alloc: Global, net: &Network, line: &Incoming) -> Result<Option<Asked>, OutOfMemory>
-    requires short { IsShort MOST_LINE_BYTES (Some line.now) }
+    requires short { IsShort MOST_STATION_LINE_BYTES (Some line.now) }
     ensures asked { IfOk result (λ asked. asked ≡ came net.now (said_by line.now)) }
     ensures heard { IfOk result (λ asked. IfSome asked IsHeard) }
 {

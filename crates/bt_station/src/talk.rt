@@ -8,17 +8,13 @@ ghost use Rattle.bt_station.specs.Ready.{IsReady};
 ghost use Rattle.bt_station.specs.Station.{opening_of};
 ghost use Rattle.bt_station.specs.Turns.{StationEnds};
 
-use crate::asked::MOST_LINE_BYTES;
 use crate::say::input_fault_text;
 use crate::station::Station;
-use bt_frame::OutOfMemory;
+use bt_frame::{MOST_ANSWERS, MOST_STATION_LINE_BYTES, OutOfMemory};
 use bt_net::Network;
 use bt_outside::{Keeper, SinkFault, SourceFault, Talk};
 use bt_report::{DONE, OUT_OF_MEMORY, READ_FAILED, unwritten};
 use std::alloc::Global;
-
-/// A station hears fewer lines: 2 ^ 63.
-pub const MOST_ANSWERS: u64 = 9_223_372_036_854_775_808;
 
 /// Why no more lines are heard.
 #[derive(Clone, Copy)]
@@ -98,7 +94,7 @@ fn hear_lines<T: Talk<K>, K: Keeper>(
         return Err(unwritten(fault));
     }
     for at in 1..MOST_ANSWERS {
-        let came = match talk.hear(alloc, MOST_LINE_BYTES) {
+        let came = match talk.hear(alloc, MOST_STATION_LINE_BYTES) {
             Ok(Some(came)) => came,
             Ok(None) => return Ok(InputEnd::Over),
             Err(SourceFault::Failed) => return Ok(InputEnd::Failed),

@@ -1,5 +1,5 @@
 // The lines of a session that no script has.
-ghost use Rattle.std.specs.Prelude.{◌≡◌, ◌-◌, ◌++◌, OnOk, IfOk, length};
+ghost use Rattle.std.specs.Prelude.{◌≡◌, ◌-◌, ◌++◌, OnOk, OnErr, IfOk, length};
 ghost use Rattle.bt_text.specs.Text.{lines};
 ghost use Rattle.bt_talk.specs.Answers.{answer_of, counted, fault_line, form_of_fault, input_fault_line, lines_line, ready_line};
 
@@ -22,9 +22,10 @@ pub fn answer_text(alloc: Global, at: u64, step: &Step) -> Result<Vec<u8>, OutOf
     Ok(text)
 }
 
-/// Appends that so many lines were heard, and the next may come.
+/// Appends that so many lines were heard, and the next may come. Where memory runs out the text is as it was.
 pub fn add_ready(alloc: Global, at: u64, text: &mut Vec<u8>) -> Result<(), OutOfMemory>
     ensures line { OnOk result (text.new.items ≡ text.old.items ++ ready_line at) }
+    ensures unchanged { OnErr result (text.new.items ≡ text.old.items) }
 {
     print(alloc, Form::Ready, &[Word::Number(at)], text)
 }
@@ -54,9 +55,10 @@ fn form_of_fault(code: ScriptCode) -> Form
     }
 }
 
-/// Appends that the input failed.
+/// Appends that the input failed. Where memory runs out the text is as it was.
 pub fn add_input_fault(alloc: Global, text: &mut Vec<u8>) -> Result<(), OutOfMemory>
     ensures line { OnOk result (text.new.items ≡ text.old.items ++ input_fault_line) }
+    ensures unchanged { OnErr result (text.new.items ≡ text.old.items) }
 {
     print(alloc, Form::InputFault, &[], text)
 }

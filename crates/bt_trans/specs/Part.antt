@@ -1,5 +1,5 @@
 -- Switching schedules in which uplink beams may be silent: so many connections at once at most.
-use Rattle.std.specs.Prelude.{◌≡◌, ◌==◌, ◌⊎◌, ℕ, ◌+◌, ◌*◌, ◌<◌, ◌≤◌, if◌then◌else◌, not, List, length, All, AllPairs, sum, sum_by, count_by, slice_index}
+use Rattle.std.specs.Prelude.{◌≡◌, ◌==◌, ◌⊎◌, ℕ, ◌+◌, ◌-◌, ◌*◌, ◌<◌, ◌≤◌, if◌then◌else◌, not, List, length, All, AllPairs, sum, sum_by, count_by, slice_index}
 use Rattle.bt_frame.specs.declared.schedule.Critical.{Critical}
 use Rattle.bt_matrix.specs.Traffic.{entry, line_sum, IsLine, IsHeaviest}
 use Rattle.bt_trans.specs.declared.part.TheConstants.{SILENT}
@@ -58,6 +58,10 @@ HasSwitchings rows schedule = All (λ mode. IsPartSwitching (length rows) mode.p
 -- no mode has more than so many connections
 abbrev pub HasFew : ℕ → PartSchedule → Type 0
 HasFew k schedule = All (λ mode. connections mode.perm ≤ k) schedule.modes
+
+-- no more modes than a matrix of twice the beams less k lines has entries
+abbrev pub HasFewPartModes : List (List ℕ) → ℕ → PartSchedule → Type 0
+HasFewPartModes rows k schedule = length schedule.modes ≤ (length rows + length rows - k) * (length rows + length rows - k)
 
 -- every mode is held for a slot at least
 abbrev pub HasDurations : PartSchedule → Type 0

@@ -7,6 +7,7 @@ use Rattle.bt_matrix.specs.Traffic.{IsHeaviest}
 use Rattle.bt_modes.specs.Few.{HasFewModes}
 use Rattle.bt_demand.specs.Plan.{IsGoodPlan}
 use Rattle.bt_demand.specs.Traffic.{matrix_of}
+use Rattle.bt_cut.specs.Cutting.{IsCutting}
 use Rattle.bt_cut.specs.Made.{IsMade}
 use Rattle.bt_cli.specs.Make.{summary}
 use Rattle.bt_report.specs.Outcome.{text_alone}
@@ -21,6 +22,7 @@ returns c =
     let counted = ap (λ (net : Net). length net.beams) same ∙ length-map-range_with_len numbered_beam 0 beams in
     let Drawn : Net → Type 0 = λ net. IsMade net c.args.seed links in
     let Good : Net → Type 0 = λ net. IsGoodPlan net links plan in
+    let Cut : Net → Type 0 = λ net. IsCutting net links plan.schedule.modes plan.bursts in
     let Heaviest : Net → Type 0 = λ net. IsHeaviest (matrix_of net links) plan.schedule.critical plan.schedule.length in
     let Few : Net → Type 0 = λ net. HasFewModes (matrix_of net links) plan.schedule in
     record {
@@ -28,6 +30,7 @@ returns c =
       drawn = subst Drawn same c.in_ok-made.ensures.made;
       edition = search rules;
       good = subst Good same c.in_ok-plan.ensures.good;
+      cut = subst Cut same c.in_ok-plan.ensures.bursts;
       heaviest = subst Heaviest same c.in_ok-plan.ensures.heaviest;
       few = subst Few same c.in_ok-plan.ensures.few;
       printed = ap (λ t. text_alone t 0) (c.in_ok-text.ensures.spelled ∙ ap (λ (count : ℕ). summary count c.args.seed links plan) counted);

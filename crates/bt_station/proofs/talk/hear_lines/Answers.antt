@@ -3,7 +3,7 @@ use Rattle.std.proofs.Common.{◌≡◌, ◌∙◌, List, ◌++◌, ℕ, Option,
 use Rattle.bt_outside.specs.declared.source.Incoming.{Incoming}
 use Rattle.bt_outside.specs.Input.{Comes}
 use Rattle.bt_outside.specs.Talk.{heard, took}
-use Rattle.bt_station.specs.declared.asked.TheConstants.{MOST_LINE_BYTES}
+use Rattle.bt_frame.specs.declared.limits.TheConstants.{MOST_STATION_LINE_BYTES}
 use Rattle.bt_station.proofs.Turns.{answer_unsaid, broken_off, err_is, err_is_memory, going_first, going_more, heard_all, heard_fault, heard_over, opening_unsaid, rose_from, unanswered}
 use Rattle.bt_station.proofs.talk.hear_lines.Goals as goal
 
@@ -28,7 +28,7 @@ returns-in-Err-OutOfMemory-clause-ends g c =
 
 pub returns-in-Err-hear-clause-ends : goal.returns-in-Err-hear-clause-ends
 returns-in-Err-hear-clause-ends g c =
-    let comes = subst (λ (o : Option Incoming). Comes MOST_LINE_BYTES (g.T.Talk.coming c.loop-at.talk) o (g.T.Talk.coming c.hear.new.self)) c.in-Ok-Some.field-0-is c.in-Ok-Some.ensures.next in
+    let comes = subst (λ (o : Option Incoming). Comes MOST_STATION_LINE_BYTES (g.T.Talk.coming c.loop-at.talk) o (g.T.Talk.coming c.hear.new.self)) c.in-Ok-Some.field-0-is c.in-Ok-Some.ensures.next in
     let turn = subst (λ (o : Option Incoming). g.T.Talk.turns c.hear.new.self ≡ took (g.T.Talk.turns c.loop-at.talk) (heard o)) c.in-Ok-Some.field-0-is c.in-Ok-Some.ensures.turn in
     unanswered c.args.net.now _ c.args.station c.loop-at.at c.loop-at.station c.in-Ok-Some.came _ _ _ _ 1 c.loop-at.invariant.going comes c.hear.ensures.output turn refl
 
@@ -36,7 +36,7 @@ pub returns-in-Err-say-clause-ends : goal.returns-in-Err-say-clause-ends
 returns-in-Err-say-clause-ends g c =
     let at = c.loop-at.invariant in
     let why = c.in-Err-say.fault in
-    let comes = subst (λ (o : Option Incoming). Comes MOST_LINE_BYTES (g.T.Talk.coming c.loop-at.talk) o (g.T.Talk.coming c.hear.new.self)) c.in-Ok-Some.field-0-is c.in-Ok-Some.ensures.next in
+    let comes = subst (λ (o : Option Incoming). Comes MOST_STATION_LINE_BYTES (g.T.Talk.coming c.loop-at.talk) o (g.T.Talk.coming c.hear.new.self)) c.in-Ok-Some.field-0-is c.in-Ok-Some.ensures.next in
     let turn = subst (λ (o : Option Incoming). g.T.Talk.turns c.hear.new.self ≡ took (g.T.Talk.turns c.loop-at.talk) (heard o)) c.in-Ok-Some.field-0-is c.in-Ok-Some.ensures.turn in
     answer_unsaid c.args.net.now _ c.args.station c.loop-at.at c.loop-at.station c.in-Ok-Some.came c.as_slice.result.now _ _ _ _ _ _ why c.unwritten-in-Err-say.result at.going comes c.hear.ensures.output turn
     (c.as_slice.ensures.value ∙ c.in-Ok.ensures.answer) c.in-Err-say.ensures.no_turn
@@ -46,7 +46,7 @@ returns-in-Err-say-clause-ends g c =
 pub loop-at-preserved : goal.loop-at-preserved
 loop-at-preserved g c =
     let at = c.loop-at.invariant in
-    let comes = subst (λ (o : Option Incoming). Comes MOST_LINE_BYTES (g.T.Talk.coming c.loop-at.talk) o (g.T.Talk.coming c.hear.new.self)) c.in-Ok-Some.field-0-is c.in-Ok-Some.ensures.next in
+    let comes = subst (λ (o : Option Incoming). Comes MOST_STATION_LINE_BYTES (g.T.Talk.coming c.loop-at.talk) o (g.T.Talk.coming c.hear.new.self)) c.in-Ok-Some.field-0-is c.in-Ok-Some.ensures.next in
     let turn = subst (λ (o : Option Incoming). g.T.Talk.turns c.hear.new.self ≡ took (g.T.Talk.turns c.loop-at.talk) (heard o)) c.in-Ok-Some.field-0-is c.in-Ok-Some.ensures.turn in
     record {
       later = omega (arith, at.later, c.hear.ensures.output_faults, c.say.ensures.cause.later);
