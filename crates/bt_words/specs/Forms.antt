@@ -64,6 +64,7 @@ parts_of form.Tick = Text (codes "tick") ∷ Number ∷ []
 parts_of form.LastTick = Text (codes "tick") ∷ Text (codes "last") ∷ []
 parts_of form.Turn = Text (codes "turn") ∷ Number ∷ Text (codes "newest") ∷ Number ∷ []
 parts_of form.BackTurn = Text (codes "turn") ∷ Number ∷ Text (codes "back") ∷ Number ∷ []
+parts_of form.TurnWithoutMark = Text (codes "turn") ∷ Text (codes "nomark") ∷ []
 parts_of form.Back = Text (codes "back") ∷ Number ∷ []
 parts_of form.NotInstalled = Text (codes "back") ∷ Number ∷ Text (codes "not") ∷ Text (codes "installed") ∷ []
 parts_of form.Ahead = Text (codes "ahead") ∷ []
@@ -141,7 +142,7 @@ forms_from head =
     if is_word (codes "air") head then form.Air ∷ [] else
     if is_word (codes "frame") head then form.Frame ∷ form.Over ∷ [] else
     if is_word (codes "tick") head then form.Tick ∷ form.LastTick ∷ [] else
-    if is_word (codes "turn") head then form.Turn ∷ form.BackTurn ∷ [] else
+    if is_word (codes "turn") head then form.Turn ∷ form.BackTurn ∷ form.TurnWithoutMark ∷ [] else
     if is_word (codes "back") head then form.Back ∷ form.NotInstalled ∷ [] else
     if is_word (codes "ahead") head then form.Ahead ∷ [] else
     if is_word (codes "flow") head then form.Flow ∷ [] else

@@ -25,6 +25,7 @@ pub enum Form {
     LastTick,
     Turn,
     BackTurn,
+    TurnWithoutMark,
     Back,
     NotInstalled,
     Ahead,

@@ -62,6 +62,7 @@ pub fn tokens_of(form: Form) -> &'static [Token]
         Form::LastTick          => &[Text("tick"), Text("last")],
         Form::Turn              => &[Text("turn"), Number, Text("newest"), Number],
         Form::BackTurn          => &[Text("turn"), Number, Text("back"), Number],
+        Form::TurnWithoutMark   => &[Text("turn"), Text("nomark")],
         Form::Back              => &[Text("back"), Number],
         Form::NotInstalled      => &[Text("back"), Number, Text("not"), Text("installed")],
         Form::Ahead             => &[Text("ahead")],
@@ -152,7 +153,7 @@ pub fn forms_from(head: &[u8]) -> &'static [Form]
     } else if is_word(head, b"tick") {
         &[Form::Tick, Form::LastTick]
     } else if is_word(head, b"turn") {
-        &[Form::Turn, Form::BackTurn]
+        &[Form::Turn, Form::BackTurn, Form::TurnWithoutMark]
     } else if is_word(head, b"back") {
         &[Form::Back, Form::NotInstalled]
     } else if is_word(head, b"ahead") {
