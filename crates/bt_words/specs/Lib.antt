@@ -2,3 +2,4 @@ pub mod Lines
 pub mod Written
 pub mod Forms
 pub mod Filled
+pub mod Names

@@ -1,0 +1,95 @@
+-- What the open places of each form are called, a row a form in the order of the table of forms.
+use Rattle.std.specs.Prelude.{ℕ, ◌&&◌, ◌||◌, List, [], ◌∷◌, codes, Bool, true, false, not}
+use Rattle.bt_text.specs.Text.{is_word}
+use Rattle.bt_words.specs.declared.form.Form.{Form}
+use Rattle.bt_words.specs.declared.form.Form.TheVariants as form
+
+-- the names of the places of a form that have no fixed word, in order
+abbrev pub names_of : Form → List (List ℕ)
+names_of form.SentLoad = codes "message" ∷ codes "command" ∷ codes "edition" ∷ []
+names_of form.SentArm = codes "message" ∷ codes "command" ∷ codes "edition" ∷ codes "due" ∷ []
+names_of form.SentStatus = codes "message" ∷ codes "superframe" ∷ codes "fore" ∷ codes "back" ∷ codes "last" ∷ []
+names_of form.SentArmedStatus = codes "message" ∷ codes "superframe" ∷ codes "fore" ∷ codes "back" ∷ codes "armed" ∷ codes "due" ∷ codes "last" ∷ []
+names_of form.SentPlan = codes "message" ∷ codes "edition" ∷ codes "terminal" ∷ []
+names_of form.SentConfirm = codes "message" ∷ codes "edition" ∷ codes "terminal" ∷ []
+names_of form.SentReference = codes "message" ∷ codes "superframe" ∷ codes "edition" ∷ []
+names_of form.SentNoReference = codes "message" ∷ codes "superframe" ∷ []
+names_of form.SentLost = codes "message" ∷ codes "terminal" ∷ []
+names_of form.GotSatellite = codes "message" ∷ codes "answer" ∷ []
+names_of form.GotCentre = codes "message" ∷ []
+names_of form.GotTerminal = codes "message" ∷ codes "terminal" ∷ codes "answer" ∷ []
+names_of form.NotForSatellite = codes "message" ∷ []
+names_of form.NotForCentre = codes "message" ∷ []
+names_of form.NotForTerminal = codes "message" ∷ codes "terminal" ∷ []
+names_of form.Air = codes "start" ∷ codes "length" ∷ codes "from" ∷ codes "to" ∷ []
+names_of form.Frame = codes "frame" ∷ codes "fore" ∷ []
+names_of form.Over = codes "superframe" ∷ []
+names_of form.Tick = codes "superframe" ∷ []
+names_of form.LastTick = []
+names_of form.Turn = codes "superframe" ∷ codes "edition" ∷ []
+names_of form.BackTurn = codes "superframe" ∷ codes "edition" ∷ []
+names_of form.Back = codes "edition" ∷ []
+names_of form.NotInstalled = codes "edition" ∷ []
+names_of form.Ahead = []
+names_of form.Flow = []
+names_of form.Lost = codes "count" ∷ []
+names_of form.NotSent = codes "message" ∷ []
+names_of form.Start = codes "edition" ∷ codes "plan" ∷ codes "superframe" ∷ []
+names_of form.Restart = []
+names_of form.Round = codes "round" ∷ []
+names_of form.Total = codes "done" ∷ codes "refused" ∷ codes "store" ∷ []
+names_of form.DeskDone = codes "desk" ∷ codes "edition" ∷ codes "length" ∷ []
+names_of form.DeskSameTerminal = codes "desk" ∷ []
+names_of form.DeskNotThere = codes "desk" ∷ codes "held" ∷ []
+names_of form.DeskRowFull = codes "desk" ∷ codes "beam" ∷ codes "sum" ∷ []
+names_of form.DeskColumnFull = codes "desk" ∷ codes "beam" ∷ codes "sum" ∷ []
+names_of form.DeskBookFull = codes "desk" ∷ codes "bytes" ∷ []
+names_of form.DeskStoreFault = codes "desk" ∷ []
+names_of form.DeskStopped = codes "desk" ∷ []
+names_of form.Shows = codes "desk" ∷ codes "edition" ∷ codes "length" ∷ codes "modes" ∷ []
+names_of form.Burst = codes "start" ∷ codes "length" ∷ codes "from" ∷ codes "to" ∷ []
+names_of form.Planned = codes "edition" ∷ codes "length" ∷ codes "modes" ∷ codes "bursts" ∷ []
+names_of form.NothingNew = []
+names_of form.PlanBookFull = codes "bytes" ∷ []
+names_of form.PlanStoreFault = []
+names_of form.PlanStopped = []
+names_of form.OrderLoad = codes "command" ∷ codes "edition" ∷ []
+names_of form.OrderArm = codes "command" ∷ codes "edition" ∷ codes "due" ∷ []
+names_of form.OrderBookFull = codes "bytes" ∷ []
+names_of form.OrderOutOfTurn = codes "last" ∷ []
+names_of form.OrderNotInstalled = codes "newest" ∷ []
+names_of form.OrderStoreFault = []
+names_of form.OrderStopped = []
+names_of form.Reset = codes "terminal" ∷ []
+names_of form.StandbyNoted = codes "message" ∷ []
+names_of form.StandbyWrongMark = codes "message" ∷ []
+names_of form.StandbyNotForMe = codes "message" ∷ []
+names_of form.StandbyNotSent = codes "message" ∷ []
+names_of form.StandbyBurst = []
+names_of form.StoreFault = []
+names_of form.Ready = codes "answered" ∷ []
+names_of form.Lines = codes "count" ∷ []
+names_of form.LineFaultS1 = codes "at" ∷ []
+names_of form.LineFaultS2 = codes "at" ∷ []
+names_of form.LineFaultS3 = codes "at" ∷ []
+names_of form.LineFaultS4 = codes "at" ∷ []
+names_of form.LineFaultS5 = codes "at" ∷ []
+names_of form.InputFault = []
+names_of form.PlanDone = codes "edition" ∷ codes "length" ∷ []
+names_of form.PlanSameTerminal = []
+names_of form.PlanNotThere = codes "held" ∷ []
+names_of form.PlanRowFull = codes "beam" ∷ codes "sum" ∷ []
+names_of form.PlanColumnFull = codes "beam" ∷ codes "sum" ∷ []
+names_of form.PlanNotNewer = codes "newest" ∷ []
+names_of form.PlanNoSuchEdition = codes "last" ∷ []
+names_of form.PlanNotGood = []
+
+-- the name is one of these
+abbrev pub is_among : List ℕ → List (List ℕ) → Bool
+is_among name [] = false
+is_among name (first ∷ rest) = is_word first name || is_among name rest
+
+-- each of these names is there once
+abbrev pub are_apart : List (List ℕ) → Bool
+are_apart [] = true
+are_apart (first ∷ rest) = not (is_among first rest) && are_apart rest

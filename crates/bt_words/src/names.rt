@@ -1,0 +1,95 @@
+// What the open places of each form are called.
+ghost use Rattle.std.specs.Prelude.{◌≡◌, ◌∷◌, IsTrue, codes, length, map};
+ghost use Rattle.bt_words.specs.Forms.{open_places, parts_of};
+ghost use Rattle.bt_words.specs.Names.{are_apart, names_of};
+
+use crate::form::Form;
+
+/// The names of the places of a form that have no fixed word, in order: the field's word for what stands there. No two places of a
+/// form have one name, and none is called `line` or `form`, so that these may stand beside them.
+#[rattlefmt::skip]
+pub fn names_of(form: Form) -> &'static [&'static str]
+    ensures names { map (λ name. name.now) result.now ≡ names_of form }
+    ensures count { length (names_of form) ≡ open_places (parts_of form) }
+    ensures apart { IsTrue (are_apart (codes "line" ∷ codes "form" ∷ names_of form)) }
+{
+    match form {
+        Form::SentLoad          => &["message", "command", "edition"],
+        Form::SentArm           => &["message", "command", "edition", "due"],
+        Form::SentStatus        => &["message", "superframe", "fore", "back", "last"],
+        Form::SentArmedStatus   => &["message", "superframe", "fore", "back", "armed", "due", "last"],
+        Form::SentPlan          => &["message", "edition", "terminal"],
+        Form::SentConfirm       => &["message", "edition", "terminal"],
+        Form::SentReference     => &["message", "superframe", "edition"],
+        Form::SentNoReference   => &["message", "superframe"],
+        Form::SentLost          => &["message", "terminal"],
+        Form::GotSatellite      => &["message", "answer"],
+        Form::GotCentre         => &["message"],
+        Form::GotTerminal       => &["message", "terminal", "answer"],
+        Form::NotForSatellite   => &["message"],
+        Form::NotForCentre      => &["message"],
+        Form::NotForTerminal    => &["message", "terminal"],
+        Form::Air               => &["start", "length", "from", "to"],
+        Form::Frame             => &["frame", "fore"],
+        Form::Over              => &["superframe"],
+        Form::Tick              => &["superframe"],
+        Form::LastTick          => &[],
+        Form::Turn              => &["superframe", "edition"],
+        Form::BackTurn          => &["superframe", "edition"],
+        Form::Back              => &["edition"],
+        Form::NotInstalled      => &["edition"],
+        Form::Ahead             => &[],
+        Form::Flow              => &[],
+        Form::Lost              => &["count"],
+        Form::NotSent           => &["message"],
+        Form::Start             => &["edition", "plan", "superframe"],
+        Form::Restart           => &[],
+        Form::Round             => &["round"],
+        Form::Total             => &["done", "refused", "store"],
+        Form::DeskDone          => &["desk", "edition", "length"],
+        Form::DeskSameTerminal  => &["desk"],
+        Form::DeskNotThere      => &["desk", "held"],
+        Form::DeskRowFull       => &["desk", "beam", "sum"],
+        Form::DeskColumnFull    => &["desk", "beam", "sum"],
+        Form::DeskBookFull      => &["desk", "bytes"],
+        Form::DeskStoreFault    => &["desk"],
+        Form::DeskStopped       => &["desk"],
+        Form::Shows             => &["desk", "edition", "length", "modes"],
+        Form::Burst             => &["start", "length", "from", "to"],
+        Form::Planned           => &["edition", "length", "modes", "bursts"],
+        Form::NothingNew        => &[],
+        Form::PlanBookFull      => &["bytes"],
+        Form::PlanStoreFault    => &[],
+        Form::PlanStopped       => &[],
+        Form::OrderLoad         => &["command", "edition"],
+        Form::OrderArm          => &["command", "edition", "due"],
+        Form::OrderBookFull     => &["bytes"],
+        Form::OrderOutOfTurn    => &["last"],
+        Form::OrderNotInstalled => &["newest"],
+        Form::OrderStoreFault   => &[],
+        Form::OrderStopped      => &[],
+        Form::Reset             => &["terminal"],
+        Form::StandbyNoted      => &["message"],
+        Form::StandbyWrongMark  => &["message"],
+        Form::StandbyNotForMe   => &["message"],
+        Form::StandbyNotSent    => &["message"],
+        Form::StandbyBurst      => &[],
+        Form::StoreFault        => &[],
+        Form::Ready             => &["answered"],
+        Form::Lines             => &["count"],
+        Form::LineFaultS1       => &["at"],
+        Form::LineFaultS2       => &["at"],
+        Form::LineFaultS3       => &["at"],
+        Form::LineFaultS4       => &["at"],
+        Form::LineFaultS5       => &["at"],
+        Form::InputFault        => &[],
+        Form::PlanDone          => &["edition", "length"],
+        Form::PlanSameTerminal  => &[],
+        Form::PlanNotThere      => &["held"],
+        Form::PlanRowFull       => &["beam", "sum"],
+        Form::PlanColumnFull    => &["beam", "sum"],
+        Form::PlanNotNewer      => &["newest"],
+        Form::PlanNoSuchEdition => &["last"],
+        Form::PlanNotGood       => &[],
+    }
+}
