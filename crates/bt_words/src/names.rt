@@ -36,6 +36,7 @@ pub fn names_of(form: Form) -> &'static [&'static str]
         Form::LastTick          => &[],
         Form::Turn              => &["superframe", "edition"],
         Form::BackTurn          => &["superframe", "edition"],
+        Form::TurnWithoutMark   => &[],
         Form::Back              => &["edition"],
         Form::NotInstalled      => &["edition"],
         Form::Ahead             => &[],
