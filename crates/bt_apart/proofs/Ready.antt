@@ -1,0 +1,121 @@
+-- Whatever happens to the centre, its orders, the one that it wants and its status keep their spelling.
+use Rattle.std.proofs.Common.{◌≡◌, ℕ, ◌<◌, ◌≤◌, Bool, true, false, List, [], ◌∷◌, All, Option, Some, None, IfSome, ap, subst, arith}
+use Rattle.std.specs.Prelude.{IsSome}
+use Rattle.std.proofs.lemmas.List.Elements.{All-weaker}
+use Rattle.bt_frame.specs.declared.numbers.EditionNo.{EditionNo}
+use Rattle.bt_frame.specs.declared.numbers.Mark.{Mark}
+use Rattle.bt_frame.specs.declared.numbers.TermSet.{TermSet}
+use Rattle.bt_demand.specs.declared.plan.Plan.{Plan}
+use Rattle.bt_air.specs.declared.message.Message.{Message}
+use Rattle.bt_air.specs.declared.message.Message.TheVariants as message
+use Rattle.bt_air.specs.declared.order.Order.{Order}
+use Rattle.bt_air.specs.declared.order.Order.TheVariants.{Load, Arm}
+use Rattle.bt_air.specs.Orders.{edition_ordered}
+use Rattle.bt_air.specs.Range.{IsInRange}
+use Rattle.bt_machines.specs.Centre.{State as Centre, AreNumbered, act_at, after_turn, begins_with, having_placed, turn_at}
+use Rattle.bt_machines.specs.CentreSteps.{orders_kept, with_wanted}
+use Rattle.bt_machines.specs.Plans.{StartsEmpty, newest_of, plan_of}
+use Rattle.bt_machines.specs.Turn.{wanted_by}
+use Rattle.bt_site.specs.Sites.{centre_with}
+use Rattle.bt_events.specs.Fits.{HasPlan, IsInTime}
+use Rattle.bt_events.proofs.Banks.{act-planned, if-some-still, joined-planned, still}
+use Rattle.bt_events.proofs.Counted.{Counted, IsNumbered, act-numbered, joined}
+use Rattle.bt_events.proofs.Ranges.{later-fits}
+use Rattle.bt_apart.specs.Inside.{IsReady, MayJoin}
+
+-- an order that may join has the next number and a plan
+numbered-one : (plans : List Plan) (placed : List Order) (order : Order) → MayJoin plans placed order → IsNumbered placed order
+numbered-one plans placed (Load command edition) may = (may.number, tt)
+numbered-one plans placed (Arm command edition due) may = (may.number, may.timely)
+
+pub numbered-next : (plans : List Plan) (placed : List Order) (next : Option Order) → IfSome next (MayJoin plans placed) → IfSome next (IsNumbered placed)
+numbered-next plans placed None may = tt
+numbered-next plans placed (Some order) may = numbered-one plans placed order may
+
+pub planned-next : (plans : List Plan) (placed : List Order) (next : Option Order) → IfSome next (MayJoin plans placed) → IfSome next (HasPlan plans)
+planned-next plans placed None may = tt
+planned-next plans placed (Some order) may = may.planned
+
+-- and an order that has both may join
+may-next : (plans : List Plan) (placed : List Order) (next : Option Order) → IfSome next (IsNumbered placed) → IfSome next (HasPlan plans) → IfSome next (MayJoin plans placed)
+may-next plans placed None numbered planned = tt
+may-next plans placed (Some (Load command edition)) numbered planned = record { number = numbered.0; timely = tt; planned = planned }
+may-next plans placed (Some (Arm command edition due)) numbered planned = record { number = numbered.0; timely = numbered.1; planned = planned }
+
+-- after its turn
+pub turned-ready : (plans : List Plan) (s : Centre) (mark : Mark) (target : EditionNo) (lead patience : ℕ) → 1 ≤ lead → IsSome (plan_of plans target) → IsReady plans s
+    → IsReady plans (after_turn s mark target lead patience)
+turned-ready plans s mark target lead patience long some ready =
+    let turn = turn_at s mark target lead patience in
+    record {
+      numbered = ready.numbered;
+      in_time = ready.in_time;
+      planned = ready.planned;
+      next = may-next plans s.orders (wanted_by (act_at s mark target lead patience))
+          (act-numbered turn s.wanted s.kept s.orders long ready.numbered (numbered-next plans s.orders s.wanted ready.next))
+          (act-planned plans turn s.wanted s.kept s.orders some ready.planned (planned-next plans s.orders s.wanted ready.next));
+      kept = ready.kept;
+    }
+
+-- before anything
+pub begun-ready : (plans : List Plan) (placed : List Order) (needs : TermSet) → AreNumbered placed → All IsInTime placed → All (HasPlan plans) placed
+    → IsReady plans (begins_with placed needs)
+begun-ready plans placed needs numbered in_time planned = record { numbered = numbered; in_time = in_time; planned = planned; next = tt; kept = tt }
+
+counted : (plans : List Plan) (s : Centre) → IsReady plans s → Counted s.orders s.wanted 0
+counted plans s ready = record { numbered = ready.numbered; in_time = ready.in_time; next = numbered-next plans s.orders s.wanted ready.next; begun = omega arith }
+
+all-planned : (plans : List Plan) (s : Centre) → IsReady plans s → All (HasPlan plans) (with_wanted s.wanted s.orders)
+all-planned plans s ready = joined-planned plans s.wanted s.orders ready.planned (planned-next plans s.orders s.wanted ready.next)
+
+-- after a restart
+pub restarted-ready : (plans : List Plan) (s : Centre) (kept : Bool) (needs : TermSet) → IsReady plans s → IsReady plans (begins_with (orders_kept s kept) needs)
+restarted-ready plans s true needs ready =
+    let more = joined s.orders s.wanted 0 (counted plans s ready) in
+    begun-ready plans (with_wanted s.wanted s.orders) needs more.numbered more.in_time (all-planned plans s ready)
+restarted-ready plans s false needs ready = begun-ready plans s.orders needs ready.numbered ready.in_time ready.planned
+
+-- once the order that it wanted joined
+pub placed-ready : (plans : List Plan) (s : Centre) (order : Order) (needs : TermSet) → s.wanted ≡ Some order → IsReady plans s → IsReady plans (having_placed s order needs)
+placed-ready plans s order needs wants ready =
+    let more = joined s.orders s.wanted 0 (counted plans s ready) in
+    let list : with_wanted s.wanted s.orders ≡ order ∷ s.orders = ap (λ (w : Option Order). with_wanted w s.orders) wants in
+    record {
+      numbered = subst AreNumbered list more.numbered;
+      in_time = subst (All IsInTime) list more.in_time;
+      planned = subst (All (HasPlan plans)) list (all-planned plans s ready);
+      next = tt;
+      kept = ready.kept;
+    }
+
+-- once it heard a message
+pub noted-ready : (plans : List Plan) (s : Centre) (mark : Mark) (heard : Message) → IsInRange heard → IsReady plans s → IsReady plans (centre_with s mark (Some heard))
+noted-ready plans s mark (message.Status status) fits ready =
+    record { numbered = ready.numbered; in_time = ready.in_time; planned = ready.planned; next = ready.next; kept = later-fits s.kept status ready.kept fits }
+noted-ready plans s mark (message.Confirm from load edition) fits ready =
+    record { numbered = ready.numbered; in_time = ready.in_time; planned = ready.planned; next = ready.next; kept = ready.kept }
+noted-ready plans s mark (message.Lost from) fits ready =
+    record { numbered = ready.numbered; in_time = ready.in_time; planned = ready.planned; next = ready.next; kept = ready.kept }
+noted-ready plans s mark (message.Load command edition modes) fits ready = ready
+noted-ready plans s mark (message.Arm command edition due) fits ready = ready
+noted-ready plans s mark (message.PlanFor to load edition bursts) fits ready = ready
+noted-ready plans s mark (message.Reference superframe in_force next) fits ready = ready
+
+-- with a plan more
+pub installed-ready : (plans : List Plan) (plan : Plan) (s : Centre) → IsReady plans s → IsReady (plan ∷ plans) s
+installed-ready plans plan s ready = record {
+  numbered = ready.numbered;
+  in_time = ready.in_time;
+  planned = All-weaker (HasPlan plans) (HasPlan (plan ∷ plans)) (λ (order : Order) has. still plan plans (edition_ordered order) has) s.orders ready.planned;
+  next = may-next (plan ∷ plans) s.orders s.wanted (numbered-next plans s.orders s.wanted ready.next) (if-some-still plan plans s.wanted (planned-next plans s.orders s.wanted ready.next));
+  kept = ready.kept;
+}
+
+-- the edition to which it goes back has a plan with one plan more
+pub back-still : (plans : List Plan) (plan : Plan) (back : Option EditionNo) → IfSome back (λ edition. IsSome (plan_of plans edition)) → IfSome back (λ edition. IsSome (plan_of (plan ∷ plans) edition))
+back-still plans plan None has = tt
+back-still plans plan (Some edition) has = still plan plans edition has
+
+pub starts-more : (plans : List Plan) (plan : Plan) → StartsEmpty plans → (newest_of plans).0 < plan.edition.0 → StartsEmpty (plan ∷ plans)
+starts-more [] plan starts newer = absurd starts
+starts-more (before ∷ rest) plan starts newer = (newer, starts)
