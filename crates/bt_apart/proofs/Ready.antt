@@ -1,26 +1,20 @@
 -- Whatever happens to the centre, its orders, the one that it wants and its status keep their spelling.
-use Rattle.std.proofs.Common.{◌≡◌, ℕ, ◌<◌, ◌≤◌, Bool, true, false, List, [], ◌∷◌, All, Option, Some, None, IfSome, ap, subst, arith}
+use Rattle.std.proofs.Common.{ℕ, ◌<◌, ◌≤◌, List, [], ◌∷◌, All, Option, Some, None, IfSome}
 use Rattle.std.specs.Prelude.{IsSome}
 use Rattle.std.proofs.lemmas.List.Elements.{All-weaker}
 use Rattle.bt_frame.specs.declared.numbers.EditionNo.{EditionNo}
 use Rattle.bt_frame.specs.declared.numbers.Mark.{Mark}
 use Rattle.bt_frame.specs.declared.numbers.TermSet.{TermSet}
 use Rattle.bt_demand.specs.declared.plan.Plan.{Plan}
-use Rattle.bt_air.specs.declared.message.Message.{Message}
-use Rattle.bt_air.specs.declared.message.Message.TheVariants as message
 use Rattle.bt_air.specs.declared.order.Order.{Order}
 use Rattle.bt_air.specs.declared.order.Order.TheVariants.{Load, Arm}
 use Rattle.bt_air.specs.Orders.{edition_ordered}
-use Rattle.bt_air.specs.Range.{IsInRange}
-use Rattle.bt_machines.specs.Centre.{State as Centre, AreNumbered, act_at, after_turn, begins_with, having_placed, turn_at}
-use Rattle.bt_machines.specs.CentreSteps.{orders_kept, with_wanted}
+use Rattle.bt_machines.specs.Centre.{State as Centre, AreNumbered, act_at, after_turn, begins_with, turn_at}
 use Rattle.bt_machines.specs.Plans.{StartsEmpty, newest_of, plan_of}
 use Rattle.bt_machines.specs.Turn.{wanted_by}
-use Rattle.bt_site.specs.Sites.{centre_with}
 use Rattle.bt_events.specs.Fits.{HasPlan, IsInTime}
-use Rattle.bt_events.proofs.Banks.{act-planned, if-some-still, joined-planned, still}
-use Rattle.bt_events.proofs.Counted.{Counted, IsNumbered, act-numbered, joined}
-use Rattle.bt_events.proofs.Ranges.{later-fits}
+use Rattle.bt_events.proofs.Banks.{act-planned, if-some-still, still}
+use Rattle.bt_events.proofs.Counted.{IsNumbered, act-numbered}
 use Rattle.bt_apart.specs.Inside.{IsReady, MayJoin}
 
 -- an order that may join has the next number and a plan
@@ -61,45 +55,6 @@ turned-ready plans s mark target lead patience long some ready =
 pub begun-ready : (plans : List Plan) (placed : List Order) (needs : TermSet) → AreNumbered placed → All IsInTime placed → All (HasPlan plans) placed
     → IsReady plans (begins_with placed needs)
 begun-ready plans placed needs numbered in_time planned = record { numbered = numbered; in_time = in_time; planned = planned; next = tt; kept = tt }
-
-counted : (plans : List Plan) (s : Centre) → IsReady plans s → Counted s.orders s.wanted 0
-counted plans s ready = record { numbered = ready.numbered; in_time = ready.in_time; next = numbered-next plans s.orders s.wanted ready.next; begun = omega arith }
-
-all-planned : (plans : List Plan) (s : Centre) → IsReady plans s → All (HasPlan plans) (with_wanted s.wanted s.orders)
-all-planned plans s ready = joined-planned plans s.wanted s.orders ready.planned (planned-next plans s.orders s.wanted ready.next)
-
--- after a restart
-pub restarted-ready : (plans : List Plan) (s : Centre) (kept : Bool) (needs : TermSet) → IsReady plans s → IsReady plans (begins_with (orders_kept s kept) needs)
-restarted-ready plans s true needs ready =
-    let more = joined s.orders s.wanted 0 (counted plans s ready) in
-    begun-ready plans (with_wanted s.wanted s.orders) needs more.numbered more.in_time (all-planned plans s ready)
-restarted-ready plans s false needs ready = begun-ready plans s.orders needs ready.numbered ready.in_time ready.planned
-
--- once the order that it wanted joined
-pub placed-ready : (plans : List Plan) (s : Centre) (order : Order) (needs : TermSet) → s.wanted ≡ Some order → IsReady plans s → IsReady plans (having_placed s order needs)
-placed-ready plans s order needs wants ready =
-    let more = joined s.orders s.wanted 0 (counted plans s ready) in
-    let list : with_wanted s.wanted s.orders ≡ order ∷ s.orders = ap (λ (w : Option Order). with_wanted w s.orders) wants in
-    record {
-      numbered = subst AreNumbered list more.numbered;
-      in_time = subst (All IsInTime) list more.in_time;
-      planned = subst (All (HasPlan plans)) list (all-planned plans s ready);
-      next = tt;
-      kept = ready.kept;
-    }
-
--- once it heard a message
-pub noted-ready : (plans : List Plan) (s : Centre) (mark : Mark) (heard : Message) → IsInRange heard → IsReady plans s → IsReady plans (centre_with s mark (Some heard))
-noted-ready plans s mark (message.Status status) fits ready =
-    record { numbered = ready.numbered; in_time = ready.in_time; planned = ready.planned; next = ready.next; kept = later-fits s.kept status ready.kept fits }
-noted-ready plans s mark (message.Confirm from load edition) fits ready =
-    record { numbered = ready.numbered; in_time = ready.in_time; planned = ready.planned; next = ready.next; kept = ready.kept }
-noted-ready plans s mark (message.Lost from) fits ready =
-    record { numbered = ready.numbered; in_time = ready.in_time; planned = ready.planned; next = ready.next; kept = ready.kept }
-noted-ready plans s mark (message.Load command edition modes) fits ready = ready
-noted-ready plans s mark (message.Arm command edition due) fits ready = ready
-noted-ready plans s mark (message.PlanFor to load edition bursts) fits ready = ready
-noted-ready plans s mark (message.Reference superframe in_force next) fits ready = ready
 
 -- with a plan more
 pub installed-ready : (plans : List Plan) (plan : Plan) (s : Centre) → IsReady plans s → IsReady (plan ∷ plans) s
