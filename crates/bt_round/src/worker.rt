@@ -9,7 +9,7 @@ ghost use Rattle.bt_machines.specs.Plans.{plan_of};
 ghost use Rattle.bt_history.specs.Causes.{CanCome};
 ghost use Rattle.bt_timeline.specs.Air.{waiting_lines};
 ghost use Rattle.bt_bus.specs.Heard.{IsOnBus};
-ghost use Rattle.bt_round.specs.AirLines.{back_of, events_in, going, has_plan, having, hearing, installing, is_marked, mark_of, newest_in, opening_in, orders_in, plans_in, restarting, sends_text, target_of, waiting_in, wanted_in};
+ghost use Rattle.bt_round.specs.AirLines.{KeepsWanted, back_of, events_in, going, has_plan, having, hearing, installing, is_marked, mark_of, newest_in, opening_in, orders_in, plans_in, restarting, sends_text, target_of, waiting_in, wanted_in};
 
 use crate::simulated::SimulatedCentre;
 use bt_air::{Event, Order};
@@ -106,7 +106,10 @@ impl<E: Events> CentreOver<SimulatedCentre<E>> {
     {
         match self {
             CentreWorker::Simulated(centre) => centre.target(),
-            CentreWorker::Apart(centre) => centre.target(),
+            CentreWorker::Apart(centre) => match centre.back() {
+                Some(edition) => edition,
+                None => centre.newest(),
+            },
         }
     }
 
@@ -145,7 +148,7 @@ impl<E: Events> CentreOver<SimulatedCentre<E>> {
                 centre.happen(alloc, net, Event::Install { plan })?;
                 Ok(())
             }
-            CentreWorker::Apart(centre) => centre.install(alloc, plan),
+            CentreWorker::Apart(centre) => centre.install(alloc, &plan),
         }
     }
 
@@ -232,17 +235,13 @@ impl<E: Events> CentreOver<SimulatedCentre<E>> {
     /// Where memory runs out, it may have restarted.
     pub fn restart(&mut self, alloc: Global, net: &Network, kept: bool) -> Result<(), OutOfMemory>
         requires network { (opening_in self.old).net ≡ net.now }
-        requires kept { (kept ≡ true) → IsSome (wanted_in self.old) }
+        requires kept { KeepsWanted self.old kept }
         ensures air { OnOk result (self.new ≡ restarting self.old kept) }
         ensures opening { opening_in self.new ≡ opening_in self.old }
     {
         match self {
             CentreWorker::Simulated(centre) => centre.restart(alloc, net, kept),
-            CentreWorker::Apart(centre) => {
-                centre.restart(kept);
-                centre.set_back(None);
-                Ok(())
-            }
+            CentreWorker::Apart(centre) => centre.restart(kept),
         }
     }
 
@@ -279,7 +278,7 @@ impl<E: Events> CentreOver<SimulatedCentre<E>> {
         match self {
             CentreWorker::Simulated(centre) => centre.into_told(),
             CentreWorker::Apart(centre) => {
-                centre.end();
+                centre.opens();
                 E::none(alloc)
             }
         }
