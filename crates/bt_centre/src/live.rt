@@ -1,6 +1,6 @@
 // The run of a session: between its lines the book hands its entries over, so that no bytes of them are kept; nor are any of
 // the events of its world, but for the plans that were installed.
-ghost use Rattle.std.specs.Prelude.{◌≡◌, ◌<◌, ◌++◌, ◌∷◌, [], length, IfErr, IfOk, OnOk};
+ghost use Rattle.std.specs.Prelude.{◌≡◌, ◌<◌, ◌++◌, ◌∷◌, [], false, length, IfErr, IfOk, OnOk};
 ghost use Rattle.bt_frame.specs.declared.limits.TheConstants.{MOST_ANSWERS};
 ghost use Rattle.bt_history.specs.Causes.{Follows};
 ghost use Rattle.bt_history.specs.Crash.{Last};
@@ -14,7 +14,7 @@ ghost use Rattle.bt_centre.specs.Lines.{total_of};
 ghost use Rattle.bt_centre.specs.Progress.{IsLeftEarly, IsLeftOf, ItemFailed, ItemPlayed, RestartPlayed, RoundPlayed};
 ghost use Rattle.bt_centre.specs.Run.{entries_of, has_lost};
 ghost use Rattle.bt_centre.specs.Told.{IsTold};
-ghost use Rattle.bt_centre.specs.Whole.{whole, whole_left};
+ghost use Rattle.bt_centre.specs.Whole.{IsLive, whole, whole_left};
 ghost use Rattle.bt_centre.specs.declared.history.History.{History};
 
 use crate::log::Log;
@@ -125,14 +125,17 @@ impl<K: Keeper> Live<K> {
         let station = &self.run.station;
         tell(alloc, net, &station.book, &station.centre, query)
     }
+}
 
-    /// The book hands its entries over, where its store has not failed.
-    fn hand_over(&mut self, alloc: Global)
-        ensures same { self.new ≡ self.old }
-    {
-        let entries = Entries::of(self.run.take_entries(alloc));
-        self.log.add(&entries);
-    }
+/// The book hands its entries over to the log, where its store has not failed.
+fn hand_over<K: Keeper>(alloc: Global, run: &mut Playing<K, TracedEvents>, log: &mut Log)
+    requires live { IsLive log.old.front run.old }
+    ensures same { whole log.new.times log.new.front run.new ≡ whole log.old.times log.old.front run.old }
+    ensures none { run.old.book.state.stopped ≡ false → run.new.book.history ≡ [] }
+    ensures live { IsLive log.new.front run.new }
+{
+    let entries = Entries::of(run.take_entries(alloc));
+    log.add(&entries);
 }
 
 /// What is left behind what was handed over.
@@ -273,12 +276,11 @@ fn live_round<R: Threads + Wait + Sync, G: Gate + Sync, K: Keeper + Send>(
     ensures played { IfOk result (λ on. RoundPlayed net.now round.now live on.0 on.1.items) }
     ensures failed { IfErr result (λ remains. IsLeftEarly live remains) }
 {
-    let Live { run, log } = live;
+    let Live { run, mut log } = live;
     match play_round(rt, alloc, net, gate, round, run) {
-        Ok((next, text)) => {
-            let mut on = Live { run: next, log };
-            on.hand_over(alloc);
-            Ok((on, text))
+        Ok((mut next, text)) => {
+            hand_over(alloc, &mut next, &mut log);
+            Ok((Live { run: next, log }, text))
         }
         Err(remains) => Err(left_behind(remains, log)),
     }
