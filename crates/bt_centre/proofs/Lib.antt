@@ -1,4 +1,5 @@
 pub mod Times
+pub mod Airs
 pub mod Going
 pub mod Restarts
 pub mod Played

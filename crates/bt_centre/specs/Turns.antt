@@ -42,11 +42,12 @@ LinesKnow begun entries before net air (first ∷ lines) own text after played =
     LineKnows begun entries before net air first played.1 played.3 played.0 played.5
     × LinesKnow begun entries (before ++ played.1) net played.0 lines played.2 played.4 after played.6
 
--- for each line of the air in a part of a script; a restart has none
+-- for each line of the air in a part of a script; a restart has none, and a line of the bus is none
 abbrev pub TurnsKnow : (net : Net) → (tells : Bool) → (before : Stand) → (one : Item) → (text : List ℕ) → (after : Stand) → PlaysItem net tells before one text after → Type 0
 TurnsKnow net tells before (item.Round round) text after played =
     LinesKnow (changes_at before) played.entries [] net before.air round.air (calls_of played.entries 0) played.air_text after.air played.centre
 TurnsKnow net tells before item.Restart text after played = Unit {0}
+TurnsKnow net tells before (item.Heard line) text after played = Unit {0}
 
 -- the world has no plan newer than the changes
 abbrev pub IsNoNewer : List Change → AirState → Type 0
