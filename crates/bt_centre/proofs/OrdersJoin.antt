@@ -7,12 +7,10 @@ use Rattle.std.proofs.lemmas.List.{append-nil, length-append, length-reverse, re
 use Rattle.std.proofs.lemmas.List.Elements.{filter_map-append}
 use Rattle.bt_net.specs.Network.{Net}
 use Rattle.bt_apart.specs.declared.sites.Sites.{Sites}
-use Rattle.bt_apart.specs.declared.sites.Sites.TheVariants.{Together}
+use Rattle.bt_apart.specs.declared.sites.Sites.TheVariants.{Together, Apart}
 use Rattle.bt_bus.specs.declared.heard.BusLine.{BusLine}
 use Rattle.bt_air.specs.declared.event.Event.{Event}
 use Rattle.bt_air.specs.declared.order.Order.{Order}
-use Rattle.bt_events.specs.Event.{RestartCentre}
-use Rattle.bt_events.specs.World.{orders as placed}
 use Rattle.bt_machines.specs.CentreSteps.{with_wanted}
 use Rattle.bt_journal.specs.declared.call.Change.{Change}
 use Rattle.bt_journal.specs.declared.entry.Entry.{Entry}
@@ -24,7 +22,6 @@ use Rattle.bt_script.specs.declared.script.Item.{Item}
 use Rattle.bt_script.specs.declared.script.Item.TheVariants as item
 use Rattle.bt_script.specs.declared.script.Round.{Round}
 use Rattle.bt_round.specs.AirLines.{AirState, hearing, orders_in, restarting, wanted_in}
-use Rattle.bt_round.proofs.Running.{past-having}
 use Rattle.bt_centre.specs.declared.history.History.{History}
 use Rattle.bt_centre.specs.Joining.{HasOrders, JoinsAsTold, JoinsNone, JoinsOne, JoinsWanted, PartHasOrders, RestartJoins}
 use Rattle.bt_report.specs.Output.{Output}
@@ -35,17 +32,11 @@ use Rattle.bt_centre.specs.Run.{AreLegalTimes, AreTimes, EndsFrom, IsJoining, Is
 use Rattle.bt_report.specs.Stored.{Stored}
 use Rattle.bt_centre.proofs.Joins.{some_same}
 use Rattle.bt_centre.proofs.Orderly.{AreOrderly, AreOrderly-calls, AreOrderly-first, AreOrderly-second, MakesNone-calls, no_order, none_behind_lost, not_both, one_order, orderly_steps, orders_lost, orders_made, round_asks_none, with_append, with_centre}
-use Rattle.bt_centre.proofs.OrdersPlayed.{Keeps, keeps_lines, stays_bus}
+use Rattle.bt_centre.proofs.OrdersPlayed.{Keeps, keeps_lines, restart_joins, restart_leaves, stays_bus}
 
 -- the orders of more changes stand behind the others
 orders-append : (a b : List Change) → orders (a ++ b) ≡ orders a ++ orders b
 orders-append a b = filter_map-append order_in a b
-
-restart_joins : (air : AirState) → orders_in (restarting air true) ≡ with_wanted (wanted_in air) (orders_in air)
-restart_joins air = ap (placed air.life.opening) (past-having air.life (RestartCentre true))
-
-restart_leaves : (air : AirState) → orders_in (restarting air false) ≡ orders_in air
-restart_leaves air = ap (placed air.life.opening) (past-having air.life (RestartCentre false))
 
 -- the order that was wanted joined
 joined_one : (before after : Stand) (joining : IsJoining before.air after.opening) → after.air ≡ restarting before.air true → JoinsOne before joining.order after
@@ -69,9 +60,13 @@ pub record IsHeld (stand : Stand) : Type 0 where
   pub has : HasOrders stand
   pub lost : (order : Order) → orders_lost stand.history ≡ order ∷ [] → wanted_in stand.air ≡ Some order
 
+opens_orders : (opening : List Change) → reverse (orders opening) ≡ reverse (orders (opening ++ []))
+opens_orders opening = sym (ap (λ (c : List Change). reverse (orders c)) (append-nil opening))
+
 -- at the start of a run
 pub start_has : (net : Net) (sites : Sites) (opening : List Change) → HasOrders (at_start net sites opening)
-start_has net sites opening = sym (ap (λ (c : List Change). reverse (orders c)) (append-nil opening))
+start_has net Together opening = opens_orders opening
+start_has net Apart opening = opens_orders opening
 
 start_held : (net : Net) (sites : Sites) (opening : List Change) → IsHeld (at_start net sites opening)
 start_held net sites opening = record { has = start_has net sites opening; lost = λ order is. absurd (no_order [] order refl is) }

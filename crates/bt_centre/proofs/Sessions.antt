@@ -325,6 +325,12 @@ rounds_behind net step.Nothing old new text k (same, nothing) few = omega (arith
 rounds_behind net (step.Fault code) old new text k (same, nothing) few = omega (arith, ap (λ (h : Hand). h.rounds) same, few)
 rounds_behind net (step.Tells one) old new text k (same, told) few = omega (arith, ap (λ (h : Hand). h.rounds) same, few)
 
+-- what came, of so many bytes at most
+pub comes_of : (sites : Sites) (limit : ℕ) (now next : Option (List ℕ)) (came one : Option Incoming) → limit ≡ most_bytes sites → came ≡ one → Comes limit now came next
+    → Comes (most_bytes sites) now one next
+comes_of sites limit now next came one is same comes =
+    subst (λ (n : ℕ). Comes n now one next) is (subst (λ (o : Option Incoming). Comes limit now o next) same comes)
+
 -- an input gave one more
 pub gave_more : (sites : Sites) (coming now next : Option (List ℕ)) (lines : List Came) (came : Incoming) → GaveSince sites coming now lines → Comes (most_bytes sites) now (Some came) next → GaveSince sites coming next (lines ++ said_by came ∷ [])
 gave_more sites (Some bytes) (Some rest) (Some left) lines came gave comes =

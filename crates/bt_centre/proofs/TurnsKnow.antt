@@ -5,24 +5,22 @@ use Rattle.std.proofs.lemmas.List.{get_or-reverse}
 use Rattle.bt_frame.specs.declared.numbers.EditionNo.{EditionNo}
 use Rattle.bt_net.specs.Network.{Net}
 use Rattle.bt_apart.specs.declared.sites.Sites.{Sites}
-use Rattle.bt_apart.specs.declared.sites.Sites.TheVariants.{Together}
+use Rattle.bt_apart.specs.declared.sites.Sites.TheVariants.{Together, Apart}
 use Rattle.bt_demand.specs.declared.plan.Plan.{Plan}
 use Rattle.bt_demand.specs.Plan.{empty_plan}
 use Rattle.bt_air.specs.declared.event.Event.{Event}
-use Rattle.bt_events.specs.Event.{RestartCentre}
 use Rattle.bt_machines.specs.Plans.{newest_of}
 use Rattle.bt_journal.specs.declared.call.Change.{Change}
 use Rattle.bt_journal.specs.Journal.{changes_of}
 use Rattle.bt_history.specs.Causes.{Follows}
-use Rattle.bt_history.specs.Changes.{plans}
+use Rattle.bt_history.specs.Changes.{newest, plans}
 use Rattle.bt_history.specs.Machine.{Legal}
 use Rattle.bt_history.specs.Store.{lost_of}
 use Rattle.bt_script.specs.declared.script.Item.{Item}
 use Rattle.bt_script.specs.declared.script.Item.TheVariants as item
 use Rattle.bt_script.specs.declared.script.Round.{Round}
-use Rattle.bt_round.specs.AirLines.{AirState, newest_in, restarting}
+use Rattle.bt_round.specs.AirLines.{newest_in}
 use Rattle.bt_round.proofs.Installed.{newest_ascends}
-use Rattle.bt_round.proofs.Running.{past-having}
 use Rattle.bt_centre.specs.declared.history.History.{History}
 use Rattle.bt_report.specs.Output.{Output}
 use Rattle.bt_centre.specs.Parts.{EachPart, EachPartAtEnd, EachPartOfRun, EachPartOfSession}
@@ -34,7 +32,7 @@ use Rattle.bt_centre.specs.Turns.{IsNewestOf, IsNoNewer, PartIsNoNewer, TurnsKno
 use Rattle.bt_centre.proofs.Lawful.{IsLawful, lawful_end, lawful_from, next_more}
 use Rattle.bt_centre.proofs.Orderly.{not_both}
 use Rattle.bt_centre.proofs.OrdersJoin.{begun_changes}
-use Rattle.bt_centre.proofs.OrdersPlayed.{newest_past, stays_bus}
+use Rattle.bt_centre.proofs.OrdersPlayed.{restart_newest, stays_bus}
 use Rattle.bt_centre.proofs.TurnsPlayed.{round_goes}
 
 first_edition : (all : List Plan) → newest_of all ≡ (get_or all 0 empty_plan).edition
@@ -44,12 +42,17 @@ first_edition (plan ∷ earlier) = refl
 less_none : (n : ℕ) → n - 0 ≡ n
 less_none n = omega arith
 
--- a world opens with the newest plan of the changes
-pub start_newest : (net : Net) (sites : Sites) (opening : List Change) → IsNewestOf opening (at_start net sites opening).air
-start_newest net sites opening =
+-- the newest plan of the changes stands first
+opens_newest : (opening : List Change) → newest_of (reverse (plans opening)) ≡ (newest opening).edition
+opens_newest opening =
     let all = plans opening in
     first_edition (reverse all) ∙ ap (λ (plan : Plan). plan.edition) (get_or-reverse all 0 empty_plan (omega arith))
     ∙ ap (λ (n : ℕ). (get_or all n empty_plan).edition) (less_none (length all - 1))
+
+-- an air opens with the newest plan of the changes
+pub start_newest : (net : Net) (sites : Sites) (opening : List Change) → IsNewestOf opening (at_start net sites opening).air
+start_newest net Together opening = opens_newest opening
+start_newest net Apart opening = opens_newest opening
 
 start_no_newer : (net : Net) (sites : Sites) (opening : List Change) → IsNoNewer (changes_at (at_start net sites opening)) (at_start net sites opening).air
 start_no_newer net sites opening =
@@ -73,10 +76,6 @@ round_known net before round text after played follow legal so =
     let same : changes_at after ≡ before.opening ++ changes_of (before.history ++ entries) =
     ap (λ (o : List Change). o ++ changes_of after.history) played.opening ∙ ap (λ h. before.opening ++ changes_of h) played.kept in
     record { know = gone.know; so = subst (λ (c : List Change). IsNoNewer c after.air) (sym same) gone.so }
-
-restart_newest : (air : AirState) (kept : Bool) → newest_in (restarting air kept) ≡ newest_in air
-restart_newest air true = ap (newest_past air) (past-having air.life (RestartCentre true))
-restart_newest air false = ap (newest_past air) (past-having air.life (RestartCentre false))
 
 -- a restart more, over a store that tells its bytes
 restart_no_newer : (net : Net) (before : Stand) (text : List ℕ) (after : Stand) → PlaysRestart net true before text after → Follows net after.opening

@@ -24,7 +24,7 @@ use Rattle.bt_script.specs.declared.script.Item.TheVariants as item
 use Rattle.bt_script.specs.declared.script.Round.{Round}
 use Rattle.bt_timeline.specs.Timeline.{restart_line, round_line, start_line}
 use Rattle.bt_centre.specs.declared.history.History.{History}
-use Rattle.bt_round.specs.AirLines.{AirState, events_in, hearing, mark_of, opening_in, restarting}
+use Rattle.bt_round.specs.AirLines.{AirState, Simulated, Apart, events_in, hearing, mark_of, opening_in, restarting}
 use Rattle.bt_round.specs.Desks.{IsNotOlder, Sight}
 use Rattle.bt_round.specs.Rounds.{BookRan, LastOn, RoundDone, newest_at}
 use Rattle.bt_report.specs.Output.{Output}
@@ -47,6 +47,11 @@ history_in hand = record { before = hand.before; entries = hand.book.history }
 -- the histories of all times
 abbrev pub histories_in : Hand → List History
 histories_in hand = hand.over ++ history_in hand ∷ []
+
+-- the sites of an air are together: it is a simulated one
+abbrev pub IsTogether : AirState → Type 0
+IsTogether (Simulated a) = Unit {0}
+IsTogether (Apart a) = ⊥
 
 -- the line of a start
 abbrev pub start_of : Hand → List ℕ

@@ -2,6 +2,7 @@
 use Rattle.std.specs.Prelude.{◌≡◌, ◌⊎◌, ℕ, ◌&&◌, if◌then◌else◌, nat_lt, length, codes, List, [], ◌∷◌, Option, Some, None}
 use Rattle.std.specs.Str.{bytes_eq}
 use Rattle.bt_net.specs.Network.{Net, IsSound}
+use Rattle.bt_apart.specs.declared.sites.Sites.TheVariants.{Together}
 use Rattle.bt_report.specs.Faults.{SaysFaultyWords}
 use Rattle.bt_report.specs.Input.{Input, FilesFailed}
 use Rattle.bt_report.specs.Outcome.{Outcome}
@@ -38,7 +39,7 @@ SaysStop talk OutOfMemory status = SaysNothing talk status
 abbrev pub EndsOn : Input → Talked → Stored → List ℕ → End → Type 0
 EndsOn input talk stored net end =
     (BeginsNoRun stored end × SaysOneOf talk (StopsAtLoad network_file input.told (FilesFailed input) net) end.status)
-    ⊎ ((network : Net) × IsLoaded network_file input.told net network × IsSound network × SessionTo network talk stored end.status end.histories end.events)
+    ⊎ ((network : Net) × IsLoaded network_file input.told net network × IsSound network × SessionTo network Together talk stored end.status end.histories end.events)
 
 -- how a session ends whose words ask for these files, or for none
 abbrev pub EndsLive : Input → Talked → Stored → Option (List ℕ × List ℕ) → End → Type 0

@@ -13,6 +13,7 @@ ghost use Rattle.bt_cli.specs.Complete.{IsDone, NothingFails, TellsChanges};
 ghost use Rattle.bt_cli.specs.Live.{EndsLive, EndsOn, SaysOneOf, SaysStop, live_request, live_words};
 ghost use Rattle.bt_cli.specs.Run.{End};
 
+use bt_apart::Sites;
 use bt_book::journals_tell_one_thing;
 use bt_centre::{NoGate, SessionEnd, run_session, say_text};
 use bt_demand::links_tell_demands;
@@ -105,7 +106,15 @@ fn live_on<R: Threads + Wait + Sync, F: Files, T: Talk<K>, K: Keeper + Send>(
         Ok(network) => {
             // This is there for what holds of each network: it is sound.
             let _beams = network.beam_count();
-            run_session(rt, alloc, &network, &NoGate, talk, store)
+            run_session(
+                rt,
+                alloc,
+                &network,
+                Sites::Together,
+                &NoGate,
+                talk,
+                store,
+            )
         }
         Err(stop) => {
             let status = say_stop(alloc, stop, talk, &store);
