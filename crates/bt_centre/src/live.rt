@@ -128,7 +128,6 @@ impl<K: Keeper> Live<K> {
         let station = &self.run.station;
         tell(alloc, net, &station.book, &station.centre, query)
     }
-
 }
 
 /// The book hands its entries over to the log, where its store has not failed.

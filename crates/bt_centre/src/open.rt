@@ -141,9 +141,7 @@ fn open_air<K: Keeper, E: Events>(
             let world = WorldOver::start(alloc, net, plans, orders)?;
             Ok(CentreWorker::simulated(alloc, world))
         }
-        Sites::Apart => Ok(CentreWorker::apart(ApartCentre::start(
-            alloc, net, plans, orders,
-        )?)),
+        Sites::Apart => Ok(CentreWorker::apart(ApartCentre::start(alloc, net, plans, orders)?)),
     }
 }
 
