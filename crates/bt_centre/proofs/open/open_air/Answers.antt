@@ -2,7 +2,7 @@
 use Rattle.std.proofs.Common.{rules, arith}
 use Rattle.bt_net.specs.Network.{IsSound}
 use Rattle.bt_centre.proofs.Opens.{opens_with_copies}
-use Rattle.bt_centre.proofs.open.open_world.Goals as goal
+use Rattle.bt_centre.proofs.open.open_air.Goals as goal
 
 pub start-requires : goal.start-requires
 start-requires g c =
