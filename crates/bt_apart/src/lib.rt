@@ -8,7 +8,5 @@
 mod centre;
 mod hear;
 mod say;
-mod sites;
 
 pub use centre::ApartCentre;
-pub use sites::Sites;

@@ -9,6 +9,8 @@ use Rattle.bt_outside.specs.declared.sink.SinkFault.{SinkFault}
 use Rattle.bt_outside.specs.declared.sink.SinkFault.TheVariants as sink
 use Rattle.bt_outside.specs.Told.{GainsPrefix, Rose, gained}
 use Rattle.bt_net.specs.Network.{Net}
+use Rattle.bt_apart.specs.declared.sites.Sites.{Sites}
+use Rattle.bt_apart.specs.declared.sites.Sites.TheVariants.{Together}
 use Rattle.bt_air.specs.declared.event.Event.{Event}
 use Rattle.bt_journal.specs.declared.call.Change.{Change}
 use Rattle.bt_journal.specs.declared.entry.Entry.{Entry}
@@ -21,6 +23,7 @@ use Rattle.bt_history.specs.Changes.{installs}
 use Rattle.bt_history.specs.Recovery.{MaybeRecovered}
 use Rattle.bt_history.specs.Store.{IsKept, lost_of}
 use Rattle.bt_events.specs.Event.{Opening}
+use Rattle.bt_round.specs.AirLines.{events_in, opening_in}
 use Rattle.bt_script.specs.declared.script.Item.{Item}
 use Rattle.bt_script.specs.declared.script.Item.TheVariants as item
 use Rattle.bt_timeline.specs.Timeline.{restart_line}
@@ -53,35 +56,35 @@ abbrev pub output_of : Option (List ℕ) → Option (List ℕ) → ℕ → ℕ �
 output_of before after faults now = record { before = before; after = after; faults_before = faults; faults_after = now }
 
 -- these parts were run
-unfoldable pub run_of : (net : Net) (begun : Books) (items : List Item) (hand : Hand) (lines : List ℕ) (histories : List History) (events : List Event) → AreGood net
-    → (so : ItemsDone net begun items hand lines) → histories ≡ histories_in hand → events ≡ hand.air.life.events
-    → IsRun net (is_some begun.told) begun.state.changes items histories events lines
-run_of net begun items hand lines histories events good so all same = record {
+unfoldable pub run_of : (net : Net) (sites : Sites) (begun : Books) (items : List Item) (hand : Hand) (lines : List ℕ) (histories : List History) (events : List Event) → AreGood net
+    → (so : ItemsDone net sites begun items hand lines) → histories ≡ histories_in hand → events ≡ events_in hand.air
+    → IsRun net sites (is_some begun.told) begun.state.changes items histories events lines
+run_of net sites begun items hand lines histories events good so all same = record {
   end = so.end;
   played = so.played;
   history = all ∙ same_histories so.end hand (sym so.over_is) so.so_far.before (sym so.history_is);
   legal = subst (AreLegalTimes net (is_some begun.told) begun.state.changes so.end.opening) (sym all) (legal_times net begun so.end.opening hand so.so_far);
-  events_are = same ∙ ap (λ (a : _). a.life.events) (sym so.air_is);
-  opened = ap (λ (a : _). a.life.opening) so.air_is ∙ so.so_far.world;
-  good = good (changes_at so.end) (subst (Follows net) (sym (changes_are net begun items hand lines so)) so.so_far.follow);
+  events_are = same ∙ ap events_in (sym so.air_is);
+  opened = ap opening_in so.air_is ∙ so.so_far.world;
+  good = good (changes_at so.end) (subst (Follows net) (sym (changes_are net sites begun items hand lines so)) so.so_far.follow);
 }
 
 -- the store is left as the book says
-pub left_of : (net : Net) (begun : Books) (items : List Item) (hand : Hand) (lines : List ℕ) (told : Option (List ℕ)) (faults : ℕ) (histories : List History)
-    → (so : ItemsDone net begun items hand lines) → told ≡ hand.book.told → faults ≡ hand.book.faults → histories ≡ histories_in hand
+pub left_of : (net : Net) (sites : Sites) (begun : Books) (items : List Item) (hand : Hand) (lines : List ℕ) (told : Option (List ℕ)) (faults : ℕ) (histories : List History)
+    → (so : ItemsDone net sites begun items hand lines) → told ≡ hand.book.told → faults ≡ hand.book.faults → histories ≡ histories_in hand
     → IsKept hand.book.net hand.book.told hand.book.state.changes (lost_of hand.book.history)
     → LeavesStore net (record { before = begun.told; after = told; faults_before = begun.faults; faults_after = faults }) histories so.end
-left_of net begun items hand lines told faults histories so told_is faults_are all kept = record {
+left_of net sites begun items hand lines told faults histories so told_is faults_are all kept = record {
   bytes = subst (λ (t : Option (List ℕ)). IsKept net t (changes_at so.end) (lost_of so.end.history)) (sym told_is)
       (subst (λ (h : List Entry). IsKept net hand.book.told (changes_at so.end) (lost_of h)) (sym so.history_is)
-      (subst (λ (c : List Change). IsKept net hand.book.told c (lost_of hand.book.history)) (sym (changes_are net begun items hand lines so))
+      (subst (λ (c : List Change). IsKept net hand.book.told c (lost_of hand.book.history)) (sym (changes_are net sites begun items hand lines so))
       (subst (λ (n : Net). IsKept n hand.book.told hand.book.state.changes (lost_of hand.book.history)) so.so_far.network kept)));
   count = rose_still (length (lost_in (histories_in hand))) (length (lost_in histories)) begun.faults hand.book.faults faults (ap (λ (l : List History). length (lost_in l)) all) so.so_far.count
       (omega (arith, faults_are));
 }
 
 -- the world in which a run stops
-pub world_of : (net : Net) (begun : Books) (opening : List Change) (hand : Hand) (events : List Event) → IsLegalHand net begun opening hand → IsSpelledWorld hand.air.life.opening (reverse events)
+pub world_of : (net : Net) (begun : Books) (opening : List Change) (hand : Hand) (events : List Event) → IsLegalHand net begun opening hand → IsSpelledWorld (opening_in hand.air) (reverse events)
     → IsSpelledWorld (opening_on net begun.state.changes) (reverse events)
 world_of net begun opening hand events so world = subst (λ (o : Opening). IsSpelledWorld o (reverse events)) so.world world
 
@@ -95,7 +98,7 @@ ended_early net items output begun opening old left status so is status_is = rec
 
 -- the sink failed over a text
 ended_partly : (net : Net) (items first more : List Item) (output : Output) (begun : Books) (hand : Hand) (lines : List ℕ) (left : Left) (status : ℕ) → AreGood net
-    → items ≡ first ++ more → (so : ItemsDone net begun first hand lines) → IsLeftOf hand left → Rose output.faults_before output.faults_after
+    → items ≡ first ++ more → (so : ItemsDone net Together begun first hand lines) → IsLeftOf hand left → Rose output.faults_before output.faults_after
     → WritesPart net (is_some begun.told) begun.state.changes first more output lines left.histories so.end → status ≡ 6 → PartsEnded net items output begun left status
 unfolding run_of
 ended_partly net items first more output begun hand lines left status good parts so is failed written status_is = record {
@@ -105,8 +108,8 @@ ended_partly net items first more output begun hand lines left status good parts
     more = more;
     lines = lines;
     parts = parts;
-    run = run_of net begun first hand lines left.histories left.events good so is.histories is.events;
-    left = left_of net begun first hand lines left.told left.faults left.histories so is.told is.faults is.histories is.kept;
+    run = run_of net Together begun first hand lines left.histories left.events good so is.histories is.events;
+    left = left_of net Together begun first hand lines left.told left.faults left.histories so is.told is.faults is.histories is.kept;
     failed = failed;
     written = written;
     status_is = status_is;
@@ -115,7 +118,7 @@ ended_partly net items first more output begun hand lines left status good parts
 
 -- a text was not written
 pub not_written : (net : Net) (items first more : List Item) (output : Output) (begun : Books) (hand : Hand) (lines : List ℕ) (left : Left) (why : SinkFault) (status : ℕ) → AreGood net
-    → items ≡ first ++ more → (so : ItemsDone net begun first hand lines) → IsLeftOf hand left → (why ≡ sink.Failed → Rose output.faults_before output.faults_after)
+    → items ≡ first ++ more → (so : ItemsDone net Together begun first hand lines) → IsLeftOf hand left → (why ≡ sink.Failed → Rose output.faults_before output.faults_after)
     → (why ≡ sink.Failed → WritesPart net (is_some begun.told) begun.state.changes first more output lines left.histories so.end)
     → (why ≡ sink.OutOfMemory → status ≡ 1) → (why ≡ sink.Failed → status ≡ 6) → PartsEnded net items output begun left status
 not_written net items first more output begun hand lines left sink.OutOfMemory status good parts so is failed written early partly =
@@ -125,15 +128,15 @@ not_written net items first more output begun hand lines left sink.Failed status
 
 -- all was written
 pub ended_whole : (net : Net) (items : List Item) (output : Output) (begun : Books) (hand : Hand) (lines : List ℕ) (left : Left) (status : ℕ) → AreGood net
-    → ItemsDone net begun items hand lines → IsLeftOf hand left → output.after ≡ gained output.before (whole_text net begun.state.changes lines left.histories)
+    → ItemsDone net Together begun items hand lines → IsLeftOf hand left → output.after ≡ gained output.before (whole_text net begun.state.changes lines left.histories)
     → status ≡ status_after left.histories → PartsEnded net items output begun left status
 unfolding run_of
 ended_whole net items output begun hand lines left status good so is written status_is = record {
   world = world_of net begun so.end.opening hand left.events so.so_far is.world;
   ends = inr (inl (record {
     lines = lines;
-    run = run_of net begun items hand lines left.histories left.events good so is.histories is.events;
-    left = left_of net begun items hand lines left.told left.faults left.histories so is.told is.faults is.histories is.kept;
+    run = run_of net Together begun items hand lines left.histories left.events good so is.histories is.events;
+    left = left_of net Together begun items hand lines left.told left.faults left.histories so is.told is.faults is.histories is.kept;
     written = written;
     status_is = status_is;
   }));
@@ -188,7 +191,7 @@ ended_at_restart net items index begun old left before between after f0 f1 f2 fa
       world = is.world;
     }) early
 ended_at_restart net items index begun old left before between after f0 f1 f2 fault status good parts so later is (inr (named, printed)) =
-    let front = first_line net begun.state.changes in
+    let front = first_line net Together begun.state.changes in
     record {
       world = world_of net begun so.done.end.opening old left.events so.done.so_far is.world;
       ends = inr (inr (inr (record {
@@ -196,10 +199,10 @@ ended_at_restart net items index begun old left before between after f0 f1 f2 fa
         more = drop (index + 1) items;
         lines = so.lines;
         parts = parts;
-        run = run_of net begun (take index items) old so.lines left.histories left.events good so.done is.histories is.events;
+        run = run_of net Together begun (take index items) old so.lines left.histories left.events good so.done is.histories is.events;
         told = old.book.told;
         faults = old.book.faults;
-        left = left_of net begun (take index items) old so.lines old.book.told old.book.faults left.histories so.done refl refl is.histories is.kept;
+        left = left_of net Together begun (take index items) old so.lines old.book.told old.book.faults left.histories so.done refl refl is.histories is.kept;
         fault = fault;
         failed = is.failed;
         later = is.later;
@@ -222,12 +225,12 @@ not_played net items index one begun old left before between after f0 f1 f2 faul
     ended_at_restart net items index begun old left before between after f0 f1 f2 fault status good (parts_at items index one within is restart) so later at printed
 
 -- the first line was not written
-pub not_begun : (net : Net) (items : List Item) (hand : Hand) (left : Left) (why : SinkFault) (before after : Option (List ℕ)) (f0 f2 : ℕ) (status : ℕ) → AreGood net → IsBegun net hand → IsLeftOf hand left
+pub not_begun : (net : Net) (items : List Item) (hand : Hand) (left : Left) (why : SinkFault) (before after : Option (List ℕ)) (f0 f2 : ℕ) (status : ℕ) → AreGood net → IsBegun net Together hand → IsLeftOf hand left
     → (why ≡ sink.Failed → Rose f0 f2) → (why ≡ sink.Failed → GainsPrefix before (start_of hand) after) → (why ≡ sink.OutOfMemory → status ≡ 1) → (why ≡ sink.Failed → status ≡ 6)
     → PartsEnded net items (output_of before after f0 f2) hand.book left status
 not_begun net items hand left why before after f0 f2 status good begun is failed gains early partly =
-    not_written net items [] items (output_of before after f0 f2) hand.book hand [] left why status good refl (items_begin net hand begun) is failed
-    (λ so. inl (refl, subst (λ (t : List ℕ). GainsPrefix before t after) (start_is net hand begun) (gains so))) early partly
+    not_written net items [] items (output_of before after f0 f2) hand.book hand [] left why status good refl (items_begin net Together hand begun) is failed
+    (λ so. inl (refl, subst (λ (t : List ℕ). GainsPrefix before t after) (start_is net Together hand begun) (gains so))) early partly
 
 -- a part was played, and its text was not written
 pub not_shown : (net : Net) (items : List Item) (index : ℕ) (one : Item) (begun : Books) (old new : Hand) (own : List ℕ) (left : Left) (why : SinkFault) (before between after : Option (List ℕ)) (f0 f1 f2 : ℕ) (status : ℕ)
@@ -235,7 +238,7 @@ pub not_shown : (net : Net) (items : List Item) (index : ℕ) (one : Item) (begu
     → (why ≡ sink.Failed → Rose f1 f2) → (why ≡ sink.Failed → GainsPrefix between own after) → (why ≡ sink.OutOfMemory → status ≡ 1) → (why ≡ sink.Failed → status ≡ 6)
     → PartsEnded net items (output_of before after f0 f2) begun left status
 not_shown net items index one begun old new own left why before between after f0 f1 f2 status good within is so later played left_is failed gains early partly =
-    let further = item_goes_further net begun (take index items) one old new so.lines own so.done played in
+    let further = item_goes_further net Together begun (take index items) one old new so.lines own so.done played in
     not_written net items (take index items ++ one ∷ []) (drop (index + 1) items) (output_of before after f0 f2) begun new (so.lines ++ own) left why status good
     (sym (take-append-drop (index + 1) items) ∙ ap (λ (l : List Item). l ++ drop (index + 1) items) (next_parts items index one within is))
     further.done left_is (λ stopped. rose_from f0 f1 f2 later (failed stopped))
@@ -267,7 +270,7 @@ pub totalled : (net : Net) (items : List Item) (begun : Books) (hand : Hand) (le
     → AreGood net → ItemsWritten net begun items hand before between → IsLeftOf hand left → after ≡ gained between (total_of (entries_of left.histories)) → status ≡ status_after left.histories
     → PartsEnded net items (output_of before after f0 f2) begun left status
 totalled net items begun hand left before between after f0 f2 status good so left_is wrote status_is =
-    let front = first_line net begun.state.changes in
+    let front = first_line net Together begun.state.changes in
     let total = total_of (entries_of left.histories) in
     ended_whole net items (output_of before after f0 f2) begun hand so.lines left status good so.done left_is
     (wrote ∙ ap (λ (t : Option (List ℕ)). gained t total) so.wrote ∙ gained-append before (front ++ so.lines) total) status_is

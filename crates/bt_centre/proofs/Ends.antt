@@ -3,6 +3,8 @@ use Rattle.std.proofs.Common.{◌≡◌, ℕ, ◌≤◌, Bool, inl, inr, List, [
 use Rattle.std.specs.Prelude.{IfSome, option_map}
 use Rattle.std.specs.Option.{is_some}
 use Rattle.bt_net.specs.Network.{Net}
+use Rattle.bt_apart.specs.declared.sites.Sites.{Sites}
+use Rattle.bt_apart.specs.declared.sites.Sites.TheVariants.{Together}
 use Rattle.bt_air.specs.declared.event.Event.{Event}
 use Rattle.bt_demand.specs.declared.burst.Burst.{Burst}
 use Rattle.bt_journal.specs.declared.call.Change.{Change}
@@ -53,11 +55,11 @@ pub leaves_from : (net : Net) (told given after : Option (List ℕ)) (faults beg
 leaves_from net told given after faults begun now histories end later left = record { bytes = left.bytes; count = rose_since (length (lost_in histories)) faults begun now later left.count }
 
 -- a run over a store is one over another that tells its bytes where that one does
-unfoldable pub run_over : (net : Net) (tells other : Bool) (opening : List Change) (items : List Item) (histories : List History) (events : List Event) (lines : List ℕ) → tells ≡ other
-    → IsRun net tells opening items histories events lines → IsRun net other opening items histories events lines
-run_over net tells other opening items histories events lines same run = record {
+unfoldable pub run_over : (net : Net) (sites : Sites) (tells other : Bool) (opening : List Change) (items : List Item) (histories : List History) (events : List Event) (lines : List ℕ) → tells ≡ other
+    → IsRun net sites tells opening items histories events lines → IsRun net sites other opening items histories events lines
+run_over net sites tells other opening items histories events lines same run = record {
   end = run.end;
-  played = subst (λ (b : Bool). PlaysItems net b (at_start net opening) items lines run.end) same run.played;
+  played = subst (λ (b : Bool). PlaysItems net b (at_start net sites opening) items lines run.end) same run.played;
   history = run.history;
   legal = subst (λ (b : Bool). AreLegalTimes net b opening run.end.opening histories) same run.legal;
   events_are = run.events_are;
@@ -86,7 +88,7 @@ ends_from net items output told given after faults begun now opening status hist
 })
 ends_from net items output told given after faults begun now opening status histories events tells later (inr (inl whole)) = inr (inl (record {
   lines = whole.lines;
-  run = run_over net (is_some told) (is_some given) opening items histories events whole.lines tells whole.run;
+  run = run_over net Together (is_some told) (is_some given) opening items histories events whole.lines tells whole.run;
   left = leaves_from net told given after faults begun now histories whole.run.end later whole.left;
   written = whole.written;
   status_is = whole.status_is;
@@ -96,7 +98,7 @@ ends_from net items output told given after faults begun now opening status hist
   more = part.more;
   lines = part.lines;
   parts = part.parts;
-  run = run_over net (is_some told) (is_some given) opening part.first histories events part.lines tells part.run;
+  run = run_over net Together (is_some told) (is_some given) opening part.first histories events part.lines tells part.run;
   left = leaves_from net told given after faults begun now histories part.run.end later part.left;
   failed = part.failed;
   written = subst (λ (t : Bool). WritesPart net t opening part.first part.more output part.lines histories part.run.end) tells part.written;
@@ -107,7 +109,7 @@ ends_from net items output told given after faults begun now opening status hist
   more = fails.more;
   lines = fails.lines;
   parts = fails.parts;
-  run = run_over net (is_some told) (is_some given) opening fails.first histories events fails.lines tells fails.run;
+  run = run_over net Together (is_some told) (is_some given) opening fails.first histories events fails.lines tells fails.run;
   told = fails.told;
   faults = fails.faults;
   left = leaves_from net told given fails.told faults begun fails.faults histories fails.run.end later fails.left;
@@ -120,7 +122,7 @@ ends_from net items output told given after faults begun now opening status hist
 })))
 
 -- the run, from what its store told
-pub runs_from : AreFlown → AreSafe → (net : Net) (script : Script) (output : Output) (given : Option (List ℕ)) (faults : ℕ) (hand : Hand) (left : Left) (status : ℕ) → IsBegun net hand
+pub runs_from : AreFlown → AreSafe → (net : Net) (script : Script) (output : Output) (given : Option (List ℕ)) (faults : ℕ) (hand : Hand) (left : Left) (status : ℕ) → IsBegun net Together hand
     → hand.book.told ≡ option_map (marked net) given → IfSome given (λ bytes. Recovered net bytes hand.book.state.changes) → IsReadable given → faults ≤ hand.book.faults
     → PartsEnded net script.items output hand.book left status → RunsFrom net script output (stored_from given left.told faults left.faults) status left.histories left.events
 runs_from flown safe net script output given faults hand left status begun told changes readable later ended = record {

@@ -2,6 +2,8 @@
 use Rattle.std.proofs.Common.{◌≡◌, ℕ, List, [], ◌∷◌, ◌++◌, length, reverse, refl, sym, ap, ◌∙◌, subst, arith, inl}
 use Rattle.std.specs.Option.{is_some}
 use Rattle.bt_net.specs.Network.{Net}
+use Rattle.bt_bus.specs.declared.heard.BusLine.{BusLine}
+use Rattle.bt_apart.specs.declared.sites.Sites.{Sites}
 use Rattle.bt_journal.specs.declared.call.Change.{Change}
 use Rattle.bt_journal.specs.declared.entry.Entry.{Entry}
 use Rattle.bt_history.specs.Book.{Books}
@@ -12,12 +14,13 @@ use Rattle.bt_history.specs.Recovery.{MaybeRecovered}
 use Rattle.bt_history.specs.Store.{IsKept, RoseBy, lost_of}
 use Rattle.bt_history.proofs.Histories.{state_from-none}
 use Rattle.bt_centre.specs.declared.history.History.{History}
-use Rattle.bt_round.specs.AirLines.{AirState}
+use Rattle.bt_round.specs.AirLines.{hearing, opening_in}
 use Rattle.bt_round.specs.Rounds.{BookRan}
 use Rattle.bt_round.proofs.Closing.{ran_nothing}
 use Rattle.bt_events.specs.Event.{Opening}
 use Rattle.bt_centre.specs.Progress.{GoesOn, Hand, IsBegun, IsLeftEarly, IsLeftOf, IsLegalHand, Left, RestartPlayed, histories_in, history_in}
-use Rattle.bt_centre.specs.Run.{AreLegalTimes, AreTimes, BreaksOff, IsLegalHistory, lost_in}
+use Rattle.bt_centre.specs.Run.{AreLegalTimes, AreTimes, BreaksOff, IsLegalHistory, lost_in, opening_on}
+use Rattle.bt_centre.proofs.Airs.{opening_hearing, opening_restarting, opening_start}
 use Rattle.bt_centre.proofs.Times.{lost_count, lost_more, next_time, rose_on, rose_still, times_more}
 use Rattle.bt_centre.specs.World.{IsSpelledWorld}
 
@@ -52,8 +55,8 @@ left_on old hand left goes is = record {
 }
 
 -- a run at its start
-pub legal_begins : (net : Net) (hand : Hand) → IsBegun net hand → IsLegalHand net hand.book hand.book.state.changes hand
-legal_begins net hand begun = record {
+pub legal_begins : (net : Net) (sites : Sites) (hand : Hand) → IsBegun net sites hand → IsLegalHand net hand.book hand.book.state.changes hand
+legal_begins net sites hand begun = record {
   network = begun.network;
   before = begun.before;
   times = subst (λ (over : List History). AreTimes net (is_some hand.book.told) hand.book.state.changes over hand.book.state.changes) (sym begun.over) refl;
@@ -68,7 +71,7 @@ legal_begins net hand begun = record {
     ap (λ (l : List Entry). length (lost_of l)) begun.none,
   ));
   tells = refl;
-  world = ap (λ (air : AirState). air.life.opening) begun.air;
+  world = ap opening_in begun.air ∙ opening_start sites (opening_on net hand.book.state.changes);
 }
 
 -- the run goes on in the present time
@@ -121,8 +124,24 @@ legal_restarts net begun opening old new text played so =
             ap (λ (l : List Entry). length (lost_of l)) played.none,
           )) so.count played.later;
       tells = played.tells ∙ so.tells;
-      world = ap (λ (air : AirState). air.life.opening) played.centre.restarts ∙ so.world;
+      world = ap opening_in played.centre.restarts ∙ opening_restarting old.air played.centre.kept ∙ so.world;
     }
+
+-- the centre heard a line of the bus
+pub legal_hears : (net : Net) (begun : Books) (opening : List Change) (old new : Hand) (line : BusLine) → new ≡ record old { air = hearing old.air line } → IsLegalHand net begun opening old
+    → IsLegalHand net begun opening new
+legal_hears net begun opening old new line is so = subst (IsLegalHand net begun opening) (sym is) (record {
+  network = so.network;
+  before = so.before;
+  times = so.times;
+  opens = so.opens;
+  legal = so.legal;
+  reached = so.reached;
+  follow = so.follow;
+  count = so.count;
+  tells = so.tells;
+  world = opening_hearing old.air line ∙ so.world;
+})
 
 -- memory ran out over a part of a legal run
 pub breaks_off : (net : Net) (begun : Books) (opening : List Change) (old : Hand) (left : Left) (status : ℕ) → IsLegalHand net begun opening old → IsLeftEarly old left → status ≡ 1

@@ -3,8 +3,7 @@ use Rattle.std.proofs.Common.{◌≡◌, ◌≢◌, ℕ, ◌+◌, Bool, true, fa
 use Rattle.bt_air.specs.declared.order.Order.{Order}
 use Rattle.bt_journal.specs.declared.call.Change.{Change}
 use Rattle.bt_history.specs.Changes.{orders}
-use Rattle.bt_events.specs.World.{wanted}
-use Rattle.bt_round.specs.AirLines.{AirState, happened, orders_in}
+use Rattle.bt_round.specs.AirLines.{AirState, orders_in, wanted_in}
 use Rattle.bt_centre.specs.Progress.{TellsJoined}
 use Rattle.bt_centre.specs.Run.{JoinsOrder}
 
@@ -21,7 +20,7 @@ some_none : {a : Order} → (let x : Option Order = Some a in x) ≡ None → �
 some_none is = cc
 
 -- the centre wanted that order
-pub joins_wanted : (air : AirState) (changes : List Change) (order : Order) (placed : ℕ) (result : Bool) → wanted (happened air) ≡ Some order → placed ≡ length (orders_in air)
+pub joins_wanted : (air : AirState) (changes : List Change) (order : Order) (placed : ℕ) (result : Bool) → wanted_in air ≡ Some order → placed ≡ length (orders_in air)
     → TellsJoined changes placed order result → JoinsOrder air changes result
 joins_wanted air changes order placed true asked is joined = record {
   order = order;
@@ -37,5 +36,5 @@ joins_wanted air changes order placed false asked is apart = λ joining.
     })
 
 -- the centre wanted none
-pub joins_none : (air : AirState) (changes : List Change) → wanted (happened air) ≡ None → JoinsOrder air changes false
+pub joins_none : (air : AirState) (changes : List Change) → wanted_in air ≡ None → JoinsOrder air changes false
 joins_none air changes none = λ joining. absurd (some_none (sym joining.asked ∙ none))

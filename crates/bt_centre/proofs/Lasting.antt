@@ -5,6 +5,7 @@ use Rattle.std.proofs.lemmas.List.{append-nil}
 use Rattle.bt_outside.specs.Crash.{Crashes}
 use Rattle.bt_outside.specs.Talk.{Shown}
 use Rattle.bt_net.specs.Network.{Net}
+use Rattle.bt_apart.specs.declared.sites.Sites.{Sites}
 use Rattle.bt_air.specs.declared.event.Event.{Event}
 use Rattle.bt_journal.specs.declared.call.Change.{Change}
 use Rattle.bt_journal.specs.declared.entry.Entry.{Entry}
@@ -53,6 +54,7 @@ grows_item net tells before after item.Restart text is played =
       more = grown.more;
       parts = ap (λ (h : List Entry). after.opening ++ changes_of h) played.none ∙ append-nil after.opening ∙ grown.parts;
     }
+grows_item net tells before after (item.Heard line) text is played = grows_none (changes_at before) (changes_at after) (ap changes_at played.1)
 
 grows_step : (net : Net) (tells : Bool) (before after : Stand) (stp : Step) (text : List ℕ) → tells ≡ true → PlaysStep net tells before stp text after → Grows (changes_at before) (changes_at after)
 grows_step net tells before after (step.Plays one) text is played = grows_item net tells before after one text is played
@@ -61,32 +63,32 @@ grows_step net tells before after (step.Fault code) text is played = grows_none 
 grows_step net tells before after (step.Tells one) text is played = grows_none (changes_at before) (changes_at after) (ap changes_at played.1)
 
 -- the first of them
-lasts_first : (net : Net) (tells : Bool) (at : ℕ) (block : Open) (before : Stand) (shown : Shown) (exchanges : List Exchange) (after : Stand) (played : PlaysLines net tells at block before shown exchanges after)
-    (end : Option Crashes) → EachLasts net tells at block before shown exchanges after played end → Last net (changes_at before) shown.crashes end
-lasts_first net tells at block before shown [] after played end each = each
-lasts_first net tells at block before shown (first ∷ exchanges) after played end each = each.0
+lasts_first : (net : Net) (sites : Sites) (tells : Bool) (at : ℕ) (block : Open) (before : Stand) (shown : Shown) (exchanges : List Exchange) (after : Stand) (played : PlaysLines net sites tells at block before shown exchanges after)
+    (end : Option Crashes) → EachLasts net sites tells at block before shown exchanges after played end → Last net (changes_at before) shown.crashes end
+lasts_first net sites tells at block before shown [] after played end each = each
+lasts_first net sites tells at block before shown (first ∷ exchanges) after played end each = each.0
 
 -- what lasts behind the last of them makes that each does
-lasts_each : (net : Net) (tells : Bool) (at : ℕ) (block : Open) (before : Stand) (shown : Shown) (exchanges : List Exchange) (after : Stand) (end : Option Crashes) → tells ≡ true
-    → (played : PlaysLines net tells at block before shown exchanges after) → Last net (changes_at after) (shown_behind shown exchanges).crashes end
-    → EachLasts net tells at block before shown exchanges after played end
-lasts_each net tells at block before shown [] after end is played last = subst (λ (s : Stand). Last net (changes_at s) shown.crashes end) played last
-lasts_each net tells at block before shown (first ∷ exchanges) after end is (next, own, played, going, text_is, shows, lasts) last =
-    let rest_block = (row_of net block first.line).0 in
-    let grown = grows_step net tells before next (row_of net block first.line).1 own is played in
-    let rest = lasts_each net tells (at + 1) rest_block next first.shown exchanges after end is going last in
-    let on = lasts_first net tells (at + 1) rest_block next first.shown exchanges after going end rest in
+lasts_each : (net : Net) (sites : Sites) (tells : Bool) (at : ℕ) (block : Open) (before : Stand) (shown : Shown) (exchanges : List Exchange) (after : Stand) (end : Option Crashes) → tells ≡ true
+    → (played : PlaysLines net sites tells at block before shown exchanges after) → Last net (changes_at after) (shown_behind shown exchanges).crashes end
+    → EachLasts net sites tells at block before shown exchanges after played end
+lasts_each net sites tells at block before shown [] after end is played last = subst (λ (s : Stand). Last net (changes_at s) shown.crashes end) played last
+lasts_each net sites tells at block before shown (first ∷ exchanges) after end is (next, own, played, going, text_is, shows, lasts) last =
+    let rest_block = (row_of net sites block first.line).0 in
+    let grown = grows_step net tells before next (row_of net sites block first.line).1 own is played in
+    let rest = lasts_each net sites tells (at + 1) rest_block next first.shown exchanges after end is going last in
+    let on = lasts_first net sites tells (at + 1) rest_block next first.shown exchanges after going end rest in
     let then = last_first net (changes_at before) grown.more first.shown.crashes end (subst (λ (c : List Change). Last net c first.shown.crashes end) grown.parts on) in
     (last_then net (changes_at before) shown.crashes first.shown.crashes end lasts then, rest)
 
 -- so it is in a session
-pub answered_lasts : (net : Net) (talk : Talked) (stored : Stored) (opening : List Change) (status : ℕ) (histories : List History) (events : List Event) → is_some stored.before ≡ true
-    → (ends : SessionEndsFrom net talk stored opening status histories events) → AnsweredLasts net talk stored opening status histories events ends
-answered_lasts net talk stored opening status histories events tells (inl breaks) =
-    lasts_each net (is_some stored.before) 1 None (at_start net opening) breaks.start breaks.exchanges breaks.stand talk.store.crashes tells breaks.played breaks.lasts
-answered_lasts net talk stored opening status histories events tells (inr (inl whole)) =
-    lasts_each net (is_some stored.before) 1 None (at_start net opening) whole.start whole.exchanges whole.session.run.end talk.store.crashes tells whole.session.played whole.lasts
-answered_lasts net talk stored opening status histories events tells (inr (inr (inl unsaid))) =
-    lasts_each net (is_some stored.before) 1 None (at_start net opening) unsaid.start unsaid.exchanges unsaid.session.run.end talk.store.crashes tells unsaid.session.played unsaid.lasts
-answered_lasts net talk stored opening status histories events tells (inr (inr (inr until))) =
-    lasts_each net (is_some stored.before) 1 None (at_start net opening) until.start until.exchanges until.session.run.end talk.store.crashes tells until.session.played until.lasts
+pub answered_lasts : (net : Net) (sites : Sites) (talk : Talked) (stored : Stored) (opening : List Change) (status : ℕ) (histories : List History) (events : List Event) → is_some stored.before ≡ true
+    → (ends : SessionEndsFrom net sites talk stored opening status histories events) → AnsweredLasts net sites talk stored opening status histories events ends
+answered_lasts net sites talk stored opening status histories events tells (inl breaks) =
+    lasts_each net sites (is_some stored.before) 1 None (at_start net sites opening) breaks.start breaks.exchanges breaks.stand talk.store.crashes tells breaks.played breaks.lasts
+answered_lasts net sites talk stored opening status histories events tells (inr (inl whole)) =
+    lasts_each net sites (is_some stored.before) 1 None (at_start net sites opening) whole.start whole.exchanges whole.session.run.end talk.store.crashes tells whole.session.played whole.lasts
+answered_lasts net sites talk stored opening status histories events tells (inr (inr (inl unsaid))) =
+    lasts_each net sites (is_some stored.before) 1 None (at_start net sites opening) unsaid.start unsaid.exchanges unsaid.session.run.end talk.store.crashes tells unsaid.session.played unsaid.lasts
+answered_lasts net sites talk stored opening status histories events tells (inr (inr (inr until))) =
+    lasts_each net sites (is_some stored.before) 1 None (at_start net sites opening) until.start until.exchanges until.session.run.end talk.store.crashes tells until.session.played until.lasts

@@ -113,6 +113,9 @@ lawful_before net first before (item.Round round) text after played so = record 
 lawful_before net first before item.Restart text after played so =
     let last = last_time net first before.over (history_at before) after.opening (subst (λ (l : List History). AreTimes net true first l after.opening) played.over so.times) in
     lawful_at net first before after.opening last (restart_opening net before after first played.next last)
+lawful_before net first before (item.Heard line) text after played so =
+    let there = subst (IsLawful net first) played.1 so in
+    record { times = there.times; follow = there.follow; legal = there.legal }
 
 -- before parts
 pub lawful_from : (net : Net) (first : List Change) (before : Stand) (items : List Item) (text : List ℕ) (after : Stand) → PlaysItems net true before items text after

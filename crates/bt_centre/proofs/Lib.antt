@@ -1,4 +1,6 @@
 pub mod Times
+pub mod Airs
+pub mod Together
 pub mod Going
 pub mod Restarts
 pub mod Played

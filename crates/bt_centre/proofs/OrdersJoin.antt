@@ -6,10 +6,11 @@ use Rattle.std.proofs.Math.Seq.{get_or-append_seam}
 use Rattle.std.proofs.lemmas.List.{append-nil, length-append, length-reverse, reverse-append}
 use Rattle.std.proofs.lemmas.List.Elements.{filter_map-append}
 use Rattle.bt_net.specs.Network.{Net}
+use Rattle.bt_apart.specs.declared.sites.Sites.{Sites}
+use Rattle.bt_apart.specs.declared.sites.Sites.TheVariants.{Together, Apart}
+use Rattle.bt_bus.specs.declared.heard.BusLine.{BusLine}
 use Rattle.bt_air.specs.declared.event.Event.{Event}
 use Rattle.bt_air.specs.declared.order.Order.{Order}
-use Rattle.bt_events.specs.Event.{RestartCentre}
-use Rattle.bt_events.specs.World.{orders as placed, wanted}
 use Rattle.bt_machines.specs.CentreSteps.{with_wanted}
 use Rattle.bt_journal.specs.declared.call.Change.{Change}
 use Rattle.bt_journal.specs.declared.entry.Entry.{Entry}
@@ -20,8 +21,7 @@ use Rattle.bt_history.specs.Store.{IsNextOpening, is_lost, lost_of}
 use Rattle.bt_script.specs.declared.script.Item.{Item}
 use Rattle.bt_script.specs.declared.script.Item.TheVariants as item
 use Rattle.bt_script.specs.declared.script.Round.{Round}
-use Rattle.bt_round.specs.AirLines.{AirState, happened, orders_in, restarting}
-use Rattle.bt_round.proofs.Running.{past-having}
+use Rattle.bt_round.specs.AirLines.{AirState, hearing, orders_in, restarting, wanted_in}
 use Rattle.bt_centre.specs.declared.history.History.{History}
 use Rattle.bt_centre.specs.Joining.{HasOrders, JoinsAsTold, JoinsNone, JoinsOne, JoinsWanted, PartHasOrders, RestartJoins}
 use Rattle.bt_report.specs.Output.{Output}
@@ -32,17 +32,11 @@ use Rattle.bt_centre.specs.Run.{AreLegalTimes, AreTimes, EndsFrom, IsJoining, Is
 use Rattle.bt_report.specs.Stored.{Stored}
 use Rattle.bt_centre.proofs.Joins.{some_same}
 use Rattle.bt_centre.proofs.Orderly.{AreOrderly, AreOrderly-calls, AreOrderly-first, AreOrderly-second, MakesNone-calls, no_order, none_behind_lost, not_both, one_order, orderly_steps, orders_lost, orders_made, round_asks_none, with_append, with_centre}
-use Rattle.bt_centre.proofs.OrdersPlayed.{Keeps, keeps_lines}
+use Rattle.bt_centre.proofs.OrdersPlayed.{Keeps, keeps_lines, restart_joins, restart_leaves, stays_bus}
 
 -- the orders of more changes stand behind the others
 orders-append : (a b : List Change) → orders (a ++ b) ≡ orders a ++ orders b
 orders-append a b = filter_map-append order_in a b
-
-restart_joins : (air : AirState) → orders_in (restarting air true) ≡ with_wanted (wanted (happened air)) (orders_in air)
-restart_joins air = ap (placed air.life.opening) (past-having air.life (RestartCentre true))
-
-restart_leaves : (air : AirState) → orders_in (restarting air false) ≡ orders_in air
-restart_leaves air = ap (placed air.life.opening) (past-having air.life (RestartCentre false))
 
 -- the order that was wanted joined
 joined_one : (before after : Stand) (joining : IsJoining before.air after.opening) → after.air ≡ restarting before.air true → JoinsOne before joining.order after
@@ -64,14 +58,18 @@ joins_wanted_at net tells before after text played = joins_wanted_if before afte
 -- A run stands here: the world has just the orders of the changes, and an order that the store lost in the present time is wanted.
 pub record IsHeld (stand : Stand) : Type 0 where
   pub has : HasOrders stand
-  pub lost : (order : Order) → orders_lost stand.history ≡ order ∷ [] → wanted (happened stand.air) ≡ Some order
+  pub lost : (order : Order) → orders_lost stand.history ≡ order ∷ [] → wanted_in stand.air ≡ Some order
+
+opens_orders : (opening : List Change) → reverse (orders opening) ≡ reverse (orders (opening ++ []))
+opens_orders opening = sym (ap (λ (c : List Change). reverse (orders c)) (append-nil opening))
 
 -- at the start of a run
-pub start_has : (net : Net) (opening : List Change) → HasOrders (at_start net opening)
-start_has net opening = sym (ap (λ (c : List Change). reverse (orders c)) (append-nil opening))
+pub start_has : (net : Net) (sites : Sites) (opening : List Change) → HasOrders (at_start net sites opening)
+start_has net Together opening = opens_orders opening
+start_has net Apart opening = opens_orders opening
 
-start_held : (net : Net) (opening : List Change) → IsHeld (at_start net opening)
-start_held net opening = record { has = start_has net opening; lost = λ order is. absurd (no_order [] order refl is) }
+start_held : (net : Net) (sites : Sites) (opening : List Change) → IsHeld (at_start net sites opening)
+start_held net sites opening = record { has = start_has net sites opening; lost = λ order is. absurd (no_order [] order refl is) }
 
 -- the entries of all callers do to the orders what those of the centre do
 round_keeps : (net : Net) (before : Stand) (round : Round) (text : List ℕ) (after : Stand) (played : PlaysRound net before round text after) → AreOrderly played.entries
@@ -100,7 +98,7 @@ round_changes net before round text after played =
 
 -- an order that was lost by the end of a round is wanted then
 round_wants : (before after : Stand) (entries : List Entry) (order : Order) → AreOrderly (before.history ++ entries) → Keeps entries before.air after.air → IsHeld before
-    → ((orders_lost before.history ≡ []) × (orders_lost entries ≡ order ∷ [])) ⊎ (orders_lost before.history ≡ order ∷ []) → wanted (happened after.air) ≡ Some order
+    → ((orders_lost before.history ≡ []) × (orders_lost entries ≡ order ∷ [])) ⊎ (orders_lost before.history ≡ order ∷ []) → wanted_in after.air ≡ Some order
 round_wants before after entries order so keeps held (inl now) = keeps.lost order now.1
 round_wants before after entries order so keeps held (inr earlier) = keeps.still (none_behind_lost before.history entries order so earlier) order (held.lost order earlier)
 
@@ -145,7 +143,7 @@ restart_none before after none is held (inr leaves) = record {
 }
 
 -- they have one more, which was wanted
-restart_one : (before after : Stand) (order : Order) → after.history ≡ [] → orders after.opening ≡ orders (changes_at before) ++ order ∷ [] → wanted (happened before.air) ≡ Some order
+restart_one : (before after : Stand) (order : Order) → after.history ≡ [] → orders after.opening ≡ orders (changes_at before) ++ order ∷ [] → wanted_in before.air ≡ Some order
     → IsHeld before → JoinsWanted before after → IsJoined before after
 restart_one before after order none is want held (inl joins) =
     let joining = joins.0 in
@@ -192,6 +190,12 @@ restart_by before after none (inr (one, lost, next)) held joins = restart_lost b
 restart_held : (net : Net) (before after : Stand) (text : List ℕ) → PlaysRestart net true before text after → IsHeld before → IsJoined before after
 restart_held net before after text played held = restart_by before after played.none played.next held (joins_wanted_at net true before after text played)
 
+-- a line of the bus more
+heard_held : (before : Stand) (line : BusLine) → IsHeld before → IsHeld (record before { air = hearing before.air line })
+heard_held before line held =
+    let stays = stays_bus before.air line in
+    record { has = stays.same ∙ held.has; lost = λ order is. stays.wants ∙ held.lost order is }
+
 -- the histories are orderly
 abbrev AreAllOrderly : List History → Type 0
 AreAllOrderly [] = Unit {0}
@@ -228,6 +232,7 @@ orderly_before net tells before (item.Round round) text after played so =
     AreAllOrderly-append before.over _ (subst AreAllOrderly played.over over)
     (AreOrderly-first before.history played.entries (subst AreOrderly played.kept present), tt)
 orderly_before net tells before item.Restart text after played so = subst AreAllOrderly played.over (AreAllOrderly-first after.over _ so)
+orderly_before net tells before (item.Heard line) text after played so = subst (λ (s : Stand). AreAllOrderly (histories_at s)) played.1 so
 
 orderly_from : (net : Net) (tells : Bool) (before : Stand) (items : List Item) (text : List ℕ) (after : Stand) → PlaysItems net tells before items text after
     → AreAllOrderly (histories_at after) → AreAllOrderly (histories_at before)
@@ -247,6 +252,8 @@ part_goes net before (item.Round round) text after played so held =
 part_goes net before item.Restart text after played so held =
     let joined = restart_held net before after text played held in
     record { held = joined.held; joins = joined.joined }
+part_goes net before (item.Heard line) text after played so held =
+    record { held = subst IsHeld (sym played.1) (heard_held before line held); joins = tt }
 
 parts_join : (net : Net) (before : Stand) (items : List Item) (text : List ℕ) (after : Stand) (played : PlaysItems net true before items text after)
     → AreAllOrderly (histories_at after) → IsHeld before → EachPart RestartJoins net true before items text after played
@@ -262,60 +269,60 @@ parts_have net before (first ∷ items) text after (between, own, others, one, m
     let part = part_goes net before first own between one (orderly_from net true between items others after more so) held in
     ((held.has, part.held.has), parts_have net between items others after more so part.held)
 
-run_joins : (net : Net) (tells : Bool) (opening : List Change) (items : List Item) (histories : List History) (events : List Event) (lines : List ℕ) → tells ≡ true
-    → (run : IsRun net tells opening items histories events lines) → EachPartOfRun RestartJoins net tells opening items histories events lines run
-run_joins net true opening items histories events lines is run =
-    parts_join net (at_start net opening) items lines run.end run.played
-    (subst AreAllOrderly run.history (legal_orderly net true opening run.end.opening histories run.legal)) (start_held net opening)
-run_joins net false opening items histories events lines is run = absurd (not_both false is refl)
+run_joins : (net : Net) (sites : Sites) (tells : Bool) (opening : List Change) (items : List Item) (histories : List History) (events : List Event) (lines : List ℕ) → tells ≡ true
+    → (run : IsRun net sites tells opening items histories events lines) → EachPartOfRun RestartJoins net sites tells opening items histories events lines run
+run_joins net sites true opening items histories events lines is run =
+    parts_join net (at_start net sites opening) items lines run.end run.played
+    (subst AreAllOrderly run.history (legal_orderly net true opening run.end.opening histories run.legal)) (start_held net sites opening)
+run_joins net sites false opening items histories events lines is run = absurd (not_both false is refl)
 
-run_has : (net : Net) (tells : Bool) (opening : List Change) (items : List Item) (histories : List History) (events : List Event) (lines : List ℕ) → tells ≡ true
-    → (run : IsRun net tells opening items histories events lines) → EachPartOfRun PartHasOrders net tells opening items histories events lines run
-run_has net true opening items histories events lines is run =
-    parts_have net (at_start net opening) items lines run.end run.played
-    (subst AreAllOrderly run.history (legal_orderly net true opening run.end.opening histories run.legal)) (start_held net opening)
-run_has net false opening items histories events lines is run = absurd (not_both false is refl)
+run_has : (net : Net) (sites : Sites) (tells : Bool) (opening : List Change) (items : List Item) (histories : List History) (events : List Event) (lines : List ℕ) → tells ≡ true
+    → (run : IsRun net sites tells opening items histories events lines) → EachPartOfRun PartHasOrders net sites tells opening items histories events lines run
+run_has net sites true opening items histories events lines is run =
+    parts_have net (at_start net sites opening) items lines run.end run.played
+    (subst AreAllOrderly run.history (legal_orderly net true opening run.end.opening histories run.legal)) (start_held net sites opening)
+run_has net sites false opening items histories events lines is run = absurd (not_both false is refl)
 
 -- at each restart an order joins as it is told
 pub end_joins : (net : Net) (items : List Item) (output : Output) (stored : Stored) (opening : List Change) (status : ℕ) (histories : List History) (events : List Event)
     → is_some stored.before ≡ true → (ends : EndsFrom net items output stored opening status histories events) → EachPartAtEnd RestartJoins net items output stored opening status histories events ends
 end_joins net items output stored opening status histories events tells (inl breaks) = tt
 end_joins net items output stored opening status histories events tells (inr (inl whole)) =
-    run_joins net (is_some stored.before) opening items histories events whole.lines tells whole.run
+    run_joins net Together (is_some stored.before) opening items histories events whole.lines tells whole.run
 end_joins net items output stored opening status histories events tells (inr (inr (inl partly))) =
-    run_joins net (is_some stored.before) opening partly.first histories events partly.lines tells partly.run
+    run_joins net Together (is_some stored.before) opening partly.first histories events partly.lines tells partly.run
 end_joins net items output stored opening status histories events tells (inr (inr (inr until))) =
-    run_joins net (is_some stored.before) opening until.first histories events until.lines tells until.run
+    run_joins net Together (is_some stored.before) opening until.first histories events until.lines tells until.run
 
 -- before and behind each part the world has just the orders of the changes
 pub end_has : (net : Net) (items : List Item) (output : Output) (stored : Stored) (opening : List Change) (status : ℕ) (histories : List History) (events : List Event)
     → is_some stored.before ≡ true → (ends : EndsFrom net items output stored opening status histories events) → EachPartAtEnd PartHasOrders net items output stored opening status histories events ends
 end_has net items output stored opening status histories events tells (inl breaks) = tt
 end_has net items output stored opening status histories events tells (inr (inl whole)) =
-    run_has net (is_some stored.before) opening items histories events whole.lines tells whole.run
+    run_has net Together (is_some stored.before) opening items histories events whole.lines tells whole.run
 end_has net items output stored opening status histories events tells (inr (inr (inl partly))) =
-    run_has net (is_some stored.before) opening partly.first histories events partly.lines tells partly.run
+    run_has net Together (is_some stored.before) opening partly.first histories events partly.lines tells partly.run
 end_has net items output stored opening status histories events tells (inr (inr (inr until))) =
-    run_has net (is_some stored.before) opening until.first histories events until.lines tells until.run
+    run_has net Together (is_some stored.before) opening until.first histories events until.lines tells until.run
 
 -- so it is in a session
-pub session_joins : (net : Net) (talk : Talked) (stored : Stored) (opening : List Change) (status : ℕ) (histories : List History) (events : List Event) → is_some stored.before ≡ true
-    → (ends : SessionEndsFrom net talk stored opening status histories events) → EachPartOfSession RestartJoins net talk stored opening status histories events ends
-session_joins net talk stored opening status histories events tells (inl breaks) = tt
-session_joins net talk stored opening status histories events tells (inr (inl whole)) =
-    run_joins net (is_some stored.before) opening whole.session.parts histories events whole.session.lines tells whole.session.run
-session_joins net talk stored opening status histories events tells (inr (inr (inl unsaid))) =
-    run_joins net (is_some stored.before) opening unsaid.session.parts histories events unsaid.session.lines tells unsaid.session.run
-session_joins net talk stored opening status histories events tells (inr (inr (inr until))) =
-    run_joins net (is_some stored.before) opening until.session.parts histories events until.session.lines tells until.session.run
+pub session_joins : (net : Net) (sites : Sites) (talk : Talked) (stored : Stored) (opening : List Change) (status : ℕ) (histories : List History) (events : List Event) → is_some stored.before ≡ true
+    → (ends : SessionEndsFrom net sites talk stored opening status histories events) → EachPartOfSession RestartJoins net sites talk stored opening status histories events ends
+session_joins net sites talk stored opening status histories events tells (inl breaks) = tt
+session_joins net sites talk stored opening status histories events tells (inr (inl whole)) =
+    run_joins net sites (is_some stored.before) opening whole.session.parts histories events whole.session.lines tells whole.session.run
+session_joins net sites talk stored opening status histories events tells (inr (inr (inl unsaid))) =
+    run_joins net sites (is_some stored.before) opening unsaid.session.parts histories events unsaid.session.lines tells unsaid.session.run
+session_joins net sites talk stored opening status histories events tells (inr (inr (inr until))) =
+    run_joins net sites (is_some stored.before) opening until.session.parts histories events until.session.lines tells until.session.run
 
 -- and in a session it has them too
-pub session_has : (net : Net) (talk : Talked) (stored : Stored) (opening : List Change) (status : ℕ) (histories : List History) (events : List Event) → is_some stored.before ≡ true
-    → (ends : SessionEndsFrom net talk stored opening status histories events) → EachPartOfSession PartHasOrders net talk stored opening status histories events ends
-session_has net talk stored opening status histories events tells (inl breaks) = tt
-session_has net talk stored opening status histories events tells (inr (inl whole)) =
-    run_has net (is_some stored.before) opening whole.session.parts histories events whole.session.lines tells whole.session.run
-session_has net talk stored opening status histories events tells (inr (inr (inl unsaid))) =
-    run_has net (is_some stored.before) opening unsaid.session.parts histories events unsaid.session.lines tells unsaid.session.run
-session_has net talk stored opening status histories events tells (inr (inr (inr until))) =
-    run_has net (is_some stored.before) opening until.session.parts histories events until.session.lines tells until.session.run
+pub session_has : (net : Net) (sites : Sites) (talk : Talked) (stored : Stored) (opening : List Change) (status : ℕ) (histories : List History) (events : List Event) → is_some stored.before ≡ true
+    → (ends : SessionEndsFrom net sites talk stored opening status histories events) → EachPartOfSession PartHasOrders net sites talk stored opening status histories events ends
+session_has net sites talk stored opening status histories events tells (inl breaks) = tt
+session_has net sites talk stored opening status histories events tells (inr (inl whole)) =
+    run_has net sites (is_some stored.before) opening whole.session.parts histories events whole.session.lines tells whole.session.run
+session_has net sites talk stored opening status histories events tells (inr (inr (inl unsaid))) =
+    run_has net sites (is_some stored.before) opening unsaid.session.parts histories events unsaid.session.lines tells unsaid.session.run
+session_has net sites talk stored opening status histories events tells (inr (inr (inr until))) =
+    run_has net sites (is_some stored.before) opening until.session.parts histories events until.session.lines tells until.session.run

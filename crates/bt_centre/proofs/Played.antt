@@ -1,6 +1,6 @@
 -- Parts of a script, played one after the other.
 use Rattle.std.proofs.Common.{◌≡◌, ℕ, suc, ◌+◌, ◌<◌, ◌≤◌, Bool, List, [], ◌∷◌, ◌++◌, length, take, get_or, Option, Some, None, refl, sym, ap, ◌∙◌, subst, append_assoc, arith}
-use Rattle.std.specs.List.{Contains}
+use Rattle.std.specs.List.{All, Contains}
 use Rattle.std.specs.Option.{is_some}
 use Rattle.std.proofs.Math.Seq.{take-suc}
 use Rattle.std.proofs.lemmas.List.{append-nil}
@@ -8,6 +8,9 @@ use Rattle.std.proofs.lemmas.List.Elements.{All-append, All-nil}
 use Rattle.bt_frame.proofs.Pairs.{AllPairs-append}
 use Rattle.bt_outside.specs.Told.{gained}
 use Rattle.bt_net.specs.Network.{Net}
+use Rattle.bt_apart.specs.declared.sites.Sites.{Sites}
+use Rattle.bt_apart.specs.declared.sites.Sites.TheVariants.{Together}
+use Rattle.bt_bus.specs.declared.heard.BusLine.{BusLine}
 use Rattle.bt_journal.specs.declared.call.Change.{Change}
 use Rattle.bt_journal.specs.declared.entry.Entry.{Entry}
 use Rattle.bt_journal.specs.Journal.{changes_of}
@@ -20,23 +23,23 @@ use Rattle.bt_script.specs.declared.script.Item.TheVariants as item
 use Rattle.bt_script.specs.declared.script.Round.{Round}
 use Rattle.bt_timeline.specs.Timeline.{start_line}
 use Rattle.bt_centre.specs.declared.history.History.{History}
-use Rattle.bt_round.specs.AirLines.{AirState, PlaysAirLines, mark_of}
+use Rattle.bt_round.specs.AirLines.{AirState, PlaysAirLines, hearing, mark_of}
 use Rattle.bt_round.specs.Desks.{IsNotOlder, Sight}
 use Rattle.bt_round.specs.Rounds.{newest_at}
 use Rattle.bt_round.proofs.Installed.{newest_ascends}
 use Rattle.bt_centre.specs.Progress.{CentreBegan, Hand, IsBegun, ItemPlayed, ItemsDone, ItemsWritten, RestartPlayed, RoundPlayed, histories_in, start_of}
 use Rattle.bt_centre.specs.Run.{IsNextTime, PlaysItem, PlaysItems, PlaysRestart, PlaysRound, Stand, at_start, changes_at, first_line, histories_at}
-use Rattle.bt_centre.proofs.Going.{legal_begins, legal_goes_on, legal_restarts}
+use Rattle.bt_centre.proofs.Going.{legal_begins, legal_goes_on, legal_hears, legal_restarts}
 use Rattle.bt_centre.proofs.Times.{next_time}
 
 one_more : (n : ℕ) → n + 1 ≡ suc n
 one_more n = omega arith
 
 -- no part yet
-unfoldable pub items_begin : (net : Net) (hand : Hand) → IsBegun net hand → ItemsDone net hand.book [] hand []
-items_begin net hand begun = record {
-  so_far = legal_begins net hand begun;
-  end = at_start net hand.book.state.changes;
+unfoldable pub items_begin : (net : Net) (sites : Sites) (hand : Hand) → IsBegun net sites hand → ItemsDone net sites hand.book [] hand []
+items_begin net sites hand begun = record {
+  so_far = legal_begins net sites hand begun;
+  end = at_start net sites hand.book.state.changes;
   played = (refl, refl);
   over_is = sym begun.over;
   history_is = sym begun.none;
@@ -54,8 +57,8 @@ play_more net tells before between after (first ∷ items) one text own (next, b
     (next, begun, rest ++ own, started, play_more net tells next between after items one rest own going is, ap (λ (t : List ℕ). t ++ own) text_is ∙ append_assoc begun rest own)
 
 -- the changes of a stand are those of the book
-pub changes_are : (net : Net) (begun : Books) (items : List Item) (hand : Hand) (lines : List ℕ) → (so : ItemsDone net begun items hand lines) → changes_at so.end ≡ hand.book.state.changes
-changes_are net begun items hand lines so =
+pub changes_are : (net : Net) (sites : Sites) (begun : Books) (items : List Item) (hand : Hand) (lines : List ℕ) → (so : ItemsDone net sites begun items hand lines) → changes_at so.end ≡ hand.book.state.changes
+changes_are net sites begun items hand lines so =
     ap (λ (h : List Entry). so.end.opening ++ changes_of h) so.history_is
     ∙ sym (ap (λ (s : State). s.changes) so.so_far.reached)
 
@@ -81,14 +84,14 @@ newest_later net round old new text one follow =
     )
 
 -- a part more, and the way from where the parts before it led
-pub record Further (net : Net) (begun : Books) (items : List Item) (one : Item) (new : Hand) (lines own : List ℕ) (before : Stand) : Type 0 where
-  pub done : ItemsDone net begun (items ++ one ∷ []) new (lines ++ own)
+pub record Further (net : Net) (sites : Sites) (begun : Books) (items : List Item) (one : Item) (new : Hand) (lines own : List ℕ) (before : Stand) : Type 0 where
+  pub done : ItemsDone net sites begun (items ++ one ∷ []) new (lines ++ own)
   pub way : PlaysItem net (is_some begun.told) before one own done.end
 
 -- a round more
-items_go_on : (net : Net) (begun : Books) (items : List Item) (round : Round) (old new : Hand) (lines own : List ℕ)
-    → (so : ItemsDone net begun items old lines) → RoundPlayed net round old new own → Further net begun items (item.Round round) new lines own so.end
-items_go_on net begun items round old new lines own so one =
+items_go_on : (net : Net) (sites : Sites) (begun : Books) (items : List Item) (round : Round) (old new : Hand) (lines own : List ℕ)
+    → (so : ItemsDone net sites begun items old lines) → RoundPlayed net round old new own → Further net sites begun items (item.Round round) new lines own so.end
+items_go_on net sites begun items round old new lines own so one =
     let tells = is_some begun.told in
     let before = so.end in
     let done = one.done in
@@ -112,7 +115,7 @@ items_go_on net begun items round old new lines own so one =
       counted = rounds_are;
       seen = λ k d within. record {
         installed = subst (λ (c : List Change). Contains (plans c) (get_or done.sights k d).plan) (sym changes_after) (done.seen k d within).installed;
-        fresh = subst (λ (c : List Change). (newest c).edition.0 ≤ (get_or done.sights k d).plan.edition.0) (sym (changes_are net begun items old lines so)) (done.seen k d within).fresh;
+        fresh = subst (λ (c : List Change). (newest c).edition.0 ≤ (get_or done.sights k d).plan.edition.0) (sym (changes_are net sites begun items old lines so)) (done.seen k d within).fresh;
       };
       shown = done.shown;
       later = refl;
@@ -124,7 +127,7 @@ items_go_on net begun items round old new lines own so one =
       done = record {
         so_far = legal;
         end = after;
-        played = play_more net tells (at_start net begun.state.changes) before after items (item.Round round) lines own so.played played;
+        played = play_more net tells (at_start net sites begun.state.changes) before after items (item.Round round) lines own so.played played;
         over_is = so.over_is ∙ sym one.goes.over;
         history_is = refl;
         air_is = refl;
@@ -155,9 +158,9 @@ same_histories stand hand over before history =
     ∙ ap (λ (h : List Entry). stand.over ++ record { before = length stand.opening; entries = h } ∷ []) history
 
 -- a restart more
-items_restart : (net : Net) (begun : Books) (items : List Item) (old new : Hand) (lines own : List ℕ)
-    → (so : ItemsDone net begun items old lines) → RestartPlayed net old new own → Further net begun items item.Restart new lines own so.end
-items_restart net begun items old new lines own so one =
+items_restart : (net : Net) (sites : Sites) (begun : Books) (items : List Item) (old new : Hand) (lines own : List ℕ)
+    → (so : ItemsDone net sites begun items old lines) → RestartPlayed net old new own → Further net sites begun items item.Restart new lines own so.end
+items_restart net sites begun items old new lines own so one =
     let tells = is_some begun.told in
     let before = so.end in
     let after = after_restart before new in
@@ -183,7 +186,7 @@ items_restart net begun items old new lines own so one =
       done = record {
         so_far = legal_restarts net begun before.opening old new own one was;
         end = after;
-        played = play_more net tells (at_start net begun.state.changes) before after items item.Restart lines own so.played played;
+        played = play_more net tells (at_start net sites begun.state.changes) before after items item.Restart lines own so.played played;
         over_is = refl;
         history_is = sym one.none;
         air_is = refl;
@@ -193,20 +196,47 @@ items_restart net begun items old new lines own so one =
       };
     }
 
+-- the stand once a line of the bus was heard
+abbrev after_heard : Stand → BusLine → Stand
+after_heard before line = record before { air = hearing before.air line }
+
+-- a line of the bus more
+items_hear : (net : Net) (sites : Sites) (begun : Books) (items : List Item) (line : BusLine) (old new : Hand) (lines own : List ℕ)
+    → (so : ItemsDone net sites begun items old lines) → ItemPlayed net (item.Heard line) old new own → Further net sites begun items (item.Heard line) new lines own so.end
+items_hear net sites begun items line old new lines own so (nothing, is) =
+    let before = so.end in
+    let after = after_heard before line in
+    let book : new.book ≡ old.book = ap (λ (h : Hand). h.book) is in
+    record {
+      way = (nothing, refl);
+      done = record {
+        so_far = legal_hears net begun before.opening old new line is so.so_far;
+        end = after;
+        played = play_more net (is_some begun.told) (at_start net sites begun.state.changes) before after items (item.Heard line) lines own so.played (nothing, refl);
+        over_is = so.over_is ∙ sym (ap (λ (h : Hand). h.over) is);
+        history_is = so.history_is ∙ sym (ap (λ (b : Books). b.history) book);
+        air_is = ap (λ (a : AirState). hearing a line) so.air_is ∙ sym (ap (λ (h : Hand). h.air) is);
+        rounds_are = so.rounds_are ∙ sym (ap (λ (h : Hand). h.rounds) is);
+        old = subst (λ (b : Books). All (λ (sight : Sight). sight.plan.edition.0 ≤ newest_at b) before.sights) (sym book) so.old;
+        ascend = so.ascend;
+      };
+    }
+
 -- the line of a run's start
-pub start_is : (net : Net) (hand : Hand) → IsBegun net hand → start_of hand ≡ first_line net hand.book.state.changes
-start_is net hand begins = ap (λ (a : AirState). start_line (edition hand.book.state.changes) (newest hand.book.state.changes).edition.0 (mark_of a).0) begins.air
+pub start_is : (net : Net) (sites : Sites) (hand : Hand) → IsBegun net sites hand → start_of hand ≡ first_line net sites hand.book.state.changes
+start_is net sites hand begins = ap (λ (a : AirState). start_line (edition hand.book.state.changes) (newest hand.book.state.changes).edition.0 (mark_of a).0) begins.air
 
 -- a part more, with the way that it took
-pub item_goes_further : (net : Net) (begun : Books) (items : List Item) (one : Item) (old new : Hand) (lines own : List ℕ)
-    → (so : ItemsDone net begun items old lines) → ItemPlayed net one old new own → Further net begun items one new lines own so.end
-item_goes_further net begun items (item.Round round) old new lines own so played = items_go_on net begun items round old new lines own so played
-item_goes_further net begun items item.Restart old new lines own so played = items_restart net begun items old new lines own so played
+pub item_goes_further : (net : Net) (sites : Sites) (begun : Books) (items : List Item) (one : Item) (old new : Hand) (lines own : List ℕ)
+    → (so : ItemsDone net sites begun items old lines) → ItemPlayed net one old new own → Further net sites begun items one new lines own so.end
+item_goes_further net sites begun items (item.Round round) old new lines own so played = items_go_on net sites begun items round old new lines own so played
+item_goes_further net sites begun items item.Restart old new lines own so played = items_restart net sites begun items old new lines own so played
+item_goes_further net sites begun items (item.Heard line) old new lines own so played = items_hear net sites begun items line old new lines own so played
 
 -- a part more
-pub item_goes_on : (net : Net) (begun : Books) (items : List Item) (one : Item) (old new : Hand) (lines own : List ℕ)
-    → ItemsDone net begun items old lines → ItemPlayed net one old new own → ItemsDone net begun (items ++ one ∷ []) new (lines ++ own)
-item_goes_on net begun items one old new lines own so played = (item_goes_further net begun items one old new lines own so played).done
+pub item_goes_on : (net : Net) (sites : Sites) (begun : Books) (items : List Item) (one : Item) (old new : Hand) (lines own : List ℕ)
+    → ItemsDone net sites begun items old lines → ItemPlayed net one old new own → ItemsDone net sites begun (items ++ one ∷ []) new (lines ++ own)
+item_goes_on net sites begun items one old new lines own so played = (item_goes_further net sites begun items one old new lines own so played).done
 
 -- what is written in two pieces
 pub gained-append : (told : Option (List ℕ)) (a b : List ℕ) → gained (gained told a) b ≡ gained told (a ++ b)
@@ -218,11 +248,11 @@ next_parts items index one within is =
     ap (λ n. take n items) (one_more index) ∙ take-suc items index one within ∙ ap (λ (x : Item). take index items ++ x ∷ []) (sym is)
 
 -- the first line was written
-pub written_first : (net : Net) (hand : Hand) (begins : IsBegun net hand) (before after : Option (List ℕ)) → after ≡ gained before (start_of hand) → ItemsWritten net hand.book [] hand before after
+pub written_first : (net : Net) (hand : Hand) (begins : IsBegun net Together hand) (before after : Option (List ℕ)) → after ≡ gained before (start_of hand) → ItemsWritten net hand.book [] hand before after
 written_first net hand begins before after wrote = record {
   lines = [];
-  done = items_begin net hand begins;
-  wrote = wrote ∙ ap (gained before) (start_is net hand begins ∙ sym (append-nil (first_line net hand.book.state.changes)));
+  done = items_begin net Together hand begins;
+  wrote = wrote ∙ ap (gained before) (start_is net Together hand begins ∙ sym (append-nil (first_line net Together hand.book.state.changes)));
 }
 
 -- a part more was written
@@ -230,10 +260,10 @@ pub written_more : (net : Net) (begun : Books) (items : List Item) (index : ℕ)
     → index < length items → one ≡ get_or items index one → ItemsWritten net begun (take index items) old before between → ItemPlayed net one old new own → after ≡ gained between own
     → ItemsWritten net begun (take (index + 1) items) new before after
 written_more net begun items index one old new own before between after within is so played wrote =
-    let first = first_line net begun.state.changes in
+    let first = first_line net Together begun.state.changes in
     subst (λ (l : List Item). ItemsWritten net begun l new before after) (sym (next_parts items index one within is)) (record {
       lines = so.lines ++ own;
-      done = item_goes_on net begun (take index items) one old new so.lines own so.done played;
+      done = item_goes_on net Together begun (take index items) one old new so.lines own so.done played;
       wrote = wrote ∙ ap (λ (t : Option (List ℕ)). gained t own) so.wrote ∙ gained-append before (first ++ so.lines) own ∙ ap (gained before) (append_assoc first so.lines own);
     })
 
@@ -241,3 +271,4 @@ written_more net begun items index one old new own before between after within i
 pub rounds_more : (net : Net) (one : Item) (old new : Hand) (text : List ℕ) (k : ℕ) → ItemPlayed net one old new text → old.rounds ≤ k → new.rounds ≤ k + 1
 rounds_more net (item.Round round) old new text k played few = omega (arith, played.rounds, few)
 rounds_more net item.Restart old new text k played few = omega (arith, played.rounds, few)
+rounds_more net (item.Heard line) old new text k (nothing, is) few = omega (arith, ap (λ (h : Hand). h.rounds) is, few)

@@ -19,7 +19,7 @@ use Rattle.bt_history.specs.Recovery.{IsOutside, IsReadable, IsRecoverFault, May
 use Rattle.bt_history.proofs.Holding.{tells_some}
 use Rattle.bt_history.specs.Store.{IsKept, IsNextOpening, IsStored, lost_of}
 use Rattle.bt_script.specs.declared.script.Item.TheVariants as item
-use Rattle.bt_round.specs.AirLines.{AirState}
+use Rattle.bt_round.specs.AirLines.{AirState, events_in, opening_in}
 use Rattle.bt_centre.specs.declared.history.History.{History}
 use Rattle.bt_centre.specs.Progress.{BeganAgain, CentreBegan, Hand, IsLeftAtRestart, IsOpenFault, IsLeftBehind, IsLeftEarly, ItemFailed, Left, RestartPlayed, histories_in}
 use Rattle.bt_centre.specs.Run.{AreFew}
@@ -65,7 +65,7 @@ restarted net old new book over text began all network none runs follow next tel
 
 -- memory ran out over the restart
 pub left_behind : (net : Net) (old : Hand) (left : Left) → old.book.net ≡ net → Follows net old.book.state.changes → left.histories ≡ histories_in old → old.book.faults ≤ left.faults
-    → IsSpelledWorld old.air.life.opening (reverse left.events) → IsKept old.book.net old.book.told old.book.state.changes (lost_of old.book.history)
+    → IsSpelledWorld (opening_in old.air) (reverse left.events) → IsKept old.book.net old.book.told old.book.state.changes (lost_of old.book.history)
     → MaybeRecovered net old.book.told left.told old.book.faults left.faults → Last net old.book.state.changes old.book.crashes left.crashes
     → IsLeftEarly old left
 left_behind net old left network follow all later world kept cut last = record {
@@ -91,8 +91,8 @@ pub record Fails (net : Net) (old : Hand) (left : Left) (fault : RecoverFault) :
   pub last : Last net old.book.state.changes old.book.crashes left.crashes
   pub kept : IsKept old.book.net old.book.told old.book.state.changes (lost_of old.book.history)
   pub histories : left.histories ≡ histories_in old
-  pub events : left.events ≡ old.air.life.events
-  pub world : IsSpelledWorld old.air.life.opening (reverse left.events)
+  pub events : left.events ≡ events_in old.air
+  pub world : IsSpelledWorld (opening_in old.air) (reverse left.events)
 
 at_restart : (net : Net) (old : Hand) (left : Left) (fault : RecoverFault) → Fails net old left fault → fault ≢ OutOfMemory → IfSome old.book.told (λ _. fault ≡ StoreFault)
     → IsLeftAtRestart net old left fault
@@ -205,8 +205,8 @@ recovered_last laws net old book told was will sound is network follow stored to
 pub fails : Laws → (net : Net) (old : Hand) (book : Books) (left : Left) (fault : RecoverFault) (told : Option (List ℕ)) (faults : ℕ) → IsSound net → book ≡ old.book → old.book.net ≡ net
     → Follows net old.book.state.changes → IsStored book.net book.told book.state.changes (lost_of book.history) → told ≡ book.told → faults ≡ book.faults
     → IsRecoverFault net told left.told faults left.faults fault → faults ≤ left.faults
-    → IfSome told (λ bytes. (changes : List Change) → Recovered net bytes changes → IsOutside fault) → left.histories ≡ histories_in old → left.events ≡ old.air.life.events
-    → IsSpelledWorld old.air.life.opening (reverse left.events) → Last net old.book.state.changes old.book.crashes left.crashes → Fails net old left fault
+    → IfSome told (λ bytes. (changes : List Change) → Recovered net bytes changes → IsOutside fault) → left.histories ≡ histories_in old → left.events ≡ events_in old.air
+    → IsSpelledWorld (opening_in old.air) (reverse left.events) → Last net old.book.state.changes old.book.crashes left.crashes → Fails net old left fault
 fails laws net old book left fault told faults sound is network follow stored told_is faults_are failed later outside all events world last =
     let t : told ≡ old.book.told = told_is ∙ ap (λ (b : Books). b.told) is in
     let f : faults ≡ old.book.faults = faults_are ∙ ap (λ (b : Books). b.faults) is in
@@ -252,10 +252,10 @@ breaks_behind net old book again air over left told faults is air_is network fol
     let there : left.told ≡ option_map (marked net) old.book.told = behind.told ∙ again_told ∙ ap (option_map (marked net)) same in
     let some = subst (λ (o : Option (List ℕ)). TellsSome net o) same (tells_some net told again.state.changes tells) in
     left_behind net old left network follow (behind.histories ∙ all) (omega (arith, later, faults_are, ap (λ (b : Books). b.faults) is, behind.faults))
-    (subst (λ (a : AirState). IsSpelledWorld a.life.opening (reverse left.events)) air_is behind.world) kept (inr (inl (there, some)))
+    (subst (λ (a : AirState). IsSpelledWorld (opening_in a) (reverse left.events)) air_is behind.world) kept (inr (inl (there, some)))
     (subst (Last net old.book.state.changes old.book.crashes) (sym behind.crashes) last)
 
 -- the world of the centre's worker
-pub world_at : (air old : AirState) (events : List Event) → air ≡ old → events ≡ air.life.events → IsSpelledWorld air.life.opening (reverse air.life.events) → IsSpelledWorld old.life.opening (reverse events)
+pub world_at : (air old : AirState) (events : List Event) → air ≡ old → events ≡ events_in air → IsSpelledWorld (opening_in air) (reverse (events_in air)) → IsSpelledWorld (opening_in old) (reverse events)
 world_at air old events is same world =
-    subst (λ (a : AirState). IsSpelledWorld a.life.opening (reverse events)) is (subst (λ (e : List Event). IsSpelledWorld air.life.opening (reverse e)) (sym same) world)
+    subst (λ (a : AirState). IsSpelledWorld (opening_in a) (reverse events)) is (subst (λ (e : List Event). IsSpelledWorld (opening_in air) (reverse e)) (sym same) world)

@@ -8,8 +8,6 @@ use Rattle.bt_frame.proofs.OneNumber.{same_edition}
 use Rattle.bt_net.specs.Network.{Net}
 use Rattle.bt_demand.specs.declared.plan.Plan.{Plan}
 use Rattle.bt_air.specs.declared.order.Order.{Order}
-use Rattle.bt_events.specs.Event.{Install, Ordered}
-use Rattle.bt_events.specs.World.{wanted}
 use Rattle.bt_journal.specs.declared.call.Call.{Call}
 use Rattle.bt_journal.specs.declared.call.Call.TheVariants as call
 use Rattle.bt_journal.specs.declared.call.Change.{Change}
@@ -23,12 +21,11 @@ use Rattle.bt_history.specs.Machine.{CallStep, Legal, newer_than, running, state
 use Rattle.bt_history.proofs.Histories.{Legal-follows}
 use Rattle.bt_script.specs.declared.script.AirLine.{AirLine}
 use Rattle.bt_script.specs.declared.script.AirLine.TheVariants as line
-use Rattle.bt_round.specs.AirLines.{AirState, PlaysAirLine, PlaysAirLines, PlaysOrder, PlaysTurn, going, happened, having, installing, newest_in, once_answered, target_by, target_of, turning}
+use Rattle.bt_round.specs.AirLines.{AirState, Simulated, Apart, PlaysAirLine, PlaysAirLines, PlaysOrder, PlaysTurnIf, TakesTurn, back_of, going, having, installing, is_marked, newest_in, once_answered, target_by, target_of, turning, wanted_in}
 use Rattle.bt_round.proofs.Installed.{newest_ascends}
-use Rattle.bt_round.proofs.Running.{past-having}
-use Rattle.bt_centre.specs.Turns.{IsNewestOf, IsNoNewer, LineKnows, LinesKnow}
+use Rattle.bt_centre.specs.Turns.{IsNewestOf, IsNoNewer, LineKnows, LinesKnow, TurnKnows}
 use Rattle.bt_centre.proofs.Lawful.{step_at, steps_first}
-use Rattle.bt_centre.proofs.OrdersPlayed.{Stays, newest_past, stays_back, stays_burst, stays_delivery, stays_flow, stays_frame_line, stays_going, stays_is, stays_loss, stays_notice, stays_reset_line, stays_tick_line}
+use Rattle.bt_centre.proofs.OrdersPlayed.{Stays, installed_edition, ordered_edition, turned_edition, stays_back, stays_burst, stays_delivery, stays_flow, stays_frame_line, stays_going, stays_is, stays_loss, stays_notice, stays_reset_line, stays_tick_line}
 
 -- entries in two parts, of which the first has these calls of the centre's worker and the other has those
 record IsCut (entries own others : List Entry) : Type 0 where
@@ -137,7 +134,7 @@ not_above a b over le = omega (arith, ltb-false a b over, le)
 installed_by : (air : AirState) (plan : Plan) (newer : Option Plan) (b : Bool) → nat_lt (newest_in air).0 plan.edition.0 ≡ b → newer ≡ (if b then Some plan else None)
     → (newest_in air).0 ≤ plan.edition.0 → newest_in (installing air newer) ≡ plan.edition
 installed_by air plan newer true over is le =
-    ap (λ (n : Option Plan). newest_in (installing air n)) is ∙ ap (newest_past air) (past-having air.life (Install plan))
+    ap (λ (n : Option Plan). newest_in (installing air n)) is ∙ installed_edition air plan
 installed_by air plan newer false over is le =
     ap (λ (n : Option Plan). newest_in (installing air n)) is ∙ same_edition (newest_in air) plan.edition (not_above (newest_in air).0 plan.edition.0 over le)
 
@@ -147,16 +144,17 @@ installed_newest : (air : AirState) (plan : Plan) (newer : Option Plan) → newe
 installed_newest air plan newer is le = installed_by air plan newer (nat_lt (newest_in air).0 plan.edition.0) refl is le
 
 -- and the edition to which the centre goes back stays
-installed_back : (air : AirState) (newer : Option Plan) → (installing air newer).back ≡ air.back
+installed_back : (air : AirState) (newer : Option Plan) → back_of (installing air newer) ≡ back_of air
 installed_back air None = refl
-installed_back air (Some plan) = refl
+installed_back (Simulated a) (Some plan) = refl
+installed_back (Apart a) (Some plan) = refl
 
-installed_target : (air : AirState) (newer : Option Plan) (edition : EditionNo) → newest_in (installing air newer) ≡ edition → target_of (installing air newer) ≡ target_by air.back edition
+installed_target : (air : AirState) (newer : Option Plan) (edition : EditionNo) → newest_in (installing air newer) ≡ edition → target_of (installing air newer) ≡ target_by (back_of air) edition
 installed_target air newer edition is =
-    ap (λ (b : Option EditionNo). target_by b (newest_in (installing air newer))) (installed_back air newer) ∙ ap (target_by air.back) is
+    ap (λ (b : Option EditionNo). target_by b (newest_in (installing air newer))) (installed_back air newer) ∙ ap (target_by (back_of air)) is
 
 answered_newest : (air : AirState) (answer : Reply) → newest_in (once_answered air answer) ≡ newest_in air
-answered_newest air reply.Placed = ap (newest_past air) (past-having air.life Ordered)
+answered_newest air reply.Placed = ordered_edition air
 answered_newest air _ = refl
 
 -- an order that is asked to be placed leaves the newest edition
@@ -169,11 +167,11 @@ ordered_newest net air (Some one) (entry ∷ []) text after is = ap newest_in is
 ordered_newest net air (Some one) (entry ∷ other ∷ more) text after is = absurd is
 
 -- behind its question, a turn leaves the newest edition
-turned_newest : (net : Net) (air : AirState) (entries : List Entry) (text : List ℕ) (after : AirState) (is : PlaysTurn net air entries text after) → newest_in after ≡ newest_in (installing air is.newer)
+turned_newest : (net : Net) (air : AirState) (entries : List Entry) (text : List ℕ) (after : AirState) (is : TakesTurn net air entries text after) → newest_in after ≡ newest_in (installing air is.newer)
 turned_newest net air entries text after is =
     let inside = installing air is.newer in
-    ordered_newest net (having inside (turning inside)) (wanted (happened (having inside (turning inside)))) is.others is.turned.rest after is.turned.placed
-    ∙ ap (newest_past inside) (past-having inside.life (turning inside))
+    ordered_newest net (having inside (turning inside)) (wanted_in (having inside (turning inside))) is.others is.turned.rest after is.turned.placed
+    ∙ turned_edition inside
 
 -- Where a round came: it has these entries of the book behind a history that is legal, of which these are done, and these calls of the
 -- centre's worker among them; the others are still to come.
@@ -205,11 +203,21 @@ record IsLineGone (net : Net) (opening : List Change) (history entries before do
   pub knows : LineKnows (opening ++ changes_of history) entries before net air one own text after played
   pub so : IsBehind opening (history ++ done) after
 
+-- what a turn knows, and how the air stands behind it
+record IsTurnGone (net : Net) (opening : List Change) (history entries before done : List Entry) (marked : Bool) (air : AirState) (own : List Entry) (text : List ℕ) (after : AirState)
+    (played : PlaysTurnIf marked net air own text after) : Type 0 where
+  pub knows : TurnKnows (opening ++ changes_of history) entries before marked net air own text after played
+  pub so : IsBehind opening (history ++ done) after
+
 -- a turn
-turn_goes : (net : Net) (opening : List Change) (history entries before done rest : List Entry) (air : AirState) (own others : List Entry) (text : List ℕ) (after : AirState)
-    (played : PlaysTurn net air own text after) → IsAt net opening history entries before done rest → (cut : IsCut rest own others) → IsBehind opening (history ++ done) air
-    → IsLineGone net opening history entries before (done ++ cut.first) air line.Turn own text after played
-turn_goes net opening history entries before done rest air own others text after played at cut so =
+turn_goes : (net : Net) (opening : List Change) (history entries before done rest : List Entry) (marked : Bool) (air : AirState) (own others : List Entry) (text : List ℕ) (after : AirState)
+    (played : PlaysTurnIf marked net air own text after) → IsAt net opening history entries before done rest → (cut : IsCut rest own others) → IsBehind opening (history ++ done) air
+    → IsTurnGone net opening history entries before (done ++ cut.first) marked air own text after played
+turn_goes net opening history entries before done rest false air own others text after played at cut so = record {
+  knows = tt;
+  so = goes_on net opening history entries before done rest cut.first cut.rest after at cut.parts (stays_behind opening (history ++ done) air after (ap newest_in played.2) so);
+}
+turn_goes net opening history entries before done rest true air own others text after played at cut so =
     let here = first_at cut.first played.asked played.others (cut.own_is ∙ played.all) in
     let earlier = done ++ here.earlier in
     let tail = played.asked ∷ (here.later ++ cut.rest) in
@@ -258,7 +266,8 @@ line_goes : (net : Net) (opening : List Change) (history entries before done res
     (played : PlaysAirLine net air one own text after) → IsAt net opening history entries before done rest → (cut : IsCut rest own others) → IsBehind opening (history ++ done) air
     → IsLineGone net opening history entries before (done ++ cut.first) air one own text after played
 line_goes net opening history entries before done rest air line.Turn own others text after is at cut so =
-    turn_goes net opening history entries before done rest air own others text after is at cut so
+    let gone = turn_goes net opening history entries before done rest (is_marked air) air own others text after is at cut so in
+    record { knows = gone.knows; so = gone.so }
 line_goes net opening history entries before done rest air line.Tick own others text after is at cut so =
     record { knows = tt; so = quiet_goes net opening history entries before done rest air own others after (stays_tick_line net air text after is.1) at cut so }
 line_goes net opening history entries before done rest air (line.Back edition) own others text after is at cut so =
@@ -266,7 +275,7 @@ line_goes net opening history entries before done rest air (line.Back edition) o
 line_goes net opening history entries before done rest air line.Ahead own others text after is at cut so =
     record { knows = tt; so = quiet_goes net opening history entries before done rest air own others after (stays_is air (going air None) after is.1.goes (stays_going air None)) at cut so }
 line_goes net opening history entries before done rest air line.Flow own others text after is at cut so =
-    record { knows = tt; so = quiet_goes net opening history entries before done rest air own others after (stays_flow net air is.1.heard is.1.lines after is.1.flowed) at cut so }
+    record { knows = tt; so = quiet_goes net opening history entries before done rest air own others after (stays_flow net air text after is.1) at cut so }
 line_goes net opening history entries before done rest air (line.Lose losing) own others text after is at cut so =
     record { knows = tt; so = quiet_goes net opening history entries before done rest air own others after (stays_loss air losing text after is.1) at cut so }
 line_goes net opening history entries before done rest air (line.Deliver number place) own others text after is at cut so =

@@ -17,6 +17,7 @@ use Rattle.bt_history.proofs.Histories.{tells_fault, AreSteps-append, Step-adds,
 use Rattle.bt_history.proofs.Replies.{no_fault_not_lost}
 use Rattle.bt_script.specs.declared.script.Item.{Item}
 use Rattle.bt_script.specs.declared.script.Round.{Round}
+use Rattle.bt_round.specs.AirLines.{AirState}
 use Rattle.bt_round.specs.Rounds.{BookRan}
 use Rattle.bt_centre.specs.declared.history.History.{History}
 use Rattle.bt_centre.specs.Progress.{GoesOn, Hand, IsLeftAtRestart, IsLeftEarly, IsLeftOf, ItemFailed, Left, RestartPlayed, RoundPlayed, history_in}
@@ -200,6 +201,10 @@ live_round net round front old new text live played =
           ap has_fault ran.kept ∙ no_fault_more old.book.history ran.entries (live.sure (or_first old.book.state.stopped (has_fault ran.entries) both))
           (or_second old.book.state.stopped (has_fault ran.entries) both);
     }
+
+-- and where the air alone is another
+pub live_hears : (front : List Entry) (old new : Hand) (air : AirState) → new ≡ record old { air = air } → IsLive front old → IsLive front new
+live_hears front old new air is live = subst (IsLive front) (sym is) (record { over = live.over; sound = live.sound; sure = live.sure })
 
 -- entries that a book hands over tell of no fault
 handed_sound : (stopped : Bool) (entries old : List Entry) → (stopped ≡ false → entries ≡ old) → (stopped ≡ true → entries ≡ []) → (stopped ≡ false → has_fault old ≡ false)

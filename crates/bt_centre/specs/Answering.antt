@@ -5,6 +5,7 @@ use Rattle.bt_outside.specs.Told.{gained}
 use Rattle.bt_outside.specs.Input.{given_by}
 use Rattle.bt_outside.specs.Talk.{Shown, Turn, took}
 use Rattle.bt_net.specs.Network.{Net}
+use Rattle.bt_apart.specs.declared.sites.Sites.{Sites}
 use Rattle.bt_script.specs.declared.script.Item.{Item}
 use Rattle.bt_history.specs.Book.{Books}
 use Rattle.bt_history.specs.Crash.{Last}
@@ -15,11 +16,11 @@ use Rattle.bt_talk.specs.declared.block.Step.TheVariants as step
 use Rattle.bt_talk.specs.Asked.{open_behind, parts_of}
 use Rattle.bt_talk.specs.Block.{Open}
 use Rattle.bt_centre.specs.declared.session.InputEnd.{InputEnd}
-use Rattle.bt_frame.specs.declared.limits.TheConstants.{MOST_SESSION_LINE_BYTES}
+use Rattle.bt_round.specs.AirLines.{waiting_in}
 use Rattle.bt_centre.specs.Progress.{Hand, IsLeftOf, ItemFailed, ItemPlayed, ItemsDone, Left}
 use Rattle.bt_centre.specs.RecoverFaults.{recover_line, recover_status}
 use Rattle.bt_centre.specs.Run.{at_start, changes_at, opening_on}
-use Rattle.bt_centre.specs.Session.{Exchange, PlaysLines, SessionEndsFrom, ShowsChanges, StopsHearing, heard_in, session_turns, shown_behind}
+use Rattle.bt_centre.specs.Session.{Exchange, PlaysLines, SessionEndsFrom, ShowsChanges, StopsHearing, heard_in, most_bytes, session_turns, shown_behind}
 use Rattle.bt_centre.specs.Talked.{Says, SaysNothing, Talked, spoken}
 use Rattle.bt_centre.specs.Told.{IsTold}
 use Rattle.bt_centre.specs.World.{IsSpelledWorld}
@@ -33,7 +34,7 @@ abbrev pub StepPlayed : Net → Step → Hand → Hand → List ℕ → Type 0
 StepPlayed net (step.Plays one) old new text = ItemPlayed net one old new text
 StepPlayed net step.Nothing old new text = (new ≡ old) × (text ≡ [])
 StepPlayed net (step.Fault code) old new text = (new ≡ old) × (text ≡ [])
-StepPlayed net (step.Tells one) old new text = (new ≡ old) × IsTold net old.book.state.changes old.air.waiting one text
+StepPlayed net (step.Tells one) old new text = (new ≡ old) × IsTold net old.book.state.changes (waiting_in old.air) one text
 
 -- it could not be played
 abbrev pub StepFailed : Net → Step → Hand → Left → RecoverFault → Type 0
@@ -48,43 +49,43 @@ pub record Took (turns : List Turn) (before after : Option (List ℕ)) (turns_be
   pub turn : turns_after ≡ took turns_before turns
 
 -- lines were played on the way, and the changes made up to there last from the last piece said
-pub record SessionDone (net : Net) (begun : Books) (start : Shown) (exchanges : List Exchange) (hand : Hand) : Type 0 where
+pub record SessionDone (net : Net) (sites : Sites) (begun : Books) (start : Shown) (exchanges : List Exchange) (hand : Hand) : Type 0 where
   pub parts : List Item
-  pub parts_are : parts ≡ parts_of net None (heard_in exchanges)
+  pub parts_are : parts ≡ parts_of net sites None (heard_in exchanges)
   pub lines : List ℕ
-  pub done : ItemsDone net begun parts hand lines
-  pub played : PlaysLines net (is_some begun.told) 1 None (at_start net begun.state.changes) start exchanges done.end
+  pub done : ItemsDone net sites begun parts hand lines
+  pub played : PlaysLines net sites (is_some begun.told) 1 None (at_start net sites begun.state.changes) start exchanges done.end
   pub lasts : Last net (changes_at done.end) (shown_behind start exchanges).crashes hand.book.crashes
 
 -- the same, and the first piece was said, and each of them was answered
-pub record SessionSaid (net : Net) (begun : Books) (exchanges : List Exchange) (hand : Hand) (before after : Option (List ℕ)) (turns_before turns_after : Option (List Turn)) : Type 0 where
+pub record SessionSaid (net : Net) (sites : Sites) (begun : Books) (exchanges : List Exchange) (hand : Hand) (before after : Option (List ℕ)) (turns_before turns_after : Option (List Turn)) : Type 0 where
   pub start : Shown
-  pub done : SessionDone net begun start exchanges hand
-  pub shows : ShowsChanges net (at_start net begun.state.changes) start
-  pub taken : Took (session_turns net begun.state.changes start exchanges) before after turns_before turns_after
+  pub done : SessionDone net sites begun start exchanges hand
+  pub shows : ShowsChanges net (at_start net sites begun.state.changes) start
+  pub taken : Took (session_turns net sites begun.state.changes start exchanges) before after turns_before turns_after
 
 -- an input gave these between two moments
-abbrev pub GaveSince : Option (List ℕ) → Option (List ℕ) → List (Option (List ℕ)) → Type 0
-GaveSince (Some bytes) (Some rest) lines = given_by MOST_SESSION_LINE_BYTES bytes ≡ lines ++ given_by MOST_SESSION_LINE_BYTES rest
-GaveSince (Some bytes) None lines = ⊥
-GaveSince None (Some rest) lines = ⊥
-GaveSince None None lines = Unit {0}
+abbrev pub GaveSince : Sites → Option (List ℕ) → Option (List ℕ) → List (Option (List ℕ)) → Type 0
+GaveSince sites (Some bytes) (Some rest) lines = given_by (most_bytes sites) bytes ≡ lines ++ given_by (most_bytes sites) rest
+GaveSince sites (Some bytes) None lines = ⊥
+GaveSince sites None (Some rest) lines = ⊥
+GaveSince sites None None lines = Unit {0}
 
 -- a session before its line `at`
-pub record SessionGoing (net : Net) (begun : Books) (at : ℕ) (block : Open) (hand : Hand) (coming now before after : Option (List ℕ)) (turns_before turns_after : Option (List Turn)) : Type 0 where
+pub record SessionGoing (net : Net) (sites : Sites) (begun : Books) (at : ℕ) (block : Open) (hand : Hand) (coming now before after : Option (List ℕ)) (turns_before turns_after : Option (List Turn)) : Type 0 where
   pub exchanges : List Exchange
   pub count : length (heard_in exchanges) + 1 ≡ at
-  pub open_is : block ≡ open_behind net None (heard_in exchanges)
-  pub gave : GaveSince coming now (heard_in exchanges)
-  pub said : SessionSaid net begun exchanges hand before after turns_before turns_after
+  pub open_is : block ≡ open_behind net sites None (heard_in exchanges)
+  pub gave : GaveSince sites coming now (heard_in exchanges)
+  pub said : SessionSaid net sites begun exchanges hand before after turns_before turns_after
 
 -- a session whose input ended so
-pub record SessionHeard (net : Net) (begun : Books) (talk : Talked) (hand : Hand) (end : InputEnd) : Type 0 where
+pub record SessionHeard (net : Net) (sites : Sites) (begun : Books) (talk : Talked) (hand : Hand) (end : InputEnd) : Type 0 where
   pub exchanges : List Exchange
-  pub stops : StopsHearing talk (heard_in exchanges) end
-  pub said : SessionSaid net begun exchanges hand talk.output.before talk.output.after talk.turns_before talk.turns_after
+  pub stops : StopsHearing sites talk (heard_in exchanges) end
+  pub said : SessionSaid net sites begun exchanges hand talk.output.before talk.output.after talk.turns_before talk.turns_after
 
 -- how a session ended, from a book on, and the world in which it did
-pub record SessionEnded (net : Net) (talk : Talked) (begun : Books) (left : Left) (status : ℕ) : Type 0 where
+pub record SessionEnded (net : Net) (sites : Sites) (talk : Talked) (begun : Books) (left : Left) (status : ℕ) : Type 0 where
   pub world : IsSpelledWorld (opening_on net begun.state.changes) (reverse left.events)
-  pub ends : SessionEndsFrom net talk (record { before = begun.told; after = left.told; faults_before = begun.faults; faults_after = left.faults }) begun.state.changes status left.histories left.events
+  pub ends : SessionEndsFrom net sites talk (record { before = begun.told; after = left.told; faults_before = begun.faults; faults_after = left.faults }) begun.state.changes status left.histories left.events

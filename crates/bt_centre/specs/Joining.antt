@@ -47,6 +47,7 @@ JoinsAsTold before after =
 abbrev pub RestartJoins : (net : Net) → (tells : Bool) → (before : Stand) → (one : Item) → (text : List ℕ) → (after : Stand) → PlaysItem net tells before one text after → Type 0
 RestartJoins net tells before (item.Round round) text after played = Unit {0}
 RestartJoins net tells before item.Restart text after played = JoinsAsTold before after
+RestartJoins net tells before (item.Heard line) text after played = Unit {0}
 
 -- the world has just the orders of the changes before a part and behind it
 abbrev pub PartHasOrders : (net : Net) → (tells : Bool) → (before : Stand) → (one : Item) → (text : List ℕ) → (after : Stand) → PlaysItem net tells before one text after → Type 0

@@ -7,6 +7,8 @@ use Rattle.bt_outside.specs.Told.{gained}
 use Rattle.bt_net.specs.Network.{Net}
 use Rattle.bt_air.specs.declared.event.Event.{Event}
 use Rattle.bt_air.specs.declared.order.Order.{Order}
+use Rattle.bt_apart.specs.declared.sites.Sites.{Sites}
+use Rattle.bt_apart.specs.declared.sites.Sites.TheVariants.{Together}
 use Rattle.bt_journal.specs.declared.call.Change.{Change}
 use Rattle.bt_history.specs.declared.fault.RecoverFault.{RecoverFault}
 use Rattle.bt_history.specs.declared.fault.RecoverFault.TheVariants.{OutOfMemory, StoreFault}
@@ -22,7 +24,7 @@ use Rattle.bt_script.specs.declared.script.Item.TheVariants as item
 use Rattle.bt_script.specs.declared.script.Round.{Round}
 use Rattle.bt_timeline.specs.Timeline.{restart_line, round_line, start_line}
 use Rattle.bt_centre.specs.declared.history.History.{History}
-use Rattle.bt_round.specs.AirLines.{AirState, mark_of, restarting}
+use Rattle.bt_round.specs.AirLines.{AirState, Simulated, Apart, events_in, hearing, mark_of, opening_in, restarting}
 use Rattle.bt_round.specs.Desks.{IsNotOlder, Sight}
 use Rattle.bt_round.specs.Rounds.{BookRan, LastOn, RoundDone, newest_at}
 use Rattle.bt_report.specs.Output.{Output}
@@ -46,12 +48,17 @@ history_in hand = record { before = hand.before; entries = hand.book.history }
 abbrev pub histories_in : Hand → List History
 histories_in hand = hand.over ++ history_in hand ∷ []
 
+-- the sites of an air are together: it is a simulated one
+abbrev pub IsTogether : AirState → Type 0
+IsTogether (Simulated a) = Unit {0}
+IsTogether (Apart a) = ⊥
+
 -- the line of a start
 abbrev pub start_of : Hand → List ℕ
 start_of hand = start_line (edition hand.book.state.changes) (newest hand.book.state.changes).edition.0 (mark_of hand.air).0
 
--- a run at its start
-pub record IsBegun (net : Net) (hand : Hand) : Type 0 where
+-- a run at its start, where the sites are so
+pub record IsBegun (net : Net) (sites : Sites) (hand : Hand) : Type 0 where
   pub network : hand.book.net ≡ net
   pub over : hand.over ≡ []
   pub before : hand.before ≡ length hand.book.state.changes
@@ -59,7 +66,7 @@ pub record IsBegun (net : Net) (hand : Hand) : Type 0 where
   pub runs : hand.book.state ≡ running hand.book.state.changes
   pub follow : Follows net hand.book.state.changes
   pub few : AreFew hand.book.net hand.book.state.changes
-  pub air : hand.air ≡ (at_start net hand.book.state.changes).air
+  pub air : hand.air ≡ (at_start net sites hand.book.state.changes).air
   pub rounds : hand.rounds ≡ 0
 
 -- why a run did not begin: the recovery failed, or memory ran out over it or behind it
@@ -78,12 +85,12 @@ pub record IsLegalHand (net : Net) (begun : Books) (opening : List Change) (hand
   pub follow : Follows net hand.book.state.changes
   pub count : RoseBy (length (lost_in (histories_in hand))) begun.faults hand.book.faults
   pub tells : is_some hand.book.told ≡ is_some begun.told
-  pub world : hand.air.life.opening ≡ opening_on net begun.state.changes
+  pub world : opening_in hand.air ≡ opening_on net begun.state.changes
 
 -- Parts of a script were played on the way. What the desks were shown in the present time is not newer than the newest plan.
-pub record ItemsDone (net : Net) (begun : Books) (items : List Item) (hand : Hand) (lines : List ℕ) : Type 0 where
+pub record ItemsDone (net : Net) (sites : Sites) (begun : Books) (items : List Item) (hand : Hand) (lines : List ℕ) : Type 0 where
   pub end : Stand
-  pub played : PlaysItems net (is_some begun.told) (at_start net begun.state.changes) items lines end
+  pub played : PlaysItems net (is_some begun.told) (at_start net sites begun.state.changes) items lines end
   pub so_far : IsLegalHand net begun end.opening hand
   pub over_is : end.over ≡ hand.over
   pub history_is : end.history ≡ hand.book.history
@@ -95,15 +102,15 @@ pub record ItemsDone (net : Net) (begun : Books) (items : List Item) (hand : Han
 -- the same, and the first line and theirs stand behind what a sink had
 pub record ItemsWritten (net : Net) (begun : Books) (items : List Item) (hand : Hand) (before after : Option (List ℕ)) : Type 0 where
   pub lines : List ℕ
-  pub done : ItemsDone net begun items hand lines
-  pub wrote : after ≡ gained before (first_line net begun.state.changes ++ lines)
+  pub done : ItemsDone net Together begun items hand lines
+  pub wrote : after ≡ gained before (first_line net Together begun.state.changes ++ lines)
 
 -- what stays in hand over a round: all but the book, the air, and the count of rounds
 pub record GoesOn (old new : Hand) : Type 0 where
   pub over : new.over ≡ old.over
   pub before : new.before ≡ old.before
   pub ran : BookRan old.book new.book
-  pub world : new.air.life.opening ≡ old.air.life.opening
+  pub world : opening_in new.air ≡ opening_in old.air
 
 -- a round was played, and its text stands behind its own line
 pub record RoundPlayed (net : Net) (round : Round) (old new : Hand) (text : List ℕ) : Type 0 where
@@ -153,10 +160,11 @@ pub record RestartPlayed (net : Net) (old new : Hand) (text : List ℕ) : Type 0
   pub rounds : new.rounds ≡ old.rounds
   pub centre : CentreBegan new.book.state.changes old.air new.air text
 
--- a part of a script was played
+-- a part of a script was played; where a line of the bus was heard, nothing is printed, and the air alone is another
 abbrev pub ItemPlayed : Net → Item → Hand → Hand → List ℕ → Type 0
 ItemPlayed net (item.Round round) old new text = RoundPlayed net round old new text
 ItemPlayed net item.Restart old new text = RestartPlayed net old new text
+ItemPlayed net (item.Heard line) old new text = (text ≡ []) × (new ≡ record old { air = hearing old.air line })
 
 -- What is left of a run: what its store tells, with its count of faults and what a crash may leave, the histories, and the events.
 pub record Left : Type 0 where
@@ -172,8 +180,8 @@ pub record IsLeftOf (hand : Hand) (left : Left) : Type 0 where
   pub faults : left.faults ≡ hand.book.faults
   pub crashes : left.crashes ≡ hand.book.crashes
   pub histories : left.histories ≡ histories_in hand
-  pub events : left.events ≡ hand.air.life.events
-  pub world : IsSpelledWorld hand.air.life.opening (reverse left.events)
+  pub events : left.events ≡ events_in hand.air
+  pub world : IsSpelledWorld (opening_in hand.air) (reverse left.events)
   pub kept : IsKept hand.book.net hand.book.told hand.book.state.changes (lost_of hand.book.history)
 
 -- what is left where memory ran out over a restart, once the book was recovered
@@ -182,7 +190,7 @@ pub record IsLeftBehind (book : Books) (air : AirState) (over : List History) (l
   pub faults : left.faults ≡ book.faults
   pub crashes : left.crashes ≡ book.crashes
   pub histories : left.histories ≡ over
-  pub world : IsSpelledWorld air.life.opening (reverse left.events)
+  pub world : IsSpelledWorld (opening_in air) (reverse left.events)
 
 -- what is left where memory ran out over a part: the histories, with what was asked and answered meanwhile, the store that keeps that,
 -- with the changes from before it, which last on, and the events of a world
@@ -194,7 +202,7 @@ pub record IsLeftEarly (old : Hand) (left : Left) : Type 0 where
   pub cut : MaybeRecovered hand.book.net hand.book.told left.told hand.book.faults left.faults
   pub later : hand.book.faults ≤ left.faults
   pub last : LastOn old.book.net old.book.state.changes old.book.crashes left.crashes
-  pub world : IsSpelledWorld old.air.life.opening (reverse left.events)
+  pub world : IsSpelledWorld (opening_in old.air) (reverse left.events)
 
 -- the recovery at a restart failed: the run stopped before it, and the store is left as the fault says. A store that tells its bytes
 -- can only have failed. The changes last over it.
@@ -205,8 +213,8 @@ pub record IsLeftAtRestart (net : Net) (old : Hand) (left : Left) (fault : Recov
   pub only : IfSome old.book.told (λ _. fault ≡ StoreFault)
   pub last : Last net old.book.state.changes old.book.crashes left.crashes
   pub histories : left.histories ≡ histories_in old
-  pub events : left.events ≡ old.air.life.events
-  pub world : IsSpelledWorld old.air.life.opening (reverse left.events)
+  pub events : left.events ≡ events_in old.air
+  pub world : IsSpelledWorld (opening_in old.air) (reverse left.events)
   pub kept : IsKept old.book.net old.book.told old.book.state.changes (lost_of old.book.history)
 
 -- a part could not be played: memory ran out, or it was a restart, and the recovery failed

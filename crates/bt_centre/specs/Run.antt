@@ -7,11 +7,13 @@ use Rattle.bt_outside.specs.Told.{GainsPrefix, gained}
 use Rattle.bt_net.specs.Network.{Net}
 use Rattle.bt_air.specs.declared.event.Event.{Event}
 use Rattle.bt_air.specs.declared.order.Order.{Order}
+use Rattle.bt_apart.specs.declared.sites.Sites.{Sites}
+use Rattle.bt_apart.specs.declared.sites.Sites.TheVariants.{Together}
 use Rattle.bt_demand.specs.declared.burst.Burst.{Burst}
 use Rattle.bt_events.specs.Air.{IsAir, IsSafe, modes_in_front}
 use Rattle.bt_events.specs.Event.{Frame, Opening}
 use Rattle.bt_world.specs.Life.{opening_of}
-use Rattle.bt_events.specs.World.{log, wanted}
+use Rattle.bt_events.specs.World.{log}
 use Rattle.bt_journal.specs.declared.call.Change.{Change}
 use Rattle.bt_journal.specs.declared.entry.Entry.{Entry}
 use Rattle.bt_journal.specs.Journal.{calls_of, changes_of}
@@ -28,7 +30,7 @@ use Rattle.bt_script.specs.declared.script.Round.{Round}
 use Rattle.bt_script.specs.declared.script.Script.{Script}
 use Rattle.bt_timeline.specs.Timeline.{start_line, restart_line, round_line}
 use Rattle.bt_centre.specs.declared.history.History.{History}
-use Rattle.bt_round.specs.AirLines.{AirState, PlaysAirLines, happened, mark_of, orders_in, restarting}
+use Rattle.bt_round.specs.AirLines.{AirState, PlaysAirLines, events_in, hearing, mark_of, opening_in, orders_in, restarting, start_air, wanted_in}
 use Rattle.bt_round.specs.Desks.{Sight, IsNotOlder, asked_by, desks_text, shown_to, shows_of}
 use Rattle.bt_round.specs.Planning.{PlaysPlans, planner_text}
 use Rattle.bt_centre.specs.Lines.{total_of}
@@ -70,7 +72,7 @@ IsNextTime false opening history next = Unit {0}
 -- the changes have one order more than the world, and the last of them is the one that the centre wanted
 pub record IsJoining (air : AirState) (next : List Change) : Type 0 where
   pub order : Order
-  pub asked : wanted (happened air) ≡ Some order
+  pub asked : wanted_in air ≡ Some order
   pub more : length (orders next) ≡ length (orders_in air) + 1
   pub last : HoldsAt (λ (one : Order). one ≡ order) (orders next) (length (orders_in air))
 
@@ -127,10 +129,12 @@ pub record PlaysRestart (net : Net) (tells : Bool) (before : Stand) (text : List
   pub unseen : after.sights ≡ []
   pub printed : text ≡ restart_line ++ start_line (edition after.opening) (newest after.opening).edition.0 (mark_of before.air).0
 
--- a part of a script, over a store that tells its bytes or does not
+-- A part of a script, over a store that tells its bytes or does not. Where the centre hears a line of the bus, nothing is asked and
+-- nothing is printed.
 abbrev pub PlaysItem : Net → (tells : Bool) → Stand → Item → List ℕ → Stand → Type 0
 PlaysItem net tells before (item.Round round) text after = PlaysRound net before round text after
 PlaysItem net tells before item.Restart text after = PlaysRestart net tells before text after
+PlaysItem net tells before (item.Heard line) text after = (text ≡ []) × (after ≡ record before { air = hearing before.air line })
 
 -- parts of a script one after the other
 abbrev pub PlaysItems : Net → (tells : Bool) → Stand → List Item → List ℕ → Stand → Type 0
@@ -163,20 +167,20 @@ pub record AreLegalTimes (net : Net) (tells : Bool) (first last : List Change) (
 abbrev pub opening_on : Net → List Change → Opening
 opening_on net changes = opening_of net (plans changes) (orders changes)
 
--- a run begins with these changes, and a world that opens with them
-abbrev pub at_start : Net → List Change → Stand
-at_start net opening = record {
+-- a run begins with these changes, and an air that opens with them
+abbrev pub at_start : Net → Sites → List Change → Stand
+at_start net sites opening = record {
   over = [];
   opening = opening;
   history = [];
-  air = record { life = record { opening = opening_on net opening; events = [] }; waiting = []; back = None; standby = None };
+  air = start_air sites (opening_on net opening);
   rounds = 0;
   sights = [];
 }
 
 -- the first line of a run that begins with these changes
-abbrev pub first_line : Net → List Change → List ℕ
-first_line net opening = start_line (edition opening) (newest opening).edition.0 (mark_of (at_start net opening).air).0
+abbrev pub first_line : Net → Sites → List Change → List ℕ
+first_line net sites opening = start_line (edition opening) (newest opening).edition.0 (mark_of (at_start net sites opening).air).0
 
 -- Each frame of these events, the latest of them first, is safe: no two of its bursts meet at a beam, and the plan in front has
 -- a mode that makes the connection of each.
@@ -204,20 +208,20 @@ has_lost histories = list_any (λ (history : History). list_any (λ (entry : Ent
 abbrev pub status_after : List History → ℕ
 status_after histories = if has_lost histories then STORE_FAILED else DONE
 
--- A run of these parts of a script, from these changes on: by these histories, one for each time, and these events each part is
--- played, each installed plan is good, and the lines are just those of these histories and of these events.
-pub record IsRun (net : Net) (tells : Bool) (opening : List Change) (items : List Item) (histories : List History) (events : List Event) (lines : List ℕ) : Type 0 where
+-- A run of these parts of a script, from these changes on, where the sites are so: by these histories, one for each time, and these events
+-- each part is played, each installed plan is good, and the lines are just those of these histories and of these events.
+pub record IsRun (net : Net) (sites : Sites) (tells : Bool) (opening : List Change) (items : List Item) (histories : List History) (events : List Event) (lines : List ℕ) : Type 0 where
   pub end : Stand
-  pub played : PlaysItems net tells (at_start net opening) items lines end
+  pub played : PlaysItems net tells (at_start net sites opening) items lines end
   pub history : histories ≡ histories_at end
   pub legal : AreLegalTimes net tells opening end.opening histories
-  pub events_are : events ≡ end.air.life.events
-  pub opened : end.air.life.opening ≡ opening_on net opening
+  pub events_are : events ≡ events_in end.air
+  pub opened : opening_in end.air ≡ opening_on net opening
   pub good : PlansAreGood net (changes_at end)
 
 -- a run with all its lines: the first, those of its parts, and the last, which counts the edits of all times
 abbrev pub whole_text : Net → List Change → List ℕ → List History → List ℕ
-whole_text net opening lines histories = first_line net opening ++ lines ++ total_of (entries_of histories)
+whole_text net opening lines histories = first_line net Together opening ++ lines ++ total_of (entries_of histories)
 
 -- The store is left with the lines of the changes of the last time, and behind them a first part of the line of the change that it
 -- lost in that time, where it lost one. Its count of faults rose by as many changes at least as it lost in all times, or stands at its end.
@@ -272,7 +276,7 @@ pub record BreaksOff (net : Net) (stored : Stored) (opening : List Change) (stat
 -- the script was run, and its text written; the status says whether the store lost a change
 pub record RunsWhole (net : Net) (items : List Item) (output : Output) (stored : Stored) (opening : List Change) (status : ℕ) (histories : List History) (events : List Event) : Type 0 where
   pub lines : List ℕ
-  pub run : IsRun net (is_some stored.before) opening items histories events lines
+  pub run : IsRun net Together (is_some stored.before) opening items histories events lines
   pub left : LeavesStore net stored histories run.end
   pub written : output.after ≡ gained output.before (whole_text net opening lines histories)
   pub status_is : status ≡ status_after histories
@@ -286,17 +290,17 @@ pub record WritesLast (net : Net) (tells : Bool) (opening : List Change) (items 
   pub own : List ℕ
   pub lines_are : lines ≡ said ++ own
   pub before : Stand
-  pub played : PlaysItems net tells (at_start net opening) whole said before
+  pub played : PlaysItems net tells (at_start net Together opening) whole said before
   pub goes : PlaysItem net tells before last own end
-  pub written : GainsPrefix (gained output.before (first_line net opening ++ said)) own output.after
+  pub written : GainsPrefix (gained output.before (first_line net Together opening ++ said)) own output.after
 
 -- What was written where the sink failed: a first part of the first line, before any part was run; or all but for the text of the last
 -- part that was run; or, where no part is left, the text of all and a first part of the last line.
 abbrev pub WritesPart : Net → (tells : Bool) → List Change → (first more : List Item) → Output → List ℕ → List History → Stand → Type 0
 WritesPart net tells opening first more output lines histories end =
-    ((first ≡ []) × GainsPrefix output.before (first_line net opening) output.after)
+    ((first ≡ []) × GainsPrefix output.before (first_line net Together opening) output.after)
     ⊎ WritesLast net tells opening first output lines end
-    ⊎ ((more ≡ []) × GainsPrefix (gained output.before (first_line net opening ++ lines)) (total_of (entries_of histories)) output.after)
+    ⊎ ((more ≡ []) × GainsPrefix (gained output.before (first_line net Together opening ++ lines)) (total_of (entries_of histories)) output.after)
 
 -- the sink failed over the text of a part, or over the first or the last line: the parts up to that one were run, and what was to be
 -- written before it was written whole
@@ -305,7 +309,7 @@ pub record RunsPartly (net : Net) (items : List Item) (output : Output) (stored 
   pub more : List Item
   pub lines : List ℕ
   pub parts : items ≡ first ++ more
-  pub run : IsRun net (is_some stored.before) opening first histories events lines
+  pub run : IsRun net Together (is_some stored.before) opening first histories events lines
   pub left : LeavesStore net stored histories run.end
   pub failed : HasFailed output
   pub written : WritesPart net (is_some stored.before) opening first more output lines histories run.end
@@ -319,7 +323,7 @@ pub record RunsToRestart (net : Net) (items : List Item) (output : Output) (stor
   pub more : List Item
   pub lines : List ℕ
   pub parts : items ≡ first ++ item.Restart ∷ more
-  pub run : IsRun net (is_some stored.before) opening first histories events lines
+  pub run : IsRun net Together (is_some stored.before) opening first histories events lines
   pub told : Option (List ℕ)
   pub faults : ℕ
   pub left : LeavesStore net (record stored { after = told; faults_after = faults }) histories run.end
@@ -328,7 +332,7 @@ pub record RunsToRestart (net : Net) (items : List Item) (output : Output) (stor
   pub later : faults ≤ stored.faults_after
   pub named : fault ≢ OutOfMemory
   pub only : IfSome stored.before (λ _. fault ≡ StoreFault)
-  pub printed : PrintsFault output (first_line net opening ++ lines ++ restart_line) fault status
+  pub printed : PrintsFault output (first_line net Together opening ++ lines ++ restart_line) fault status
 
 -- how the parts of a script end, from these changes on: memory ran out, or they were run to their end, up to a text that could not be
 -- written, or up to a restart at which the changes could not be recovered again

@@ -5,6 +5,8 @@ use Rattle.bt_outside.specs.Told.{Rose}
 use Rattle.bt_outside.specs.Input.{given_by}
 use Rattle.bt_outside.specs.Talk.{Shown, Turn, Heard, Said, took}
 use Rattle.bt_net.specs.Network.{Net}
+use Rattle.bt_apart.specs.declared.sites.Sites.{Sites}
+use Rattle.bt_apart.specs.declared.sites.Sites.TheVariants.{Together, Apart}
 use Rattle.bt_air.specs.declared.event.Event.{Event}
 use Rattle.bt_journal.specs.declared.call.Change.{Change}
 use Rattle.bt_history.specs.Crash.{Last}
@@ -26,7 +28,8 @@ use Rattle.bt_report.specs.Stored.{Stored}
 use Rattle.bt_centre.specs.declared.history.History.{History}
 use Rattle.bt_centre.specs.declared.session.InputEnd.{InputEnd}
 use Rattle.bt_centre.specs.declared.session.InputEnd.TheVariants as ending
-use Rattle.bt_frame.specs.declared.limits.TheConstants.{MOST_ANSWERS, MOST_SESSION_LINE_BYTES}
+use Rattle.bt_frame.specs.declared.limits.TheConstants.{MOST_ANSWERS, MOST_SESSION_LINE_BYTES, MOST_STATION_LINE_BYTES}
+use Rattle.bt_round.specs.AirLines.{waiting_in}
 use Rattle.bt_centre.specs.Lines.{total_of}
 use Rattle.bt_centre.specs.RecoverFaults.{recover_line, recover_status}
 use Rattle.bt_centre.specs.Run.{BreaksEarly, BreaksOff, FramesAreSafe, IsOpening, IsRun, LeavesStore, PlaysItem, RunsNone, Stand, at_start, changes_at, entries_of, first_line, has_lost, opening_on}
@@ -63,16 +66,16 @@ abbrev pub PlaysStep : Net → (tells : Bool) → Stand → Step → List ℕ �
 PlaysStep net tells before (step.Plays one) text after = PlaysItem net tells before one text after
 PlaysStep net tells before step.Nothing text after = (text ≡ []) × (after ≡ before)
 PlaysStep net tells before (step.Fault code) text after = (text ≡ []) × (after ≡ before)
-PlaysStep net tells before (step.Tells one) text after = IsTold net (changes_at before) before.air.waiting one text × (after ≡ before)
+PlaysStep net tells before (step.Tells one) text after = IsTold net (changes_at before) (waiting_in before.air) one text × (after ≡ before)
 
 -- lines one after the other, the first of them line `at`: each is played, and the piece said to it is the text of that with its answer
 -- behind, while the store told all changes that were made up to there. The changes that were made before a line last from the piece said
 -- before it, when the store told this, up to its own.
-abbrev pub PlaysLines : Net → (tells : Bool) → (at : ℕ) → Open → Stand → Shown → List Exchange → Stand → Type 0
-PlaysLines net tells at block before shown [] after = after ≡ before
-PlaysLines net tells at block before shown (first ∷ exchanges) after =
-    (between : Stand) × (own : List ℕ) × PlaysStep net tells before (row_of net block first.line).1 own between
-    × PlaysLines net tells (at + 1) (row_of net block first.line).0 between first.shown exchanges after × (first.piece ≡ own ++ answer_of at (row_of net block first.line).1)
+abbrev pub PlaysLines : Net → Sites → (tells : Bool) → (at : ℕ) → Open → Stand → Shown → List Exchange → Stand → Type 0
+PlaysLines net sites tells at block before shown [] after = after ≡ before
+PlaysLines net sites tells at block before shown (first ∷ exchanges) after =
+    (between : Stand) × (own : List ℕ) × PlaysStep net tells before (row_of net sites block first.line).1 own between
+    × PlaysLines net sites tells (at + 1) (row_of net sites block first.line).0 between first.shown exchanges after × (first.piece ≡ own ++ answer_of at (row_of net sites block first.line).1)
     × ShowsChanges net between first.shown × Last net (changes_at before) shown.crashes first.shown.crashes
 
 -- the changes made up to there last from the last piece said, or that over which the sink or memory failed, to the end of the talk
@@ -81,21 +84,21 @@ LastToEnd net talk stand start exchanges = Last net (changes_at stand) (shown_be
 
 -- A session of these exchanges, from these changes on: it is a run of the parts that its lines ask, and what is said to each line is the
 -- text of what it plays, with its answer behind.
-pub record IsSession (net : Net) (tells : Bool) (opening : List Change) (start : Shown) (exchanges : List Exchange) (histories : List History) (events : List Event) : Type 0 where
-  pub shows : ShowsChanges net (at_start net opening) start
+pub record IsSession (net : Net) (sites : Sites) (tells : Bool) (opening : List Change) (start : Shown) (exchanges : List Exchange) (histories : List History) (events : List Event) : Type 0 where
+  pub shows : ShowsChanges net (at_start net sites opening) start
   pub parts : List Item
-  pub parts_are : parts ≡ parts_of net None (heard_in exchanges)
+  pub parts_are : parts ≡ parts_of net sites None (heard_in exchanges)
   pub lines : List ℕ
-  pub run : IsRun net tells opening parts histories events lines
-  pub played : PlaysLines net tells 1 None (at_start net opening) start exchanges run.end
+  pub run : IsRun net sites tells opening parts histories events lines
+  pub played : PlaysLines net sites tells 1 None (at_start net sites opening) start exchanges run.end
 
 -- the first line of a session, and that the first line may come
-abbrev pub opening_text : Net → List Change → List ℕ
-opening_text net opening = first_line net opening ++ ready_line 0
+abbrev pub opening_text : Net → Sites → List Change → List ℕ
+opening_text net sites opening = first_line net sites opening ++ ready_line 0
 
 -- the turns of a session: that is said, and then each line is heard and answered
-abbrev pub session_turns : Net → List Change → Shown → List Exchange → List Turn
-session_turns net opening start exchanges = Said (opening_text net opening) start ∷ turns_in exchanges
+abbrev pub session_turns : Net → Sites → List Change → Shown → List Exchange → List Turn
+session_turns net sites opening start exchanges = Said (opening_text net sites opening) start ∷ turns_in exchanges
 
 -- what is said of the end of the input
 abbrev pub input_text : InputEnd → List ℕ
@@ -115,56 +118,61 @@ closing_text end histories = input_text end ++ total_of (entries_of histories)
 abbrev pub status_behind : InputEnd → List History → ℕ
 status_behind end histories = if has_lost histories then STORE_FAILED else input_status end
 
+-- the bytes of a line at most: where the sites are apart, a line of the bus has more than another
+abbrev pub most_bytes : Sites → ℕ
+most_bytes Together = MOST_SESSION_LINE_BYTES
+most_bytes Apart = MOST_STATION_LINE_BYTES
+
 -- these are the first lines that the input gives, where its bytes are told
-abbrev pub WereGiven : Talked → List (Option (List ℕ)) → Type 0
-WereGiven talk lines = IfSome talk.coming (λ bytes. (more : List (Option (List ℕ))) × (given_by MOST_SESSION_LINE_BYTES bytes ≡ lines ++ more))
+abbrev pub WereGiven : Sites → Talked → List (Option (List ℕ)) → Type 0
+WereGiven sites talk lines = IfSome talk.coming (λ bytes. (more : List (Option (List ℕ))) × (given_by (most_bytes sites) bytes ≡ lines ++ more))
 
 -- these are all that it gives
-abbrev pub AllGiven : Talked → List (Option (List ℕ)) → Type 0
-AllGiven talk lines = IfSome talk.coming (λ bytes. given_by MOST_SESSION_LINE_BYTES bytes ≡ lines)
+abbrev pub AllGiven : Sites → Talked → List (Option (List ℕ)) → Type 0
+AllGiven sites talk lines = IfSome talk.coming (λ bytes. given_by (most_bytes sites) bytes ≡ lines)
 
 -- why no line was heard behind these: none was left, or as many were heard as are counted; or the input failed
-abbrev pub StopsHearing : Talked → List (Option (List ℕ)) → InputEnd → Type 0
-StopsHearing talk lines ending.Over = AllGiven talk lines ⊎ ((length lines + 1 ≡ MOST_ANSWERS) × WereGiven talk lines)
-StopsHearing talk lines ending.Failed = Rose talk.unheard_before talk.unheard_after × WereGiven talk lines
+abbrev pub StopsHearing : Sites → Talked → List (Option (List ℕ)) → InputEnd → Type 0
+StopsHearing sites talk lines ending.Over = AllGiven sites talk lines ⊎ ((length lines + 1 ≡ MOST_ANSWERS) × WereGiven sites talk lines)
+StopsHearing sites talk lines ending.Failed = Rose talk.unheard_before talk.unheard_after × WereGiven sites talk lines
 
 -- the lines were played and answered up to the end of the input, and the last piece was said, or the sink failed over it
-pub record SessionWhole (net : Net) (talk : Talked) (stored : Stored) (opening : List Change) (status : ℕ) (histories : List History) (events : List Event) : Type 0 where
+pub record SessionWhole (net : Net) (sites : Sites) (talk : Talked) (stored : Stored) (opening : List Change) (status : ℕ) (histories : List History) (events : List Event) : Type 0 where
   pub exchanges : List Exchange
   pub start : Shown
-  pub session : IsSession net (is_some stored.before) opening start exchanges histories events
+  pub session : IsSession net sites (is_some stored.before) opening start exchanges histories events
   pub left : LeavesStore net stored histories session.run.end
   pub lasts : LastToEnd net talk session.run.end start exchanges
   pub end : InputEnd
-  pub stops : StopsHearing talk (heard_in exchanges) end
-  pub said : Says (behind talk (session_turns net opening start exchanges)) (closing_text end histories) (status_behind end histories) status
+  pub stops : StopsHearing sites talk (heard_in exchanges) end
+  pub said : Says (behind talk (session_turns net sites opening start exchanges)) (closing_text end histories) (status_behind end histories) status
 
 -- The sink failed over the last of these turns, which is the first piece of the session or what was to be said to the last of its lines.
 -- That line was played; the turns before were taken, and no other.
-pub record SessionUnsaid (net : Net) (talk : Talked) (stored : Stored) (opening : List Change) (status : ℕ) (histories : List History) (events : List Event) : Type 0 where
+pub record SessionUnsaid (net : Net) (sites : Sites) (talk : Talked) (stored : Stored) (opening : List Change) (status : ℕ) (histories : List History) (events : List Event) : Type 0 where
   pub exchanges : List Exchange
   pub start : Shown
-  pub session : IsSession net (is_some stored.before) opening start exchanges histories events
+  pub session : IsSession net sites (is_some stored.before) opening start exchanges histories events
   pub left : LeavesStore net stored histories session.run.end
   pub lasts : LastToEnd net talk session.run.end start exchanges
-  pub given : WereGiven talk (heard_in exchanges)
+  pub given : WereGiven sites talk (heard_in exchanges)
   pub turns : List Turn
   pub piece : List ℕ
   pub shown : Shown
-  pub last : session_turns net opening start exchanges ≡ turns ++ Said piece shown ∷ []
+  pub last : session_turns net sites opening start exchanges ≡ turns ++ Said piece shown ∷ []
   pub part : SaysPart (behind talk turns) piece
   pub status_is : status ≡ WRITE_FAILED
 
 -- The recovery at a restart failed: the lines before the one that asked it were played and answered, that one was heard, and the line
 -- `restart` was said to it with that of the fault behind, or the sink failed over it. The store told these bytes before that recovery,
 -- and its count of faults was this. A store that tells its bytes can only have failed.
-pub record SessionToRestart (net : Net) (talk : Talked) (stored : Stored) (opening : List Change) (status : ℕ) (histories : List History) (events : List Event) : Type 0 where
+pub record SessionToRestart (net : Net) (sites : Sites) (talk : Talked) (stored : Stored) (opening : List Change) (status : ℕ) (histories : List History) (events : List Event) : Type 0 where
   pub exchanges : List Exchange
   pub last : Option (List ℕ)
   pub start : Shown
-  pub session : IsSession net (is_some stored.before) opening start exchanges histories events
-  pub asked : (row_of net (open_behind net None (heard_in exchanges)) last).1 ≡ step.Plays item.Restart
-  pub given : WereGiven talk (heard_in exchanges ++ last ∷ [])
+  pub session : IsSession net sites (is_some stored.before) opening start exchanges histories events
+  pub asked : (row_of net sites (open_behind net sites None (heard_in exchanges)) last).1 ≡ step.Plays item.Restart
+  pub given : WereGiven sites talk (heard_in exchanges ++ last ∷ [])
   pub told : Option (List ℕ)
   pub faults : ℕ
   pub left : LeavesStore net (record stored { after = told; faults_after = faults }) histories session.run.end
@@ -174,14 +182,14 @@ pub record SessionToRestart (net : Net) (talk : Talked) (stored : Stored) (openi
   pub later : faults ≤ stored.faults_after
   pub named : fault ≢ OutOfMemory
   pub only : IfSome stored.before (λ _. fault ≡ StoreFault)
-  pub said : Says (behind talk (session_turns net opening start exchanges ++ Heard last ∷ [])) (restart_line ++ recover_line fault) (recover_status fault) status
+  pub said : Says (behind talk (session_turns net sites opening start exchanges ++ Heard last ∷ [])) (restart_line ++ recover_line fault) (recover_status fault) status
 
 -- the turns that were taken where memory ran out: those of these exchanges; or one more line was heard; or all but the last of them, a
 -- piece that was not said
-abbrev pub StopsTurns : Net → List Change → Shown → List Exchange → List Turn → Type 0
-StopsTurns net opening start exchanges turns =
-    (turns ≡ session_turns net opening start exchanges) ⊎ ((last : Option (List ℕ)) × (turns ≡ session_turns net opening start exchanges ++ Heard last ∷ []))
-    ⊎ ((piece : List ℕ) × (shown : Shown) × (session_turns net opening start exchanges ≡ turns ++ Said piece shown ∷ []))
+abbrev pub StopsTurns : Net → Sites → List Change → Shown → List Exchange → List Turn → Type 0
+StopsTurns net sites opening start exchanges turns =
+    (turns ≡ session_turns net sites opening start exchanges) ⊎ ((last : Option (List ℕ)) × (turns ≡ session_turns net sites opening start exchanges ++ Heard last ∷ []))
+    ⊎ ((piece : List ℕ) × (shown : Shown) × (session_turns net sites opening start exchanges ≡ turns ++ Said piece shown ∷ []))
 
 -- these histories go on from there, in the same time
 abbrev pub GoesOnFrom : Stand → List History → Type 0
@@ -189,36 +197,36 @@ GoesOnFrom stand histories = (more : List Entry) × (histories ≡ stand.over ++
 
 -- Memory ran out. What was asked and answered goes on from these exchanges, each of which was played, and said while the store told all
 -- changes that were made up to there; no other turn was taken, but for a line that was not answered.
-pub record SessionBreaksOff (net : Net) (talk : Talked) (stored : Stored) (opening : List Change) (status : ℕ) (histories : List History) : Type 0 where
+pub record SessionBreaksOff (net : Net) (sites : Sites) (talk : Talked) (stored : Stored) (opening : List Change) (status : ℕ) (histories : List History) : Type 0 where
   pub off : BreaksOff net stored opening status histories
   pub exchanges : List Exchange
   pub start : Shown
-  pub shows : ShowsChanges net (at_start net opening) start
+  pub shows : ShowsChanges net (at_start net sites opening) start
   pub stand : Stand
-  pub played : PlaysLines net (is_some stored.before) 1 None (at_start net opening) start exchanges stand
+  pub played : PlaysLines net sites (is_some stored.before) 1 None (at_start net sites opening) start exchanges stand
   pub lasts : LastToEnd net talk stand start exchanges
   pub goes : GoesOnFrom stand histories
   pub turns : List Turn
-  pub stops : StopsTurns net opening start exchanges turns
+  pub stops : StopsTurns net sites opening start exchanges turns
   pub taken : talk.turns_after ≡ took talk.turns_before turns
 
 -- how a session ends, from these changes on: memory ran out, or its lines were played to the end of the input, up to a piece that could
 -- not be said, or up to a restart at which the changes could not be recovered again
-abbrev pub SessionEndsFrom : Net → Talked → Stored → List Change → ℕ → List History → List Event → Type 0
-SessionEndsFrom net talk stored opening status histories events =
-    SessionBreaksOff net talk stored opening status histories
-    ⊎ SessionWhole net talk stored opening status histories events
-    ⊎ SessionUnsaid net talk stored opening status histories events
-    ⊎ SessionToRestart net talk stored opening status histories events
+abbrev pub SessionEndsFrom : Net → Sites → Talked → Stored → List Change → ℕ → List History → List Event → Type 0
+SessionEndsFrom net sites talk stored opening status histories events =
+    SessionBreaksOff net sites talk stored opening status histories
+    ⊎ SessionWhole net sites talk stored opening status histories events
+    ⊎ SessionUnsaid net sites talk stored opening status histories events
+    ⊎ SessionToRestart net sites talk stored opening status histories events
 
 -- the store's changes were recovered, what happened on the air from then on is a world, and each of its frames is safe; and so the
 -- session ended
-pub record SessionFrom (net : Net) (talk : Talked) (stored : Stored) (status : ℕ) (histories : List History) (events : List Event) : Type 0 where
+pub record SessionFrom (net : Net) (sites : Sites) (talk : Talked) (stored : Stored) (status : ℕ) (histories : List History) (events : List Event) : Type 0 where
   pub opening : List Change
   pub opens : IsOpening net stored opening
   pub world : IsSpelledWorld (opening_on net opening) (reverse events)
   pub safe : FramesAreSafe (opening_on net opening) (reverse events)
-  pub ends : SessionEndsFrom net talk stored opening status histories events
+  pub ends : SessionEndsFrom net sites talk stored opening status histories events
 
 -- the first recovery failed: nothing was played and no line was heard; its fault was said, or the sink failed over it
 pub record SessionNothing (net : Net) (talk : Talked) (stored : Stored) (status : ℕ) (histories : List History) (events : List Event) : Type 0 where
@@ -229,8 +237,8 @@ pub record SessionNothing (net : Net) (talk : Talked) (stored : Stored) (status 
   pub said : Says talk (recover_line fault) (recover_status fault) status
 
 -- how a session ends: memory ran out early; or the store's changes could not be recovered; or they were, and it went on from them
-abbrev pub SessionTo : Net → Talked → Stored → ℕ → List History → List Event → Type 0
-SessionTo net talk stored status histories events =
+abbrev pub SessionTo : Net → Sites → Talked → Stored → ℕ → List History → List Event → Type 0
+SessionTo net sites talk stored status histories events =
     BreaksEarly net stored status histories events
     ⊎ SessionNothing net talk stored status histories events
-    ⊎ SessionFrom net talk stored status histories events
+    ⊎ SessionFrom net sites talk stored status histories events

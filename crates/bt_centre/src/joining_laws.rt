@@ -2,6 +2,7 @@
 ghost use Rattle.std.specs.Prelude.{◌≡◌, ℕ, true, Bool, List};
 ghost use Rattle.std.specs.Option.{is_some};
 ghost use Rattle.bt_net.specs.Network.{Net};
+ghost use Rattle.bt_apart.specs.declared.sites.Sites.{Sites};
 ghost use Rattle.bt_air.specs.declared.event.Event.{Event};
 ghost use Rattle.bt_centre.specs.declared.history.History.{History};
 ghost use Rattle.bt_centre.specs.Joining.{HasOrders, JoinsWanted, PartHasOrders, RestartJoins};
@@ -30,12 +31,12 @@ pub fn orders_join_as_told()
         (events : List Event) → is_some stored.before ≡ true
         → (run : RunsFrom net script output stored status histories events)
         → EachPartAtEnd PartHasOrders net script.items output stored run.opening status histories events run.ends }
-    ensures sessions { (net : Net) (talk : Talked) (stored : Stored) (status : ℕ) (histories : List History) (events : List Event)
-        → is_some stored.before ≡ true → (session : SessionFrom net talk stored status histories events)
-        → EachPartOfSession RestartJoins net talk stored session.opening status histories events session.ends }
-    ensures orders_in_sessions { (net : Net) (talk : Talked) (stored : Stored) (status : ℕ) (histories : List History)
+    ensures sessions { (net : Net) (sites : Sites) (talk : Talked) (stored : Stored) (status : ℕ) (histories : List History) (events : List Event)
+        → is_some stored.before ≡ true → (session : SessionFrom net sites talk stored status histories events)
+        → EachPartOfSession RestartJoins net sites talk stored session.opening status histories events session.ends }
+    ensures orders_in_sessions { (net : Net) (sites : Sites) (talk : Talked) (stored : Stored) (status : ℕ) (histories : List History)
         (events : List Event) → is_some stored.before ≡ true
-        → (session : SessionFrom net talk stored status histories events)
-        → EachPartOfSession PartHasOrders net talk stored session.opening status histories events session.ends }
-    ensures start { (net : Net) (opening : List Change) → HasOrders (at_start net opening) }
+        → (session : SessionFrom net sites talk stored status histories events)
+        → EachPartOfSession PartHasOrders net sites talk stored session.opening status histories events session.ends }
+    ensures start { (net : Net) (sites : Sites) (opening : List Change) → HasOrders (at_start net sites opening) }
 {}

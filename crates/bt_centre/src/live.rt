@@ -1,10 +1,12 @@
 // The run of a session: between its lines the book hands its entries over, so that no bytes of them are kept; nor are any of
 // the events of its world, but for the plans that were installed.
-ghost use Rattle.std.specs.Prelude.{◌≡◌, ◌<◌, ◌++◌, ◌∷◌, [], length, IfErr, IfOk, OnOk};
+ghost use Rattle.std.specs.Prelude.{◌≡◌, ◌<◌, ◌++◌, ◌∷◌, [], false, length, IfErr, IfOk, OnOk};
 ghost use Rattle.bt_frame.specs.declared.limits.TheConstants.{MOST_ANSWERS};
 ghost use Rattle.bt_history.specs.Causes.{Follows};
 ghost use Rattle.bt_history.specs.Crash.{Last};
 ghost use Rattle.bt_history.specs.Store.{IsKept, lost_of};
+ghost use Rattle.bt_round.specs.AirLines.{hearing, opening_in, waiting_in};
+ghost use Rattle.bt_bus.specs.Heard.{IsOnBus};
 ghost use Rattle.bt_script.specs.Named.{IsItemFor, IsRoundFor};
 ghost use Rattle.bt_script.specs.declared.script.Item.TheVariants as item;
 ghost use Rattle.bt_talk.specs.Block.{IsQueryFor, IsStepFor};
@@ -14,7 +16,7 @@ ghost use Rattle.bt_centre.specs.Lines.{total_of};
 ghost use Rattle.bt_centre.specs.Progress.{IsLeftEarly, IsLeftOf, ItemFailed, ItemPlayed, RestartPlayed, RoundPlayed};
 ghost use Rattle.bt_centre.specs.Run.{entries_of, has_lost};
 ghost use Rattle.bt_centre.specs.Told.{IsTold};
-ghost use Rattle.bt_centre.specs.Whole.{whole, whole_left};
+ghost use Rattle.bt_centre.specs.Whole.{IsLive, whole, whole_left};
 ghost use Rattle.bt_centre.specs.declared.history.History.{History};
 
 use crate::log::Log;
@@ -25,6 +27,7 @@ use crate::tally::Tally;
 use crate::tell::tell;
 use crate::{SessionEnd, SessionHistories};
 use bt_book::RecoverFault;
+use bt_bus::BusLine;
 use bt_frame::OutOfMemory;
 use bt_journal::Entries;
 use bt_net::Network;
@@ -96,11 +99,11 @@ impl<K: Keeper> Live<K> {
     }
 
     /// The run stops here.
-    pub(crate) fn stop<R: Threads + Wait + Sync>(self, rt: &R) -> LiveRemains<K>
+    pub(crate) fn stop<R: Threads + Wait + Sync>(self, rt: &R, alloc: Global) -> LiveRemains<K>
         ensures { IsLeftOf self result }
     {
         let Live { run, log } = self;
-        left_behind(run.stop(rt), log)
+        left_behind(run.stop(rt, alloc), log)
     }
 
     /// The store. It tells the changes of the book, and maybe a first part of the one that it lost. A crash now leaves them at least.
@@ -117,22 +120,25 @@ impl<K: Keeper> Live<K> {
     /// What a line that asks is told, of what the run has in hand.
     fn tell(&self, alloc: Global, net: &Network, query: Query) -> Result<Vec<u8>, OutOfMemory>
         requires network { self.now.book.net ≡ net.now }
-        requires air_network { self.now.air.life.opening.net ≡ net.now }
+        requires air_network { (opening_in self.now.air).net ≡ net.now }
         requires terminals { IsQueryFor net.now query }
         requires follow { Follows net.now self.now.book.state.changes }
-        ensures told { IfOk result (λ text. IsTold net.now self.now.book.state.changes self.now.air.waiting query text.items) }
+        ensures told { IfOk result (λ text. IsTold net.now self.now.book.state.changes (waiting_in self.now.air) query text.items) }
     {
         let station = &self.run.station;
         tell(alloc, net, &station.book, &station.centre, query)
     }
+}
 
-    /// The book hands its entries over, where its store has not failed.
-    fn hand_over(&mut self, alloc: Global)
-        ensures same { self.new ≡ self.old }
-    {
-        let entries = Entries::of(self.run.take_entries(alloc));
-        self.log.add(&entries);
-    }
+/// The book hands its entries over to the log, where its store has not failed.
+fn hand_over<K: Keeper>(alloc: Global, run: &mut Playing<K, TracedEvents>, log: &mut Log)
+    requires live { IsLive log.old.front run.old }
+    ensures same { whole log.new.times log.new.front run.new ≡ whole log.old.times log.old.front run.old }
+    ensures none { run.old.book.state.stopped ≡ false → run.new.book.history ≡ [] }
+    ensures live { IsLive log.new.front run.new }
+{
+    let entries = Entries::of(run.take_entries(alloc));
+    log.add(&entries);
 }
 
 /// What is left behind what was handed over.
@@ -209,50 +215,51 @@ pub(crate) fn play_step<R: Threads + Wait + Sync, G: Gate + Sync, K: Keeper + Se
     alloc: Global,
     net: &Network,
     gate: &G,
-    step: &Step,
+    step: Step,
     live: Live<K>,
 ) -> Result<(Live<K>, Vec<u8>), (LiveRemains<K>, RecoverFault)>
     requires few { live.rounds < MOST_ANSWERS }
     requires network { live.book.net ≡ net.now }
-    requires air_network { live.air.life.opening.net ≡ net.now }
-    requires terminals { IsStepFor net.now step.now }
+    requires air_network { (opening_in live.air).net ≡ net.now }
+    requires terminals { IsStepFor net.now step }
     requires follow { Follows net.now live.book.state.changes }
-    ensures played { IfOk result (λ on. StepPlayed net.now step.now live on.0 on.1.items) }
-    ensures failed { IfErr result (λ end. StepFailed net.now step.now live end.0 end.1) }
+    ensures played { IfOk result (λ on. StepPlayed net.now step live on.0 on.1.items) }
+    ensures failed { IfErr result (λ end. StepFailed net.now step live end.0 end.1) }
 {
     match step {
         Step::Plays(item) => live_item(rt, alloc, net, gate, item, live),
         Step::Nothing | Step::Fault(_) => Ok((live, Vec::new(alloc))),
-        Step::Tells(query) => match live.tell(alloc, net, *query) {
+        Step::Tells(query) => match live.tell(alloc, net, query) {
             Ok(text) => Ok((live, text)),
-            Err(OutOfMemory) => Err((live.stop(rt), RecoverFault::OutOfMemory)),
+            Err(OutOfMemory) => Err((live.stop(rt, alloc), RecoverFault::OutOfMemory)),
         },
     }
 }
 
-/// Plays a round or a restart, and gives its text; or what is left of the run.
+/// Plays a part of a session, and gives its text; or what is left of the run.
 fn live_item<R: Threads + Wait + Sync, G: Gate + Sync, K: Keeper + Send>(
     rt: &R,
     alloc: Global,
     net: &Network,
     gate: &G,
-    item: &Item,
+    item: Item,
     live: Live<K>,
 ) -> Result<(Live<K>, Vec<u8>), (LiveRemains<K>, RecoverFault)>
     requires few { live.rounds < MOST_ANSWERS }
     requires network { live.book.net ≡ net.now }
-    requires air_network { live.air.life.opening.net ≡ net.now }
-    requires terminals { IsItemFor net.now item.now }
+    requires air_network { (opening_in live.air).net ≡ net.now }
+    requires terminals { IsItemFor net.now item }
     requires follow { Follows net.now live.book.state.changes }
-    ensures played { IfOk result (λ on. ItemPlayed net.now item.now live on.0 on.1.items) }
-    ensures failed { IfErr result (λ end. ItemFailed net.now item.now live end.0 end.1) }
+    ensures played { IfOk result (λ on. ItemPlayed net.now item live on.0 on.1.items) }
+    ensures failed { IfErr result (λ end. ItemFailed net.now item live end.0 end.1) }
 {
     match item {
-        Item::Round(round) => match live_round(rt, alloc, net, gate, round, live) {
+        Item::Round(round) => match live_round(rt, alloc, net, gate, &round, live) {
             Ok(on) => Ok(on),
             Err(remains) => Err((remains, RecoverFault::OutOfMemory)),
         },
         Item::Restart => live_restart(rt, alloc, net, live),
+        Item::Heard(line) => Ok((live_heard(line, live), Vec::new(alloc))),
     }
 }
 
@@ -267,18 +274,17 @@ fn live_round<R: Threads + Wait + Sync, G: Gate + Sync, K: Keeper + Send>(
 ) -> Result<(Live<K>, Vec<u8>), LiveRemains<K>>
     requires few { live.rounds < MOST_ANSWERS }
     requires network { live.book.net ≡ net.now }
-    requires air_network { live.air.life.opening.net ≡ net.now }
+    requires air_network { (opening_in live.air).net ≡ net.now }
     requires terminals { IsRoundFor net.now round.now }
     requires follow { Follows net.now live.book.state.changes }
     ensures played { IfOk result (λ on. RoundPlayed net.now round.now live on.0 on.1.items) }
     ensures failed { IfErr result (λ remains. IsLeftEarly live remains) }
 {
-    let Live { run, log } = live;
+    let Live { run, mut log } = live;
     match play_round(rt, alloc, net, gate, round, run) {
-        Ok((next, text)) => {
-            let mut on = Live { run: next, log };
-            on.hand_over(alloc);
-            Ok((on, text))
+        Ok((mut next, text)) => {
+            hand_over(alloc, &mut next, &mut log);
+            Ok((Live { run: next, log }, text))
         }
         Err(remains) => Err(left_behind(remains, log)),
     }
@@ -293,7 +299,7 @@ fn live_restart<R: Threads + Wait + Sync, K: Keeper>(
     live: Live<K>,
 ) -> Result<(Live<K>, Vec<u8>), (LiveRemains<K>, RecoverFault)>
     requires network { live.book.net ≡ net.now }
-    requires air_network { live.air.life.opening.net ≡ net.now }
+    requires air_network { (opening_in live.air).net ≡ net.now }
     requires follow { Follows net.now live.book.state.changes }
     ensures played { IfOk result (λ on. RestartPlayed net.now live on.0 on.1.items) }
     ensures failed { IfErr result (λ end. ItemFailed net.now item.Restart live end.0 end.1) }
@@ -303,6 +309,16 @@ fn live_restart<R: Threads + Wait + Sync, K: Keeper>(
         Ok((next, text)) => Ok((begun_again(next, log), text)),
         Err((remains, fault)) => Err((left_behind(remains, log), fault)),
     }
+}
+
+/// The centre hears a line of the bus.
+fn live_heard<K: Keeper>(line: BusLine, live: Live<K>) -> Live<K>
+    requires on_bus { IsOnBus line }
+    ensures heard { result ≡ record live { air = hearing live.air line } }
+{
+    let Live { mut run, log } = live;
+    run.hear(line);
+    Live { run, log }
 }
 
 /// The run behind a restart: the time that is over goes into the log.

@@ -1,4 +1,4 @@
-// A run at its start: the store's changes are recovered, and a world opens with them.
+// A run at its start: the store's changes are recovered, and the air opens with them.
 ghost use Rattle.std.specs.Prelude.{◌≡◌, ◌<◌, ◌≤◌, ◌+◌, [], option_map, IfErr, IfOk, IfSome};
 ghost use Rattle.bt_history.specs.Causes.{Follows};
 ghost use Rattle.bt_history.specs.Changes.{orders, plans};
@@ -6,11 +6,13 @@ ghost use Rattle.bt_history.specs.Machine.{running};
 ghost use Rattle.bt_history.specs.Recovery.{IsReadable, Recovered, marked};
 ghost use Rattle.bt_centre.specs.Progress.{IsBegun, IsOpenFault};
 ghost use Rattle.bt_centre.specs.Run.{AreFew, at_start, opening_on};
+ghost use Rattle.bt_round.specs.AirLines.{start_air};
 ghost use Rattle.bt_round.specs.Boards.{IsPublished};
 
 use crate::playing::Playing;
 use crate::station::station_of;
 use bt_air::Order;
+use bt_apart::{ApartCentre, Sites};
 use bt_book::{Book, RecoverFault, installed_plans_can_be_flown};
 use bt_demand::Plan;
 use bt_frame::OutOfMemory;
@@ -22,15 +24,16 @@ use std::alloc::Global;
 use std::sync::Wait;
 use std::thread::Threads;
 
-/// A run of the changes that the store tells. The store is handed back where they are not recovered, and where memory
+/// A run of the changes that the store tells, where the sites are so. The store is handed back where they are not recovered, and where memory
 /// runs out.
 pub(crate) fn open<R: Threads + Wait + Sync, K: Keeper, E: Events>(
     rt: &R,
     alloc: Global,
     net: &Network,
+    sites: Sites,
     store: K,
 ) -> Result<Playing<K, E>, (K, RecoverFault)>
-    ensures begun { IfOk result (λ hand. IsBegun net.now hand) }
+    ensures begun { IfOk result (λ hand. IsBegun net.now sites hand) }
     ensures told { IfOk result (λ hand. hand.book.told ≡ option_map (marked net.now) (K.told store)) }
     ensures changes { IfOk result (λ hand. IfSome (K.told store) (λ bytes. Recovered net.now bytes hand.book.state.changes)) }
     ensures readable { IfOk result (λ _. IsReadable (K.told store)) }
@@ -39,7 +42,7 @@ pub(crate) fn open<R: Threads + Wait + Sync, K: Keeper, E: Events>(
     ensures fault_later { IfErr result (λ end. K.fault_count store ≤ K.fault_count end.0) }
 {
     match Book::recover(alloc, net, store) {
-        Ok(book) => match begin(rt, alloc, net, book) {
+        Ok(book) => match begin(rt, alloc, net, sites, book) {
             Ok(playing) => Ok(playing),
             Err(store) => Err((store, RecoverFault::OutOfMemory)),
         },
@@ -52,13 +55,14 @@ fn begin<R: Threads + Wait + Sync, K: Keeper, E: Events>(
     rt: &R,
     alloc: Global,
     net: &Network,
+    sites: Sites,
     book: Book<K>,
 ) -> Result<Playing<K, E>, K>
     requires network { book.net ≡ net.now }
     requires none { book.history ≡ [] }
     requires runs { book.state ≡ running book.state.changes }
     requires follow { Follows net.now book.state.changes }
-    ensures begun { IfOk result (λ hand. IsBegun net.now hand) }
+    ensures begun { IfOk result (λ hand. IsBegun net.now sites hand) }
     ensures book { IfOk result (λ hand. hand.book ≡ book) }
     ensures told { IfErr result (λ store. K.told store ≡ book.told) }
     ensures faults { IfErr result (λ store. K.fault_count store ≡ book.faults) }
@@ -68,7 +72,7 @@ fn begin<R: Threads + Wait + Sync, K: Keeper, E: Events>(
     let Ok(over) = Vec::with_capacity(alloc, 1) else {
         return Err(book.into_parts().0);
     };
-    match man(rt, alloc, net, book) {
+    match man(rt, alloc, net, sites, book) {
         Ok(station) => Ok(Playing {
             station,
             before,
@@ -88,47 +92,57 @@ pub(crate) fn changes_are_few<K: Keeper>(book: &Book<K>)
     let _bytes = book.line_bytes();
 }
 
-/// The station of a book and of the world that opens with it. Where memory runs out, the book comes back.
+/// The station of a book and of the air that opens with it. Where memory runs out, the book comes back.
 fn man<R: Threads + Wait + Sync, K: Keeper, E: Events>(
     rt: &R,
     alloc: Global,
     net: &Network,
+    sites: Sites,
     book: Book<K>,
 ) -> Result<Station<K, E>, Book<K>>
     requires follow { Follows net.now book.state.changes }
     ensures book { IfOk result (λ station. station.book ≡ book) }
-    ensures air { IfOk result (λ station. station.centre ≡ (at_start net.now book.state.changes).air) }
+    ensures air { IfOk result (λ station. station.centre ≡ (at_start net.now sites book.state.changes).air) }
     ensures published { IfOk result (λ station. IsPublished station.book.state.changes station.publisher station.readers.items) }
     ensures back { IfErr result (λ back. back ≡ book) }
 {
-    let Ok(world) = open_world(alloc, net, &book) else {
+    let Ok(centre) = open_air(alloc, net, sites, &book) else {
         return Err(book);
     };
-    match station_of(rt, alloc, book, CentreWorker::new(alloc, world)) {
+    match station_of(rt, alloc, book, centre) {
         Ok(station) => Ok(station),
         Err((book, centre)) => {
-            // A world that has just opened has no events to keep.
-            let _none = centre.into_told();
+            // An air that has just opened has no events to keep.
+            let _none = centre.into_told(alloc);
             Err(book)
         }
     }
 }
 
-/// The world of a network with the plans and the orders of a book.
-fn open_world<K: Keeper, E: Events>(
+/// The centre's worker of a network with the plans and the orders of a book: that of a world, or of sites apart.
+fn open_air<K: Keeper, E: Events>(
     alloc: Global,
     net: &Network,
+    sites: Sites,
     book: &Book<K>,
-) -> Result<WorldOver<E>, OutOfMemory>
+) -> Result<CentreWorker<E>, OutOfMemory>
     requires follow { Follows net.now book.now.state.changes }
-    ensures { IfOk result (λ world. world ≡ record { opening = opening_on net.now book.now.state.changes; events = [] }) }
+    ensures { IfOk result (λ centre. centre ≡ start_air sites (opening_on net.now book.now.state.changes)) }
 {
     // This is there for what holds of each network: it is sound.
     let _beams = net.beam_count();
     // And this, of each book: its orders are not too many.
     let _orders = book.order_count();
     installed_plans_can_be_flown();
-    WorldOver::start(alloc, net, plans_of(alloc, book)?, orders_of(alloc, book)?)
+    let plans = plans_of(alloc, book)?;
+    let orders = orders_of(alloc, book)?;
+    match sites {
+        Sites::Together => {
+            let world = WorldOver::start(alloc, net, plans, orders)?;
+            Ok(CentreWorker::simulated(alloc, world))
+        }
+        Sites::Apart => Ok(CentreWorker::apart(ApartCentre::start(alloc, net, plans, orders)?)),
+    }
 }
 
 /// The plans that a book has, the empty one first.

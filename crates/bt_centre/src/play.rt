@@ -2,8 +2,9 @@
 ghost use Rattle.std.specs.Prelude.{◌≡◌, ◌+◌, ◌<◌, IfErr, IfOk};
 ghost use Rattle.bt_frame.specs.declared.limits.TheConstants.{MOST_ANSWERS};
 ghost use Rattle.bt_history.specs.Causes.{Follows};
+ghost use Rattle.bt_round.specs.AirLines.{opening_in};
 ghost use Rattle.bt_script.specs.Named.{IsItemFor, IsRoundFor};
-ghost use Rattle.bt_centre.specs.Progress.{IsLeftEarly, ItemFailed, ItemPlayed, RoundPlayed};
+ghost use Rattle.bt_centre.specs.Progress.{IsLeftEarly, IsTogether, ItemFailed, ItemPlayed, RoundPlayed};
 
 use crate::playing::{Playing, Remains, leave};
 use crate::restart::play_restart;
@@ -18,7 +19,7 @@ use std::alloc::Global;
 use std::sync::Wait;
 use std::thread::Threads;
 
-/// Plays a part of a script, and gives its text; or what is left of the run, where memory runs out or the recovery at a
+/// Plays a part of a script over a simulated air, and gives its text; or what is left of the run, where memory runs out or the recovery at a
 /// restart fails.
 pub(crate) fn play_item<
     R: Threads + Wait + Sync,
@@ -35,7 +36,8 @@ pub(crate) fn play_item<
 ) -> Result<(Playing<K, E>, Vec<u8>), (Remains<K, E>, RecoverFault)>
     requires few { playing.rounds < MOST_ANSWERS }
     requires network { playing.book.net ≡ net.now }
-    requires air_network { playing.air.life.opening.net ≡ net.now }
+    requires air_network { (opening_in playing.air).net ≡ net.now }
+    requires together { IsTogether playing.air }
     requires terminals { IsItemFor net.now item.now }
     requires follow { Follows net.now playing.book.state.changes }
     ensures played { IfOk result (λ on. ItemPlayed net.now item.now playing on.0 on.1.items) }
@@ -47,6 +49,8 @@ pub(crate) fn play_item<
             Err(remains) => Err((remains, RecoverFault::OutOfMemory)),
         },
         Item::Restart => play_restart(rt, alloc, net, playing),
+        // A simulated air has no bus.
+        Item::Heard(_) => Ok((playing, Vec::new(alloc))),
     }
 }
 
@@ -66,7 +70,7 @@ pub(crate) fn play_round<
 ) -> Result<(Playing<K, E>, Vec<u8>), Remains<K, E>>
     requires few { playing.rounds < MOST_ANSWERS }
     requires network { playing.book.net ≡ net.now }
-    requires air_network { playing.air.life.opening.net ≡ net.now }
+    requires air_network { (opening_in playing.air).net ≡ net.now }
     requires terminals { IsRoundFor net.now round.now }
     requires follow { Follows net.now playing.book.state.changes }
     ensures played { IfOk result (λ on. RoundPlayed net.now round.now playing on.0 on.1.items) }
@@ -75,7 +79,7 @@ pub(crate) fn play_round<
     let rounds = playing.rounds + 1;
     let mut text = Vec::new(alloc);
     if round_text(alloc, rounds, &mut text).is_err() {
-        return Err(playing.stop(rt));
+        return Err(playing.stop(rt, alloc));
     }
     let Playing {
         station,
@@ -94,6 +98,6 @@ pub(crate) fn play_round<
             };
             Ok((playing, text))
         }
-        Err(_) => Err(leave(rt, station, before, over)),
+        Err(_) => Err(leave(rt, alloc, station, before, over)),
     }
 }

@@ -1,10 +1,13 @@
 // What a run has in hand, and what is left of it.
 ghost use Rattle.std.specs.Prelude.{◌≡◌, ◌<◌, ◌∷◌, [], false, true, ℕ, length, vec_capacity};
+ghost use Rattle.bt_bus.specs.Heard.{IsOnBus};
+ghost use Rattle.bt_round.specs.AirLines.{hearing};
 ghost use Rattle.bt_centre.specs.Progress.{Hand, IsLeftOf, Left};
 ghost use Rattle.bt_centre.specs.Whole.{whole};
 
 use crate::station::book_and_centre;
 use crate::{Histories, History, RunEnd};
+use bt_bus::BusLine;
 use bt_journal::{Entries, Entry};
 use bt_outside::Keeper;
 use bt_round::Station;
@@ -68,7 +71,7 @@ impl<K: Keeper, E: Events> Model for Remains<K, E> {
 
 impl<K: Keeper, E: Events> Playing<K, E> {
     /// The run stops here.
-    pub(crate) fn stop<R: Threads + Wait + Sync>(self, rt: &R) -> Remains<K, E>
+    pub(crate) fn stop<R: Threads + Wait + Sync>(self, rt: &R, alloc: Global) -> Remains<K, E>
         ensures { IsLeftOf self result }
     {
         let Playing {
@@ -77,7 +80,15 @@ impl<K: Keeper, E: Events> Playing<K, E> {
             over,
             rounds: _,
         } = self;
-        leave(rt, station, before, over)
+        leave(rt, alloc, station, before, over)
+    }
+
+    /// The centre hears a line of the bus.
+    pub(crate) fn hear(&mut self, line: BusLine)
+        requires on_bus { IsOnBus line }
+        ensures heard { self.new ≡ record self.old { air = hearing self.old.air line } }
+    {
+        self.station.centre.hear(line);
     }
 
     /// The book hands its entries over, where its store has not failed.
@@ -115,6 +126,7 @@ pub(crate) fn take_only(histories: &mut Vec<History>) -> History
 /// A run stops in the time that began with so many changes, behind these times.
 pub(crate) fn leave<R: Wait, K: Keeper, E: Events>(
     rt: &R,
+    alloc: Global,
     station: Station<K, E>,
     before: u32,
     over: Vec<History>,
@@ -132,7 +144,7 @@ pub(crate) fn leave<R: Wait, K: Keeper, E: Events>(
     Remains {
         store,
         histories,
-        events: centre.into_told(),
+        events: centre.into_told(alloc),
     }
 }
 

@@ -4,6 +4,7 @@ ghost use Rattle.std.specs.Prelude.{◌≡◌, ◌<◌, ◌+◌, length, vec_cap
 ghost use Rattle.bt_history.specs.Causes.{Follows};
 ghost use Rattle.bt_history.specs.Changes.{edition, newest};
 ghost use Rattle.bt_centre.specs.Progress.{BeganAgain, CentreBegan, IsLeftBehind, ItemFailed, RestartPlayed, TellsJoined};
+ghost use Rattle.bt_round.specs.AirLines.{opening_in};
 ghost use Rattle.bt_centre.specs.Run.{JoinsOrder};
 ghost use Rattle.bt_script.specs.declared.script.Item.TheVariants as item;
 
@@ -33,7 +34,7 @@ pub(crate) fn play_restart<R: Threads + Wait + Sync, K: Keeper, E: Events>(
     mut playing: Playing<K, E>,
 ) -> Result<(Playing<K, E>, Vec<u8>), (Remains<K, E>, RecoverFault)>
     requires network { playing.book.net ≡ net.now }
-    requires air_network { playing.air.life.opening.net ≡ net.now }
+    requires air_network { (opening_in playing.air).net ≡ net.now }
     requires follow { Follows net.now playing.book.state.changes }
     ensures played { IfOk result (λ on. RestartPlayed net.now playing on.0 on.1.items) }
     ensures failed { IfErr result (λ end. ItemFailed net.now item.Restart playing end.0 end.1) }
@@ -42,7 +43,7 @@ pub(crate) fn play_restart<R: Threads + Wait + Sync, K: Keeper, E: Events>(
     let _beams = net.beam_count();
     stores_tell_next_openings();
     let Ok(()) = playing.over.reserve(2) else {
-        return Err((playing.stop(rt), RecoverFault::OutOfMemory));
+        return Err((playing.stop(rt, alloc), RecoverFault::OutOfMemory));
     };
     let Playing {
         station,
@@ -75,7 +76,7 @@ pub(crate) fn play_restart<R: Threads + Wait + Sync, K: Keeper, E: Events>(
             let remains = Remains {
                 store,
                 histories: over,
-                events: centre.into_told(),
+                events: centre.into_told(alloc),
             };
             Err((remains, fault))
         }
@@ -100,7 +101,7 @@ fn begin_again<R: Threads + Wait + Sync, K: Keeper, E: Events>(
     net: &Network,
     time: Time<K, E>,
 ) -> Result<(Playing<K, E>, Vec<u8>), Remains<K, E>>
-    requires air_network { time.centre.life.opening.net ≡ net.now }
+    requires air_network { (opening_in time.centre).net ≡ net.now }
     requires room { length time.over.items < vec_capacity time.over }
     ensures began { IfOk result (λ on. BeganAgain time.book time.centre time.over.items time.rounds on.0 on.1.items) }
     ensures left { IfErr result (λ remains. IsLeftBehind time.book time.centre time.over.items remains) }
@@ -114,7 +115,7 @@ fn begin_again<R: Threads + Wait + Sync, K: Keeper, E: Events>(
     changes_are_few(&book);
     let before = book.change_count();
     let Ok(text) = restart_centre(alloc, net, &book, &mut centre) else {
-        return Err(remains_of(book, centre, over));
+        return Err(remains_of(alloc, book, centre, over));
     };
     match station_of(rt, alloc, book, centre) {
         Ok(station) => {
@@ -126,12 +127,13 @@ fn begin_again<R: Threads + Wait + Sync, K: Keeper, E: Events>(
             };
             Ok((playing, text))
         }
-        Err((book, centre)) => Err(remains_of(book, centre, over)),
+        Err((book, centre)) => Err(remains_of(alloc, book, centre, over)),
     }
 }
 
 /// What is left of a run with this book, whose own history is empty, and these histories.
 fn remains_of<K: Keeper, E: Events>(
+    alloc: Global,
     book: Book<K>,
     centre: CentreWorker<E>,
     over: Vec<History>,
@@ -141,7 +143,7 @@ fn remains_of<K: Keeper, E: Events>(
     Remains {
         store: book.into_parts().0,
         histories: over,
-        events: centre.into_told(),
+        events: centre.into_told(alloc),
     }
 }
 
@@ -152,8 +154,8 @@ fn restart_centre<K: Keeper, E: Events>(
     book: &Book<K>,
     centre: &mut CentreWorker<E>,
 ) -> Result<Vec<u8>, OutOfMemory>
-    requires air_network { centre.old.life.opening.net ≡ net.now }
-    ensures opening { centre.new.life.opening ≡ centre.old.life.opening }
+    requires air_network { (opening_in centre.old).net ≡ net.now }
+    ensures opening { opening_in centre.new ≡ opening_in centre.old }
     ensures began { IfOk result (λ text. CentreBegan book.now.state.changes centre.old centre.new text.items) }
 {
     let mut text = Vec::new(alloc);

@@ -1,6 +1,7 @@
 // The parts of a script are played in order, and each is written when it is over.
 ghost use Rattle.std.specs.Prelude.{◌≡◌, ◌≤◌, All, IfErr, IfOk, IsErrOf, OnOk};
 ghost use Rattle.bt_outside.specs.Told.{GainsPrefix, Rose, gained};
+ghost use Rattle.bt_apart.specs.declared.sites.Sites.TheVariants.{Together};
 ghost use Rattle.bt_script.specs.Named.{IsItemFor};
 ghost use Rattle.bt_centre.specs.Progress.{IsBegun, ItemsWritten, PartsEnded, start_of};
 
@@ -31,7 +32,7 @@ pub(crate) fn play_items<R: Threads + Wait + Sync, G: Gate + Sync, O: Sink, K: K
     mut playing: Playing<K, KeptEvents>,
     out: &mut O,
 ) -> Result<Playing<K, KeptEvents>, RunEnd<K>>
-    requires begun { IsBegun net.now playing }
+    requires begun { IsBegun net.now Together playing }
     requires terminals { All (IsItemFor net.now) items.now }
     ensures written { IfOk result (λ on. ItemsWritten net.now playing.book items.now on (O.told out.old) (O.told out.new)) }
     ensures ended { IfErr result (λ end. PartsEnded net.now items.now
@@ -41,14 +42,14 @@ pub(crate) fn play_items<R: Threads + Wait + Sync, G: Gate + Sync, O: Sink, K: K
 {
     installed_plans_are_good();
     if let Err(fault) = write_start(alloc, &playing, out) {
-        return Err(playing.stop(rt).end(unwritten(fault)));
+        return Err(playing.stop(rt, alloc).end(unwritten(fault)));
     }
     for item in items {
         match play_item(rt, alloc, net, gate, item, playing) {
             Ok((next, text)) => {
                 playing = next;
                 if let Err(fault) = out.write(alloc, text.as_slice()) {
-                    return Err(playing.stop(rt).end(unwritten(fault)));
+                    return Err(playing.stop(rt, alloc).end(unwritten(fault)));
                 }
             }
             Err((remains, fault)) => {

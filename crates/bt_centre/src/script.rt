@@ -1,6 +1,7 @@
 // The run of a script from its start to its last line.
 ghost use Rattle.std.specs.Prelude.{◌≡◌, ◌≤◌, All, IsErrOf, OnOk};
 ghost use Rattle.bt_outside.specs.Told.{GainsPrefix, Rose, gained};
+ghost use Rattle.bt_apart.specs.declared.sites.Sites.TheVariants.{Together};
 ghost use Rattle.bt_script.specs.Named.{IsItemFor};
 ghost use Rattle.bt_centre.specs.Lines.{total_of};
 ghost use Rattle.bt_centre.specs.Progress.{IsBegun, PartsEnded};
@@ -13,6 +14,7 @@ use crate::run::play_items;
 use crate::total::{add_total, has_lost};
 use crate::{Histories, History};
 use bt_air::Event;
+use bt_apart::Sites;
 use bt_book::installed_plans_are_good;
 use bt_net::Network;
 use bt_outside::{Keeper, Sink, SinkFault};
@@ -38,7 +40,7 @@ pub struct RunEnd<K> {
     pub events: Vec<Event>,
 }
 
-/// Runs a script on its network from the changes that the store tells, and prints what was answered and what happened:
+/// Runs a script on its network, whose satellite and terminals are simulated, from the changes that the store tells, and prints what was answered and what happened:
 /// each part of the script when it is over. The store keeps each change that is made.
 ///
 /// The workers of a round, which are its desks, its planner and the centre's, go side by side: where more than one has
@@ -60,7 +62,7 @@ pub fn run_script<R: Threads + Wait + Sync, G: Gate + Sync, O: Sink, K: Keeper +
         result.status result.histories result.events.items }
 {
     frames_are_safe();
-    match open(rt, alloc, net, store) {
+    match open(rt, alloc, net, Sites::Together, store) {
         Ok(playing) => run_from(rt, alloc, net, script, gate, playing, out),
         Err((store, fault)) => RunEnd {
             status: print_fault(alloc, fault, out),
@@ -81,7 +83,7 @@ fn run_from<R: Threads + Wait + Sync, G: Gate + Sync, O: Sink, K: Keeper + Send>
     playing: Playing<K, KeptEvents>,
     out: &mut O,
 ) -> RunEnd<K>
-    requires begun { IsBegun net.now playing }
+    requires begun { IsBegun net.now Together playing }
     requires terminals { All (IsItemFor net.now) script.now.items }
     ensures ended { PartsEnded net.now script.now.items
         (record { before = O.told out.old; after = O.told out.new; faults_before = O.fault_count out.old; faults_after = O.fault_count out.new })
@@ -90,7 +92,7 @@ fn run_from<R: Threads + Wait + Sync, G: Gate + Sync, O: Sink, K: Keeper + Send>
     installed_plans_are_good();
     match play_items(rt, alloc, net, gate, script.items.as_slice(), playing, out) {
         Ok(playing) => {
-            let remains = playing.stop(rt);
+            let remains = playing.stop(rt, alloc);
             match write_total(alloc, remains.histories.as_slice(), out) {
                 Ok(()) => {
                     let status = status_after(remains.histories.as_slice());

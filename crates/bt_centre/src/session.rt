@@ -10,7 +10,7 @@ ghost use Rattle.bt_talk.specs.Answers.{answer_of, ready_line};
 ghost use Rattle.bt_talk.specs.Block.{IsOpenFor, IsStepFor, row_of};
 ghost use Rattle.bt_centre.specs.Answering.{SaysNamed, SessionEnded, SessionHeard};
 ghost use Rattle.bt_centre.specs.Progress.{IsBegun, start_of};
-ghost use Rattle.bt_centre.specs.Session.{SessionTo, closing_text, input_status, input_text, status_behind};
+ghost use Rattle.bt_centre.specs.Session.{SessionTo, closing_text, input_status, input_text, most_bytes, status_behind};
 ghost use Rattle.bt_centre.specs.Talked.{SaysOrNot};
 
 use crate::SessionHistories;
@@ -18,8 +18,9 @@ use crate::live::{Live, LiveRemains, play_step};
 use crate::open::open;
 use crate::playing::Playing;
 use crate::say::{say_fault, say_restart_fault, say_text};
+use bt_apart::Sites;
 use bt_book::{RecoverFault, installed_plans_are_good};
-use bt_frame::{MOST_ANSWERS, MOST_SESSION_LINE_BYTES, OutOfMemory};
+use bt_frame::{MOST_ANSWERS, MOST_SESSION_LINE_BYTES, MOST_STATION_LINE_BYTES, OutOfMemory};
 use bt_net::Network;
 use bt_outside::{Incoming, Keeper, SinkFault, SourceFault, Talk};
 use bt_report::{DONE, OUT_OF_MEMORY, READ_FAILED, STORE_FAILED, unwritten};
@@ -71,7 +72,8 @@ pub enum InputEnd {
 }
 
 /// Plays what the lines of a talk ask, on a network, from the changes that the store tells, and answers each line before
-/// the next is heard. The store keeps each change that is made. A line that asks and changes nothing is told of what there is.
+/// the next is heard. Where the sites are together, the satellite and the terminals are simulated; where they are apart, a line of the
+/// bus is heard by the centre. The store keeps each change that is made. A line that asks and changes nothing is told of what there is.
 /// Of what was asked and answered no bytes are kept once it is played, but how many edits there were and how they were
 /// answered; of a book that a fault of its store has stopped they are kept until the centre restarts. Of what happened on
 /// the air the plans that were installed are kept.
@@ -81,11 +83,12 @@ pub fn run_session<R: Threads + Wait + Sync, G: Gate + Sync, T: Talk<K>, K: Keep
     rt: &R,
     alloc: Global,
     net: &Network,
+    sites: Sites,
     gate: &G,
     talk: &mut T,
     store: K,
 ) -> SessionEnd<K>
-    ensures ends { SessionTo net.now
+    ensures ends { SessionTo net.now sites
         (record {
           coming = T.coming talk.old;
           unheard_before = T.unheard talk.old;
@@ -99,8 +102,8 @@ pub fn run_session<R: Threads + Wait + Sync, G: Gate + Sync, T: Talk<K>, K: Keep
         result.status result.histories result.events.all }
 {
     frames_are_safe();
-    match open(rt, alloc, net, store) {
-        Ok(playing) => session_from(rt, alloc, net, gate, Live::new(playing), talk),
+    match open(rt, alloc, net, sites, store) {
+        Ok(playing) => session_from(rt, alloc, net, sites, gate, Live::new(playing), talk),
         Err((store, fault)) => {
             let status = say_fault(alloc, fault, talk, &store);
             SessionEnd::unbegun(alloc, status, store)
@@ -113,12 +116,13 @@ fn session_from<R: Threads + Wait + Sync, G: Gate + Sync, T: Talk<K>, K: Keeper 
     rt: &R,
     alloc: Global,
     net: &Network,
+    sites: Sites,
     gate: &G,
     playing: Live<K>,
     talk: &mut T,
 ) -> SessionEnd<K>
-    requires begun { IsBegun net.now playing }
-    ensures ended { SessionEnded net.now
+    requires begun { IsBegun net.now sites playing }
+    ensures ended { SessionEnded net.now sites
         (record {
           coming = T.coming talk.old;
           unheard_before = T.unheard talk.old;
@@ -131,9 +135,9 @@ fn session_from<R: Threads + Wait + Sync, G: Gate + Sync, T: Talk<K>, K: Keeper 
         playing.book (record { told = K.told result.store; faults = K.fault_count result.store; crashes = K.crashes result.store; histories = result.histories; events = result.events.all }) result.status }
 {
     installed_plans_are_good();
-    match play_lines(rt, alloc, net, gate, playing, talk) {
+    match play_lines(rt, alloc, net, sites, gate, playing, talk) {
         Ok((playing, end)) => {
-            let remains = playing.stop(rt);
+            let remains = playing.stop(rt, alloc);
             let status = say_closing(alloc, end, &remains, talk);
             remains.end(status)
         }
@@ -147,12 +151,13 @@ fn play_lines<R: Threads + Wait + Sync, G: Gate + Sync, T: Talk<K>, K: Keeper + 
     rt: &R,
     alloc: Global,
     net: &Network,
+    sites: Sites,
     gate: &G,
     mut playing: Live<K>,
     talk: &mut T,
 ) -> Result<(Live<K>, InputEnd), SessionEnd<K>>
-    requires begun { IsBegun net.now playing }
-    ensures heard { IfOk result (λ on. SessionHeard net.now playing.book
+    requires begun { IsBegun net.now sites playing }
+    ensures heard { IfOk result (λ on. SessionHeard net.now sites playing.book
         (record {
           coming = T.coming talk.old;
           unheard_before = T.unheard talk.old;
@@ -163,7 +168,7 @@ fn play_lines<R: Threads + Wait + Sync, G: Gate + Sync, T: Talk<K>, K: Keeper + 
           store = record { told = on.0.book.told; faults = on.0.book.faults; crashes = on.0.book.crashes };
         })
         on.0 on.1) }
-    ensures ended { IfErr result (λ end. SessionEnded net.now
+    ensures ended { IfErr result (λ end. SessionEnded net.now sites
         (record {
           coming = T.coming talk.old;
           unheard_before = T.unheard talk.old;
@@ -178,26 +183,26 @@ fn play_lines<R: Threads + Wait + Sync, G: Gate + Sync, T: Talk<K>, K: Keeper + 
 {
     installed_plans_are_good();
     if let Err(fault) = say_opening(alloc, &playing, talk) {
-        return Err(playing.stop(rt).end(unwritten(fault)));
+        return Err(playing.stop(rt, alloc).end(unwritten(fault)));
     }
     let mut block = Block::closed();
     for at in 1..MOST_ANSWERS {
-        let came = match talk.hear(alloc, MOST_SESSION_LINE_BYTES) {
+        let came = match talk.hear(alloc, most_bytes(sites)) {
             Ok(Some(came)) => came,
             Ok(None) => return Ok((playing, InputEnd::Over)),
             Err(SourceFault::Failed) => return Ok((playing, InputEnd::Failed)),
-            Err(SourceFault::OutOfMemory) => return Err(playing.stop(rt).end(OUT_OF_MEMORY)),
+            Err(SourceFault::OutOfMemory) => return Err(playing.stop(rt, alloc).end(OUT_OF_MEMORY)),
         };
-        let (behind, step, answer) = match take(alloc, net, at, &came, block) {
+        let (behind, step, answer) = match take(alloc, net, sites, at, &came, block) {
             Ok(taken) => taken,
-            Err(OutOfMemory) => return Err(playing.stop(rt).end(OUT_OF_MEMORY)),
+            Err(OutOfMemory) => return Err(playing.stop(rt, alloc).end(OUT_OF_MEMORY)),
         };
-        match play_step(rt, alloc, net, gate, &step, playing) {
+        match play_step(rt, alloc, net, gate, step, playing) {
             Ok((next, text)) => {
                 playing = next;
                 block = behind;
                 if let Err(fault) = say_both(alloc, text, answer.as_slice(), &playing, talk) {
-                    return Err(playing.stop(rt).end(unwritten(fault)));
+                    return Err(playing.stop(rt, alloc).end(unwritten(fault)));
                 }
             }
             Err((remains, fault)) => {
@@ -209,23 +214,34 @@ fn play_lines<R: Threads + Wait + Sync, G: Gate + Sync, T: Talk<K>, K: Keeper + 
     Ok((playing, InputEnd::Over))
 }
 
+/// The bytes of a line at most.
+fn most_bytes(sites: Sites) -> usize
+    ensures { result ≡ most_bytes sites }
+{
+    match sites {
+        Sites::Together => MOST_SESSION_LINE_BYTES,
+        Sites::Apart => MOST_STATION_LINE_BYTES,
+    }
+}
+
 /// What line `at` comes to, with the block behind it, and its answer.
 fn take(
     alloc: Global,
     net: &Network,
+    sites: Sites,
     at: u64,
     came: &Incoming,
     block: Block,
 ) -> Result<(Block, Step, Vec<u8>), OutOfMemory>
     requires terminals { IsOpenFor net.now block }
-    ensures row { IfOk result (λ on. (on.0, on.1) ≡ row_of net.now block (said_by came.now)) }
+    ensures row { IfOk result (λ on. (on.0, on.1) ≡ row_of net.now sites block (said_by came.now)) }
     ensures answer { IfOk result (λ on. on.2.items ≡ answer_of at on.1) }
     ensures terminals { IfOk result (λ on. IsOpenFor net.now on.0) }
     ensures part { IfOk result (λ on. IsStepFor net.now on.1) }
 {
     let (behind, step) = match came {
-        Incoming::Line(line) => block.take(alloc, net, Some(line.as_slice()))?,
-        Incoming::NoLine => block.take(alloc, net, None)?,
+        Incoming::Line(line) => block.take(alloc, net, sites, Some(line.as_slice()))?,
+        Incoming::NoLine => block.take(alloc, net, sites, None)?,
     };
     let answer = answer_text(alloc, at, &step)?;
     Ok((behind, step, answer))

@@ -1,6 +1,7 @@
 // What a line that asks is told, of what a run has in hand.
 ghost use Rattle.std.specs.Prelude.{◌≡◌, IfOk};
 ghost use Rattle.bt_history.specs.Causes.{Follows};
+ghost use Rattle.bt_round.specs.AirLines.{opening_in, waiting_in};
 ghost use Rattle.bt_talk.specs.Block.{IsQueryFor};
 ghost use Rattle.bt_centre.specs.Told.{IsAnswer, IsTold};
 
@@ -23,10 +24,10 @@ pub(crate) fn tell<K: Keeper, E: Events>(
     query: Query,
 ) -> Result<Vec<u8>, OutOfMemory>
     requires network { book.now.net ≡ net.now }
-    requires air_network { centre.now.life.opening.net ≡ net.now }
+    requires air_network { (opening_in centre.now).net ≡ net.now }
     requires terminals { IsQueryFor net.now query }
     requires follow { Follows net.now book.now.state.changes }
-    ensures told { IfOk result (λ text. IsTold net.now book.now.state.changes centre.now.waiting query text.items) }
+    ensures told { IfOk result (λ text. IsTold net.now book.now.state.changes (waiting_in centre.now) query text.items) }
 {
     let own = answer(alloc, net, book, centre, query)?;
     counted_text(alloc, own.as_slice())
@@ -41,10 +42,10 @@ fn answer<K: Keeper, E: Events>(
     query: Query,
 ) -> Result<Vec<u8>, OutOfMemory>
     requires network { book.now.net ≡ net.now }
-    requires air_network { centre.now.life.opening.net ≡ net.now }
+    requires air_network { (opening_in centre.now).net ≡ net.now }
     requires terminals { IsQueryFor net.now query }
     requires follow { Follows net.now book.now.state.changes }
-    ensures { IfOk result (λ text. IsAnswer net.now book.now.state.changes centre.now.waiting query text.items) }
+    ensures { IfOk result (λ text. IsAnswer net.now book.now.state.changes (waiting_in centre.now) query text.items) }
 {
     match query {
         Query::State => state_of_book(alloc, net, book),

@@ -2,6 +2,7 @@
 ghost use Rattle.std.specs.Prelude.{◌≡◌, ℕ, true, List};
 ghost use Rattle.std.specs.Option.{is_some};
 ghost use Rattle.bt_net.specs.Network.{Net};
+ghost use Rattle.bt_apart.specs.declared.sites.Sites.{Sites};
 ghost use Rattle.bt_air.specs.declared.event.Event.{Event};
 ghost use Rattle.bt_centre.specs.declared.history.History.{History};
 ghost use Rattle.bt_report.specs.Output.{Output};
@@ -28,12 +29,12 @@ pub fn turns_know_the_newest_install()
         (events : List Event) → is_some stored.before ≡ true
         → (run : RunsFrom net script output stored status histories events)
         → EachPartAtEnd PartIsNoNewer net script.items output stored run.opening status histories events run.ends }
-    ensures sessions { (net : Net) (talk : Talked) (stored : Stored) (status : ℕ) (histories : List History) (events : List Event)
-        → is_some stored.before ≡ true → (session : SessionFrom net talk stored status histories events)
-        → EachPartOfSession TurnsKnow net talk stored session.opening status histories events session.ends }
-    ensures no_newer_in_sessions { (net : Net) (talk : Talked) (stored : Stored) (status : ℕ) (histories : List History)
+    ensures sessions { (net : Net) (sites : Sites) (talk : Talked) (stored : Stored) (status : ℕ) (histories : List History) (events : List Event)
+        → is_some stored.before ≡ true → (session : SessionFrom net sites talk stored status histories events)
+        → EachPartOfSession TurnsKnow net sites talk stored session.opening status histories events session.ends }
+    ensures no_newer_in_sessions { (net : Net) (sites : Sites) (talk : Talked) (stored : Stored) (status : ℕ) (histories : List History)
         (events : List Event) → is_some stored.before ≡ true
-        → (session : SessionFrom net talk stored status histories events)
-        → EachPartOfSession PartIsNoNewer net talk stored session.opening status histories events session.ends }
-    ensures start { (net : Net) (opening : List Change) → IsNewestOf opening (at_start net opening).air }
+        → (session : SessionFrom net sites talk stored status histories events)
+        → EachPartOfSession PartIsNoNewer net sites talk stored session.opening status histories events session.ends }
+    ensures start { (net : Net) (sites : Sites) (opening : List Change) → IsNewestOf opening (at_start net sites opening).air }
 {}

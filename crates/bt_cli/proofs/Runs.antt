@@ -1,6 +1,7 @@
 -- What a run and a replay come to is one of their outcomes, printed.
 use Rattle.std.proofs.Common.{◌≡◌, ◌≢◌, ℕ, ◌++◌, Bool, true, false, if◌then◌else◌, inl, inr, refl, ◌∙◌, sym, List, []}
 use Rattle.bt_net.specs.Network.{Net, IsSound}
+use Rattle.bt_apart.specs.declared.sites.Sites.TheVariants.{Together}
 use Rattle.bt_air.specs.declared.event.Event.{Event}
 use Rattle.bt_script.specs.declared.script.Script.{Script}
 use Rattle.bt_history.specs.declared.fault.RecoverFault.{RecoverFault}
@@ -76,7 +77,7 @@ whole_reported net script output stored status histories events sound ran whole 
 restart_reported : (net : Net) (script : Script) (output : Output) (stored : Stored) (status : ℕ) (histories : List History) (events : List Event) → IsSound net
     → (ran : RunsFrom net script output stored status histories events) → RunsToRestart net script.items output stored ran.opening status histories events → PrintsOrFails output (PrintsRun net script stored) status
 restart_reported net script output stored status histories events sound ran stops =
-    let text = first_line net ran.opening ++ stops.lines ++ restart_line in
+    let text = first_line net Together ran.opening ++ stops.lines ++ restart_line in
     faulted net script output stored text stops.fault status histories events sound stops.named
     (λ printed. from_these net script output (text ++ recover_line stops.fault) stored status histories events ran (inr (inr (inr (record {
       first = stops.first;

@@ -5,6 +5,7 @@ pub mod Seats
 pub mod Lent
 pub mod Desks
 pub mod Planning
+pub mod Simulated
 pub mod AirLines
 pub mod Waiting
 pub mod Worker

@@ -19,7 +19,7 @@ use Rattle.bt_script.specs.declared.script.Round.{Round}
 use Rattle.bt_round.specs.declared.seats.TheConstants.{SEATS}
 use Rattle.bt_round.specs.declared.workers.Job.{Job}
 use Rattle.bt_round.specs.declared.workers.Job.TheVariants.{Air, Plans, Desk}
-use Rattle.bt_round.specs.AirLines.{AirState, PlaysAirLines}
+use Rattle.bt_round.specs.AirLines.{AirState, PlaysAirLines, opening_in}
 use Rattle.bt_round.specs.Callers.{Calling, own_of}
 use Rattle.bt_round.specs.Done.{DeskDone, PlannerDone}
 use Rattle.bt_round.specs.Worker.{Asks}
@@ -52,7 +52,7 @@ pub record IsReady (table : TableId) (start : Books) (round : Round) (posted : P
 -- the lines at a place were done, where memory did not run out, with these entries and this text
 abbrev pub IsDoneAt : Net → Round → Posted → AirState → ℕ → Job AirState → Result Unit OutOfMemory → List Entry → List ℕ → Type 0
 IsDoneAt net round posted air place (Air lines over) ended own text =
-    (place ≡ 0) × (over.life.opening ≡ air.life.opening) × OnOk ended (Asks (PlaysAirLines net air round.air) over [] own [] text)
+    (place ≡ 0) × (opening_in over ≡ opening_in air) × OnOk ended (Asks (PlaysAirLines net air round.air) over [] own [] text)
 IsDoneAt net round posted air place (Plans count over) ended own text =
     (place ≡ 1) × (over.board ≡ posted.board) × OnOk ended (PlannerDone net round.plans posted.plans over.plans [] own [] text)
 IsDoneAt net round posted air place (Desk desk lines over) ended own text =

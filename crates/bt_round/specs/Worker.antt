@@ -16,8 +16,11 @@ use Rattle.bt_machines.specs.Plans.{plan_of}
 use Rattle.bt_journal.specs.declared.entry.Entry.{Entry}
 use Rattle.bt_journal.specs.declared.reply.Reply.{Reply}
 use Rattle.bt_journal.specs.declared.reply.Reply.TheVariants.{Placed}
+use Rattle.bt_script.specs.declared.script.AirLine.{AirLine}
+use Rattle.bt_script.specs.declared.script.AirLine.TheVariants as line
 use Rattle.bt_timeline.specs.Air.{IsUnplaced, NamesTerminal}
-use Rattle.bt_round.specs.AirLines.{AirState, PlaysDeliveries, PlaysNext}
+use Rattle.bt_round.specs.AirLines.{AirState}
+use Rattle.bt_round.specs.Simulated.{SimulatedAir, PlaysBurst, PlaysDeliveries, PlaysDelivery, PlaysFlow, PlaysFrame, PlaysLoss, PlaysNext, PlaysNotice, PlaysReset, PlaysTick}
 
 -- the terminals of a network that has so many
 abbrev pub numbered : ℕ → List TermNo
@@ -38,7 +41,7 @@ IsHeard life status = is_told (sent life.opening (past_of life)) status.mark.0 s
 
 -- the events are those of a world, each delivery that waits can come, an edition to which the centre goes back has a plan, and the
 -- standby keeps a status that was sent
-pub record IsRunning (air : AirState) : Type 0 where
+pub record IsRunning (air : SimulatedAir) : Type 0 where
   pub world : IsWorld air.life.opening (reverse air.life.events)
   pub waiting : All (CanHear air.life) air.waiting
   pub back : IfSome air.back (IsPlanned air.life)
@@ -53,24 +56,43 @@ pub record Begins (first whole : List (ℕ × Place)) : Type 0 where
   pub more : List (ℕ × Place)
   pub split : whole ≡ first ++ more
 
--- a line was played: its text stands behind the one before
-pub record Plays (line : List ℕ → AirState → Type 0) (air : AirState) (before after : List ℕ) : Type 0 where
+-- a line was played, on an air of either kind: its text stands behind the one before
+pub record Plays {A : Type 0} (line : List ℕ → A → Type 0) (air : A) (before after : List ℕ) : Type 0 where
   pub own : List ℕ
   pub played : line own air
   pub added : after ≡ before ++ own
+
+-- the line is one that only a simulated air has
+abbrev pub IsOfSimulated : AirLine → Type 0
+IsOfSimulated line.Turn = ⊥
+IsOfSimulated (line.Back edition) = ⊥
+IsOfSimulated line.Ahead = ⊥
+IsOfSimulated _ = Unit {0}
+
+-- such a line was played on it
+abbrev pub PlaysOwnLine : Net → AirLine → SimulatedAir → List ℕ → SimulatedAir → Type 0
+PlaysOwnLine net line.Tick a text after = PlaysTick net a text after
+PlaysOwnLine net line.Flow a text after = PlaysFlow net a text after
+PlaysOwnLine net (line.Lose losing) a text after = PlaysLoss a losing text after
+PlaysOwnLine net (line.Deliver number place) a text after = PlaysDelivery net a number place text after
+PlaysOwnLine net line.Frame a text after = PlaysFrame net a text after
+PlaysOwnLine net (line.Reset terminal) a text after = PlaysReset net a terminal text after
+PlaysOwnLine net (line.StandbyHears number) a text after = PlaysNotice a number text after
+PlaysOwnLine net line.StandbyBurst a text after = PlaysBurst net a text after
+PlaysOwnLine net _ a text after = ⊥
 
 -- the delivery is to the centre
 abbrev pub IsForCentre : ℕ × Place → Type 0
 IsForCentre delivery = delivery.1 ≡ Centre
 
 -- the delivery that waits first comes
-pub record PlaysFirst (net : Net) (before : AirState) (text : List ℕ) (after : AirState) : Type 0 where
+pub record PlaysFirst (net : Net) (before : SimulatedAir) (text : List ℕ) (after : SimulatedAir) : Type 0 where
   pub next : ℕ × Place
   pub came : PlaysNext net before next text after
 
 -- So many deliveries came, those that waited first. What they sent waits behind the others and is for the centre; and
 -- where all of them were for the centre, they sent nothing.
-pub record ComeFirst (net : Net) (count : ℕ) (before : AirState) (text : List ℕ) (after : AirState) : Type 0 where
+pub record ComeFirst (net : Net) (count : ℕ) (before : SimulatedAir) (text : List ℕ) (after : SimulatedAir) : Type 0 where
   pub heard : List (ℕ × Place)
   pub came : PlaysDeliveries net before heard text after
   pub joined : List (ℕ × Place)

@@ -8,7 +8,7 @@ use Rattle.bt_script.specs.Named.{IsAirLineFor, IsLineFor}
 use Rattle.bt_round.specs.declared.workers.Job.{Job}
 use Rattle.bt_round.specs.declared.workers.Job.TheVariants.{Air, Plans, Desk}
 use Rattle.bt_round.specs.declared.workers.Worker.{Worker}
-use Rattle.bt_round.specs.AirLines.{AirState, PlaysAirLines}
+use Rattle.bt_round.specs.AirLines.{AirState, PlaysAirLines, opening_in}
 use Rattle.bt_round.specs.Callers.{Calling, IsSameCaller, caller_number, own_of}
 use Rattle.bt_round.specs.Done.{DeskDone, PlannerDone}
 use Rattle.bt_round.specs.Planned.{HasPosted}
@@ -17,7 +17,7 @@ use Rattle.bt_round.specs.Worker.{Asks}
 -- The caller can do the job: the centre's worker is caller 0, the planner caller 1, and desk `d` is caller `d + 1`; and the lines
 -- name terminals of the network alone.
 abbrev pub CanDo : Net → Calling → Job AirState → Type 0
-CanDo net caller (Air lines centre) = (caller_number caller ≡ 0) × All (IsAirLineFor net) lines.now × (centre.life.opening.net ≡ net)
+CanDo net caller (Air lines centre) = (caller_number caller ≡ 0) × All (IsAirLineFor net) lines.now × ((opening_in centre).net ≡ net)
 CanDo net caller (Plans count publisher) = (caller_number caller ≡ 1) × HasPosted caller publisher.plans
 CanDo net caller (Desk desk lines reader) = (caller_number caller ≡ desk + 1) × All (IsLineFor net) lines.now
 
@@ -26,7 +26,7 @@ CanDo net caller (Desk desk lines reader) = (caller_number caller ≡ desk + 1) 
 -- a job stays.
 abbrev pub JobDone : Net → Job AirState → Job AirState → Result Unit OutOfMemory → List Entry → List Entry → List ℕ → List ℕ → Type 0
 JobDone net (Air lines centre) job ended before after text written =
-    (over : AirState) × (job ≡ Air lines over) × (over.life.opening ≡ centre.life.opening)
+    (over : AirState) × (job ≡ Air lines over) × (opening_in over ≡ opening_in centre)
     × OnOk ended (Asks (PlaysAirLines net centre lines.now) over before after text written)
 JobDone net (Plans count publisher) job ended before after text written =
     (over : Posted) × (job ≡ Plans count over) × (over.board ≡ publisher.board)

@@ -5,7 +5,6 @@ use Rattle.std.proofs.lemmas.List.Elements.{All-append, All-cons, All-head, All-
 use Rattle.bt_frame.specs.declared.numbers.EditionNo.{EditionNo}
 use Rattle.bt_net.specs.Network.{Net}
 use Rattle.bt_air.specs.declared.order.Order.{Order}
-use Rattle.bt_events.specs.World.{wanted}
 use Rattle.bt_journal.specs.declared.call.Call.{Call}
 use Rattle.bt_journal.specs.declared.call.Call.TheVariants as call
 use Rattle.bt_journal.specs.declared.call.Edit.{Edit}
@@ -17,7 +16,7 @@ use Rattle.bt_script.specs.declared.script.DeskLine.{DeskLine}
 use Rattle.bt_script.specs.declared.script.DeskLine.TheVariants as desk_line
 use Rattle.bt_script.specs.declared.script.Round.{Round}
 use Rattle.bt_timeline.specs.Timeline.{IsInstall}
-use Rattle.bt_round.specs.AirLines.{AirState, PlaysAirLine, PlaysAirLines, PlaysOrder, PlaysTurn, happened, having, installing, newest_in, turning}
+use Rattle.bt_round.specs.AirLines.{AirState, PlaysAirLine, PlaysAirLines, PlaysOrder, PlaysTurnIf, having, installing, is_marked, newest_in, turning, wanted_in}
 use Rattle.bt_round.specs.Desks.{asked_by, asked_by_line}
 use Rattle.bt_centre.specs.Run.{PlaysRound, Stand}
 use Rattle.bt_run_laws.proofs.Planner.{PlannerInstalls}
@@ -31,18 +30,19 @@ module _ (P : Call → Type 0) (newest : (after : EditionNo) → P (call.Newest 
   order_asks net air (Some order) (entry ∷ []) text after is = All-cons (λ (e : Entry). P e.call) entry [] (subst P (sym is.0) (place order)) (All-nil (λ (e : Entry). P e.call))
   order_asks net air (Some order) (entry ∷ (other ∷ more)) text after is = absurd is
 
-  turn_asks : (net : Net) (air : AirState) (entries : List Entry) (text : List ℕ) (after : AirState) → PlaysTurn net air entries text after → All (λ entry. P entry.call) entries
-  turn_asks net air entries text after is =
-      let turned = having (installing air is.newer) (turning (installing air is.newer)) in
-      subst (All (λ (entry : Entry). P entry.call)) (sym is.all)
-      (All-cons (λ (entry : Entry). P entry.call) is.asked is.others (subst P (sym is.call) (newest (newest_in air)))
-      (order_asks net turned (wanted (happened turned)) is.others is.turned.rest after is.turned.placed))
-
   asks_nothing : (entries : List Entry) → entries ≡ [] → All (λ entry. P entry.call) entries
   asks_nothing entries is = subst (All (λ (entry : Entry). P entry.call)) (sym is) (All-nil (λ (entry : Entry). P entry.call))
 
+  turn_asks : (net : Net) (marked : Bool) (air : AirState) (entries : List Entry) (text : List ℕ) (after : AirState) → PlaysTurnIf marked net air entries text after → All (λ entry. P entry.call) entries
+  turn_asks net false air entries text after is = asks_nothing entries is.0
+  turn_asks net true air entries text after is =
+      let turned = having (installing air is.newer) (turning (installing air is.newer)) in
+      subst (All (λ (entry : Entry). P entry.call)) (sym is.all)
+      (All-cons (λ (entry : Entry). P entry.call) is.asked is.others (subst P (sym is.call) (newest (newest_in air)))
+      (order_asks net turned (wanted_in turned) is.others is.turned.rest after is.turned.placed))
+
   line_asks : (net : Net) (air : AirState) (one : AirLine) (entries : List Entry) (text : List ℕ) (after : AirState) → PlaysAirLine net air one entries text after → All (λ entry. P entry.call) entries
-  line_asks net air air_line.Turn entries text after is = turn_asks net air entries text after is
+  line_asks net air air_line.Turn entries text after is = turn_asks net (is_marked air) air entries text after is
   line_asks net air air_line.Tick entries text after is = asks_nothing entries is.0
   line_asks net air one entries text after is = asks_nothing entries is.0
 

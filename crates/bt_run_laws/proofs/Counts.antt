@@ -5,6 +5,7 @@ use Rattle.std.proofs.lemmas.List.Concat.{flat_map-append}
 use Rattle.std.proofs.lemmas.List.Sums.{sum_by-cons}
 use Rattle.bt_frame.specs.declared.limits.TheConstants.{MOST_LINES}
 use Rattle.bt_net.specs.Network.{Net}
+use Rattle.bt_apart.specs.declared.sites.Sites.TheVariants.{Together}
 use Rattle.bt_journal.specs.declared.call.Change.{Change}
 use Rattle.bt_journal.specs.declared.entry.Entry.{Entry}
 use Rattle.bt_journal.specs.Journal.{asks_edit, calls_of, is_fault, is_made, is_refusal, failed_of, refused_of}
@@ -37,6 +38,7 @@ module _ (net : Net) (tells : Bool) where
       omega (arith, few, by_time before, by_time after, ap (λ (over : List History). edits (entries_of over)) is.over, ap edits is.kept, edits-append before.history is.entries)
   item_edits before item.Restart text after is =
       omega (arith, by_time after, ap (λ (over : List History). edits (entries_of over)) is.over, ap edits is.none)
+  item_edits before (item.Heard line) text after is = omega (arith, ap edits_at is.1)
 
   pub edits_asked : (before : Stand) (items : List Item) (text : List ℕ) (after : Stand) → PlaysItems net tells before items text after → edits_at after ≤ edits_at before + script_length items
   edits_asked before [] text after is = omega (arith, ap edits_at is.1)
@@ -58,11 +60,11 @@ fewer test (first ∷ rest) = with_first (asks_edit first.call) (test first) (om
 
 -- In a run of a script the edits that were done, those that were refused and those that the store failed are no more than it has lines.
 pub totals_small : (net : Net) (tells : Bool) (opening : List Change) (items : List Item) (lines : List ℕ) (end : Stand)
-    → PlaysItems net tells (at_start net opening) items lines end → AreParts items
+    → PlaysItems net tells (at_start net Together opening) items lines end → AreParts items
     → (length (done_of (entries_of (histories_at end))) ≤ MOST_LINES) × (length (refused_of (entries_of (histories_at end))) ≤ MOST_LINES) × (length (failed_of (entries_of (histories_at end))) ≤ MOST_LINES)
 totals_small net tells opening items lines end played parts =
     let entries = entries_of (histories_at end) in
-    let few : edits entries ≤ MOST_LINES = omega (arith, edits_asked net tells (at_start net opening) items lines end played, parts.few) in (
+    let few : edits entries ≤ MOST_LINES = omega (arith, edits_asked net tells (at_start net Together opening) items lines end played, parts.few) in (
       omega (arith, few, fewer (λ (entry : Entry). is_made entry.reply) entries),
       omega (arith, few, fewer (λ (entry : Entry). is_refusal entry.reply) entries),
       omega (arith, few, fewer (λ (entry : Entry). is_fault entry.reply) entries),

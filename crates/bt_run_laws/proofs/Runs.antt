@@ -1,5 +1,5 @@
 -- The parts of a run are printed lines.
-use Rattle.std.proofs.Common.{ℕ, ◌+◌, ◌<◌, ◌≤◌, ◌^◌, ◌==◌, Bool, List, [], ◌∷◌, ◌++◌, All, refl, sym, subst, arith}
+use Rattle.std.proofs.Common.{ℕ, ◌+◌, ◌<◌, ◌≤◌, ◌^◌, ◌==◌, Bool, List, [], ◌∷◌, ◌++◌, All, refl, sym, ap, subst, arith}
 use Rattle.std.proofs.lemmas.List.Elements.{All-contains, All-filter, All-head, All-tail}
 use Rattle.std.proofs.lemmas.List.Sums.{sum_by-cons}
 use Rattle.bt_net.specs.Network.{IsSound, Net}
@@ -16,7 +16,7 @@ use Rattle.bt_script.specs.declared.script.Item.TheVariants as item
 use Rattle.bt_script.specs.declared.script.Round.{Round}
 use Rattle.bt_script.specs.Length.{item_length, script_length}
 use Rattle.bt_timeline.specs.Timeline.{restart_line, round_line, start_line, total_line}
-use Rattle.bt_round.specs.AirLines.{AirState, mark_of}
+use Rattle.bt_round.specs.AirLines.{AirState, Simulated, Apart, hearing, mark_of}
 use Rattle.bt_round.specs.Desks.{Sight, desks_text}
 use Rattle.bt_round.specs.Planning.{planner_text}
 use Rattle.bt_run_lines.specs.Printers.{numbers}
@@ -34,19 +34,19 @@ use Rattle.bt_run_laws.proofs.Planner.{planner_lines}
 use Rattle.bt_run_laws.proofs.Plans.{plans_small}
 use Rattle.bt_run_laws.proofs.Read.{line_printed, more_lines, no_lines}
 use Rattle.bt_run_laws.proofs.Replies.{all_answered, few_behind}
-use Rattle.bt_run_laws.proofs.Waiting.{IsAirOf, few_restarting}
-use Rattle.bt_run_laws.proofs.Worlds.{IsSpelled, world_before, world_before_restart}
+use Rattle.bt_run_laws.proofs.Waiting.{IsAirIn, few_hearing, few_restarting}
+use Rattle.bt_run_laws.proofs.Worlds.{IsSpelledAir, world_before, world_before_heard, world_before_restart}
 
 -- what holds where a part begins, from the parts before it: of the changes with which the present time began, and of the air
 pub record IsSet (net : Net) (stand : Stand) : Type 0 where
   pub follow : Follows net stand.opening
   pub few : AreFew net stand.opening
-  pub air : IsAirOf net stand.air
+  pub air : IsAirIn net stand.air
 
 -- what holds there since it holds at the end: the present time is legal so far, and the messages of the world can be spelled
 pub record IsTold (net : Net) (stand : Stand) : Type 0 where
   pub legal : Legal net stand.opening stand.history
-  pub world : IsSpelled stand.air
+  pub world : IsSpelledAir stand.air
 
 -- before a part
 told_before : (net : Net) (tells : Bool) (before : Stand) (one : Item) (text : List ℕ) (after : Stand) → PlaysItem net tells before one text after → IsTold net after → IsTold net before
@@ -57,8 +57,11 @@ told_before net tells before (item.Round round) text after played so = record {
 }
 told_before net tells before item.Restart text after played so = record {
   legal = played.legal;
-  world = world_before_restart before.air played.kept (subst IsSpelled played.air so.world);
+  world = world_before_restart before.air played.kept (subst IsSpelledAir played.air so.world);
 }
+told_before net tells before (item.Heard line) text after played so =
+    let there = subst (IsTold net) played.1 so in
+    record { legal = there.legal; world = world_before_heard before.air line there.world }
 
 pub told_at_start : (net : Net) (tells : Bool) (before : Stand) (items : List Item) (text : List ℕ) (after : Stand) → PlaysItems net tells before items text after → IsTold net after → IsTold net before
 told_at_start net tells before [] text after (none, is) so = subst (IsTold net) is so
@@ -72,13 +75,18 @@ changes_follow net stand set told = steps_follow net (running stand.opening) sta
 changes_few : (net : Net) (stand : Stand) → IsSound net → IsSet net stand → IsTold net stand → AreFew net (changes_at stand)
 changes_few net stand sound set told = few_behind net sound (running stand.opening) stand.history told.legal set.few
 
+-- four bytes hold the number of the superframe of a run
+present_small : (net : Net) (air : AirState) → IsSpelledAir air → IsAirIn net air → IsSmall (mark_of air).0
+present_small net (Simulated a) world of = mark_small a world
+present_small net (Apart a) world of = absurd of
+
 -- a start
-pub start_printed : (net : Net) (changes : List Change) (air : AirState) → Follows net changes → AreFew net changes → IsSpelled air
+pub start_printed : (net : Net) (changes : List Change) (air : AirState) → Follows net changes → AreFew net changes → IsSpelledAir air → IsAirIn net air
     → AreLines net (start_line (edition changes) (newest changes).edition.0 (mark_of air).0)
-start_printed net changes air follow few world =
+start_printed net changes air follow few world of =
     let bounded = are_bounded net changes follow in
     let no_newer : IsSmall (newest changes).edition.0 = omega (arith, bounded.newest, few.edition) in
-    line_printed net form.Start (numbers (edition changes ∷ (newest changes).edition.0 ∷ (mark_of air).0 ∷ [])) refl refl (few.edition, (no_newer, (mark_small air world, tt)))
+    line_printed net form.Start (numbers (edition changes ∷ (newest changes).edition.0 ∷ (mark_of air).0 ∷ [])) refl refl (few.edition, (no_newer, (present_small net air world of, tt)))
 
 -- the line that begins a round
 round_printed : (net : Net) (number : ℕ) → number < 10 ^ 19 → AreLines net (round_line number)
@@ -132,8 +140,8 @@ module _ (net : Net) (sound : IsSound net) where
       let start = start_line (edition after.opening) (newest after.opening).edition.0 (mark_of before.air).0 in
       record {
         lines = subst (AreLines net) (sym played.printed)
-            (more_lines net restart_line start (line_printed net form.Restart [] refl refl tt) (start_printed net after.opening before.air played.follow played.few told.world));
-        set = record { follow = played.follow; few = played.few; air = subst (IsAirOf net) (sym played.air) (few_restarting net before.air played.kept sound set.air) };
+            (more_lines net restart_line start (line_printed net form.Restart [] refl refl tt) (start_printed net after.opening before.air played.follow played.few told.world set.air));
+        set = record { follow = played.follow; few = played.few; air = subst (IsAirIn net) (sym played.air) (few_restarting net before.air played.kept sound set.air) };
       }
 
   -- parts one after the other
@@ -156,3 +164,10 @@ module _ (net : Net) (sound : IsSound net) where
       subst (AreLines net) (sym text_is)
       (more_lines net own others goes.lines
       (parts_printed tells between items others after more (All-tail IsSmallItem item.Restart items small) (omega (arith, few, now.counted, sum_by-cons item_length item.Restart items)) goes.set so))
+  parts_printed tells before (item.Heard line ∷ items) text after (between, own, others, now, more, text_is) small few set so =
+      let there = record before { air = hearing before.air line } in
+      let heard : IsSet net there = record { follow = set.follow; few = set.few; air = few_hearing net before.air line set.air } in
+      subst (AreLines net) (sym text_is)
+      (more_lines net own others (subst (AreLines net) (sym now.0) (no_lines net))
+      (parts_printed tells between items others after more (All-tail IsSmallItem (item.Heard line) items small)
+      (omega (arith, few, ap (λ (s : Stand). s.rounds) now.1, sum_by-cons item_length (item.Heard line) items)) (subst (IsSet net) (sym now.1) heard) so))

@@ -24,7 +24,8 @@ use Rattle.bt_timeline.specs.Air.{IsUnplaced, order_line, unplaced_line}
 use Rattle.bt_run_lines.specs.Printers.{numbers}
 use Rattle.bt_run_laws.specs.Readable.{AreLines}
 use Rattle.bt_run_laws.specs.Small.{IsAnswered, IsSmall, IsSmallReply}
-use Rattle.bt_round.specs.AirLines.{turn_text_by, AirState, PlaysOrder, PlaysTurn, PlaysTurning, answer_text, happened, having, installing, mark_of, newest_in, once_answered, sends_text, turning}
+use Rattle.bt_round.specs.AirLines.{turn_text_by, AirState, Simulated, Apart, PlaysOrder, PlaysTurn, PlaysTurning, TakesTurn, answer_text, having, installing, newest_in, once_answered, turning, wanted_in}
+use Rattle.bt_round.specs.Simulated as simulated
 use Rattle.bt_round.specs.Worker.{AnswersOrder}
 use Rattle.bt_round.proofs.Unplaced.{change-answers}
 use Rattle.bt_centre.specs.World.{IsSpelledWorld}
@@ -32,8 +33,8 @@ use Rattle.bt_run_laws.proofs.Paced.{orders_few}
 use Rattle.bt_run_laws.proofs.Sent.{small_superframe, small_word}
 use Rattle.bt_run_laws.proofs.Replies.{reply_small}
 use Rattle.bt_run_laws.proofs.Read.{line_printed, more_lines, no_lines}
-use Rattle.bt_run_laws.proofs.Waiting.{IsAirOf, having_few}
-use Rattle.bt_run_laws.proofs.Worlds.{IsSpelled, came, turn_came}
+use Rattle.bt_run_laws.proofs.Waiting.{IsAirIn, having_few, having_in}
+use Rattle.bt_run_laws.proofs.Worlds.{IsSpelled, IsSpelledAir, came, turn_came}
 use Rattle.bt_run_laws.proofs.Happens.{Goes, still, mark_small, sound_of, sends_printed}
 
 -- the newest edition of stored plans
@@ -91,9 +92,10 @@ order_answered net entry order sound so asked =
 
 module _ (net : Net) (sound : IsSound net) where
   -- the answer to an order
-  placed_goes : (air : AirState) (answer : Reply) → IsOrderAnswered answer → IsSpelled (once_answered air answer) → IsAirOf net air
+  placed_goes : (air : AirState) (answer : Reply) → IsOrderAnswered answer → IsSpelledAir (once_answered air answer) → IsAirIn net air
       → Goes net (answer_text net air answer) (once_answered air answer)
-  placed_goes air reply.Placed is so of = record { lines = sends_printed net sound air Ordered of so; air = having_few net air Ordered sound of }
+  placed_goes (Simulated a) reply.Placed is so of = record { lines = sends_printed net sound a Ordered of so; air = having_few net a Ordered sound of }
+  placed_goes (Apart a) reply.Placed is so of = absurd of
   placed_goes air answer is so of = elim is.answers [
     | inl placed ↦ absurd cc
     | inr unplaced ↦ record { lines = unplaced_printed net answer is.small unplaced; air = of }
@@ -101,47 +103,55 @@ module _ (net : Net) (sound : IsSound net) where
 
   -- the order that a turn wants
   order_goes : (air : AirState) (want : Option Order) (entries : List Entry) (text : List ℕ) (after : AirState) → PlaysOrder net air want entries text after → IfSome want Taken
-      → All (IsAnswered net) entries → IsSpelled after → IsAirOf net air → Goes net text after
+      → All (IsAnswered net) entries → IsSpelledAir after → IsAirIn net air → Goes net text after
   order_goes air None [] text after (text_is, same) fits answered so of = still net air after text [] text_is same (no_lines net) of
   order_goes air None (entry ∷ entries) text after played fits answered so of = absurd played
   order_goes air (Some order) [] text after played fits answered so of = absurd played
   order_goes air (Some order) (entry ∷ []) text after (asked, text_is, goes) fits answered so of =
       let is = order_answered net entry order sound (All-head (IsAnswered net) entry [] answered) asked in
-      let placed = placed_goes air entry.reply is (subst IsSpelled goes so) of in
+      let placed = placed_goes air entry.reply is (subst IsSpelledAir goes so) of in
       still net (once_answered air entry.reply) after text (order_line order ++ answer_text net air entry.reply) text_is goes
       (more_lines net (order_line order) (answer_text net air entry.reply) (order_printed net order fits) placed.lines) placed.air
   order_goes air (Some order) (entry ∷ next ∷ entries) text after played fits answered so of = absurd played
 
   -- the turn, and then the order that it wants
   turning_goes : (air : AirState) (entries : List Entry) (text : List ℕ) (after : AirState) → PlaysTurning net air entries text after
-      → All (IsAnswered net) entries → IsSpelled after → IsAirOf net air → Goes net text after
-  turning_goes air entries text after turns answered so of =
-      let o = air.life.opening in
-      let there = having air (turning air) in
-      let turned : IsSpelled there = turn_came net air entries text after turns so in
-      let before = (came air (turning air) turned).before in
-      let head = turn_text_by (mark_of air) air.back (newest_in air) in
-      let sends = sends_text net air (turning air) in
-      let rest = order_goes there (wanted (happened there)) entries turns.rest after turns.placed (wanted_taken o (reverse there.life.events) (sound_of net sound air of) turned)
-      answered so (having_few net air (turning air) sound of) in
+      → All (IsAnswered net) entries → IsSpelledAir after → IsAirIn net air → Goes net text after
+  turning_goes (Apart a) entries text after turns answered so of = absurd of
+  turning_goes (Simulated a) entries text after turns answered so of =
+      let o = a.life.opening in
+      let event = turning (Simulated a) in
+      let there = simulated.having a event in
+      let turned : IsSpelled there = turn_came net (Simulated a) entries text after turns so in
+      let before = (came a event turned).before in
+      let head = turn_text_by (simulated.mark_of a) a.back (newest_in (Simulated a)) in
+      let sends = simulated.sends_text net a event in
+      let rest = order_goes (Simulated there) (wanted_in (Simulated there)) entries turns.rest after turns.placed (wanted_taken o (reverse there.life.events) (sound_of net sound a of) turned)
+      answered so (having_few net a event sound of) in
       record {
         lines = subst (AreLines net) (sym turns.printed)
             (more_lines net (head ++ sends) turns.rest
-            (more_lines net head sends (turn_printed net (mark_of air) air.back (newest_in air) (mark_small air before) of.back (newest_small o (reverse air.life.events) before))
-            (sends_printed net sound air (turning air) of turned))
+            (more_lines net head sends (turn_printed net (simulated.mark_of a) a.back (newest_in (Simulated a)) (mark_small a before) of.back (newest_small o (reverse a.life.events) before))
+            (sends_printed net sound a event of turned))
             rest.lines);
         air = rest.air;
       }
 
   -- a plan joins those of the world, if one does
-  installing_few : (air : AirState) (newer : Option Plan) → IsAirOf net air → IsAirOf net (installing air newer)
+  installing_few : (air : AirState) (newer : Option Plan) → IsAirIn net air → IsAirIn net (installing air newer)
   installing_few air None of = of
-  installing_few air (Some plan) of = having_few net air (Install plan) sound of
+  installing_few air (Some plan) of = having_in net air (Install plan) sound of
 
-  -- the line of a turn
-  pub turn_goes : (air : AirState) (entries : List Entry) (text : List ℕ) (after : AirState) → PlaysTurn net air entries text after
-      → All (IsAnswered net) entries → IsSpelled after → IsAirOf net air → Goes net text after
-  turn_goes air entries text after turns answered so of =
+  -- a turn that was taken
+  taken_goes : (air : AirState) (entries : List Entry) (text : List ℕ) (after : AirState) → TakesTurn net air entries text after
+      → All (IsAnswered net) entries → IsSpelledAir after → IsAirIn net air → Goes net text after
+  taken_goes air entries text after turns answered so of =
       turning_goes (installing air turns.newer) turns.others text after turns.turned
       (All-tail (IsAnswered net) turns.asked turns.others (subst (All (IsAnswered net)) turns.all answered))
       so (installing_few air turns.newer of)
+
+  -- the line of a turn
+  pub turn_goes : (air : AirState) (entries : List Entry) (text : List ℕ) (after : AirState) → PlaysTurn net air entries text after
+      → All (IsAnswered net) entries → IsSpelledAir after → IsAirIn net air → Goes net text after
+  turn_goes (Apart a) entries text after turns answered so of = absurd of
+  turn_goes (Simulated a) entries text after turns answered so of = taken_goes (Simulated a) entries text after turns answered so of

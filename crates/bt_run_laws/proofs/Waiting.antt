@@ -15,18 +15,27 @@ use Rattle.bt_air.specs.Sent.{sent_as}
 use Rattle.bt_events.specs.Event.{Event, RestartCentre}
 use Rattle.bt_events.specs.World.{terminals}
 use Rattle.bt_journal.specs.declared.call.Change.{Change}
-use Rattle.bt_round.specs.AirLines.{AirState, awaiting, going, having, restarting, sent_by, sent_count}
+use Rattle.bt_apart.specs.declared.sites.Sites.TheVariants.{Together}
+use Rattle.bt_bus.specs.declared.heard.BusLine.{BusLine}
+use Rattle.bt_round.specs.AirLines.{AirState, Simulated, Apart, going, having, hearing, restarting}
+use Rattle.bt_round.specs.Simulated as simulated
+use Rattle.bt_round.specs.Simulated.{SimulatedAir, awaiting, sent_by, sent_count}
 use Rattle.bt_round.specs.Waiting.{deliveries, deliveries_of, receivers}
 use Rattle.bt_round.proofs.Running.{count-having}
 use Rattle.bt_centre.specs.Run.{at_start}
 use Rattle.bt_run_laws.specs.Small.{IsSmall}
 
--- what holds of the air along its lines: it is that of the network, few deliveries wait, and four bytes hold the edition to which the
+-- what holds of a simulated air along its lines: it is that of the network, few deliveries wait, and four bytes hold the edition to which the
 -- centre goes back
-pub record IsAirOf (net : Net) (air : AirState) : Type 0 where
+pub record IsAirOf (net : Net) (air : SimulatedAir) : Type 0 where
   pub network : air.life.opening.net ≡ net
   pub few : length air.waiting ≤ MOST_TERMINALS * sent_count air
   pub back : IfSome air.back (λ edition. IsSmall edition.0)
+
+-- the air of a run is a simulated one, of which that holds
+abbrev pub IsAirIn : Net → AirState → Type 0
+IsAirIn net (Simulated a) = IsAirOf net a
+IsAirIn net (Apart a) = ⊥
 
 -- a message is for one place, or for each terminal
 receivers_few : (everyone : List TermNo) (one : Sent) → length everyone ≤ 64 → length (receivers everyone one) ≤ 64
@@ -46,7 +55,7 @@ deliveries_few everyone first (one ∷ more) few =
     goal
 
 -- an event happened, and what it sent waits
-pub having_few : (net : Net) (air : AirState) (event : Event) → IsSound net → IsAirOf net air → IsAirOf net (having air event)
+pub having_few : (net : Net) (air : SimulatedAir) (event : Event) → IsSound net → IsAirOf net air → IsAirOf net (simulated.having air event)
 having_few net air event sound of =
     let o = air.life.opening in
     let terminals_few : length (terminals o) ≤ 64 =
@@ -58,18 +67,28 @@ having_few net air event sound of =
       back = of.back;
     }
 
+pub having_in : (net : Net) (air : AirState) (event : Event) → IsSound net → IsAirIn net air → IsAirIn net (having air event)
+having_in net (Simulated a) event sound of = having_few net a event sound of
+having_in net (Apart a) event sound of = absurd of
+
 -- fewer wait
-pub awaiting_few : (net : Net) (air : AirState) (waiting : List (ℕ × Place)) → length waiting ≤ length air.waiting → IsAirOf net air → IsAirOf net (awaiting air waiting)
+pub awaiting_few : (net : Net) (air : SimulatedAir) (waiting : List (ℕ × Place)) → length waiting ≤ length air.waiting → IsAirOf net air → IsAirOf net (awaiting air waiting)
 awaiting_few net air waiting fewer of = record { network = of.network; few = omega (arith, fewer, of.few); back = of.back }
 
 -- the centre goes back to an edition, or ahead
-pub going_few : (net : Net) (air : AirState) (back : Option EditionNo) → IfSome back (λ edition. IsSmall edition.0) → IsAirOf net air → IsAirOf net (going air back)
-going_few net air back small of = record { network = of.network; few = of.few; back = small }
+pub going_few : (net : Net) (air : AirState) (back : Option EditionNo) → IfSome back (λ edition. IsSmall edition.0) → IsAirIn net air → IsAirIn net (going air back)
+going_few net (Simulated a) back small of = record { network = of.network; few = of.few; back = small }
+going_few net (Apart a) back small of = absurd of
 
 -- nothing waits at the start of a run
-pub few_at_start : (net : Net) (opening : List Change) → IsAirOf net (at_start net opening).air
+pub few_at_start : (net : Net) (opening : List Change) → IsAirIn net (at_start net Together opening).air
 few_at_start net opening = record { network = refl; few = omega arith; back = tt }
 
 -- nothing comes to wait at a restart
-pub few_restarting : (net : Net) (air : AirState) (kept : Bool) → IsSound net → IsAirOf net air → IsAirOf net (restarting air kept)
-few_restarting net air kept sound of = going_few net (having air (RestartCentre kept)) None tt (having_few net air (RestartCentre kept) sound of)
+pub few_restarting : (net : Net) (air : AirState) (kept : Bool) → IsSound net → IsAirIn net air → IsAirIn net (restarting air kept)
+few_restarting net air kept sound of = going_few net (having air (RestartCentre kept)) None tt (having_in net air (RestartCentre kept) sound of)
+
+-- nor where a line of the bus is heard
+pub few_hearing : (net : Net) (air : AirState) (heard : BusLine) → IsAirIn net air → IsAirIn net (hearing air heard)
+few_hearing net (Simulated a) heard of = of
+few_hearing net (Apart a) heard of = absurd of

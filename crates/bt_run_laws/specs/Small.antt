@@ -88,10 +88,11 @@ pub record IsSmallRound (round : Round) : Type 0 where
   pub desks : All (λ (desk : ℕ × List DeskLine). All IsSmallDeskLine desk.1) round.desks
   pub air : All IsSmallAirLine round.air
 
--- and those of a part of a script; a restart has none
+-- and those of a part of a script; a restart has none, and a script has no line of the bus
 abbrev pub IsSmallItem : Item → Type 0
 IsSmallItem (item.Round round) = IsSmallRound round
 IsSmallItem item.Restart = Unit {0}
+IsSmallItem (item.Heard line) = Unit {0}
 
 -- the parts of a script that was read: their numbers are in their ranges, and they have no more lines than a script may
 pub record AreParts (items : List Item) : Type 0 where

@@ -12,10 +12,10 @@ pub returns-clause-orders : goal.returns-clause-orders
 returns-clause-orders c = λ net script output stored status histories events tells run. end_has net script.items output stored run.opening status histories events tells run.ends
 
 pub returns-clause-sessions : goal.returns-clause-sessions
-returns-clause-sessions c = λ net talk stored status histories events tells session. session_joins net talk stored session.opening status histories events tells session.ends
+returns-clause-sessions c = λ net sites talk stored status histories events tells session. session_joins net sites talk stored session.opening status histories events tells session.ends
 
 pub returns-clause-orders_in_sessions : goal.returns-clause-orders_in_sessions
-returns-clause-orders_in_sessions c = λ net talk stored status histories events tells session. session_has net talk stored session.opening status histories events tells session.ends
+returns-clause-orders_in_sessions c = λ net sites talk stored status histories events tells session. session_has net sites talk stored session.opening status histories events tells session.ends
 
 pub returns-clause-start : goal.returns-clause-start
 returns-clause-start c = start_has

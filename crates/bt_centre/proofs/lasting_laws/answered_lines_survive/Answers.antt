@@ -4,5 +4,5 @@ use Rattle.bt_centre.proofs.lasting_laws.answered_lines_survive.Goals as goal
 
 pub returns : goal.returns
 returns c = record {
-  survives = λ net talk stored status histories events tells session. answered_lasts net talk stored session.opening status histories events tells session.ends;
+  survives = λ net sites talk stored status histories events tells session. answered_lasts net sites talk stored session.opening status histories events tells session.ends;
 }

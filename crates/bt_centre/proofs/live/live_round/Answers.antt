@@ -5,8 +5,13 @@ use Rattle.bt_centre.specs.Whole.{whole, whole_left}
 use Rattle.bt_centre.proofs.Whole.{early_whole, live_round, one_of_early, round_whole}
 use Rattle.bt_centre.proofs.live.live_round.Goals as goal
 
-pub invariant_of-on : goal.invariant_of-on
-invariant_of-on g c = live_round c.args.net.now c.args.round.now c.live.inside.log.front c.live.inside.run c.in-Ok.next c.in-Ok.text.items c.live.invariant c.in-Ok.ensures.played
+pub hand_over-requires : goal.hand_over-requires
+hand_over-requires g c = record {
+  live = live_round c.args.net.now c.args.round.now c.live.inside.log.front c.live.inside.run c.in-Ok.next c.in-Ok.text.items c.live.invariant c.in-Ok.ensures.played;
+}
+
+pub invariant_of-result : goal.invariant_of-result
+invariant_of-result g c = c.hand_over.ensures.live
 
 pub returns-in-Ok-clause-played : goal.returns-in-Ok-clause-played
 returns-in-Ok-clause-played g c =

@@ -4,7 +4,7 @@ use Rattle.std.specs.Prelude.{reverse}
 use Rattle.bt_air.specs.declared.event.Event.{Event}
 use Rattle.bt_journal.specs.declared.entry.Entry.{Entry}
 use Rattle.bt_history.specs.Book.{Books}
-use Rattle.bt_round.specs.AirLines.{AirState}
+use Rattle.bt_round.specs.AirLines.{AirState, opening_in}
 use Rattle.bt_centre.specs.declared.history.History.{History}
 use Rattle.bt_centre.specs.Progress.{Hand, IsLeftOf, Left}
 use Rattle.bt_centre.proofs.playing.leave.Goals as goal
@@ -25,6 +25,6 @@ returns g c = λ rounds.
       crashes = parts.crashes;
       histories = c.push_reserved.ensures.items ∙ ap (λ (entries : List Entry). over ++ time_of entries ∷ []) (c.of.ensures.same ∙ parts.history);
       events = c.into_told.ensures.events;
-      world = subst (λ (events : List Event). IsSpelledWorld now.1.life.opening (reverse events)) (sym c.into_told.ensures.events) (record { world = c.into_told.ensures.world; stored = c.into_told.ensures.stored; few = c.into_told.ensures.few });
+      world = subst (λ (events : List Event). IsSpelledWorld (opening_in now.1) (reverse events)) (sym c.into_told.ensures.events) (record { world = c.into_told.ensures.world; stored = c.into_told.ensures.stored; few = c.into_told.ensures.few });
       kept = parts.kept.kept;
     }))

@@ -2,7 +2,7 @@
 use Rattle.std.proofs.Common.{◌≡◌, List, refl, sym, ap, ◌∙◌, subst, inl, arith}
 use Rattle.bt_history.specs.Book.{Books}
 use Rattle.bt_history.specs.Causes.{Follows}
-use Rattle.bt_round.specs.AirLines.{AirState}
+use Rattle.bt_round.specs.AirLines.{events_in}
 use Rattle.bt_script.specs.declared.script.Item.TheVariants as item
 use Rattle.bt_centre.specs.declared.history.History.{History}
 use Rattle.bt_centre.specs.Progress.{Hand, IsLeftEarly, IsLeftOf, ItemFailed, Left, RestartPlayed}
@@ -88,5 +88,5 @@ returns-in-Err-clause-failed g c =
     (g.K.Keeper.told c.into_parts-store.result.0) (g.K.Keeper.fault_count c.into_parts-store.result.0) c.beam_count-beams.ensures.sound is
     network follow c.into_parts-store.ensures.kept
     c.into_parts-store.ensures.told c.into_parts-store.ensures.faults c.in-Err.ensures.fault c.in-Err.ensures.fault_later c.in-Err.ensures.exact_changes all
-    (c.into_told.ensures.events ∙ ap (λ (a : AirState). a.life.events) air_is)
+    (c.into_told.ensures.events ∙ ap events_in air_is)
     (world_at c.book_and_centre-book.result.1 old.air (g.E.Events.told c.into_told.result) air_is c.into_told.ensures.events (record { world = c.into_told.ensures.world; stored = c.into_told.ensures.stored; few = c.into_told.ensures.few })) last))

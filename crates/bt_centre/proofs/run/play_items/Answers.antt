@@ -1,16 +1,18 @@
 -- the parts were played and written, or the run stopped
-use Rattle.std.proofs.Common.{List, ℕ, rules, arith, subst}
+use Rattle.std.proofs.Common.{List, ℕ, rules, arith, subst, sym}
 use Rattle.std.proofs.lemmas.List.{take_all}
 use Rattle.bt_outside.specs.Told.{GainsPrefix}
 use Rattle.bt_script.specs.declared.script.Item.{Item}
-use Rattle.bt_centre.specs.Progress.{ItemsWritten}
+use Rattle.bt_centre.specs.Progress.{IsTogether, ItemsWritten}
 use Rattle.bt_centre.proofs.Ended.{err_is, not_begun, not_played, not_shown, same_end}
 use Rattle.bt_centre.proofs.Played.{rounds_more, written_first, written_more}
+use Rattle.bt_centre.proofs.Together.{together_item}
 use Rattle.bt_centre.proofs.run.play_items.Goals as goal
 
 pub loop-item-init : goal.loop-item-init
 loop-item-init g c = record {
   later = c.write_start.ensures.later;
+  together = subst IsTogether (sym c.requires.begun.air) tt;
   few = search rules;
   written = written_first c.args.net.now c.args.playing c.requires.begun _ _ (search rules);
 }
@@ -46,6 +48,7 @@ loop-item-preserved g c =
     let at = c.loop-item.invariant in
     record {
       later = omega (arith, at.later, c.write.ensures.cause.later);
+      together = together_item c.args.net.now c.item-item.result c.loop-item.playing c.in-Ok.next c.in-Ok.text.items c.in-Ok.ensures.played at.together;
       few = rounds_more c.args.net.now c.item-item.result c.loop-item.playing c.in-Ok.next c.in-Ok.text.items c.loop-item.item-index c.in-Ok.ensures.played at.few;
       written = written_more c.args.net.now c.args.playing.book c.args.items.now c.loop-item.item-index c.item-item.result c.loop-item.playing c.in-Ok.next c.in-Ok.text.items _ _ _
           c.loop-item-test.true c.item-item.is at.written c.in-Ok.ensures.played (search rules);

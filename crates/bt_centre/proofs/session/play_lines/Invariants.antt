@@ -11,6 +11,6 @@ invariant-loop-at g l = record {
   few : l.playing.rounds + 1 ≤ l.at;
   last : l.at ≤ 9223372036854775808;
   names : IsOpenFor l.net l.block;
-  going : SessionGoing l.net l.fn.playing.book l.at l.block l.playing (g.T.Talk.coming l.fn.talk) (g.T.Talk.coming l.talk) (g.T.Sink.told l.fn.talk) (g.T.Sink.told l.talk)
+  going : SessionGoing l.net l.sites l.fn.playing.book l.at l.block l.playing (g.T.Talk.coming l.fn.talk) (g.T.Talk.coming l.talk) (g.T.Sink.told l.fn.talk) (g.T.Sink.told l.talk)
       (g.T.Talk.turns l.fn.talk) (g.T.Talk.turns l.talk);
 }
