@@ -100,11 +100,7 @@ pub fn begun_in(word: &[u8]) -> Option<Mark>
 }
 
 /// What stands behind `radio`: `N HEX`.
-pub fn radio_in(
-    alloc: Global,
-    stamp: &[u8],
-    digits: &[u8],
-) -> Result<Option<BusLine>, OutOfMemory>
+pub fn radio_in(alloc: Global, stamp: &[u8], digits: &[u8]) -> Result<Option<BusLine>, OutOfMemory>
     requires short { length digits.now ≤ MOST_STATION_LINE_BYTES }
     ensures line { IfOk result (λ line. line ≡ radio_in stamp.now digits.now) }
     ensures in_range { IfOk result (λ line. IfSome line IsOnBus) }

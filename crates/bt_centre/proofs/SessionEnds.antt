@@ -510,7 +510,7 @@ session_ends_from net sites talk told given after faults begun now opening statu
 pub session_runs_from : AreFlown → AreSafe → (net : Net) (sites : Sites) (talk : Talked) (given : Option (List ℕ)) (faults : ℕ) (hand : Hand) (left : Left) (status : ℕ) → IsBegun net sites hand
     → hand.book.told ≡ option_map (marked net) given → IfSome given (λ bytes. Recovered net bytes hand.book.state.changes) → IsReadable given → faults ≤ hand.book.faults
     → SessionEnded net sites talk hand.book left status → SessionFrom net sites talk (stored_from given left.told faults left.faults) status left.histories left.events
-session_runs_from flown safe net talk given faults hand left status begun told changes readable later ended = record {
+session_runs_from flown safe net sites talk given faults hand left status begun told changes readable later ended = record {
   opening = hand.book.state.changes;
   opens = record { told = changes; readable = readable; follow = begun.follow; few = subst (λ (n : Net). AreFew n hand.book.state.changes) begun.network begun.few };
   world = ended.world;
