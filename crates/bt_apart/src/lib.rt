@@ -5,6 +5,3 @@
 //! `bt_events`; `Inside` is for bodies alone.
 #![tactic(auto)]
 
-mod sites;
-
-pub use sites::Sites;

@@ -6,6 +6,8 @@
 
 mod heard;
 mod said;
+mod sites;
 
 pub use heard::{BusLine, begun_in, number_in, radio_in, read_bus_line};
 pub use said::{add_mark, add_radio};
+pub use sites::Sites;

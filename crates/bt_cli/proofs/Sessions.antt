@@ -1,9 +1,8 @@
 -- What is said of a session that is kept from its start; and a session in which nothing fails comes to its end.
 use Rattle.std.proofs.Common.{◌≡◌, ℕ, inl, inr, List, length, Option, Some, refl, sym, ◌∙◌, subst}
 use Rattle.bt_outside.specs.Told.{Rose}
+use Rattle.bt_bus.specs.declared.sites.Sites.{Sites}
 use Rattle.bt_net.specs.Network.{Net, IsSound}
-use Rattle.bt_apart.specs.declared.sites.Sites.{Sites}
-use Rattle.bt_apart.specs.declared.sites.Sites.TheVariants.{Together}
 use Rattle.bt_air.specs.declared.event.Event.{Event}
 use Rattle.bt_journal.specs.declared.call.Change.{Change}
 use Rattle.bt_history.specs.declared.fault.RecoverFault.{RecoverFault}
@@ -92,10 +91,10 @@ spelled : (told : List ℕ → Option (List ℕ)) (name : List ℕ) (net : Net) 
 spelled told name net (held, is, short, reads) = let P : Option (List ℕ) → Type 0 = λ o. Gives o held in (held, (subst P (sym is) refl, short), reads)
 
 -- a session in which nothing fails comes to its end
-pub live_done : Laws → (input : Input) (talk : Talked) (stored : Stored) (net : List ℕ) (end : End) → NothingFails input talk.output stored → ¬ (Rose talk.unheard_before talk.unheard_after)
-    → EndsOn input talk stored net end → (network : Net) → Spells network_file input.told net network → TellsChanges network stored → IsDone end.status
-live_done laws input talk stored net end steady heard (inl (nothing, stopped)) network spells tells =
+pub live_done : Laws → (sites : Sites) (input : Input) (talk : Talked) (stored : Stored) (net : List ℕ) (end : End) → NothingFails input talk.output stored → ¬ (Rose talk.unheard_before talk.unheard_after)
+    → EndsOn sites input talk stored net end → (network : Net) → Spells network_file input.told net network → TellsChanges network stored → IsDone end.status
+live_done laws sites input talk stored net end steady heard (inl (nothing, stopped)) network spells tells =
     memory_alone talk (StopsAtLoad network_file input.told (FilesFailed input) net) end.status ((file_lawful network_file net).never input.told (FilesFailed input) steady.files (network, spells)) stopped
-live_done laws input talk stored net end steady heard (inr (other, loaded, sound, session)) network spells tells =
+live_done laws sites input talk stored net end steady heard (inr (other, loaded, sound, session)) network spells tells =
     let one : other ≡ network = IsLoaded-same network_file input.told net spells.0 spells.1 other network loaded (spelled input.told net network spells) in
-    session_done laws other Together talk stored end.status end.histories end.events sound steady.store steady.sink heard (subst (λ (n : Net). TellsChanges n stored) (sym one) tells) session
+    session_done laws other sites talk stored end.status end.histories end.events sound steady.store steady.sink heard (subst (λ (n : Net). TellsChanges n stored) (sym one) tells) session

@@ -1,7 +1,8 @@
-// `live NET JOURNAL`.
+// `live NET JOURNAL` and `centre NET JOURNAL`.
 ghost use Rattle.std.specs.Prelude.{◌≡◌, ℕ, List, Some, map, option_map};
 ghost use Rattle.std.specs.String.{string_bytes};
 ghost use Rattle.bt_outside.specs.Told.{Rose};
+ghost use Rattle.bt_bus.specs.declared.sites.Sites.{Sites};
 ghost use Rattle.bt_net.specs.Network.{Net};
 ghost use Rattle.bt_load.specs.Kinds.{network_file};
 ghost use Rattle.bt_centre.specs.Talked.{Talked};
@@ -10,11 +11,11 @@ ghost use Rattle.bt_report.specs.Input.{Input};
 ghost use Rattle.bt_report.specs.Stored.{Stored};
 ghost use Rattle.bt_load.specs.Files.{Spells};
 ghost use Rattle.bt_cli.specs.Complete.{IsDone, NothingFails, TellsChanges};
-ghost use Rattle.bt_cli.specs.Live.{EndsLive, EndsOn, SaysOneOf, SaysStop, live_request, live_words};
+ghost use Rattle.bt_cli.specs.Live.{EndsLive, EndsOn, SaysOneOf, SaysStop, is_session, live_request, live_words, sites_asked};
 ghost use Rattle.bt_cli.specs.Run.{End};
 
-use bt_apart::Sites;
 use bt_book::journals_tell_one_thing;
+use bt_bus::Sites;
 use bt_centre::{NoGate, SessionEnd, run_session, say_text};
 use bt_demand::links_tell_demands;
 use bt_load::load_network;
@@ -37,10 +38,27 @@ pub fn live_words(words: &[String]) -> Option<(&str, &str)>
 fn live_of<'a>(command: &str, net: &'a str, journal: &'a str) -> Option<(&'a str, &'a str)>
     ensures asked { option_map (λ on. (on.0.now, on.1.now)) result ≡ live_request command.now net.now journal.now }
 {
-    if command != "live" || net.is_empty() || journal.is_empty() {
+    if !is_session(command) || net.is_empty() || journal.is_empty() {
         None
     } else {
         Some((net, journal))
+    }
+}
+
+/// Whether the word is a command that holds a session.
+fn is_session(command: &str) -> bool
+    ensures { result ≡ is_session command.now }
+{
+    command == "live" || command == "centre"
+}
+
+/// Where the sites of the session are for which the words ask.
+fn sites_asked(words: &[String]) -> Sites
+    ensures { result ≡ sites_asked (map string_bytes words.now) }
+{
+    match words {
+        [command, ..] if command == "centre" => Sites::Apart,
+        _ => Sites::Together,
     }
 }
 
@@ -57,7 +75,7 @@ pub fn live_main<R: Threads + Wait + Sync, F: Files, T: Talk<K>, K: Keeper + Sen
     talk: &mut T,
     store: K,
 ) -> SessionEnd<K>
-    ensures ends { EndsLive (record { told = F.told files.old; faults_before = F.fault_count files.old; faults_after = F.fault_count files.new })
+    ensures ends { EndsLive (sites_asked (map string_bytes words.now)) (record { told = F.told files.old; faults_before = F.fault_count files.old; faults_after = F.fault_count files.new })
         (record {
           coming = T.coming talk.old;
           unheard_before = T.unheard talk.old;
@@ -72,7 +90,7 @@ pub fn live_main<R: Threads + Wait + Sync, F: Files, T: Talk<K>, K: Keeper + Sen
         (record { status = result.status; histories = result.histories; events = result.events.all }) }
 {
     match live_words(words) {
-        Some((net, _)) => live_on(rt, alloc, net, files, talk, store),
+        Some((net, _)) => live_on(rt, alloc, net, sites_asked(words), files, talk, store),
         None => {
             let status = say_faulty_words(alloc, talk, &store);
             SessionEnd::unbegun(alloc, status, store)
@@ -85,11 +103,12 @@ fn live_on<R: Threads + Wait + Sync, F: Files, T: Talk<K>, K: Keeper + Send>(
     rt: &R,
     alloc: Global,
     net: &str,
+    sites: Sites,
     files: &mut F,
     talk: &mut T,
     store: K,
 ) -> SessionEnd<K>
-    ensures ends { EndsOn (record { told = F.told files.old; faults_before = F.fault_count files.old; faults_after = F.fault_count files.new })
+    ensures ends { EndsOn sites (record { told = F.told files.old; faults_before = F.fault_count files.old; faults_after = F.fault_count files.new })
         (record {
           coming = T.coming talk.old;
           unheard_before = T.unheard talk.old;
@@ -106,15 +125,7 @@ fn live_on<R: Threads + Wait + Sync, F: Files, T: Talk<K>, K: Keeper + Send>(
         Ok(network) => {
             // This is there for what holds of each network: it is sound.
             let _beams = network.beam_count();
-            run_session(
-                rt,
-                alloc,
-                &network,
-                Sites::Together,
-                &NoGate,
-                talk,
-                store,
-            )
+            run_session(rt, alloc, &network, sites, &NoGate, talk, store)
         }
         Err(stop) => {
             let status = say_stop(alloc, stop, talk, &store);
@@ -167,8 +178,8 @@ fn say_stop<T: Talk<K>, K: Keeper>(alloc: Global, stop: Stop, talk: &mut T, stor
 /// limit, and tells changes, and neither a file nor the input, the output nor the store fails in the call, the lines are
 /// played and answered to the end of the input: the status is 0, or that of want of memory.
 pub fn sound_sessions_are_served()
-    ensures served { (input : Input) (talk : Talked) (stored : Stored) (net journal : List ℕ) (end : End)
-        → NothingFails input talk.output stored → ¬ (Rose talk.unheard_before talk.unheard_after) → EndsLive input talk stored (Some (net, journal)) end
+    ensures served { (sites : Sites) (input : Input) (talk : Talked) (stored : Stored) (net journal : List ℕ) (end : End)
+        → NothingFails input talk.output stored → ¬ (Rose talk.unheard_before talk.unheard_after) → EndsLive sites input talk stored (Some (net, journal)) end
         → (network : Net) → Spells network_file input.told net network → TellsChanges network stored → IsDone end.status }
 {
     links_tell_demands();

@@ -19,7 +19,7 @@ use Rattle.bt_world.specs.Life.{Life, past_of}
 use Rattle.bt_machines.specs.declared.standby.Noticed.{Noticed}
 use Rattle.bt_machines.specs.Standby.{is_wrong, named, step_of}
 use Rattle.bt_timeline.specs.Air.{noticed_line, standby_burst_line, unnoticed_line}
-use Rattle.bt_round.specs.AirLines.{AirState, PlaysBurst, PlaysNotice, bridging, happened, having, keeping, mark_of, notice_text, noticed, sends_text, sent_count, sent_in, sent_lines}
+use Rattle.bt_round.specs.Simulated.{SimulatedAir, PlaysBurst, PlaysNotice, bridging, happened, having, keeping, mark_of, notice_text, noticed, sends_text, sent_count, sent_in, sent_lines}
 use Rattle.bt_round.specs.Worker.{IsHeard, Plays}
 use Rattle.bt_round.proofs.FromNumber.{there}
 use Rattle.bt_round.proofs.Running.{told}
@@ -79,17 +79,17 @@ named-told life None mark heard = tt
 named-told life (Some status) mark heard = named-if life status mark _ refl heard
 
 -- the present superframe, by its number
-mark-is : (air : AirState) (m : Mark) → m.0 ≡ (mark_of air).0 → m ≡ mark_of air
+mark-is : (air : SimulatedAir) (m : Mark) → m.0 ≡ (mark_of air).0 → m ≡ mark_of air
 mark-is air m at = ap (λ (n : ℕ). let one : Mark = record { 0 = n } in one) at
 
 -- the standby has heard a status
-pub noticed-plays : (inside air after : AirState) (number : ℕ) (m : Mark) (status : Status) (answer : Noticed) (kept : Option Status) (t0 t1 : List ℕ) → inside ≡ air
+pub noticed-plays : (inside air after : SimulatedAir) (number : ℕ) (m : Mark) (status : Status) (answer : Noticed) (kept : Option Status) (t0 t1 : List ℕ) → inside ≡ air
     → number < sent_count inside → slice_get (sent_in inside) number ≡ Some (sends.Status status) → m.0 ≡ (mark_of inside).0
     → answer ≡ (step_of inside.standby m status).0 → kept ≡ (step_of inside.standby m status).1 → after ≡ keeping inside kept → t1 ≡ t0 ++ noticed_line number answer
     → Plays (PlaysNotice air number) after t0 t1
 noticed-plays inside air after number m status answer kept t0 t1 same within is at answers keeps left added =
     let now = mark-is inside m at in
-    subst (λ (a : AirState). Plays (PlaysNotice a number) after t0 t1) same (record {
+    subst (λ (a : SimulatedAir). Plays (PlaysNotice a number) after t0 t1) same (record {
       own = noticed_line number (step_of inside.standby (mark_of inside) status).0;
       played = inr (
         within,
@@ -104,7 +104,7 @@ noticed-plays inside air after number m status answer kept t0 t1 same within is 
     })
 
 -- a message that is printed as no status is not for the standby
-other-notice : (air : AirState) (number : ℕ) (one : Aired) (found : Sent) → found ≡ sent_as one → ((status : Status) → found ≡ printed.Status status → ⊥)
+other-notice : (air : SimulatedAir) (number : ℕ) (one : Aired) (found : Sent) → found ≡ sent_as one → ((status : Status) → found ≡ printed.Status status → ⊥)
     → (unnoticed_line number ≡ notice_text air number one) × (air ≡ noticed air one)
 other-notice air number (sends.Status status) found is other = absurd (other status is)
 other-notice air number (sends.Load command edition) found is other = (refl, refl)
@@ -114,34 +114,34 @@ other-notice air number (sends.Confirm from load edition) found is other = (refl
 other-notice air number (sends.Reference superframe in_force next) found is other = (refl, refl)
 other-notice air number (sends.Lost from) found is other = (refl, refl)
 
-pub other-plays : (inside air : AirState) (number : ℕ) (found : Sent) (t0 t1 : List ℕ) → inside ≡ air → number < sent_count inside
+pub other-plays : (inside air : SimulatedAir) (number : ℕ) (found : Sent) (t0 t1 : List ℕ) → inside ≡ air → number < sent_count inside
     → IfSome (slice_get (sent_in inside) number) (λ (one : Aired). found ≡ sent_as one) → ((status : Status) → found ≡ printed.Status status → ⊥)
     → t1 ≡ t0 ++ unnoticed_line number → Plays (PlaysNotice air number) air t0 t1
 other-plays inside air number found t0 t1 same within is other added =
     let one = there (λ (one : Aired). found ≡ sent_as one) (sent_in inside) number within is in
     let both = other-notice inside number one.0 found one.2 other in
-    subst (λ (a : AirState). Plays (PlaysNotice a number) a t0 t1) same (record {
+    subst (λ (a : SimulatedAir). Plays (PlaysNotice a number) a t0 t1) same (record {
       own = unnoticed_line number;
       played = inr (within, record { one = one.0; sent = one.1; printed = both.0; kept = both.1 });
       added = added;
     })
 
 -- what the standby names in the present superframe
-pub bridges : (inside air : AirState) (m : Mark) (in_force : Option EditionNo) → inside ≡ air → m.0 ≡ (mark_of inside).0 → in_force ≡ named inside.standby m
+pub bridges : (inside air : SimulatedAir) (m : Mark) (in_force : Option EditionNo) → inside ≡ air → m.0 ≡ (mark_of inside).0 → in_force ≡ named inside.standby m
     → in_force ≡ named air.standby (mark_of air)
 bridges inside air m in_force same at names =
-    names ∙ ap (named inside.standby) (mark-is inside m at) ∙ ap (λ (a : AirState). named a.standby (mark_of a)) same
+    names ∙ ap (named inside.standby) (mark-is inside m at) ∙ ap (λ (a : SimulatedAir). named a.standby (mark_of a)) same
 
 -- it may be named
-pub burst-meets : (inside air : AirState) (m : Mark) (in_force : Option EditionNo) → inside ≡ air → m.0 ≡ (mark_of inside).0 → in_force ≡ named inside.standby m
+pub burst-meets : (inside air : SimulatedAir) (m : Mark) (in_force : Option EditionNo) → inside ≡ air → m.0 ≡ (mark_of inside).0 → in_force ≡ named inside.standby m
     → IfSome inside.standby (IsHeard inside.life) → Meets air.life.opening (happened air) (Second in_force)
 burst-meets inside air m in_force same at names heard =
     let told : Meets inside.life.opening (happened inside) (Second (named inside.standby (mark_of inside))) = named-told inside.life inside.standby (mark_of inside) heard in
-    subst (λ (a : AirState). Meets a.life.opening (happened a) (Second in_force)) same
+    subst (λ (a : SimulatedAir). Meets a.life.opening (happened a) (Second in_force)) same
     (subst (λ (f : Option EditionNo). Meets inside.life.opening (happened inside) (Second f)) (sym (bridges inside inside m in_force refl at names)) told)
 
 -- the standby has sent its reference burst
-pub burst-plays : (net : Net) (air now : AirState) (in_force : Option EditionNo) (first : ℕ) (text middle after : List ℕ) → in_force ≡ named air.standby (mark_of air)
+pub burst-plays : (net : Net) (air now : SimulatedAir) (in_force : Option EditionNo) (first : ℕ) (text middle after : List ℕ) → in_force ≡ named air.standby (mark_of air)
     → now ≡ having air (Second in_force) → first ≡ sent_count air → middle ≡ text ++ standby_burst_line → after ≡ middle ++ sent_lines net first (drop first (sent_in now))
     → Plays (PlaysBurst net air) now text after
 burst-plays net air now in_force first text middle after is had counted headed added =

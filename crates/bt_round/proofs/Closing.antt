@@ -22,7 +22,7 @@ use Rattle.bt_script.specs.declared.script.Round.{Round}
 use Rattle.bt_round.specs.declared.seats.TheConstants.{DESKS, SEATS}
 use Rattle.bt_round.specs.declared.workers.Job.{Job}
 use Rattle.bt_round.specs.declared.workers.Job.TheVariants.{Air, Plans, Desk}
-use Rattle.bt_round.specs.AirLines.{AirState}
+use Rattle.bt_round.specs.AirLines.{AirState, opening_in}
 use Rattle.bt_round.specs.Callers.{Calling, IsSameCaller, own_of}
 use Rattle.bt_round.specs.Rounds.{BookRan}
 use Rattle.bt_history.specs.Store.{RoseBy, lost_of}
@@ -173,7 +173,7 @@ module _ {W : Type 0} (caller : W → Calling) (job : W → Job AirState) (ended
 
   -- the world of the centre's worker opens as it did
   pub still_opening : (net : Net) (table : TableId) (start : Books) (round : Round) (posted : Posted) (air over : AirState) (workers : List W)
-      → AreOver net table start round posted air workers → ((d : W) → air_in (job (get_or workers 0 d)) ≡ Some over) → over.life.opening ≡ air.life.opening
+      → AreOver net table start round posted air workers → ((d : W) → air_in (job (get_or workers 0 d)) ≡ Some over) → opening_in over ≡ opening_in air
   still_opening net table start round posted air over workers so first =
       let e : W = some_of workers (omega (arith, so.seats)) in
       let w : W = get_or workers 0 e in

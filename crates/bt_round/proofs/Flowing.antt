@@ -18,7 +18,7 @@ use Rattle.bt_timeline.specs.Air.{flow_line}
 use Rattle.bt_events.specs.Event.{Opening, Deliver, Happening}
 use Rattle.bt_events.specs.World.{accepted, held, held_by, joins, last_heard, mark, plans, sent_by_hearing, sent_by_satellite, sent_by_terminal, terminals}
 use Rattle.bt_machines.specs.Says.{confirms}
-use Rattle.bt_round.specs.AirLines.{AirState, PlaysDeliveries, PlaysFlow, PlaysNext, awaiting, happened, sent_by, sent_count, sent_in}
+use Rattle.bt_round.specs.Simulated.{SimulatedAir, PlaysDeliveries, PlaysFlow, PlaysNext, awaiting, happened, sent_by, sent_count, sent_in}
 use Rattle.bt_round.specs.Waiting.{deliveries, deliveries_of, receivers}
 use Rattle.bt_round.specs.Worker.{ComeFirst, IsForCentre, Plays, PlaysFirst}
 
@@ -59,21 +59,21 @@ replies-for everyone first (one ∷ more) all =
     (replies-for everyone (first + 1) more (All-tail (IsReply everyone) one more all))
 
 -- what a delivery sends is for the centre
-joined-for : (air : AirState) (number : ℕ) (place : Place)
+joined-for : (air : SimulatedAir) (number : ℕ) (place : Place)
     → All IsForCentre (deliveries (terminals air.life.opening) (sent_count air) (sent_by air (Deliver number place)))
 joined-for air number place =
     replies-for (terminals air.life.opening) (sent_count air) (sent_by air (Deliver number place)) (hearing-replies (terminals air.life.opening) air.life.opening (happened air) (slice_get (sent_in air) number) place)
 
 -- a delivery to the centre sends nothing
-centre-silent : (air : AirState) (number : ℕ) (place : Place) → place ≡ Centre
+centre-silent : (air : SimulatedAir) (number : ℕ) (place : Place) → place ≡ Centre
     → deliveries (terminals air.life.opening) (sent_count air) (sent_by air (Deliver number place)) ≡ []
 centre-silent air number place is =
     ap (λ (p : Place). deliveries (terminals air.life.opening) (sent_count air) (sent_by air (Deliver number p))) is
 
 -- deliveries, and then others
-play-both : (net : Net) (a b c : AirState) (xs ys : List (ℕ × Place)) (s t : List ℕ) → PlaysDeliveries net a xs s b → PlaysDeliveries net b ys t c → PlaysDeliveries net a (xs ++ ys) (s ++ t) c
+play-both : (net : Net) (a b c : SimulatedAir) (xs ys : List (ℕ × Place)) (s t : List ℕ) → PlaysDeliveries net a xs s b → PlaysDeliveries net b ys t c → PlaysDeliveries net a (xs ++ ys) (s ++ t) c
 play-both net a b c [] ys s t one two =
-    subst (λ (l : List ℕ). PlaysDeliveries net a ys (l ++ t) c) (sym one.0) (subst (λ (air : AirState). PlaysDeliveries net air ys t c) one.1 two)
+    subst (λ (l : List ℕ). PlaysDeliveries net a ys (l ++ t) c) (sym one.0) (subst (λ (air : SimulatedAir). PlaysDeliveries net air ys t c) one.1 two)
 play-both net a b c (x ∷ xs) ys s t one two = (
   one.0,
   one.1,
@@ -83,11 +83,11 @@ play-both net a b c (x ∷ xs) ys s t one two = (
   ap (λ (l : List ℕ). l ++ t) one.5 ∙ append_assoc one.1 one.2 t,
 )
 
-play-one : (net : Net) (a b : AirState) (x : ℕ × Place) (s : List ℕ) → PlaysNext net a x s b → PlaysDeliveries net a (x ∷ []) s b
+play-one : (net : Net) (a b : SimulatedAir) (x : ℕ × Place) (s : List ℕ) → PlaysNext net a x s b → PlaysDeliveries net a (x ∷ []) s b
 play-one net a b x s next = (b, s, [], next, (refl, refl), sym (append-nil s))
 
 -- before the first
-pub come-none : (net : Net) (before : AirState) (text : List ℕ) → Plays (ComeFirst net 0 before) before text text
+pub come-none : (net : Net) (before : SimulatedAir) (text : List ℕ) → Plays (ComeFirst net 0 before) before text text
 come-none net before text = record {
   own = [];
   played = record {
@@ -116,11 +116,11 @@ last-for [] x all = All-head IsForCentre x [] all
 last-for (y ∷ xs) x all = last-for xs x (All-tail IsForCentre y (xs ++ x ∷ []) all)
 
 -- and one more
-come-one : (net : Net) (k : ℕ) (before mid after : AirState) (s t : List ℕ) → k < length before.waiting → ComeFirst net k before s mid → PlaysFirst net mid t after → ComeFirst net (k + 1) before (s ++ t) after
+come-one : (net : Net) (k : ℕ) (before mid after : SimulatedAir) (s t : List ℕ) → k < length before.waiting → ComeFirst net k before s mid → PlaysFirst net mid t after → ComeFirst net (k + 1) before (s ++ t) after
 come-one net k before mid after s t within so one =
     let next = one.next in
     let others = one.came.others in
-    let air : AirState = awaiting mid others in
+    let air : SimulatedAir = awaiting mid others in
     let new : List (ℕ × Place) = deliveries (terminals air.life.opening) (sent_count air) (sent_by air (Deliver next.0 next.1)) in
     let there = get_or before.waiting k next in
     let order : next ∷ others ≡ there ∷ (drop (k + 1) before.waiting ++ so.joined) =
@@ -131,7 +131,7 @@ come-one net k before mid after s t within so one =
       heard = so.heard ++ next ∷ [];
       came = play-both net before mid after so.heard (next ∷ []) s t so.came (play-one net mid after next t one.came);
       joined = so.joined ++ new;
-      left = ap (λ (a : AirState). a.waiting) one.came.hearing.heard ∙ ap (λ (l : List (ℕ × Place)). l ++ new) rest ∙ append_assoc (drop (k + 1) before.waiting) so.joined new;
+      left = ap (λ (a : SimulatedAir). a.waiting) one.came.hearing.heard ∙ ap (λ (l : List (ℕ × Place)). l ++ new) rest ∙ append_assoc (drop (k + 1) before.waiting) so.joined new;
       replies = All-append IsForCentre so.joined new so.replies (joined-for air next.0 next.1);
       silent = λ all.
           let parts : All IsForCentre (take k before.waiting ++ there ∷ []) = subst (λ (l : List (ℕ × Place)). All IsForCentre l) (take_more before.waiting k next within) all in
@@ -141,7 +141,7 @@ come-one net k before mid after s t within so one =
           ap (λ (l : List (ℕ × Place)). l ++ new) none ∙ quiet;
     }
 
-pub come-more : (net : Net) (k : ℕ) (before mid after : AirState) (t0 t1 t2 : List ℕ) → k < length before.waiting → Plays (ComeFirst net k before) mid t0 t1 → Plays (PlaysFirst net mid) after t1 t2
+pub come-more : (net : Net) (k : ℕ) (before mid after : SimulatedAir) (t0 t1 t2 : List ℕ) → k < length before.waiting → Plays (ComeFirst net k before) mid t0 t1 → Plays (PlaysFirst net mid) after t1 t2
     → Plays (ComeFirst net (k + 1) before) after t0 t2
 come-more net k before mid after t0 t1 t2 within so one = record {
   own = so.own ++ one.own;
@@ -150,12 +150,12 @@ come-more net k before mid after t0 t1 t2 within so one = record {
 }
 
 -- some are left while fewer have come than waited
-pub some-left : (net : Net) (k count : ℕ) (before mid : AirState) (t0 t1 : List ℕ) → k < count → count ≤ length before.waiting → Plays (ComeFirst net k before) mid t0 t1 → 0 < length mid.waiting
+pub some-left : (net : Net) (k count : ℕ) (before mid : SimulatedAir) (t0 t1 : List ℕ) → k < count → count ≤ length before.waiting → Plays (ComeFirst net k before) mid t0 t1 → 0 < length mid.waiting
 some-left net k count before mid t0 t1 within few so =
     omega (arith, ap length so.played.left, length-append (drop k before.waiting) so.played.joined, length-drop k before.waiting, within, few)
 
 -- all that waited came, and then all that joined
-pub flowed : (net : Net) (before mid after : AirState) (n m : ℕ) (t0 t1 t2 t3 : List ℕ) → t1 ≡ t0 ++ flow_line → n ≡ length before.waiting → m ≡ length mid.waiting
+pub flowed : (net : Net) (before mid after : SimulatedAir) (n m : ℕ) (t0 t1 t2 t3 : List ℕ) → t1 ≡ t0 ++ flow_line → n ≡ length before.waiting → m ≡ length mid.waiting
     → Plays (ComeFirst net n before) mid t1 t2 → Plays (ComeFirst net m mid) after t2 t3 → Plays (PlaysFlow net before) after t0 t3
 flowed net before mid after n m t0 t1 t2 t3 begun all_first all_joined one two =
     let short : length before.waiting ≤ n = omega (arith, all_first) in

@@ -10,7 +10,7 @@ use Rattle.bt_air.specs.declared.sent.Aired.TheVariants.{Lost}
 use Rattle.bt_air.specs.declared.sent.Sent.{Sent}
 use Rattle.bt_air.specs.Sent.{sent_as}
 use Rattle.bt_timeline.specs.Air.{NamesTerminal, sent_line}
-use Rattle.bt_round.specs.AirLines.{sent_lines}
+use Rattle.bt_round.specs.Simulated.{sent_lines}
 use Rattle.bt_round.specs.Waiting.{deliveries, deliveries_of, receivers}
 use Rattle.bt_round.specs.Worker.{NamesOwn}
 

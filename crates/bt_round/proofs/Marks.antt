@@ -5,7 +5,7 @@ use Rattle.bt_frame.specs.declared.limits.TheConstants.{LAST_MARK}
 use Rattle.bt_events.specs.Fits.{IsWorld}
 use Rattle.bt_events.specs.World.{log, mark}
 use Rattle.bt_events.proofs.Counted.{due-in_time}
-use Rattle.bt_round.specs.AirLines.{AirState, having, mark_of}
+use Rattle.bt_round.specs.Simulated.{SimulatedAir, having, mark_of}
 use Rattle.bt_round.specs.Worker.{IsRunning}
 use Rattle.bt_round.proofs.Running.{past-having}
 
@@ -22,11 +22,11 @@ mark-small o (RestartCentre kept ∷ earlier) world = mark-small o earlier world
 mark-small o (Install plan ∷ earlier) world = mark-small o earlier world.1
 
 -- past the last superframe is at it
-pub last-mark : (air inside : AirState) → inside ≡ air → IsRunning inside → LAST_MARK ≤ (mark_of inside).0 → (mark_of air).0 ≡ LAST_MARK
+pub last-mark : (air inside : SimulatedAir) → inside ≡ air → IsRunning inside → LAST_MARK ≤ (mark_of inside).0 → (mark_of air).0 ≡ LAST_MARK
 last-mark air inside same running late =
     let small : (mark_of inside).0 ≤ 4000000000 = mark-small inside.life.opening (reverse inside.life.events) running.world in
-    ap (λ (a : AirState). (mark_of a).0) (sym same) ∙ (omega (arith, small, late))
+    ap (λ (a : SimulatedAir). (mark_of a).0) (sym same) ∙ (omega (arith, small, late))
 
 -- a tick begins the next superframe
-pub mark-ticked : (air : AirState) → mark_of (having air Tick) ≡ record { 0 = (mark_of air).0 + 1 }
+pub mark-ticked : (air : SimulatedAir) → mark_of (having air Tick) ≡ record { 0 = (mark_of air).0 + 1 }
 mark-ticked air = ap (λ (past : List Happening). record { 0 = mark air.life.opening past }) (past-having air.life Tick)

@@ -3,11 +3,15 @@ use Rattle.std.proofs.Common.{◌≡◌, ℕ, ◌+◌, ◌<◌, List, [], ◌∷
 use Rattle.std.proofs.lemmas.Result.{on_ok_weaker}
 use Rattle.std.proofs.lemmas.List.{append-nil, take_more}
 use Rattle.std.proofs.lemmas.List.Elements.{All-append, All-nil}
+use Rattle.bt_frame.specs.declared.numbers.EditionNo.{EditionNo}
 use Rattle.bt_net.specs.Network.{Net}
 use Rattle.bt_journal.specs.declared.entry.Entry.{Entry}
 use Rattle.bt_script.specs.declared.script.AirLine.{AirLine}
-use Rattle.bt_round.specs.AirLines.{AirState, PlaysAirLine, PlaysAirLines}
-use Rattle.bt_round.specs.Worker.{Asks, Plays}
+use Rattle.bt_script.specs.declared.script.AirLine.TheVariants as line
+use Rattle.bt_apart.specs.Apart.{ApartAir}
+use Rattle.bt_round.specs.AirLines.{AirState, Simulated, Apart, PlaysAirLine, PlaysAirLines, PlaysSimulated}
+use Rattle.bt_round.specs.Simulated.{SimulatedAir}
+use Rattle.bt_round.specs.Worker.{Asks, IsOfSimulated, Plays, PlaysOwnLine}
 
 -- a line that asks nothing of the book
 pub asks-nothing : (line : List ℕ → AirState → Type 0) (air : AirState) (history : List Entry) (before text : List ℕ) → Plays line air before text
@@ -20,6 +24,61 @@ asks-nothing line air history before text so = record {
   kept = sym (append-nil history);
   added = so.added;
 }
+
+-- a line that is neither a turn nor one of going back or ahead is one that only a simulated air has
+pub is-own : (one : AirLine) → (one ≡ line.Turn → ⊥) → ((edition : EditionNo) → one ≡ line.Back edition → ⊥) → (one ≡ line.Ahead → ⊥) → IsOfSimulated one
+is-own line.Tick turn back ahead = tt
+is-own line.Turn turn back ahead = absurd (turn refl)
+is-own (line.Back edition) turn back ahead = absurd (back edition refl)
+is-own line.Ahead turn back ahead = absurd (ahead refl)
+is-own line.Flow turn back ahead = tt
+is-own (line.Lose losing) turn back ahead = tt
+is-own (line.Deliver number place) turn back ahead = tt
+is-own line.Frame turn back ahead = tt
+is-own (line.Reset terminal) turn back ahead = tt
+is-own (line.StandbyHears number) turn back ahead = tt
+is-own line.StandbyBurst turn back ahead = tt
+
+-- such a line asks nothing of the book
+own-played : (net : Net) (one : AirLine) (before after : AirState) (text : List ℕ) → IsOfSimulated one → PlaysSimulated (PlaysOwnLine net one) before text after
+    → PlaysAirLine net before one [] text after
+own-played net line.Tick before after text own so = (refl, so)
+own-played net line.Turn before after text own so = absurd own
+own-played net (line.Back edition) before after text own so = absurd own
+own-played net line.Ahead before after text own so = absurd own
+own-played net line.Flow before after text own so = (refl, so)
+own-played net (line.Lose losing) before after text own so = (refl, so)
+own-played net (line.Deliver number place) before after text own so = (refl, so)
+own-played net line.Frame before after text own so = (refl, so)
+own-played net (line.Reset terminal) before after text own so = (refl, so)
+own-played net (line.StandbyHears number) before after text own so = (refl, so)
+own-played net line.StandbyBurst before after text own so = (refl, so)
+
+-- it is played where the air is a simulated one
+pub simulated-line : (net : Net) (before : AirState) (air over : SimulatedAir) (one : AirLine) (history : List Entry) (t0 t1 : List ℕ) → before ≡ Simulated air → IsOfSimulated one
+    → Plays (PlaysOwnLine net one air) over t0 t1 → Asks (PlaysAirLine net before one) (Simulated over) history history t0 t1
+simulated-line net before air over one history t0 t1 is own so =
+    subst (λ (b : AirState). Asks (PlaysAirLine net b one) (Simulated over) history history t0 t1) (sym is) (record {
+      entries = [];
+      own = so.own;
+      played = own-played net one (Simulated air) (Simulated over) so.own own (over, so.played, refl);
+      callers = All-nil (λ (entry : Entry). entry.caller ≡ 0);
+      kept = sym (append-nil history);
+      added = so.added;
+    })
+
+-- and does nothing where sites are apart
+pub apart-line : (net : Net) (before : AirState) (air : ApartAir) (one : AirLine) (history : List Entry) (text : List ℕ) → before ≡ Apart air → IsOfSimulated one
+    → Asks (PlaysAirLine net before one) before history history text text
+apart-line net before air one history text is own =
+    subst (λ (b : AirState). Asks (PlaysAirLine net b one) b history history text text) (sym is) (record {
+      entries = [];
+      own = [];
+      played = own-played net one (Apart air) (Apart air) [] own (refl, refl);
+      callers = All-nil (λ (entry : Entry). entry.caller ≡ 0);
+      kept = sym (append-nil history);
+      added = sym (append-nil text);
+    })
 
 -- before the first
 pub lines-none : (net : Net) (air : AirState) (history : List Entry) (text : List ℕ) → Asks (PlaysAirLines net air []) air history history text text

@@ -26,7 +26,7 @@ use Rattle.bt_script.specs.declared.script.AirLine.{AirLine}
 use Rattle.bt_script.specs.declared.script.AirLine.TheVariants as line
 use Rattle.bt_script.specs.declared.script.DeskLine.{DeskLine}
 use Rattle.bt_script.specs.declared.script.DeskLine.TheVariants as desk_line
-use Rattle.bt_round.specs.AirLines.{AirState, PlaysAirLine, PlaysAirLines, PlaysOrder}
+use Rattle.bt_round.specs.AirLines.{AirState, PlaysAirLine, PlaysAirLines, PlaysOrder, PlaysTurnIf, is_marked}
 use Rattle.bt_round.specs.Callers.{Calling, IsAnswered, IsSameCaller, caller_number, own_of}
 use Rattle.bt_round.specs.Desks.{asked_by_line}
 use Rattle.bt_round.specs.Planned.{HasPosted}
@@ -182,13 +182,18 @@ order_asks_none net air (Some order) [] text after plays = absurd plays
 order_asks_none net air (Some order) (entry ∷ []) text after plays = ap (λ (c : Call). plan_asked c ++ []) plays.0
 order_asks_none net air (Some order) (entry ∷ next ∷ rest) text after plays = absurd plays
 
-air_line_asks_none : (net : Net) (air : AirState) (one : AirLine) (entries : List Entry) (text : List ℕ) (after : AirState) → PlaysAirLine net air one entries text after
+turn_asks_none : (marked : Bool) (net : Net) (air : AirState) (entries : List Entry) (text : List ℕ) (after : AirState) → PlaysTurnIf marked net air entries text after
     → flat_map plan_asked (map call_in entries) ≡ []
-air_line_asks_none net air line.Tick entries text after plays = nothing_asked entries plays.0
-air_line_asks_none net air line.Turn entries text after plays =
+turn_asks_none true net air entries text after plays =
     ap (λ (e : List Entry). flat_map plan_asked (map call_in e)) plays.all
     ∙ ap (λ (c : Call). plan_asked c ++ flat_map plan_asked (map call_in plays.others)) plays.call
     ∙ order_asks_none net _ _ plays.others _ after plays.turned.placed
+turn_asks_none false net air entries text after plays = nothing_asked entries plays.0
+
+air_line_asks_none : (net : Net) (air : AirState) (one : AirLine) (entries : List Entry) (text : List ℕ) (after : AirState) → PlaysAirLine net air one entries text after
+    → flat_map plan_asked (map call_in entries) ≡ []
+air_line_asks_none net air line.Tick entries text after plays = nothing_asked entries plays.0
+air_line_asks_none net air line.Turn entries text after plays = turn_asks_none (is_marked air) net air entries text after plays
 air_line_asks_none net air (line.Back edition) entries text after plays = nothing_asked entries plays.0
 air_line_asks_none net air line.Ahead entries text after plays = nothing_asked entries plays.0
 air_line_asks_none net air line.Flow entries text after plays = nothing_asked entries plays.0

@@ -14,12 +14,12 @@ use Rattle.bt_air.specs.declared.sent.Aired.{Aired}
 use Rattle.bt_air.specs.declared.sent.Aired.TheVariants as sends
 use Rattle.bt_air.specs.Sent.{sent_as}
 use Rattle.bt_frame.specs.declared.numbers.EditionNo.{EditionNo}
-use Rattle.bt_events.specs.Event.{Opening, Event, Happening, Turn}
+use Rattle.bt_events.specs.Event.{Opening, Event, Happening}
 use Rattle.bt_events.specs.Fits.{IsPlace, IsWorld, Meets}
-use Rattle.bt_machines.specs.Plans.{newest_of, plan_of}
+use Rattle.bt_machines.specs.Plans.{plan_of}
 use Rattle.bt_world.specs.Life.{Life, having_had, past_of}
 use Rattle.bt_events.specs.World.{comes_to, is_told, log, plans, sent, tells, terminals}
-use Rattle.bt_round.specs.AirLines.{AirState, happened, having, mark_of, newest_in, sends_text, target_of, turn_text_by, turning, sent_by, sent_count, sent_in, sent_lines}
+use Rattle.bt_round.specs.Simulated.{SimulatedAir, happened, having, sends_text, sent_by, sent_count, sent_in, sent_lines}
 use Rattle.bt_round.specs.Waiting.{deliveries, deliveries_of, receivers}
 use Rattle.bt_round.specs.Worker.{CanHear, IsHeard, IsPlanned, IsRunning, NamesOwn, numbered}
 use Rattle.bt_round.proofs.Sending.{event-names, terminals-own}
@@ -32,15 +32,15 @@ pub past-having : (life : Life) (event : Event) → past_of (having_had life eve
 past-having life event = ap (λ (list : List Event). log life.opening list) (last-first life.events event)
 
 -- the messages, with those of one event more
-pub sent-having : (air : AirState) (event : Event) → sent_in (having air event) ≡ sent_in air ++ sent_by air event
+pub sent-having : (air : SimulatedAir) (event : Event) → sent_in (having air event) ≡ sent_in air ++ sent_by air event
 sent-having air event = ap (λ (past : List Happening). sent air.life.opening past) (past-having air.life event)
 
 -- these are those from the number on that the next message had before
-pub sent-since : (air : AirState) (event : Event) → drop (sent_count air) (sent_in (having air event)) ≡ sent_by air event
+pub sent-since : (air : SimulatedAir) (event : Event) → drop (sent_count air) (sent_in (having air event)) ≡ sent_by air event
 sent-since air event = ap (λ (l : List Aired). drop (sent_count air) l) (sent-having air event) ∙ drop_at (sent_in air) (sent_by air event) (sent_count air) refl
 
 -- how many messages there are after an event
-pub count-having : (air : AirState) (event : Event) → sent_count (having air event) ≡ sent_count air + length (sent_by air event)
+pub count-having : (air : SimulatedAir) (event : Event) → sent_count (having air event) ≡ sent_count air + length (sent_by air event)
 count-having air event = ap length (sent-having air event) ∙ length-append (sent_in air) (sent_by air event)
 
 receivers-own : (o : Opening) (one : Aired) → NamesOwn o.net one → All (IsPlace o) (receivers (terminals o) (sent_as one))
@@ -101,14 +101,14 @@ planned-still stays life event edition planned =
     (subst (λ (plan : Option Plan). IsSome plan) (sym (stays life.opening (past_of life) (comes_to life.opening (past_of life) event) edition planned)) planned)
 
 -- a status that was sent stays sent
-heard-still : (air : AirState) (event : Event) (status : Status) → IsHeard air.life status → IsHeard (having_had air.life event) status
+heard-still : (air : SimulatedAir) (event : Event) (status : Status) → IsHeard air.life status → IsHeard (having_had air.life event) status
 heard-still air event status heard =
     ap (λ (all : List Aired). is_told all status.mark.0 status.fore) (sent-having air event)
     ∙ list_any-append (tells status.mark.0 status.fore) (sent_in air) (sent_by air event)
     ∙ ap (λ (b : Bool). b || list_any (tells status.mark.0 status.fore) (sent_by air event)) heard
 
 -- an event happened, and what it sent waits
-pub running-having : PlansStay → (air : AirState) (event : Event) → IsRunning air → Meets air.life.opening (happened air) event → IsRunning (having air event)
+pub running-having : PlansStay → (air : SimulatedAir) (event : Event) → IsRunning air → Meets air.life.opening (happened air) event → IsRunning (having air event)
 running-having stays air event running meets = record {
   world = world-having air.life event running.world meets;
   waiting = All-append (CanHear (having_had air.life event)) air.waiting (deliveries (terminals air.life.opening) (sent_count air) (sent_by air event))
@@ -124,16 +124,16 @@ running-having stays air event running meets = record {
 }
 
 -- one step of a world: what it keeps before and after, and who waits
-pub record Steps (air : AirState) (life now : Life) (waiting after : List (ℕ × Place)) (going_back : Option EditionNo) (standby : Option Status) (event : Event) : Type 0 where
+pub record Steps (air : SimulatedAir) (life now : Life) (waiting after : List (ℕ × Place)) (going_back : Option EditionNo) (standby : Option Status) (event : Event) : Type 0 where
   pub began : record { life = life; waiting = waiting; back = going_back; standby = standby } ≡ air
   pub stepped : now ≡ having_had life event
   pub joined : after ≡ waiting ++ deliveries (terminals life.opening) (length (sent life.opening (past_of life))) (drop (length (sent life.opening (past_of life))) (sent now.opening (past_of now)))
 
 -- the parts after a step are those of the air that has had the event
-pub steps-to : (air : AirState) (life now : Life) (waiting after : List (ℕ × Place)) (going_back : Option EditionNo) (standby : Option Status) (event : Event) → Steps air life now waiting after going_back standby event
+pub steps-to : (air : SimulatedAir) (life now : Life) (waiting after : List (ℕ × Place)) (going_back : Option EditionNo) (standby : Option Status) (event : Event) → Steps air life now waiting after going_back standby event
     → record { life = now; waiting = after; back = going_back; standby = standby } ≡ having air event
 steps-to air life now waiting after going_back standby event step =
-    let old : AirState = record { life = life; waiting = waiting; back = going_back; standby = standby } in
+    let old : SimulatedAir = record { life = life; waiting = waiting; back = going_back; standby = standby } in
     let since : drop (sent_count old) (sent now.opening (past_of now)) ≡ sent_by old event =
     ap (λ (l : Life). drop (sent_count old) (sent l.opening (past_of l))) step.stepped ∙ sent-since old event in
     let joined : after ≡ (having old event).waiting =
@@ -141,15 +141,15 @@ steps-to air life now waiting after going_back standby event step =
     let lives : record { life = now; waiting = after; back = going_back; standby = standby } ≡ record { life = having_had life event; waiting = after; back = going_back; standby = standby } =
     ap (λ (l : Life). record { life = l; waiting = after; back = going_back; standby = standby }) step.stepped in
     lives ∙ ap (λ (w : List (ℕ × Place)). record { life = having_had life event; waiting = w; back = going_back; standby = standby }) joined
-    ∙ ap (λ (a : AirState). having a event) step.began
+    ∙ ap (λ (a : SimulatedAir). having a event) step.began
 
 -- by the numbers that are counted
-pub counted-steps : (air : AirState) (life now : Life) (waiting after : List (ℕ × Place)) (going_back : Option EditionNo) (standby : Option Status) (event : Event) (net : Net) (count first : ℕ)
+pub counted-steps : (air : SimulatedAir) (life now : Life) (waiting after : List (ℕ × Place)) (going_back : Option EditionNo) (standby : Option Status) (event : Event) (net : Net) (count first : ℕ)
     → record { life = life; waiting = waiting; back = going_back; standby = standby } ≡ air → now ≡ having_had life event → air.life.opening.net ≡ net → count ≡ length net.terminals
     → first ≡ length (sent life.opening (past_of life)) → after ≡ waiting ++ deliveries (numbered count) first (drop first (sent now.opening (past_of now)))
     → Steps air life now waiting after going_back standby event
 counted-steps air life now waiting after going_back standby event net count first before step same counted numbered_from added =
-    let own : life.opening.net ≡ net = ap (λ (a : AirState). a.life.opening.net) before ∙ same in
+    let own : life.opening.net ≡ net = ap (λ (a : SimulatedAir). a.life.opening.net) before ∙ same in
     let all : numbered count ≡ terminals life.opening = ap numbered (counted ∙ ap (λ (n : Net). length n.terminals) (sym own)) in
     record {
       began = before;
@@ -159,27 +159,28 @@ counted-steps air life now waiting after going_back standby event net count firs
           ∙ ap (λ (n : ℕ). waiting ++ deliveries (terminals life.opening) n (drop n (sent now.opening (past_of now)))) numbered_from;
     }
 
-pub running-now : PlansStay → (air : AirState) (life now : Life) (waiting after : List (ℕ × Place)) (going_back : Option EditionNo) (standby : Option Status) (event : Event)
+pub running-now : PlansStay → (air : SimulatedAir) (life now : Life) (waiting after : List (ℕ × Place)) (going_back : Option EditionNo) (standby : Option Status) (event : Event)
     → Steps air life now waiting after going_back standby event → IsRunning (record { life = life; waiting = waiting; back = going_back; standby = standby }) → Meets air.life.opening (happened air) event
     → IsRunning (record { life = now; waiting = after; back = going_back; standby = standby })
 running-now stays air life now waiting after going_back standby event step running meets =
     subst IsRunning (sym (steps-to air life now waiting after going_back standby event step)) (running-having stays air event (subst IsRunning step.began running) meets)
 
+-- the lines of the messages that an event sent are those from the number on that the next message had before
+sent-told : (net : Net) (air now : SimulatedAir) (event : Event) (first : ℕ) → now ≡ having air event → first ≡ sent_count air
+    → sent_lines net first (drop first (sent_in now)) ≡ sends_text net air event
+sent-told net air now event first had counted =
+    ap (λ (n : ℕ). sent_lines net n (drop n (sent_in now))) counted
+    ∙ ap (λ (a : SimulatedAir). sent_lines net (sent_count air) (drop (sent_count air) (sent_in a))) had
+    ∙ ap (λ (l : List Aired). sent_lines net (sent_count air) l) (sent-since air event)
+
+-- the text of an event
+pub sends : (net : Net) (air now : SimulatedAir) (event : Event) (first : ℕ) (text after : List ℕ) → now ≡ having air event → first ≡ sent_count air
+    → after ≡ text ++ sent_lines net first (drop first (sent_in now)) → after ≡ text ++ sends_text net air event
+sends net air now event first text after had counted added = added ∙ ap (λ (l : List ℕ). text ++ l) (sent-told net air now event first had counted)
+
 -- the text of an event, whose messages stand behind its own line
-pub told : (net : Net) (air now : AirState) (event : Event) (first : ℕ) (text middle after heading : List ℕ) → now ≡ having air event → first ≡ sent_count air
+pub told : (net : Net) (air now : SimulatedAir) (event : Event) (first : ℕ) (text middle after heading : List ℕ) → now ≡ having air event → first ≡ sent_count air
     → middle ≡ text ++ heading → after ≡ middle ++ sent_lines net first (drop first (sent_in now)) → after ≡ text ++ (heading ++ sends_text net air event)
 told net air now event first text middle after heading had counted headed added =
-    let since : sent_lines net first (drop first (sent_in now)) ≡ sends_text net air event =
-    ap (λ (n : ℕ). sent_lines net n (drop n (sent_in now))) counted
-    ∙ ap (λ (a : AirState). sent_lines net (sent_count air) (drop (sent_count air) (sent_in a))) had
-    ∙ ap (λ (l : List Aired). sent_lines net (sent_count air) l) (sent-since air event) in
-    added ∙ ap (λ (l : List ℕ). middle ++ l) since ∙ ap (λ (l : List ℕ). l ++ sends_text net air event) headed
+    sends net air now event first middle after had counted added ∙ ap (λ (l : List ℕ). l ++ sends_text net air event) headed
     ∙ append_assoc text heading (sends_text net air event)
-
--- the text of a turn
-pub turn-told : (net : Net) (air now : AirState) (target : EditionNo) (first : ℕ) (text middle after : List ℕ) → target ≡ target_of air
-    → now ≡ having air (Turn target) → first ≡ sent_count air → middle ≡ text ++ turn_text_by (mark_of air) air.back (newest_in air) → after ≡ middle ++ sent_lines net first (drop first (sent_in now))
-    → after ≡ text ++ (turn_text_by (mark_of air) air.back (newest_in air) ++ sends_text net air (turning air))
-turn-told net air now target first text middle after is had counted headed added =
-    told net air now (Turn target) first text middle after (turn_text_by (mark_of air) air.back (newest_in air)) had counted headed added
-    ∙ ap (λ (e : EditionNo). text ++ (turn_text_by (mark_of air) air.back (newest_in air) ++ sends_text net air (Turn e))) is

@@ -26,7 +26,7 @@ use Rattle.bt_script.specs.Named.{IsAirLineFor, IsLineFor, IsRoundFor}
 use Rattle.bt_round.specs.declared.seats.TheConstants.{SEATS}
 use Rattle.bt_round.specs.declared.workers.Job.{Job}
 use Rattle.bt_round.specs.declared.workers.Job.TheVariants.{Air, Plans, Desk}
-use Rattle.bt_round.specs.AirLines.{AirState, PlaysAirLines}
+use Rattle.bt_round.specs.AirLines.{AirState, PlaysAirLines, opening_in}
 use Rattle.bt_round.specs.Callers.{Calling, IsSameCaller, caller_number, own_in, own_of}
 use Rattle.bt_round.specs.Done.{DeskDone, PlannerDone}
 use Rattle.bt_round.specs.Seats.{AllAt, IsDoneAt, IsJobAt, IsOfBoard, IsOfPlace, IsOver, IsReady, air_in, lines_of, publisher_in, reader_in}
@@ -106,10 +106,10 @@ seated table start round posted air place pass caller job text is_pass unseen is
 }
 
 -- the caller at a place can do the job of that place
-can_do : (net : Net) (round : Round) (posted : Posted) (air : AirState) (place : ℕ) (caller : Calling) (job : Job AirState) → caller_number caller ≡ place → air.life.opening.net ≡ net → IsRoundFor net round
+can_do : (net : Net) (round : Round) (posted : Posted) (air : AirState) (place : ℕ) (caller : Calling) (job : Job AirState) → caller_number caller ≡ place → (opening_in air).net ≡ net → IsRoundFor net round
     → HasPosted caller posted.plans → IsJobAt round posted air place job → CanDo net caller job
 can_do net round posted air place caller (Air lines centre) at same named has (zero, lines_are, centre_is) =
-    (at ∙ zero, subst (All (IsAirLineFor net)) (sym lines_are) named.air, ap (λ (a : AirState). a.life.opening.net) centre_is ∙ same)
+    (at ∙ zero, subst (All (IsAirLineFor net)) (sym lines_are) named.air, ap (λ (a : AirState). (opening_in a).net) centre_is ∙ same)
 can_do net round posted air place caller (Plans count publisher) at same named has (one, count_is, publisher_is) =
     (at ∙ one, subst (λ (p : Posted). HasPosted caller p.plans) (sym publisher_is) has)
 can_do net round posted air place caller (Desk desk lines reader) at same named has (next, from_one, lines_are, reader_is) =
@@ -126,7 +126,7 @@ begins_posted start plans caller same unseen last =
 
 -- a worker that is seated can work
 pub ready_can : (net : Net) (table : TableId) (start : Books) (round : Round) (posted : Posted) (air : AirState) (place : ℕ) (caller : Calling) (job : Job AirState) (text : List ℕ)
-    → start.net ≡ net → air.life.opening.net ≡ net → IsRoundFor net round → next_edition posted.plans ≤ (newest start.state.changes).edition.0 + 1
+    → start.net ≡ net → (opening_in air).net ≡ net → IsRoundFor net round → next_edition posted.plans ≤ (newest start.state.changes).edition.0 + 1
     → IsReady table start round posted air place caller job text → (caller.start.net ≡ net) × CanDo net caller job
 ready_can net table start round posted air place caller job text same airs named last so =
     (ap (λ (b : Books). b.net) so.start_is ∙ same, can_do net round posted air place caller job so.pass.number_is airs named (begins_posted start posted.plans caller so.start_is so.unseen last) so.job_is)
@@ -146,7 +146,7 @@ done_at : (net : Net) (round : Round) (posted : Posted) (air : AirState) (place 
 done_at net round posted air place (Air lines centre) after ended own written (zero, lines_are, centre_is) (over, after_is, opening, played) =
     subst (λ (j : Job AirState). IsDoneAt net round posted air place j ended own written) (sym after_is) (
       zero,
-      opening ∙ ap (λ (a : AirState). a.life.opening) centre_is,
+      opening ∙ ap opening_in centre_is,
       subst (λ (a : AirState). OnOk ended (Asks (PlaysAirLines net a round.air) over [] own [] written)) centre_is
           (subst (λ (l : List AirLine). OnOk ended (Asks (PlaysAirLines net centre l) over [] own [] written)) lines_are played),
     )
@@ -182,10 +182,10 @@ over_after net table start round posted air place old new job after ended text w
 -- at place 0 the centre's worker played its lines
 pub centre_done : (net : Net) (round : Round) (posted : Posted) (air over : AirState) (job : Job AirState) (ended : Result Unit OutOfMemory) (own : List Entry) (text : List ℕ) → air_in job ≡ Some over
     → IsDoneAt net round posted air 0 job ended own text
-    → (over.life.opening ≡ air.life.opening) × OnOk ended (Asks (PlaysAirLines net air round.air) over [] own [] text)
+    → (opening_in over ≡ opening_in air) × OnOk ended (Asks (PlaysAirLines net air round.air) over [] own [] text)
 centre_done net round posted air over (Air lines centre) ended own text is (zero, opening, played) =
     let same : centre ≡ over = cc in
-    (sym (ap (λ (a : AirState). a.life.opening) same) ∙ opening, subst (λ (a : AirState). OnOk ended (Asks (PlaysAirLines net air round.air) a [] own [] text)) same played)
+    (sym (ap opening_in same) ∙ opening, subst (λ (a : AirState). OnOk ended (Asks (PlaysAirLines net air round.air) a [] own [] text)) same played)
 centre_done net round posted air over (Plans count publisher) ended own text is done = absurd (omega (arith, done.0))
 centre_done net round posted air over (Desk desk lines reader) ended own text is done = absurd (omega (arith, done.0))
 

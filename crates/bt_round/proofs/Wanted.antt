@@ -61,7 +61,8 @@ act-can turn None (Some status) None ahead can = attempt-can turn.in_force turn.
 act-can turn None (Some status) (Some (Load command edition)) ahead can = load-can turn status command edition ahead
 act-can turn None (Some status) (Some (Arm command edition due)) ahead can = arm-can turn status command due.0
 
-wanted-can : (o : Opening) (events : List Event) → 1 ≤ o.net.lead → IfSome (wanted (log o events)) CanCome
+-- an order that the centre wants can be asked to be placed
+pub wanted-can : (o : Opening) (events : List Event) → 1 ≤ o.net.lead → IfSome (wanted (log o events)) CanCome
 wanted-can o [] ahead = tt
 wanted-can o (Tick ∷ earlier) ahead = wanted-can o earlier ahead
 wanted-can o (Turn target ∷ earlier) ahead =
@@ -73,10 +74,6 @@ wanted-can o (Frame ∷ earlier) ahead = wanted-can o earlier ahead
 wanted-can o (ResetTerminal terminal ∷ earlier) ahead = wanted-can o earlier ahead
 wanted-can o (RestartCentre kept ∷ earlier) ahead = tt
 wanted-can o (Install plan ∷ earlier) ahead = wanted-can o earlier ahead
-
--- the order that is wanted can be asked to be placed
-pub order-can : (o : Opening) (events : List Event) (order : Order) → 1 ≤ o.net.lead → wanted (log o events) ≡ Some order → CanCome order
-order-can o events order ahead is = subst (λ (w : Option Order). IfSome w CanCome) is (wanted-can o events ahead)
 
 -- a reply to an order says that it is placed, or what keeps it from that
 pub order-answers : {caller : Calling} (net : Net) (entry : Entry) (order : Order) (so : IsAnswered net caller entry) → entry.call ≡ call.Place order → AnswersOrder entry.reply

@@ -1,6 +1,6 @@
 -- The lines of a script that tell of the air: what each of them makes happen, and what is printed of it. The air of a centre is a
 -- simulated one, or that of sites apart as the centre knows it.
-use Rattle.std.specs.Prelude.{◌≡◌, ◌⊎◌, ℕ, ◌++◌, Bool, true, false, List, [], ◌∷◌, is_some, Option, Some, None}
+use Rattle.std.specs.Prelude.{◌≡◌, ◌⊎◌, ℕ, ◌++◌, Bool, true, false, List, [], ◌∷◌, is_some, Option, Some, None, IsSome}
 use Rattle.bt_frame.specs.declared.numbers.EditionNo.{EditionNo}
 use Rattle.bt_frame.specs.declared.numbers.Mark.{Mark}
 use Rattle.bt_net.specs.Network.{Net}
@@ -114,6 +114,11 @@ going (Apart a) back = Apart (going_apart a back)
 -- the centre restarts, and goes back to no edition; all else on a simulated air stays as it is
 abbrev pub restarting : AirState → Bool → AirState
 restarting air kept = going (having air (RestartCentre kept)) None
+
+-- where the order that the centre wants is kept at a restart, it wants one
+abbrev pub KeepsWanted : AirState → Bool → Type 0
+KeepsWanted air true = IsSome (wanted_in air)
+KeepsWanted air false = Unit {0}
 
 -- once the centre has heard a line of the bus; a simulated air has no bus
 abbrev pub hearing : AirState → BusLine → AirState

@@ -16,9 +16,11 @@ use Rattle.bt_machines.specs.Plans.{plan_of}
 use Rattle.bt_journal.specs.declared.entry.Entry.{Entry}
 use Rattle.bt_journal.specs.declared.reply.Reply.{Reply}
 use Rattle.bt_journal.specs.declared.reply.Reply.TheVariants.{Placed}
+use Rattle.bt_script.specs.declared.script.AirLine.{AirLine}
+use Rattle.bt_script.specs.declared.script.AirLine.TheVariants as line
 use Rattle.bt_timeline.specs.Air.{IsUnplaced, NamesTerminal}
 use Rattle.bt_round.specs.AirLines.{AirState}
-use Rattle.bt_round.specs.Simulated.{SimulatedAir, PlaysDeliveries, PlaysNext}
+use Rattle.bt_round.specs.Simulated.{SimulatedAir, PlaysBurst, PlaysDeliveries, PlaysDelivery, PlaysFlow, PlaysFrame, PlaysLoss, PlaysNext, PlaysNotice, PlaysReset, PlaysTick}
 
 -- the terminals of a network that has so many
 abbrev pub numbered : ℕ → List TermNo
@@ -59,6 +61,25 @@ pub record Plays {A : Type 0} (line : List ℕ → A → Type 0) (air : A) (befo
   pub own : List ℕ
   pub played : line own air
   pub added : after ≡ before ++ own
+
+-- the line is one that only a simulated air has
+abbrev pub IsOfSimulated : AirLine → Type 0
+IsOfSimulated line.Turn = ⊥
+IsOfSimulated (line.Back edition) = ⊥
+IsOfSimulated line.Ahead = ⊥
+IsOfSimulated _ = Unit {0}
+
+-- such a line was played on it
+abbrev pub PlaysOwnLine : Net → AirLine → SimulatedAir → List ℕ → SimulatedAir → Type 0
+PlaysOwnLine net line.Tick a text after = PlaysTick net a text after
+PlaysOwnLine net line.Flow a text after = PlaysFlow net a text after
+PlaysOwnLine net (line.Lose losing) a text after = PlaysLoss a losing text after
+PlaysOwnLine net (line.Deliver number place) a text after = PlaysDelivery net a number place text after
+PlaysOwnLine net line.Frame a text after = PlaysFrame net a text after
+PlaysOwnLine net (line.Reset terminal) a text after = PlaysReset net a terminal text after
+PlaysOwnLine net (line.StandbyHears number) a text after = PlaysNotice a number text after
+PlaysOwnLine net line.StandbyBurst a text after = PlaysBurst net a text after
+PlaysOwnLine net _ a text after = ⊥
 
 -- the delivery is to the centre
 abbrev pub IsForCentre : ℕ × Place → Type 0

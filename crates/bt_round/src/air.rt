@@ -1,22 +1,19 @@
-// The lines of the air that are over with one event, the loss of what waits, and the edition to which the centre goes back.
+// The lines of a simulated air that are over with one event, and the loss of what waits.
 ghost use Rattle.std.specs.Prelude.{◌≡◌, OnOk};
 ghost use Rattle.bt_net.specs.Terminals.{IsTerminal};
-ghost use Rattle.bt_round.specs.AirLines.{PlaysAhead, PlaysBack, PlaysFrame, PlaysLoss, PlaysReset, PlaysTick};
+ghost use Rattle.bt_round.specs.Simulated.{PlaysFrame, PlaysLoss, PlaysReset, PlaysTick};
 ghost use Rattle.bt_round.specs.Worker.{Plays};
 
-use crate::worker::CentreWorker;
+use crate::simulated::SimulatedCentre;
 use bt_air::{Event, Shown};
-use bt_frame::{EditionNo, LAST_MARK, OutOfMemory, TermNo};
+use bt_frame::{LAST_MARK, OutOfMemory, TermNo};
 use bt_net::Network;
 use bt_script::Losing;
-use bt_timeline::{
-    ahead_text, back_text, frame_text, last_tick_text, lost_text, not_installed_text, over_text,
-    reset_text, tick_text,
-};
+use bt_timeline::{frame_text, last_tick_text, lost_text, over_text, reset_text, tick_text};
 use bt_world::Events;
 use std::alloc::Global;
 
-impl<E: Events> CentreWorker<E> {
+impl<E: Events> SimulatedCentre<E> {
     /// The satellite's next superframe begins, where there is one.
     pub(crate) fn tick(
         &mut self,
@@ -35,33 +32,6 @@ impl<E: Events> CentreWorker<E> {
         self.happen(alloc, net, Event::Tick)?;
         tick_text(alloc, self.mark(), text)?;
         self.tell_sent(alloc, net, first, text)
-    }
-
-    /// From its next turn on the centre goes back to an edition, where the world has a plan of it.
-    pub(crate) fn go_back(
-        &mut self,
-        alloc: Global,
-        edition: EditionNo,
-        text: &mut Vec<u8>,
-    ) -> Result<(), OutOfMemory>
-        ensures played { OnOk result (Plays (PlaysBack self.old edition) self.new text.old.items text.new.items) }
-        ensures opening { self.new.life.opening ≡ self.old.life.opening }
-    {
-        if self.world.has_plan(edition) {
-            self.back = Some(edition);
-            back_text(alloc, edition, text)
-        } else {
-            not_installed_text(alloc, edition, text)
-        }
-    }
-
-    /// From its next turn on the centre goes ahead to the newest edition.
-    pub(crate) fn go_ahead(&mut self, alloc: Global, text: &mut Vec<u8>) -> Result<(), OutOfMemory>
-        ensures played { OnOk result (Plays (PlaysAhead self.old) self.new text.old.items text.new.items) }
-        ensures opening { self.new.life.opening ≡ self.old.life.opening }
-    {
-        self.back = None;
-        ahead_text(alloc, text)
     }
 
     /// What waits is lost, or what waits for one place.

@@ -2,10 +2,10 @@
 ghost use Rattle.std.specs.Prelude.{◌≡◌, ◌<◌, ◌≤◌, length, OnOk, Some};
 ghost use Rattle.bt_air.specs.declared.sent.Place.{Place};
 ghost use Rattle.bt_events.specs.Fits.{IsPlace};
-ghost use Rattle.bt_round.specs.AirLines.{PlaysDelivery, PlaysFlow, PlaysHearing, sent_count};
+ghost use Rattle.bt_round.specs.Simulated.{PlaysDelivery, PlaysFlow, PlaysHearing, sent_count};
 ghost use Rattle.bt_round.specs.Worker.{ComeFirst, Plays, PlaysFirst};
 
-use crate::worker::CentreWorker;
+use crate::simulated::SimulatedCentre;
 use bt_air::{Event, Place, Shown};
 use bt_frame::OutOfMemory;
 use bt_net::Network;
@@ -13,7 +13,7 @@ use bt_timeline::{flow_text, got_text, not_sent_text};
 use bt_world::Events;
 use std::alloc::Global;
 
-impl<E: Events> CentreWorker<E> {
+impl<E: Events> SimulatedCentre<E> {
     /// The message of that number is heard at a place, whoever waits, where one was sent.
     pub(crate) fn deliver(
         &mut self,

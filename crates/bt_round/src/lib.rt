@@ -13,6 +13,7 @@
 #![tactic(auto)]
 
 mod air;
+mod back;
 mod caller;
 mod desk;
 mod flow;
@@ -21,6 +22,7 @@ mod lines;
 mod planner;
 mod round;
 mod seats;
+mod simulated;
 mod standby;
 mod turn;
 mod waiting;
@@ -33,4 +35,5 @@ pub use gate::{Gate, NoGate};
 pub use planner::run_planner;
 pub use round::{Station, run_round};
 pub use seats::DESKS;
-pub use worker::CentreWorker;
+pub use simulated::SimulatedCentre;
+pub use worker::{CentreOver, CentreWorker};

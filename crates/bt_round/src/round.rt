@@ -10,6 +10,7 @@ ghost use Rattle.bt_history.specs.Changes.{newest};
 ghost use Rattle.bt_script.specs.Desks.{AreDesks};
 ghost use Rattle.bt_script.specs.Named.{IsRoundFor};
 ghost use Rattle.bt_round.specs.declared.seats.TheConstants.{DESKS, SEATS};
+ghost use Rattle.bt_round.specs.AirLines.{opening_in};
 ghost use Rattle.bt_round.specs.Boards.{IsPublished};
 ghost use Rattle.bt_round.specs.Rounds.{BookRan, RoundDone};
 ghost use Rattle.bt_round.specs.Seats.{AllAt, HaveWorked, text_at};
@@ -224,7 +225,7 @@ fn run_on<'a, R: Threads + Wait + Sync, G: Gate + Sync, K: Keeper + Send, E: Eve
     text: &mut Vec<u8>,
 ) -> (Crew<K, E>, Result<(), OutOfMemory>)
     requires network { line.now.table.shared.key.value.net ≡ net.now }
-    requires air_network { crew.centre.life.opening.net ≡ net.now }
+    requires air_network { (opening_in crew.centre).net ≡ net.now }
     requires terminals { IsRoundFor net.now round.now }
     requires begins { Follows line.now.table.shared.key.value.net line.now.table.shared.key.value.state.changes }
     requires seats { vec_len crew.passes ≡ SEATS }
@@ -235,7 +236,7 @@ fn run_on<'a, R: Threads + Wait + Sync, G: Gate + Sync, K: Keeper + Send, E: Eve
     requires met { All (λ reader. reader ≡ crew.publisher) crew.readers.items }
     ensures seats { vec_len result.0.passes ≡ SEATS }
     ensures passes { AllAt (λ place pass. IsPass line.now.table.shared.table_id line.now.table.shared.key.value SEATS place pass.place) result.0.passes.items }
-    ensures opening { result.0.centre.life.opening ≡ crew.centre.life.opening }
+    ensures opening { opening_in result.0.centre ≡ opening_in crew.centre }
     ensures desks { OnOk result.1 (length result.0.readers.items ≡ DESKS) }
     ensures met { OnOk result.1 (All (λ reader. reader ≡ result.0.publisher) result.0.readers.items) }
     ensures done { OnOk result.1 (HaveWorked net.now round.now crew.publisher result.0.publisher crew.centre result.0.centre (map (λ pass. pass.place) result.0.passes.items) text.old.items text.new.items) }
@@ -266,12 +267,12 @@ pub fn run_round<'a, R: Threads + Wait + Sync, G: Gate + Sync, K: Keeper + Send,
     text: &mut Vec<u8>,
 ) -> (Station<K, E>, Result<(), OutOfMemory>)
     requires network { station.book.net ≡ net.now }
-    requires air_network { station.centre.life.opening.net ≡ net.now }
+    requires air_network { (opening_in station.centre).net ≡ net.now }
     requires terminals { IsRoundFor net.now round.now }
     requires follows { Follows net.now station.book.state.changes }
     requires published { IsPublished station.book.state.changes station.publisher station.readers.items }
     ensures network { result.0.book.net ≡ net.now }
-    ensures opening { result.0.centre.life.opening ≡ station.centre.life.opening }
+    ensures opening { opening_in result.0.centre ≡ opening_in station.centre }
     ensures done { OnOk result.1 (RoundDone net.now round.now station.centre result.0.centre station.book result.0.book text.old.items text.new.items) }
     ensures published { OnOk result.1 (IsPublished result.0.book.state.changes result.0.publisher result.0.readers.items) }
     ensures ran { BookRan station.book result.0.book }

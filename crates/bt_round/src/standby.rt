@@ -1,9 +1,9 @@
 // The lines of the standby: what it hears, and its reference burst.
 ghost use Rattle.std.specs.Prelude.{◌≡◌, OnOk};
-ghost use Rattle.bt_round.specs.AirLines.{PlaysBurst, PlaysNotice};
+ghost use Rattle.bt_round.specs.Simulated.{PlaysBurst, PlaysNotice};
 ghost use Rattle.bt_round.specs.Worker.{Plays};
 
-use crate::worker::CentreWorker;
+use crate::simulated::SimulatedCentre;
 use bt_air::{Event, Sent};
 use bt_frame::OutOfMemory;
 use bt_net::Network;
@@ -11,7 +11,7 @@ use bt_timeline::{noticed_text, standby_burst_text, unnoticed_text, unsent_text}
 use bt_world::Events;
 use std::alloc::Global;
 
-impl<E: Events> CentreWorker<E> {
+impl<E: Events> SimulatedCentre<E> {
     /// The standby hears the message of that number, where one was sent and it is a status. No event happens.
     pub(crate) fn standby_hears(
         &mut self,

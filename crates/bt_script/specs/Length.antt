@@ -13,10 +13,11 @@ desks_length desks = sum_by (λ (desk : ℕ × List DeskLine). length desk.1) de
 abbrev pub round_length : Round → ℕ
 round_length round = 1 + desks_length round.desks + round.plans + length round.air
 
--- the lines of a round; a restart is one
+-- the lines of a round; a restart is one, and so is what is heard
 abbrev pub item_length : Item → ℕ
 item_length (item.Round round) = round_length round
 item_length item.Restart = 1
+item_length (item.Heard line) = 1
 
 -- the lines of all rounds, and the restarts
 abbrev pub script_length : List Item → ℕ

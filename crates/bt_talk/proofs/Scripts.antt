@@ -14,6 +14,7 @@ use Rattle.bt_text.proofs.TextLines.{spaced-words}
 use Rattle.bt_net.specs.Name.{are_names}
 use Rattle.bt_net.specs.Network.{Net}
 use Rattle.bt_script.specs.declared.fault.ScriptCode.TheVariants.{S1, S2, S3, S4, S5}
+use Rattle.bt_bus.specs.declared.sites.Sites.TheVariants.{Together}
 use Rattle.bt_script.specs.declared.line.ScriptLine.{ScriptLine}
 use Rattle.bt_script.specs.declared.line.ScriptLine.TheVariants as line
 use Rattle.bt_script.specs.declared.script.DeskLine.{DeskLine}
@@ -135,11 +136,11 @@ no_names net at is_open text one (Some names) is asked =
     absurd (no_shape net at is_open (shape_of text) one (roomless text named.0 named.1 named.2) is)
 
 -- it is none of one word
-no_word : (net : Net) (at : ℕ) (is_open : Bool) (text : List ℕ) (one : ScriptLine) → line_in net at is_open text ≡ Ok one → word_asked text ≡ None
+no_word : (net : Net) (at : ℕ) (is_open : Bool) (text : List ℕ) (one : ScriptLine) → line_in net at is_open text ≡ Ok one → word_asked Together text ≡ None
 no_word net at is_open text one is =
     let none = λ (word : List ℕ) (no : shape_of word ≡ None). unlike net at is_open word text one (is_word word text) no is refl in
     let last : Option Query = None in
-    let helps : Option Query = cond (is_word (codes "help") text) (Some query.Help) last in
+    let helps : Option Query = cond (is_word (codes "help") text) (Some (query.Help Together)) last in
     let waits : Option Query = cond (is_word (codes "waiting") text) (Some query.Waiting) helps in
     let plans : Option Query = cond (is_word (codes "installed") text) (Some query.Installed) waits in
     let links : Option Query = cond (is_word (codes "demand") text) (Some query.Demand) plans in
@@ -149,31 +150,31 @@ no_word net at is_open text one is =
     ∙ ap (λ (b : Bool). cond b (Some query.Demand) plans) (none (codes "demand") refl)
     ∙ ap (λ (b : Bool). cond b (Some query.Installed) waits) (none (codes "installed") refl)
     ∙ ap (λ (b : Bool). cond b (Some query.Waiting) helps) (none (codes "waiting") refl)
-    ∙ ap (λ (b : Bool). cond b (Some query.Help) last) (none (codes "help") refl)
+    ∙ ap (λ (b : Bool). cond b (Some (query.Help Together)) last) (none (codes "help") refl)
 
 -- so it asks nothing
 asks_nothing : (net : Net) (at : ℕ) (is_open : Bool) (block : Open) (text : List ℕ) (one : ScriptLine) → line_in net at is_open text ≡ Ok one
-    → asked_row net block text (word_asked text) ≡ read_row block (line_in net 1 true text)
+    → asked_row net Together block text (word_asked Together text) ≡ read_row Together block (line_in net 1 true text)
 asks_nothing net at is_open block text one is =
-    ap (asked_row net block text) (no_word net at is_open text one is)
-    ∙ ap (named_row net block text) (no_names net at is_open text one (room_names (words text)) is refl)
+    ap (asked_row net Together block text) (no_word net at is_open text one is)
+    ∙ ap (named_row net Together block text) (no_names net at is_open text one (room_names (words text)) is refl)
 
 -- what a line of a script comes to
-says : (net : Net) (at : ℕ) (is_open : Bool) (block : Open) (text : List ℕ) (one : ScriptLine) → line_in net at is_open text ≡ Ok one → row_of net block (came text) ≡ said_row block one
+says : (net : Net) (at : ℕ) (is_open : Bool) (block : Open) (text : List ℕ) (one : ScriptLine) → line_in net at is_open text ≡ Ok one → row_of net Together block (came text) ≡ said_row block one
 says net at is_open block text one is =
-    let rest : Open × Step = asked_row net block text (word_asked text) in
+    let rest : Open × Step = asked_row net Together block text (word_asked Together text) in
     let forgets : Open × Step = cond (is_word (codes "forget") text) (forget_row block) rest in
     ap (λ (b : Bool). cond b (go_row block) forgets) (unlike net at is_open (codes "go") text one (is_word (codes "go") text) no_go is refl)
     ∙ ap (λ (b : Bool). cond b (forget_row block) rest) (unlike net at is_open (codes "forget") text one (is_word (codes "forget") text) no_forget is refl)
     ∙ asks_nothing net at is_open block text one is
-    ∙ ap (read_row block) (same_line net at is_open text one is)
+    ∙ ap (read_row Together block) (same_line net at is_open text one is)
 
 -- the parts that it and the lines behind it ask
-asks : (net : Net) (block behind : Open) (stp : Step) (text : List ℕ) (texts : List (List ℕ)) → row_of net block (came text) ≡ (behind, stp) → parts_of net block (map came (text ∷ texts)) ≡ part_in stp ++ parts_of net behind (map came texts)
-asks net block behind stp text texts row = ap (λ (r : Open × Step). part_in r.1 ++ parts_of net r.0 (map came texts)) row
+asks : (net : Net) (block behind : Open) (stp : Step) (text : List ℕ) (texts : List (List ℕ)) → row_of net Together block (came text) ≡ (behind, stp) → parts_of net Together block (map came (text ∷ texts)) ≡ part_in stp ++ parts_of net Together behind (map came texts)
+asks net block behind stp text texts row = ap (λ (r : Open × Step). part_in r.1 ++ parts_of net Together r.0 (map came texts)) row
 
 -- `go` plays the block
-goes : (net : Net) (acc : List ScriptLine) (texts : List (List ℕ)) → parts_of net (Some acc) (map came (codes "go" ∷ texts)) ≡ item.Round (round_of (round_lines acc)) ∷ parts_of net None (map came texts)
+goes : (net : Net) (acc : List ScriptLine) (texts : List (List ℕ)) → parts_of net Together (Some acc) (map came (codes "go" ∷ texts)) ≡ item.Round (round_of (round_lines acc)) ∷ parts_of net Together None (map came texts)
 goes net acc texts = asks net (Some acc) None (plays acc) (codes "go") texts refl
 
 -- a remark is no line of a desk, of the planner or of the air
@@ -272,10 +273,10 @@ none_last net at is_open (byte ∷ last) said is = absurd (no_last at said (nat_
 
 -- what a session is behind lines that end a round, and behind others
 abbrev Closed : Net → List (List ℕ) → List ScriptLine → Type 0
-Closed net texts said = parts_of net None (map came (session_of false texts said)) ≡ items_of said
+Closed net texts said = parts_of net Together None (map came (session_of false texts said)) ≡ items_of said
 
 abbrev Opened : Net → List ScriptLine → List (List ℕ) → List ScriptLine → Type 0
-Opened net acc texts said = parts_of net (Some acc) (map came (session_of true texts said)) ≡ item.Round (round_of (acc ++ round_lines said)) ∷ items_of said
+Opened net acc texts said = parts_of net Together (Some acc) (map came (session_of true texts said)) ≡ item.Round (round_of (acc ++ round_lines said)) ∷ items_of said
 
 -- no line more: the block is played
 opened_none : (net : Net) (acc : List ScriptLine) (texts : List (List ℕ)) → NoneEnds acc → Opened net acc texts []
@@ -289,7 +290,7 @@ closed_none net (text ∷ texts) = refl
 -- a line that waits in the block
 opened_joins : (net : Net) (at : ℕ) (acc : List ScriptLine) (text : List ℕ) (texts : List (List ℕ)) (one : ScriptLine) (more : List ScriptLine) → line_in net at true text ≡ Ok one → block_row acc one ≡ joined acc one
     → length acc < MOST_LINES → Opened net (acc ++ one ∷ []) texts more
-    → parts_of net (Some acc) (map came (text ∷ session_of true texts more)) ≡ item.Round (round_of (acc ++ one ∷ round_lines more)) ∷ items_of more
+    → parts_of net Together (Some acc) (map came (text ∷ session_of true texts more)) ≡ item.Round (round_of (acc ++ one ∷ round_lines more)) ∷ items_of more
 opened_joins net at acc text texts one more is row few next =
     asks net (Some acc) (Some (acc ++ one ∷ [])) step.Nothing text (session_of true texts more) (says net at true (Some acc) text one is ∙ row ∙ joins acc one few)
     ∙ next

@@ -1,6 +1,7 @@
 -- The parts that the lines of a session ask.
 use Rattle.std.specs.Prelude.{List, [], ◌∷◌, ◌++◌, ℕ, Option}
 use Rattle.bt_net.specs.Network.{Net}
+use Rattle.bt_bus.specs.declared.sites.Sites.{Sites}
 use Rattle.bt_script.specs.declared.script.Item.{Item}
 use Rattle.bt_talk.specs.declared.block.Step.{Step}
 use Rattle.bt_talk.specs.declared.block.Step.TheVariants as step
@@ -14,11 +15,11 @@ part_in (step.Fault code) = []
 part_in (step.Tells one) = []
 
 -- the parts that lines ask, from an open block on
-abbrev pub parts_of : Net → Open → List (Option (List ℕ)) → List Item
-parts_of net block [] = []
-parts_of net block (first ∷ heard) = part_in (row_of net block first).1 ++ parts_of net (row_of net block first).0 heard
+abbrev pub parts_of : Net → Sites → Open → List (Option (List ℕ)) → List Item
+parts_of net sites block [] = []
+parts_of net sites block (first ∷ heard) = part_in (row_of net sites block first).1 ++ parts_of net sites (row_of net sites block first).0 heard
 
 -- the block behind lines
-abbrev pub open_behind : Net → Open → List (Option (List ℕ)) → Open
-open_behind net block [] = block
-open_behind net block (first ∷ heard) = open_behind net (row_of net block first).0 heard
+abbrev pub open_behind : Net → Sites → Open → List (Option (List ℕ)) → Open
+open_behind net sites block [] = block
+open_behind net sites block (first ∷ heard) = open_behind net sites (row_of net sites block first).0 heard

@@ -1,14 +1,20 @@
 -- What a line of a session comes to: a table with a row for each kind of line, where no block is open and where one is.
-use Rattle.std.specs.Prelude.{ℕ, ◌&&◌, if◌then◌else◌, nat_lt, true, List, [], ◌∷◌, ◌++◌, length, codes, Option, Some, None, Ok, Err, All}
-use Rattle.bt_frame.specs.declared.limits.TheConstants.{MOST_LINES}
+use Rattle.std.specs.Prelude.{ℕ, ◌&&◌, if◌then◌else◌, nat_lt, Bool, true, false, List, [], ◌∷◌, ◌++◌, length, codes, Option, Some, None, Ok, Err, All}
+use Rattle.bt_frame.specs.declared.limits.TheConstants.{MOST_LINES, MOST_SESSION_LINE_BYTES, MOST_STATION_LINE_BYTES}
 use Rattle.bt_frame.specs.declared.numbers.TermNo.{TermNo}
 use Rattle.bt_text.specs.Text.{is_word, words}
 use Rattle.bt_net.specs.Name.{are_names}
 use Rattle.bt_net.specs.Network.{Net}
 use Rattle.bt_net.specs.Terminals.{IsBetweenTerminals, terminal_of}
 use Rattle.bt_script.specs.declared.fault.ScriptCode.TheVariants.{S1, S2, S4, S5}
+use Rattle.bt_bus.specs.declared.heard.BusLine.{BusLine}
+use Rattle.bt_bus.specs.declared.sites.Sites.{Sites}
+use Rattle.bt_bus.specs.declared.sites.Sites.TheVariants.{Together, Apart}
+use Rattle.bt_bus.specs.Heard.{bus_line_of}
 use Rattle.bt_script.specs.declared.line.ScriptLine.{ScriptLine}
 use Rattle.bt_script.specs.declared.line.ScriptLine.TheVariants as line
+use Rattle.bt_script.specs.declared.script.AirLine.{AirLine}
+use Rattle.bt_script.specs.declared.script.AirLine.TheVariants as air
 use Rattle.bt_script.specs.declared.script.Item.TheVariants as item
 use Rattle.bt_script.specs.Named.{IsItemFor}
 use Rattle.bt_script.specs.Said.{IsSaidFor}
@@ -55,10 +61,34 @@ abbrev pub said_row : Open → ScriptLine → Open × Step
 said_row None one = lone_row one
 said_row (Some said) one = block_row said one
 
+-- the line of the air is the centre's own; the others are of a simulated air
+abbrev pub is_of_centre : AirLine → Bool
+is_of_centre air.Tick = false
+is_of_centre air.Turn = true
+is_of_centre (air.Back edition) = true
+is_of_centre air.Ahead = true
+is_of_centre air.Flow = false
+is_of_centre (air.Lose losing) = false
+is_of_centre (air.Deliver number place) = false
+is_of_centre air.Frame = false
+is_of_centre (air.Reset terminal) = false
+is_of_centre (air.StandbyHears number) = false
+is_of_centre air.StandbyBurst = false
+
+-- a session has this line of a script: where its sites are apart, it has none of a simulated air
+abbrev pub has_line : Sites → ScriptLine → Bool
+has_line Together one = true
+has_line Apart line.Remark = true
+has_line Apart line.Round = true
+has_line Apart line.Restart = true
+has_line Apart (line.Desk desk own) = true
+has_line Apart line.Plan = true
+has_line Apart (line.Air own) = is_of_centre own
+
 -- what was read, or its fault
-abbrev pub read_row : Open → Reading ScriptLine → Open × Step
-read_row block (Ok one) = said_row block one
-read_row block (Err fault) = (block, step.Fault fault.0)
+abbrev pub read_row : Sites → Open → Reading ScriptLine → Open × Step
+read_row sites block (Ok one) = if has_line sites one then said_row block one else (block, step.Fault S1)
+read_row sites block (Err fault) = (block, step.Fault fault.0)
 
 -- `go`: the block is played
 abbrev pub go_row : Open → Open × Step
@@ -75,15 +105,20 @@ abbrev pub tell_row : Open → Query → Open × Step
 tell_row None one = (None, step.Tells one)
 tell_row (Some said) one = (Some said, step.Fault S4)
 
+-- what `waiting` asks: where the sites are apart, nobody knows what is on its way
+abbrev pub waiting_asked : Sites → Option Query
+waiting_asked Together = Some query.Waiting
+waiting_asked Apart = None
+
 -- what a line of one word asks
-abbrev pub word_asked : List ℕ → Option Query
-word_asked text =
+abbrev pub word_asked : Sites → List ℕ → Option Query
+word_asked sites text =
     if is_word (codes "state") text then Some query.State
     else (if is_word (codes "capacity") text then Some query.Capacity
     else (if is_word (codes "demand") text then Some query.Demand
     else (if is_word (codes "installed") text then Some query.Installed
-    else (if is_word (codes "waiting") text then Some query.Waiting
-    else (if is_word (codes "help") text then Some query.Help
+    else (if is_word (codes "waiting") text then waiting_asked sites
+    else (if is_word (codes "help") text then Some (query.Help sites)
     else None)))))
 
 -- the names behind `room`
@@ -97,26 +132,41 @@ room_row block (Some from) (Some to) = tell_row block (query.Room from to)
 room_row block _ _ = (block, step.Fault S2)
 
 -- a line that is none of one word of sessions: `room`, or a line of a script
-abbrev pub named_row : Net → Open → List ℕ → Option (List ℕ × List ℕ) → Open × Step
-named_row net block text (Some names) = room_row block (terminal_of net names.0) (terminal_of net names.1)
-named_row net block text None = read_row block (line_in net 1 true text)
+abbrev pub named_row : Net → Sites → Open → List ℕ → Option (List ℕ × List ℕ) → Open × Step
+named_row net sites block text (Some names) = room_row block (terminal_of net names.0) (terminal_of net names.1)
+named_row net sites block text None = read_row sites block (line_in net 1 true text)
 
 -- a line that plays or gives up no block: what is asked, or a line of a script
-abbrev pub asked_row : Net → Open → List ℕ → Option Query → Open × Step
-asked_row net block text (Some one) = tell_row block one
-asked_row net block text None = named_row net block text (room_names (words text))
+abbrev pub asked_row : Net → Sites → Open → List ℕ → Option Query → Open × Step
+asked_row net sites block text (Some one) = tell_row block one
+asked_row net sites block text None = named_row net sites block text (room_names (words text))
 
 -- a line: a word of sessions, what is asked, or a line of a script
-abbrev pub line_row : Net → Open → List ℕ → Open × Step
-line_row net block text =
+abbrev pub line_row : Net → Sites → Open → List ℕ → Open × Step
+line_row net sites block text =
     if is_word (codes "go") text then go_row block
     else (if is_word (codes "forget") text then forget_row block
-    else asked_row net block text (word_asked text))
+    else asked_row net sites block text (word_asked sites text))
+
+-- the line of the bus that a session hears, if it is one: where the sites are apart
+abbrev pub heard_by : Sites → List ℕ → Option BusLine
+heard_by Together text = None
+heard_by Apart text = bus_line_of text
+
+-- a line of the bus is heard at once, and the block stays as it is; another line is one of the session
+abbrev pub heard_row : Net → Sites → Open → List ℕ → Option BusLine → Open × Step
+heard_row net sites block text (Some one) = (block, step.Plays (item.Heard one))
+heard_row net sites block text None = line_row net sites block text
 
 -- what came: a line, or what is none
-abbrev pub row_of : Net → Open → Option (List ℕ) → Open × Step
-row_of net block (Some text) = line_row net block text
-row_of net block None = (block, step.Fault S1)
+abbrev pub row_of : Net → Sites → Open → Option (List ℕ) → Open × Step
+row_of net sites block (Some text) = heard_row net sites block text (heard_by sites text)
+row_of net sites block None = (block, step.Fault S1)
+
+-- the most bytes of a line: where the sites are apart, a line of the bus finds room
+abbrev pub line_bytes : Sites → ℕ
+line_bytes Together = MOST_SESSION_LINE_BYTES
+line_bytes Apart = MOST_STATION_LINE_BYTES
 
 -- the lines of the block name terminals of the network alone
 abbrev pub IsOpenFor : Net → Open → Type 0

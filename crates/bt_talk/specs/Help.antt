@@ -1,8 +1,10 @@
 -- What a session tells of its lines.
 use Rattle.std.specs.Prelude.{ℕ, List, [], ◌∷◌, codes}
 use Rattle.bt_text.specs.Text.{ended}
+use Rattle.bt_bus.specs.declared.sites.Sites.{Sites}
+use Rattle.bt_bus.specs.declared.sites.Sites.TheVariants.{Together, Apart}
 
--- the lines that a session has, and what each does
+-- the lines that a session of a simulated air has, and what each does
 abbrev pub help_lines : List (List ℕ)
 help_lines =
     codes "round: a block of lines begins" ∷
@@ -35,6 +37,32 @@ help_lines =
     codes "help: these lines" ∷
     []
 
+-- those that a session has whose sites are apart
+abbrev pub apart_lines : List (List ℕ)
+apart_lines =
+    codes "round: a block of lines begins" ∷
+    codes "go: the block is played as one round" ∷
+    codes "forget: the block is given up" ∷
+    codes "desk D add FROM TO UNITS: desk D wants so many slots more for the link" ∷
+    codes "desk D drop FROM TO UNITS: desk D wants so many fewer" ∷
+    codes "desk D move FROM TO NEWFROM NEWTO UNITS: so many fewer for the one, and more for the other" ∷
+    codes "desk D show NAME: the bursts that the terminal transmits by the newest plan" ∷
+    codes "plan: the planner plans the last edition" ∷
+    codes "mark N: superframe N begins" ∷
+    codes "radio N HEX: a message that was said in superframe N" ∷
+    codes "turn: the centre has its turn" ∷
+    codes "back E: from the next turn on edition E is brought to the front" ∷
+    codes "ahead: from the next turn on the newest edition is" ∷
+    codes "restart: the centre restarts" ∷
+    codes "state: how far the book has come" ∷
+    codes "capacity: what the demand leaves free" ∷
+    codes "room FROM TO: the most units that one add may have" ∷
+    codes "demand: the links of the demand" ∷
+    codes "installed: the newest plan" ∷
+    codes "help: these lines" ∷
+    []
+
 -- the text of these
-abbrev pub help_text : List ℕ
-help_text = ended help_lines
+abbrev pub help_text : Sites → List ℕ
+help_text Together = ended help_lines
+help_text Apart = ended apart_lines

@@ -1,6 +1,7 @@
 // The block of a session, and what a line comes to.
 //
 //     line                  where no block is open      where one is open
+//     of the bus            is heard                    is heard
 //     empty, or with `#`    nothing                     nothing
 //     `round`               opens a block               fault S4
 //     `go`                  fault S4                    plays the block, and closes it
@@ -9,17 +10,21 @@
 //     what asks             is told                     fault S4
 //     another of a script   a round by itself           joins the block; fault S5 where that is full
 //     at fault, or none     its fault                   its fault
+//
+// Where the sites are together no line is one of the bus. Where they are apart the lines of a simulated air, and `waiting`, are fault S1.
 ghost use Rattle.std.specs.Prelude.{◌≡◌, ◌≤◌, ◌++◌, ◌∷◌, [], None, Some, IfOk, IfSome, All, length, option_map};
 ghost use Rattle.bt_frame.specs.declared.limits.TheConstants.{MOST_LINES};
 ghost use Rattle.bt_text.specs.Text.{words};
 ghost use Rattle.bt_net.specs.Network.{Net};
 ghost use Rattle.bt_net.specs.Terminals.{IsTerminal};
 ghost use Rattle.bt_script.specs.Said.{IsSaidFor};
-ghost use Rattle.bt_talk.specs.Block.{IsOpenFor, IsQueryFor, IsStepFor, block_row, forget_row, go_row, joined, line_row, lone_row, named_row, plays, room_names, room_row, row_of, said_row, tell_row, word_asked};
+ghost use Rattle.bt_bus.specs.Heard.{IsOnBus};
+ghost use Rattle.bt_talk.specs.Block.{IsOpenFor, IsQueryFor, IsStepFor, block_row, forget_row, go_row, has_line, heard_by, is_of_centre, joined, line_bytes, line_row, lone_row, named_row, plays, room_names, room_row, row_of, said_row, tell_row, waiting_asked, word_asked};
 
-use bt_frame::{MOST_LINES, OutOfMemory, TermNo};
+use bt_bus::{BusLine, Sites, read_bus_line};
+use bt_frame::{MOST_LINES, MOST_SESSION_LINE_BYTES, MOST_STATION_LINE_BYTES, OutOfMemory, TermNo};
 use bt_net::{Network, are_names};
-use bt_script::{Item, ScriptCode, ScriptFault, ScriptLine, read_line, round_in_front};
+use bt_script::{AirLine, Item, ScriptCode, ScriptFault, ScriptLine, read_line, round_in_front};
 use bt_text::{WordReader, is_word};
 use std::alloc::Global;
 use std::marker::Model;
@@ -39,8 +44,8 @@ pub enum Query {
     Installed,
     /// The messages that are on their way.
     Waiting,
-    /// The lines that a session has.
-    Help,
+    /// The lines that a session has, by where its sites are.
+    Help(Sites),
 }
 
 /// What a line of a session comes to.
@@ -87,23 +92,34 @@ impl Block {
         self,
         alloc: Global,
         net: &Network,
+        sites: Sites,
         came: Option<&[u8]>,
     ) -> Result<(Block, Step), OutOfMemory>
         requires terminals { IsOpenFor net.now self }
-        ensures row { IfOk result (λ on. (on.0, on.1) ≡ row_of net.now self (option_map (λ text. text.now) came.entry)) }
+        requires short { IfSome came.entry (λ text. length text.now ≤ line_bytes sites) }
+        ensures row { IfOk result (λ on. (on.0, on.1) ≡ row_of net.now sites self (option_map (λ text. text.now) came.entry)) }
         ensures terminals { IfOk result (λ on. IsOpenFor net.now on.0) }
         ensures part { IfOk result (λ on. IsStepFor net.now on.1) }
     {
-        match came {
-            Some(text) => self.line(alloc, net, text),
-            None => Ok((self, Step::Fault(ScriptCode::S1))),
+        let Some(text) = came else {
+            return Ok((self, Step::Fault(ScriptCode::S1)));
+        };
+        match heard_by(alloc, sites, text)? {
+            Some(one) => Ok((self, Step::Plays(Item::Heard(one)))),
+            None => self.line(alloc, net, sites, text),
         }
     }
 
     /// What a line comes to.
-    fn line(self, alloc: Global, net: &Network, text: &[u8]) -> Result<(Block, Step), OutOfMemory>
+    fn line(
+        self,
+        alloc: Global,
+        net: &Network,
+        sites: Sites,
+        text: &[u8],
+    ) -> Result<(Block, Step), OutOfMemory>
         requires terminals { IsOpenFor net.now self }
-        ensures row { IfOk result (λ on. (on.0, on.1) ≡ line_row net.now self text.now) }
+        ensures row { IfOk result (λ on. (on.0, on.1) ≡ line_row net.now sites self text.now) }
         ensures terminals { IfOk result (λ on. IsOpenFor net.now on.0) }
         ensures part { IfOk result (λ on. IsStepFor net.now on.1) }
     {
@@ -113,16 +129,22 @@ impl Block {
         if is_word(text, b"forget") {
             return Ok(self.forget());
         }
-        match word_asked(text) {
+        match word_asked(sites, text) {
             Some(query) => Ok(self.tell(net, query)),
-            None => self.named(alloc, net, text),
+            None => self.named(alloc, net, sites, text),
         }
     }
 
     /// What a line comes to that is none of one word of sessions.
-    fn named(self, alloc: Global, net: &Network, text: &[u8]) -> Result<(Block, Step), OutOfMemory>
+    fn named(
+        self,
+        alloc: Global,
+        net: &Network,
+        sites: Sites,
+        text: &[u8],
+    ) -> Result<(Block, Step), OutOfMemory>
         requires terminals { IsOpenFor net.now self }
-        ensures row { IfOk result (λ on. (on.0, on.1) ≡ named_row net.now self text.now (room_names (words text.now))) }
+        ensures row { IfOk result (λ on. (on.0, on.1) ≡ named_row net.now sites self text.now (room_names (words text.now))) }
         ensures terminals { IfOk result (λ on. IsOpenFor net.now on.0) }
         ensures part { IfOk result (λ on. IsStepFor net.now on.1) }
     {
@@ -130,7 +152,8 @@ impl Block {
             return Ok(self.room(net, net.terminal_named(from), net.terminal_named(to)));
         }
         match read_line(net, 1, true, text) {
-            Ok(one) => self.says(alloc, net, one),
+            Ok(one) if has_line(sites, &one) => self.says(alloc, net, one),
+            Ok(_) => Ok((self, Step::Fault(ScriptCode::S1))),
             Err(ScriptFault::At { code, .. }) => Ok((self, Step::Fault(code))),
             Err(ScriptFault::OutOfMemory) => Err(OutOfMemory),
         }
@@ -208,9 +231,48 @@ impl Block {
     }
 }
 
+/// The most bytes of a line.
+pub fn line_bytes(sites: Sites) -> usize
+    ensures { result ≡ line_bytes sites }
+{
+    match sites {
+        Sites::Together => MOST_SESSION_LINE_BYTES,
+        Sites::Apart => MOST_STATION_LINE_BYTES,
+    }
+}
+
+/// The line of the bus that a session hears, if it is one.
+fn heard_by(alloc: Global, sites: Sites, text: &[u8]) -> Result<Option<BusLine>, OutOfMemory>
+    requires short { length text.now ≤ line_bytes sites }
+    ensures line { IfOk result (λ line. line ≡ heard_by sites text.now) }
+    ensures in_range { IfOk result (λ line. IfSome line IsOnBus) }
+{
+    match sites {
+        Sites::Together => Ok(None),
+        Sites::Apart => read_bus_line(alloc, text),
+    }
+}
+
+/// Whether a session has this line of a script.
+fn has_line(sites: Sites, one: &ScriptLine) -> bool
+    ensures { result ≡ has_line sites one.now }
+{
+    match (sites, one) {
+        (Sites::Apart, ScriptLine::Air(own)) => is_of_centre(own),
+        _ => true,
+    }
+}
+
+/// Whether the line of the air is the centre's own, and none of a simulated air.
+fn is_of_centre(line: &AirLine) -> bool
+    ensures { result ≡ is_of_centre line.now }
+{
+    matches!(line, AirLine::Turn | AirLine::Back(_) | AirLine::Ahead)
+}
+
 /// What a line of one word asks.
-fn word_asked(text: &[u8]) -> Option<Query>
-    ensures query { result ≡ word_asked text.now }
+fn word_asked(sites: Sites, text: &[u8]) -> Option<Query>
+    ensures query { result ≡ word_asked sites text.now }
     ensures terminals { (net : Net) → IfSome result (IsQueryFor net) }
 {
     if is_word(text, b"state") {
@@ -222,11 +284,22 @@ fn word_asked(text: &[u8]) -> Option<Query>
     } else if is_word(text, b"installed") {
         Some(Query::Installed)
     } else if is_word(text, b"waiting") {
-        Some(Query::Waiting)
+        waiting_asked(sites)
     } else if is_word(text, b"help") {
-        Some(Query::Help)
+        Some(Query::Help(sites))
     } else {
         None
+    }
+}
+
+/// What `waiting` asks: where the sites are apart, nobody knows what is on its way.
+fn waiting_asked(sites: Sites) -> Option<Query>
+    ensures query { result ≡ waiting_asked sites }
+    ensures terminals { (net : Net) → IfSome result (IsQueryFor net) }
+{
+    match sites {
+        Sites::Together => Some(Query::Waiting),
+        Sites::Apart => None,
     }
 }
 

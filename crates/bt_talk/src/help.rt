@@ -2,10 +2,11 @@
 ghost use Rattle.std.specs.Prelude.{◌≡◌, IfOk};
 ghost use Rattle.bt_talk.specs.Help.{help_text};
 
+use bt_bus::Sites;
 use bt_frame::OutOfMemory;
 use std::alloc::Global;
 
-/// The lines that a session has, and what each does, in the order of `docs/formats.md`.
+/// The lines that a session of a simulated air has, and what each does, in the order of `docs/formats.md`.
 const HELP: &str = "\
 round: a block of lines begins\n\
 go: the block is played as one round\n\
@@ -36,11 +37,38 @@ installed: the newest plan\n\
 waiting: the messages on their way\n\
 help: these lines\n";
 
+/// Those that a session has whose sites are apart.
+const APART_HELP: &str = "\
+round: a block of lines begins\n\
+go: the block is played as one round\n\
+forget: the block is given up\n\
+desk D add FROM TO UNITS: desk D wants so many slots more for the link\n\
+desk D drop FROM TO UNITS: desk D wants so many fewer\n\
+desk D move FROM TO NEWFROM NEWTO UNITS: so many fewer for the one, and more for the other\n\
+desk D show NAME: the bursts that the terminal transmits by the newest plan\n\
+plan: the planner plans the last edition\n\
+mark N: superframe N begins\n\
+radio N HEX: a message that was said in superframe N\n\
+turn: the centre has its turn\n\
+back E: from the next turn on edition E is brought to the front\n\
+ahead: from the next turn on the newest edition is\n\
+restart: the centre restarts\n\
+state: how far the book has come\n\
+capacity: what the demand leaves free\n\
+room FROM TO: the most units that one add may have\n\
+demand: the links of the demand\n\
+installed: the newest plan\n\
+help: these lines\n";
+
 /// The lines that a session has, a short line each.
-pub fn help_text(alloc: Global) -> Result<Vec<u8>, OutOfMemory>
-    ensures text { IfOk result (λ text. text.items ≡ help_text) }
+pub fn help_text(alloc: Global, sites: Sites) -> Result<Vec<u8>, OutOfMemory>
+    ensures text { IfOk result (λ text. text.items ≡ help_text sites) }
 {
+    let lines = match sites {
+        Sites::Together => HELP,
+        Sites::Apart => APART_HELP,
+    };
     let mut text = Vec::new(alloc);
-    text.extend_from_slice(HELP.as_bytes())?;
+    text.extend_from_slice(lines.as_bytes())?;
     Ok(text)
 }

@@ -12,6 +12,6 @@ mod help;
 mod laws;
 
 pub use answer::{add_input_fault, add_ready, answer_text, counted_text};
-pub use block::{Block, Query, Step};
+pub use block::{Block, Query, Step, line_bytes};
 pub use help::help_text;
 pub use laws::scripts_are_sessions;

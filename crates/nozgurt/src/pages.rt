@@ -80,6 +80,21 @@ commands that plan and check
       example: nozgurt trans 2 examples/three-beams.matrix
 
 commands of the centre
+  centre NET JOURNAL
+      Runs the centre of the network in the file NET, whose satellite and terminals
+      are processes of their own: they share nothing with it but lines, and go on
+      while it is restarted. It is a session as `live` is, without the lines of a
+      simulated air and without `waiting`, and with two of the bus. `mark N` says
+      that superframe N begins; `radio N HEX` is a message, in two digits a byte,
+      behind the superframe that its sayer takes for the present one. Both are heard
+      at once, also where a block is open, and answered with `ready N` alone. `turn`
+      prints what a run prints of it, and behind each line `sent` the line `radio N
+      HEX` by which the message goes out. Before the first mark a turn is
+      `turn nomark`, and says nothing. What begins with `radio` is for the other
+      sites, all else is for whoever sent the line.
+      An order is a line of the file JOURNAL before its message is said.
+      example: nozgurt centre examples/two-beams.net centre.journal < examples/centre.lines
+
   live NET JOURNAL
       Runs the centre of the network in the file NET by the lines that come on
       standard input: each is played and answered before the next is read. They
@@ -214,7 +229,7 @@ const LETTERS: &str = "  The letter of a CODE names the file that is at fault: N
 ";
 
 /// The forms of the commands: of each its word, and the names of the words behind it.
-pub const FORMS: [&str; 17] = [
+pub const FORMS: [&str; 18] = [
     "capacity NET TRAFFIC",
     "check MATRIX MODES",
     "check NET TRAFFIC PLAN",
@@ -223,6 +238,7 @@ pub const FORMS: [&str; 17] = [
     "plan NET TRAFFIC",
     "timing NET TRAFFIC PLAN DELAYS",
     "trans K MATRIX",
+    "centre NET JOURNAL",
     "live NET JOURNAL",
     "replay NET JOURNAL",
     "run NET SCRIPT JOURNAL",
