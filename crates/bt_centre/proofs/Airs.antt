@@ -1,8 +1,8 @@
 -- What an air opened with stays what it opened with.
 use Rattle.std.proofs.Common.{◌≡◌, nat_le, if◌then◌else◌, Bool, true, false, refl}
 use Rattle.bt_apart.specs.Apart.{ApartAir, later_mark, noting_apart}
-use Rattle.bt_apart.specs.declared.sites.Sites.{Sites}
-use Rattle.bt_apart.specs.declared.sites.Sites.TheVariants.{Together, Apart as Away}
+use Rattle.bt_bus.specs.declared.sites.Sites.{Sites}
+use Rattle.bt_bus.specs.declared.sites.Sites.TheVariants.{Together, Apart as Away}
 use Rattle.bt_bus.specs.declared.heard.BusLine.{BusLine}
 use Rattle.bt_bus.specs.declared.heard.BusLine.TheVariants as bus
 use Rattle.bt_events.specs.Event.{Opening}
