@@ -1,9 +1,10 @@
 -- Whether the order that the centre wanted joins the others at a restart.
 use Rattle.std.proofs.Common.{◌≡◌, ◌≢◌, ℕ, ◌+◌, Bool, true, false, List, length, get_or, refl, sym, ap, ◌∙◌, subst, Option, Some, None}
+use Rattle.std.specs.Prelude.{IsSome}
 use Rattle.bt_air.specs.declared.order.Order.{Order}
 use Rattle.bt_journal.specs.declared.call.Change.{Change}
 use Rattle.bt_history.specs.Changes.{orders}
-use Rattle.bt_round.specs.AirLines.{AirState, orders_in, wanted_in}
+use Rattle.bt_round.specs.AirLines.{AirState, KeepsWanted, orders_in, wanted_in}
 use Rattle.bt_centre.specs.Progress.{TellsJoined}
 use Rattle.bt_centre.specs.Run.{JoinsOrder}
 
@@ -38,3 +39,8 @@ joins_wanted air changes order placed false asked is apart = λ joining.
 -- the centre wanted none
 pub joins_none : (air : AirState) (changes : List Change) → wanted_in air ≡ None → JoinsOrder air changes false
 joins_none air changes none = λ joining. absurd (some_none (sym joining.asked ∙ none))
+
+-- the order that joins is one that the centre wanted
+pub keeps_wanted : (air : AirState) (changes : List Change) (kept : Bool) → JoinsOrder air changes kept → KeepsWanted air kept
+keeps_wanted air changes true joins = subst IsSome (sym joins.asked) refl
+keeps_wanted air changes false joins = tt

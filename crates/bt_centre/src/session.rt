@@ -1,7 +1,7 @@
 // A session: lines come one by one, and each is played and answered before the next is heard.
-ghost use Rattle.std.specs.Prelude.{◌≡◌, ◌≤◌, ◌<◌, ◌++◌, [], length, IfErr, IfOk, IfSome, IsErrOf, OnErr, OnOk};
+ghost use Rattle.std.specs.Prelude.{◌≡◌, ◌≤◌, ◌<◌, ◌++◌, [], IfErr, IfOk, IsErrOf, OnErr, OnOk, Some};
 ghost use Rattle.bt_outside.specs.Told.{GainsPrefix, Rose, gained};
-ghost use Rattle.bt_outside.specs.Input.{said_by};
+ghost use Rattle.bt_outside.specs.Input.{IsShort, said_by};
 ghost use Rattle.bt_outside.specs.Talk.{said, took};
 ghost use Rattle.bt_history.specs.Crash.{Last};
 ghost use Rattle.bt_history.specs.Store.{IsKept, lost_of};
@@ -224,7 +224,7 @@ fn take(
     block: Block,
 ) -> Result<(Block, Step, Vec<u8>), OutOfMemory>
     requires terminals { IsOpenFor net.now block }
-    requires short { IfSome (said_by came.now) (λ text. length text ≤ line_bytes sites) }
+    requires short { IsShort (line_bytes sites) (Some came.now) }
     ensures row { IfOk result (λ on. (on.0, on.1) ≡ row_of net.now sites block (said_by came.now)) }
     ensures answer { IfOk result (λ on. on.2.items ≡ answer_of at on.1) }
     ensures terminals { IfOk result (λ on. IsOpenFor net.now on.0) }
