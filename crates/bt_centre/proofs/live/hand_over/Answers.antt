@@ -4,8 +4,8 @@ use Rattle.bt_centre.proofs.live.hand_over.Goals as goal
 
 pub returns : goal.returns
 returns g c =
-    let log = c.args.log.old in
-    let run = c.args.run.old in
+    let log = c.args.log.now in
+    let run = c.args.run.now in
     let taken = c.take_entries.ensures in
     record {
       same = handed_on log.times c.add.new.self.times log.front c.add.new.self.front c.of.result c.take_entries.result.items run c.take_entries.new.self
