@@ -21,6 +21,8 @@ use Rattle.bt_apart.proofs.Ready.{back-still, begun-ready, installed-ready, star
 pub begun : (o : Opening) → IsSound o.net → IsOpening o → All IsStored o.plans → IsApart (apart_at_start o) (length o.net.terminals) (reverse o.plans)
 begun o sound is stored = record {
   sound = sound;
+  opening = is;
+  opened = stored;
   terminals = refl;
   listed = refl;
   starts = is.starts;
@@ -41,6 +43,8 @@ pub still-apart : (a b : ApartAir) (n m : ℕ) (listed kept : List Plan) → IsA
     → IsReady a.plans b.centre → IsMark b.mark → IfSome b.back (IsInstalled a.plans) → IsApart b m kept
 still-apart a b n m listed kept is opening plans count same ready mark back = record {
   sound = subst (λ (o : Opening). IsSound o.net) (sym opening) is.sound;
+  opening = subst IsOpening (sym opening) is.opening;
+  opened = subst (λ (o : Opening). All IsStored o.plans) (sym opening) is.opened;
   terminals = count ∙ is.terminals ∙ ap (λ (o : Opening). length o.net.terminals) (sym opening);
   listed = same ∙ is.listed ∙ ap (λ (all : List Plan). reverse all) (sym plans);
   starts = subst (λ (all : List Plan). StartsEmpty all) (sym plans) is.starts;
@@ -58,6 +62,8 @@ pub more-apart : (a b : ApartAir) (plan : Plan) (n m : ℕ) (listed kept : List 
 more-apart a b plan n m listed kept is opening plans count more centre mark back newer flies stored =
     let with : IsApart (record a { plans = plan ∷ a.plans }) n kept = record {
       sound = is.sound;
+      opening = is.opening;
+      opened = is.opened;
       terminals = is.terminals;
       listed = more ∙ ap (λ (all : List Plan). all ++ plan ∷ []) is.listed ∙ sym (reverse-append (plan ∷ []) a.plans);
       starts = starts-more a.plans plan is.starts newer;

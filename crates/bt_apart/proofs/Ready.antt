@@ -15,6 +15,7 @@ use Rattle.bt_machines.specs.Turn.{wanted_by}
 use Rattle.bt_events.specs.Fits.{HasPlan, IsInTime}
 use Rattle.bt_events.proofs.Banks.{act-planned, if-some-still, still}
 use Rattle.bt_events.proofs.Counted.{IsNumbered, act-numbered}
+use Rattle.bt_apart.specs.Apart.{IsTimely}
 use Rattle.bt_apart.specs.Inside.{IsReady, MayJoin}
 
 -- an order that may join has the next number and a plan
@@ -29,6 +30,11 @@ numbered-next plans placed (Some order) may = numbered-one plans placed order ma
 pub planned-next : (plans : List Plan) (placed : List Order) (next : Option Order) → IfSome next (MayJoin plans placed) → IfSome next (HasPlan plans)
 planned-next plans placed None may = tt
 planned-next plans placed (Some order) may = may.planned
+
+-- and it is timely
+pub timely-next : (plans : List Plan) (placed : List Order) (next : Option Order) → IfSome next (MayJoin plans placed) → IfSome next IsTimely
+timely-next plans placed None may = tt
+timely-next plans placed (Some order) may = may.timely
 
 -- and an order that has both may join
 may-next : (plans : List Plan) (placed : List Order) (next : Option Order) → IfSome next (IsNumbered placed) → IfSome next (HasPlan plans) → IfSome next (MayJoin plans placed)

@@ -6,6 +6,9 @@ use Rattle.bt_frame.specs.declared.numbers.Mark.{Mark}
 use Rattle.bt_net.specs.Network.{Net}
 use Rattle.bt_demand.specs.declared.plan.Plan.{Plan}
 use Rattle.bt_air.specs.declared.message.Message.{Message}
+use Rattle.bt_air.specs.declared.order.Order.{Order}
+use Rattle.bt_air.specs.declared.order.Order.TheVariants.{Load, Arm}
+use Rattle.bt_air.specs.Range.{IsDue}
 use Rattle.bt_air.specs.declared.sent.Aired.{Aired}
 use Rattle.bt_air.specs.Sent.{sent_as}
 use Rattle.bt_machines.specs.Centre.{State as Centre, after_turn}
@@ -47,6 +50,11 @@ apart_at_start o = record {
 -- the edition has a plan
 abbrev pub IsInstalled : List Plan → EditionNo → Type 0
 IsInstalled plans edition = IsSome (plan_of plans edition)
+
+-- a message can name the superframe for which the order arms
+abbrev pub IsTimely : Order → Type 0
+IsTimely (Load command edition) = Unit {0}
+IsTimely (Arm command edition due) = IsDue due
 
 -- the messages that it says when something happens to it: in its turn, and with an order that joins its orders
 abbrev pub says_apart : ApartAir → Event → List Aired

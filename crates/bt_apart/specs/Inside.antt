@@ -4,23 +4,17 @@ use Rattle.bt_net.specs.Network.{Net, IsSound}
 use Rattle.bt_demand.specs.declared.plan.Plan.{Plan}
 use Rattle.bt_demand.specs.Flyable.{IsFlyable}
 use Rattle.bt_air.specs.declared.order.Order.{Order}
-use Rattle.bt_air.specs.declared.order.Order.TheVariants.{Load, Arm}
 use Rattle.bt_air.specs.declared.sent.Aired.{Aired}
 use Rattle.bt_air.specs.Orders.{command_of}
-use Rattle.bt_air.specs.Range.{IsDue, IsInRange, IsMark, IsStatus}
+use Rattle.bt_air.specs.Range.{IsInRange, IsMark, IsStatus}
 use Rattle.bt_air.specs.Sent.{sent_as}
 use Rattle.bt_machines.specs.Centre.{State as Centre, AreNumbered}
 use Rattle.bt_machines.specs.Plans.{IsStored, StartsEmpty}
 use Rattle.bt_machines.specs.Says.{carried}
 use Rattle.bt_site.specs.Address.{IsAddressed}
-use Rattle.bt_events.specs.Fits.{HasPlan, IsInTime}
+use Rattle.bt_events.specs.Fits.{HasPlan, IsInTime, IsOpening}
 use Rattle.bt_timeline.specs.Air.{NamesTerminal}
-use Rattle.bt_apart.specs.Apart.{ApartAir, IsInstalled}
-
--- a message can name the superframe for which the order arms
-abbrev pub IsTimely : Order → Type 0
-IsTimely (Load command edition) = Unit {0}
-IsTimely (Arm command edition due) = IsDue due
+use Rattle.bt_apart.specs.Apart.{ApartAir, IsInstalled, IsTimely}
 
 -- the order may join those that are placed: it has the number after them, an edition that has a plan, and is timely
 pub record MayJoin (plans : List Plan) (placed : List Order) (order : Order) : Type 0 where
@@ -39,6 +33,8 @@ pub record IsReady (plans : List Plan) (s : Centre) : Type 0 where
 -- what holds of it with the number of its terminals and its plans, the first first, as they are kept beside it
 pub record IsApart (a : ApartAir) (count : ℕ) (kept : List Plan) : Type 0 where
   pub sound : IsSound a.opening.net
+  pub opening : IsOpening a.opening
+  pub opened : All IsStored a.opening.plans
   pub terminals : count ≡ length a.opening.net.terminals
   pub listed : kept ≡ reverse a.plans
   pub starts : StartsEmpty a.plans

@@ -1,11 +1,11 @@
 // The centre of sites apart.
-ghost use Rattle.std.specs.Prelude.{◌≡◌, ◌<◌, length, reverse, is_some, IfOk, IfSome, OnErr, OnOk, None};
+ghost use Rattle.std.specs.Prelude.{◌≡◌, ◌<◌, [], length, reverse, is_some, IfOk, IfSome, OnErr, OnOk, None};
 ghost use Rattle.bt_demand.specs.Flyable.{IsFlyable};
 ghost use Rattle.bt_air.specs.Range.{IsMark};
 ghost use Rattle.bt_machines.specs.Plans.{newest_of, plan_of};
 ghost use Rattle.bt_events.specs.Event.{Install, RestartCentre};
-ghost use Rattle.bt_events.specs.Fits.{IsOpening};
-ghost use Rattle.bt_apart.specs.Apart.{IsInstalled, apart_at_start, going_apart, having_apart};
+ghost use Rattle.bt_events.specs.Fits.{AreStored, IsOpening};
+ghost use Rattle.bt_apart.specs.Apart.{IsInstalled, IsTimely, apart_at_start, going_apart, having_apart};
 
 use bt_air::Order;
 use bt_demand::Plan;
@@ -78,6 +78,15 @@ impl ApartCentre {
         })
     }
 
+    /// What it opened with is what a world may open with, and no number of it is too great for a message.
+    pub fn opens(&self)
+        ensures opening { IsOpening self.now.opening }
+        ensures stored { AreStored self.now.opening [] }
+    {
+        // This is there for what holds of each centre of sites apart.
+        let _net = &self.net;
+    }
+
     /// The superframe that it takes for the present one.
     pub fn mark(&self) -> Mark
         ensures mark { result ≡ self.now.mark }
@@ -124,9 +133,10 @@ impl ApartCentre {
         self.back = back;
     }
 
-    /// The order that its last turn wanted, where it was neither placed nor lost since.
+    /// The order that its last turn wanted, where it was neither placed nor lost since. A message can name its superframe.
     pub fn wanted(&self) -> Option<Order>
         ensures wanted { result ≡ self.now.centre.wanted }
+        ensures timely { IfSome result IsTimely }
     {
         self.centre.wanted()
     }

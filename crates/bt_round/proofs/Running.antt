@@ -174,13 +174,13 @@ sent-told net air now event first had counted =
     ∙ ap (λ (l : List Aired). sent_lines net (sent_count air) l) (sent-since air event)
 
 -- the text of an event
-pub sends : (net : Net) (air now : SimulatedAir) (event : Event) (first : ℕ) (text after : List ℕ) → now ≡ having air event → first ≡ sent_count air
+pub sent-text : (net : Net) (air now : SimulatedAir) (event : Event) (first : ℕ) (text after : List ℕ) → now ≡ having air event → first ≡ sent_count air
     → after ≡ text ++ sent_lines net first (drop first (sent_in now)) → after ≡ text ++ sends_text net air event
-sends net air now event first text after had counted added = added ∙ ap (λ (l : List ℕ). text ++ l) (sent-told net air now event first had counted)
+sent-text net air now event first text after had counted added = added ∙ ap (λ (l : List ℕ). text ++ l) (sent-told net air now event first had counted)
 
 -- the text of an event, whose messages stand behind its own line
 pub told : (net : Net) (air now : SimulatedAir) (event : Event) (first : ℕ) (text middle after heading : List ℕ) → now ≡ having air event → first ≡ sent_count air
     → middle ≡ text ++ heading → after ≡ middle ++ sent_lines net first (drop first (sent_in now)) → after ≡ text ++ (heading ++ sends_text net air event)
 told net air now event first text middle after heading had counted headed added =
-    sends net air now event first middle after had counted added ∙ ap (λ (l : List ℕ). l ++ sends_text net air event) headed
+    sent-text net air now event first middle after had counted added ∙ ap (λ (l : List ℕ). l ++ sends_text net air event) headed
     ∙ append_assoc text heading (sends_text net air event)

@@ -19,3 +19,15 @@ pub returns-in-Ahead-clause-played : goal.returns-in-Ahead-clause-played
 returns-in-Ahead-clause-played g c =
     on-line c.go_ahead.result c.args.net.now c.args.self.now c.go_ahead.new.self c.args.line line.Ahead _ (own_of c.args.caller.now) (own_of c.args.caller.now) c.args.text.now.items c.go_ahead.new.text.items
     c.in-Ahead.is (asks-nothing (PlaysAhead c.args.self.now) c.go_ahead.new.self (own_of c.args.caller.now) c.args.text.now.items c.go_ahead.new.text.items) c.go_ahead.ensures.played
+
+pub returns-in-Simulated-clause-played : goal.returns-in-Simulated-clause-played
+returns-in-Simulated-clause-played g c =
+    on_ok_weaker c.play.result
+    (λ so. simulated-line c.args.net.now c.args.self.now c.in-Simulated.centre c.play.new.self c.args.line (own_of c.args.caller.now) c.args.text.now.items c.play.new.text.items
+    c.in-Simulated.is (is-own c.args.line c.in_default.not-Turn c.in_default.not-Back c.in_default.not-Ahead) so)
+    c.play.ensures.played
+
+pub returns-in-Apart-clause-played : goal.returns-in-Apart-clause-played
+returns-in-Apart-clause-played g c =
+    apart-line c.args.net.now c.args.self.now c.in-Apart.field-0 c.args.line (own_of c.args.caller.now) c.args.text.now.items
+    c.in-Apart.is (is-own c.args.line c.in_default.not-Turn c.in_default.not-Back c.in_default.not-Ahead)
