@@ -1,0 +1,4 @@
+mod Ready
+mod Says
+mod Lines
+mod Kept

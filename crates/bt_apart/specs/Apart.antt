@@ -1,6 +1,6 @@
 -- The centre of sites apart, of which satellite and terminals are none of its own process: what it is, what it says, and what it is once
 -- it has heard a line of the bus. Lists of plans and of orders have the latest first.
-use Rattle.std.specs.Prelude.{ℕ, ◌+◌, nat_le, nat_lt, if◌then◌else◌, Bool, true, false, List, [], ◌∷◌, ◌++◌, length, Option, Some, None}
+use Rattle.std.specs.Prelude.{ℕ, ◌+◌, nat_le, nat_lt, if◌then◌else◌, Bool, true, false, List, [], ◌∷◌, ◌++◌, length, Option, None, IsSome}
 use Rattle.bt_frame.specs.declared.numbers.EditionNo.{EditionNo}
 use Rattle.bt_frame.specs.declared.numbers.Mark.{Mark}
 use Rattle.bt_net.specs.Network.{Net}
@@ -10,6 +10,7 @@ use Rattle.bt_air.specs.declared.sent.Aired.{Aired}
 use Rattle.bt_air.specs.Sent.{sent_as}
 use Rattle.bt_machines.specs.Centre.{State as Centre, after_turn}
 use Rattle.bt_machines.specs.CentreSteps.{beginning, once_placed, orders_kept}
+use Rattle.bt_machines.specs.Plans.{plan_of}
 use Rattle.bt_machines.specs.Says.{carried, sent_by_order}
 use Rattle.bt_site.specs.Sites.{centre_with, turn_says}
 use Rattle.bt_events.specs.Event.{Opening, Event, Turn, Ordered, RestartCentre, Install}
@@ -42,6 +43,10 @@ apart_at_start o = record {
   said = 0;
   back = None;
 }
+
+-- the edition has a plan
+abbrev pub IsInstalled : List Plan → EditionNo → Type 0
+IsInstalled plans edition = IsSome (plan_of plans edition)
 
 -- the messages that it says when something happens to it: in its turn, and with an order that joins its orders
 abbrev pub says_apart : ApartAir → Event → List Aired

@@ -2,6 +2,11 @@
 //!
 //! It stands on the sites (`bt_site`) and on the lines of the bus (`bt_bus`). `docs/sites.md` has the protocol. Promises:
 //! `specs/Apart.antt` says what the centre is, what it says and what it is once it has heard a line, in the words of `bt_site` and
-//! `bt_events`; `Inside` is for bodies alone.
+//! `bt_events`; `Inside` is for bodies alone. `centre.rt` has the centre, `hear.rt` what it hears, `say.rt` what it says.
 #![tactic(auto)]
 
+mod centre;
+mod hear;
+mod say;
+
+pub use centre::ApartCentre;

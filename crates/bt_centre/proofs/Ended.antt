@@ -9,8 +9,8 @@ use Rattle.bt_outside.specs.declared.sink.SinkFault.{SinkFault}
 use Rattle.bt_outside.specs.declared.sink.SinkFault.TheVariants as sink
 use Rattle.bt_outside.specs.Told.{GainsPrefix, Rose, gained}
 use Rattle.bt_net.specs.Network.{Net}
-use Rattle.bt_apart.specs.declared.sites.Sites.{Sites}
-use Rattle.bt_apart.specs.declared.sites.Sites.TheVariants.{Together}
+use Rattle.bt_bus.specs.declared.sites.Sites.{Sites}
+use Rattle.bt_bus.specs.declared.sites.Sites.TheVariants.{Together}
 use Rattle.bt_air.specs.declared.event.Event.{Event}
 use Rattle.bt_journal.specs.declared.call.Change.{Change}
 use Rattle.bt_journal.specs.declared.entry.Entry.{Entry}

@@ -3,8 +3,8 @@ use Rattle.std.proofs.Common.{◌≡◌, ℕ, ◌≤◌, Bool, inl, inr, List, [
 use Rattle.std.specs.Prelude.{IfSome, option_map}
 use Rattle.std.specs.Option.{is_some}
 use Rattle.bt_net.specs.Network.{Net}
-use Rattle.bt_apart.specs.declared.sites.Sites.{Sites}
-use Rattle.bt_apart.specs.declared.sites.Sites.TheVariants.{Together}
+use Rattle.bt_bus.specs.declared.sites.Sites.{Sites}
+use Rattle.bt_bus.specs.declared.sites.Sites.TheVariants.{Together}
 use Rattle.bt_air.specs.declared.event.Event.{Event}
 use Rattle.bt_demand.specs.declared.burst.Burst.{Burst}
 use Rattle.bt_journal.specs.declared.call.Change.{Change}

@@ -3,7 +3,7 @@ use Rattle.std.proofs.Common.{◌≡◌, ℕ, List, [], ◌∷◌, ◌++◌, len
 use Rattle.std.specs.Option.{is_some}
 use Rattle.bt_net.specs.Network.{Net}
 use Rattle.bt_bus.specs.declared.heard.BusLine.{BusLine}
-use Rattle.bt_apart.specs.declared.sites.Sites.{Sites}
+use Rattle.bt_bus.specs.declared.sites.Sites.{Sites}
 use Rattle.bt_journal.specs.declared.call.Change.{Change}
 use Rattle.bt_journal.specs.declared.entry.Entry.{Entry}
 use Rattle.bt_history.specs.Book.{Books}

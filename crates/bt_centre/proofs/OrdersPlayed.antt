@@ -37,7 +37,8 @@ use Rattle.bt_history.proofs.Histories.{as_list}
 use Rattle.bt_script.specs.declared.script.AirLine.{AirLine}
 use Rattle.bt_script.specs.declared.script.AirLine.TheVariants as line
 use Rattle.bt_script.specs.declared.script.Losing.{Losing}
-use Rattle.bt_round.specs.AirLines.{AirState, Simulated, Apart, PlaysAirLine, PlaysAirLines, PlaysBack, PlaysOrder, PlaysSimulated, PlaysTurnIf, going, having, hearing, installing, is_marked, newest_in, once_answered, orders_in, restarting, target_of, turning, wanted_in}
+use Rattle.bt_round.specs.declared.worker.CentreOver.TheVariants.{Simulated, Apart}
+use Rattle.bt_round.specs.AirLines.{AirState, PlaysAirLine, PlaysAirLines, PlaysBack, PlaysOrder, PlaysSimulated, PlaysTurnIf, going, having, hearing, installing, is_marked, newest_in, once_answered, orders_in, restarting, target_of, turning, wanted_in}
 use Rattle.bt_round.specs.Simulated as simulated
 use Rattle.bt_round.specs.Simulated.{SimulatedAir, PlaysBurst, PlaysDeliveries, PlaysDelivery, PlaysFlow, PlaysFrame, PlaysHearing, PlaysLoss, PlaysNotice, PlaysReset, PlaysTick, awaiting, bridging, happened, noticed}
 use Rattle.bt_round.specs.Waiting.{left_of}

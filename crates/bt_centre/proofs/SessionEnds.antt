@@ -13,7 +13,7 @@ use Rattle.bt_outside.specs.declared.source.SourceFault.TheVariants as source
 use Rattle.bt_outside.specs.Input.{Comes, given_by, said_by}
 use Rattle.bt_outside.specs.Talk.{Shown, Turn, Heard, Said, heard, said, took}
 use Rattle.bt_net.specs.Network.{Net}
-use Rattle.bt_apart.specs.declared.sites.Sites.{Sites}
+use Rattle.bt_bus.specs.declared.sites.Sites.{Sites}
 use Rattle.bt_air.specs.declared.event.Event.{Event}
 use Rattle.bt_journal.specs.declared.call.Change.{Change}
 use Rattle.bt_journal.specs.declared.entry.Entry.{Entry}
@@ -30,7 +30,7 @@ use Rattle.bt_talk.specs.declared.block.Step.{Step}
 use Rattle.bt_talk.specs.declared.block.Step.TheVariants as step
 use Rattle.bt_talk.specs.Answers.{answer_of, ready_line}
 use Rattle.bt_talk.specs.Asked.{open_behind}
-use Rattle.bt_talk.specs.Block.{Open, row_of}
+use Rattle.bt_talk.specs.Block.{Open, line_bytes, row_of}
 use Rattle.bt_timeline.specs.Timeline.{restart_line}
 use Rattle.bt_report.specs.Stored.{Stored}
 use Rattle.bt_centre.specs.declared.history.History.{History}
@@ -40,7 +40,7 @@ use Rattle.bt_centre.specs.Answering.{GaveSince, SaysNamed, SessionDone, Session
 use Rattle.bt_centre.specs.Progress.{Hand, IsBegun, IsLeftAtRestart, IsLeftEarly, IsLeftOf, IsOpenFault, ItemsDone, Left, start_of}
 use Rattle.bt_centre.specs.RecoverFaults.{recover_line, recover_status}
 use Rattle.bt_centre.specs.Run.{AreFew, AreLegalTimes, at_start, changes_at, lost_in, opening_on}
-use Rattle.bt_centre.specs.Session.{AllGiven, Exchange, GoesOnFrom, IsSession, LastToEnd, PlaysLines, SessionEndsFrom, SessionFrom, SessionTo, ShowsChanges, StopsHearing, StopsTurns, WereGiven, closing_text, heard_in, most_bytes, session_turns, shown_behind, status_behind}
+use Rattle.bt_centre.specs.Session.{AllGiven, Exchange, GoesOnFrom, IsSession, LastToEnd, PlaysLines, SessionEndsFrom, SessionFrom, SessionTo, ShowsChanges, StopsHearing, StopsTurns, WereGiven, closing_text, heard_in, session_turns, shown_behind, status_behind}
 use Rattle.bt_centre.specs.Talked.{Says, SaysOrNot, SaysPart, Talked, behind}
 use Rattle.bt_round.proofs.Closing.{ran_nothing}
 use Rattle.bt_centre.proofs.Going.{breaks_off, left_early}
@@ -79,17 +79,17 @@ says_behind turns piece wanted status coming now u0 u1 u2 before between after f
 
 -- lines were given
 pub were_given : (sites : Sites) (talk : Talked) (coming now : Option (List ℕ)) (lines : List Came) → talk.coming ≡ coming → GaveSince sites coming now lines → WereGiven sites talk lines
-were_given sites talk (Some bytes) (Some rest) lines is gave = subst (λ (c : Option (List ℕ)). IfSome c (λ bytes. (more : List Came) × (given_by (most_bytes sites) bytes ≡ lines ++ more))) (sym is) (given_by (most_bytes sites) rest, gave)
-were_given sites talk None now lines is gave = subst (λ (c : Option (List ℕ)). IfSome c (λ bytes. (more : List Came) × (given_by (most_bytes sites) bytes ≡ lines ++ more))) (sym is) tt
+were_given sites talk (Some bytes) (Some rest) lines is gave = subst (λ (c : Option (List ℕ)). IfSome c (λ bytes. (more : List Came) × (given_by (line_bytes sites) bytes ≡ lines ++ more))) (sym is) (given_by (line_bytes sites) rest, gave)
+were_given sites talk None now lines is gave = subst (λ (c : Option (List ℕ)). IfSome c (λ bytes. (more : List Came) × (given_by (line_bytes sites) bytes ≡ lines ++ more))) (sym is) tt
 were_given sites talk (Some bytes) None lines is gave = absurd gave
 
 -- and nothing is left
-pub all_given : (sites : Sites) (talk : Talked) (coming now next : Option (List ℕ)) (lines : List Came) → talk.coming ≡ coming → GaveSince sites coming now lines → Comes (most_bytes sites) now None next → AllGiven sites talk lines
+pub all_given : (sites : Sites) (talk : Talked) (coming now next : Option (List ℕ)) (lines : List Came) → talk.coming ≡ coming → GaveSince sites coming now lines → Comes (line_bytes sites) now None next → AllGiven sites talk lines
 all_given sites talk (Some bytes) (Some rest) (Some left) lines is gave (none, nothing) =
-    subst (λ (c : Option (List ℕ)). IfSome c (λ bytes. given_by (most_bytes sites) bytes ≡ lines)) (sym is) (gave ∙ ap (λ (l : List Came). lines ++ l) none ∙ append-nil lines)
+    subst (λ (c : Option (List ℕ)). IfSome c (λ bytes. given_by (line_bytes sites) bytes ≡ lines)) (sym is) (gave ∙ ap (λ (l : List Came). lines ++ l) none ∙ append-nil lines)
 all_given sites talk (Some bytes) (Some rest) None lines is gave comes = absurd comes
 all_given sites talk (Some bytes) None next lines is gave comes = absurd gave
-all_given sites talk None now next lines is gave comes = subst (λ (c : Option (List ℕ)). IfSome c (λ bytes. given_by (most_bytes sites) bytes ≡ lines)) (sym is) tt
+all_given sites talk None now next lines is gave comes = subst (λ (c : Option (List ℕ)). IfSome c (λ bytes. given_by (line_bytes sites) bytes ≡ lines)) (sym is) tt
 
 -- what the store told at the start, and the turns that were taken where memory ran out
 abbrev pub Halts : Net → Sites → Talked → Books → Shown → List Exchange → Type 0
@@ -314,7 +314,7 @@ going_not_taken net sites talk begun at block came hand left coming now before a
 -- a line was played, and the piece was not said to it
 pub going_not_said : (net : Net) (sites : Sites) (begun : Books) (at : ℕ) (block behind_it : Open) (came : Incoming) (stp : Step) (old new : Hand) (own piece : List ℕ) (shown : Shown) (left : Left) (why : SinkFault)
     (coming now next : Option (List ℕ)) (u0 u2 : ℕ) (before b1 b2 after : Option (List ℕ)) (f0 f1 f2 : ℕ) (t0 t1 t2 t3 : Option (List Turn)) (s : Shown) (status : ℕ)
-    → AreGood net → SessionGoing net sites begun at block old coming now before b1 t0 t1 → Comes (most_bytes sites) now (Some came) next → b2 ≡ b1 → t2 ≡ took t1 (heard (Some came))
+    → AreGood net → SessionGoing net sites begun at block old coming now before b1 t0 t1 → Comes (line_bytes sites) now (Some came) next → b2 ≡ b1 → t2 ≡ took t1 (heard (Some came))
     → (let row : Open × Step = (behind_it, stp) in row ≡ row_of net sites block (said_by came)) → StepPlayed net stp old new own → IsLeftOf new left → shown.told ≡ new.book.told → piece ≡ own ++ answer_of at stp
     → f0 ≤ f1 → (why ≡ sink.Failed → Rose f1 f2) → (why ≡ sink.Failed → GainsPrefix b2 piece after) → t3 ≡ t2 → (why ≡ sink.OutOfMemory → status ≡ 1) → (why ≡ sink.Failed → status ≡ 6)
     → s.crashes ≡ left.crashes → shown.crashes ≡ new.book.crashes → LastsIn new → SessionEnded net sites (talk_of coming u0 u2 before after f0 f2 t0 t3 s) begun left status
@@ -342,7 +342,7 @@ named_behind net sites begun exchanges one start fault coming now u0 u1 u2 befor
 -- what a line comes to could not be played, which was said
 pub going_not_played : (net : Net) (sites : Sites) (begun : Books) (at : ℕ) (block behind_it : Open) (came : Incoming) (stp : Step) (old : Hand) (left : Left) (fault : RecoverFault)
     (coming now next : Option (List ℕ)) (u0 u1 u2 : ℕ) (before b1 b2 after : Option (List ℕ)) (f0 f1 f2 : ℕ) (t0 t1 t2 t3 : Option (List Turn)) (s : Shown) (status : ℕ)
-    → AreGood net → SessionGoing net sites begun at block old coming now before b1 t0 t1 → Comes (most_bytes sites) now (Some came) next → b2 ≡ b1 → t2 ≡ took t1 (heard (Some came))
+    → AreGood net → SessionGoing net sites begun at block old coming now before b1 t0 t1 → Comes (line_bytes sites) now (Some came) next → b2 ≡ b1 → t2 ≡ took t1 (heard (Some came))
     → (let row : Open × Step = (behind_it, stp) in row ≡ row_of net sites block (said_by came)) → StepFailed net stp old left fault → f0 ≤ f1
     → SaysNamed (talk_of next u1 u2 b2 after f1 f2 t2 t3 s) restart_line fault status → s.crashes ≡ left.crashes → SessionEnded net sites (talk_of coming u0 u2 before after f0 f2 t0 t3 s) begun left status
 going_not_played net sites begun at block behind_it came stp old left fault coming now next u0 u1 u2 before b1 b2 after f0 f1 f2 t0 t1 t2 t3 s status good so comes same turn row failed later told store_is =
@@ -355,7 +355,7 @@ going_not_played net sites begun at block behind_it came stp old left fault comi
 
 -- the end of the input was heard
 pub heard_over : (net : Net) (sites : Sites) (begun : Books) (at : ℕ) (block : Open) (hand : Hand) (coming now next : Option (List ℕ)) (u0 u2 : ℕ) (before b1 after : Option (List ℕ)) (f0 f2 : ℕ) (t0 t1 t2 : Option (List Turn)) (s : Shown)
-    → SessionGoing net sites begun at block hand coming now before b1 t0 t1 → Comes (most_bytes sites) now None next → after ≡ b1 → t2 ≡ took t1 []
+    → SessionGoing net sites begun at block hand coming now before b1 t0 t1 → Comes (line_bytes sites) now None next → after ≡ b1 → t2 ≡ took t1 []
     → SessionHeard net sites begun (talk_of coming u0 u2 before after f0 f2 t0 t2 s) hand ending.Over
 heard_over net sites begun at block hand coming now next u0 u2 before b1 after f0 f2 t0 t1 t2 s so comes same turn = record {
   exchanges = so.exchanges;
@@ -510,7 +510,7 @@ session_ends_from net sites talk told given after faults begun now opening statu
 pub session_runs_from : AreFlown → AreSafe → (net : Net) (sites : Sites) (talk : Talked) (given : Option (List ℕ)) (faults : ℕ) (hand : Hand) (left : Left) (status : ℕ) → IsBegun net sites hand
     → hand.book.told ≡ option_map (marked net) given → IfSome given (λ bytes. Recovered net bytes hand.book.state.changes) → IsReadable given → faults ≤ hand.book.faults
     → SessionEnded net sites talk hand.book left status → SessionFrom net sites talk (stored_from given left.told faults left.faults) status left.histories left.events
-session_runs_from flown safe net talk given faults hand left status begun told changes readable later ended = record {
+session_runs_from flown safe net sites talk given faults hand left status begun told changes readable later ended = record {
   opening = hand.book.state.changes;
   opens = record { told = changes; readable = readable; follow = begun.follow; few = subst (λ (n : Net). AreFew n hand.book.state.changes) begun.network begun.few };
   world = ended.world;

@@ -8,7 +8,7 @@ use Rattle.bt_outside.specs.declared.source.Incoming.{Incoming}
 use Rattle.bt_outside.specs.Input.{Comes, said_by}
 use Rattle.bt_outside.specs.Talk.{Shown, Turn, Heard, Said, heard, said, took}
 use Rattle.bt_net.specs.Network.{Net}
-use Rattle.bt_apart.specs.declared.sites.Sites.{Sites}
+use Rattle.bt_bus.specs.declared.sites.Sites.{Sites}
 use Rattle.bt_history.specs.Book.{Books}
 use Rattle.bt_history.specs.Crash.{Last}
 use Rattle.bt_history.specs.Machine.{State}
@@ -24,11 +24,11 @@ use Rattle.bt_talk.specs.declared.block.Step.{Step}
 use Rattle.bt_talk.specs.declared.block.Step.TheVariants as step
 use Rattle.bt_talk.specs.Answers.{answer_of, ready_line}
 use Rattle.bt_talk.specs.Asked.{open_behind, part_in, parts_of}
-use Rattle.bt_talk.specs.Block.{Open, row_of}
+use Rattle.bt_talk.specs.Block.{Open, line_bytes, row_of}
 use Rattle.bt_centre.specs.Answering.{GaveSince, SessionDone, SessionGoing, SessionSaid, StepPlayed, Took}
 use Rattle.bt_centre.specs.Progress.{Hand, IsBegun, ItemPlayed, ItemsDone, start_of}
 use Rattle.bt_centre.specs.Run.{Stand, at_start, changes_at}
-use Rattle.bt_centre.specs.Session.{Exchange, PlaysLines, PlaysStep, ShowsChanges, heard_in, most_bytes, opening_text, session_turns, shown_behind, turns_in}
+use Rattle.bt_centre.specs.Session.{Exchange, PlaysLines, PlaysStep, ShowsChanges, heard_in, opening_text, session_turns, shown_behind, turns_in}
 use Rattle.bt_centre.specs.Talked.{spoken}
 use Rattle.bt_centre.specs.Told.{IsTold}
 use Rattle.bt_round.specs.AirLines.{AirState, waiting_in}
@@ -326,13 +326,13 @@ rounds_behind net (step.Fault code) old new text k (same, nothing) few = omega (
 rounds_behind net (step.Tells one) old new text k (same, told) few = omega (arith, ap (λ (h : Hand). h.rounds) same, few)
 
 -- what came, of so many bytes at most
-pub comes_of : (sites : Sites) (limit : ℕ) (now next : Option (List ℕ)) (came one : Option Incoming) → limit ≡ most_bytes sites → came ≡ one → Comes limit now came next
-    → Comes (most_bytes sites) now one next
+pub comes_of : (sites : Sites) (limit : ℕ) (now next : Option (List ℕ)) (came one : Option Incoming) → limit ≡ line_bytes sites → came ≡ one → Comes limit now came next
+    → Comes (line_bytes sites) now one next
 comes_of sites limit now next came one is same comes =
     subst (λ (n : ℕ). Comes n now one next) is (subst (λ (o : Option Incoming). Comes limit now o next) same comes)
 
 -- an input gave one more
-pub gave_more : (sites : Sites) (coming now next : Option (List ℕ)) (lines : List Came) (came : Incoming) → GaveSince sites coming now lines → Comes (most_bytes sites) now (Some came) next → GaveSince sites coming next (lines ++ said_by came ∷ [])
+pub gave_more : (sites : Sites) (coming now next : Option (List ℕ)) (lines : List Came) (came : Incoming) → GaveSince sites coming now lines → Comes (line_bytes sites) now (Some came) next → GaveSince sites coming next (lines ++ said_by came ∷ [])
 gave_more sites (Some bytes) (Some rest) (Some left) lines came gave comes =
     gave ∙ ap (λ (l : List Came). lines ++ l) comes ∙ sym (append_assoc lines (said_by came ∷ []) _)
 gave_more sites None None None lines came gave comes = tt
@@ -365,7 +365,7 @@ row_is net sites block behind lines one stp is row = ap (λ (r : Open × Step). 
 
 -- a session goes on
 pub going_more : (net : Net) (sites : Sites) (begun : Books) (at : ℕ) (block behind : Open) (came : Incoming) (stp : Step) (old new : Hand) (own piece : List ℕ) (shown : Shown) (coming now next rest before b1 b2 after : Option (List ℕ)) (t0 t1 t2 t3 : Option (List Turn))
-    → SessionGoing net sites begun at block old coming now before b1 t0 t1 → Comes (most_bytes sites) now (Some came) next → b2 ≡ b1 → t2 ≡ took t1 (heard (Some came))
+    → SessionGoing net sites begun at block old coming now before b1 t0 t1 → Comes (line_bytes sites) now (Some came) next → b2 ≡ b1 → t2 ≡ took t1 (heard (Some came))
     → (let row : Open × Step = (behind, stp) in row ≡ row_of net sites block (said_by came)) → StepPlayed net stp old new own
     → piece ≡ own ++ answer_of at stp → after ≡ gained b2 piece → t3 ≡ took t2 (said piece shown) → IsKept new.book.net shown.told new.book.state.changes (lost_of new.book.history) → rest ≡ next
     → shown.crashes ≡ new.book.crashes → LastsIn new → SessionGoing net sites begun (at + 1) behind new coming rest before after t0 t3

@@ -14,7 +14,8 @@ use Rattle.bt_script.specs.declared.script.AirLine.{AirLine}
 use Rattle.bt_script.specs.declared.script.AirLine.TheVariants as line
 use Rattle.bt_script.specs.declared.script.Item.{Item}
 use Rattle.bt_script.specs.declared.script.Item.TheVariants as item
-use Rattle.bt_round.specs.AirLines.{AirState, Simulated, Apart, PlaysAirLine, PlaysAirLines, PlaysBack, PlaysOrder, PlaysSimulated, PlaysTurnIf, going, having, hearing, installing, is_marked, once_answered, restarting, turning, wanted_in}
+use Rattle.bt_round.specs.declared.worker.CentreOver.TheVariants.{Simulated, Apart}
+use Rattle.bt_round.specs.AirLines.{AirState, PlaysAirLine, PlaysAirLines, PlaysBack, PlaysOrder, PlaysSimulated, PlaysTurnIf, going, having, hearing, installing, is_marked, once_answered, restarting, turning, wanted_in}
 use Rattle.bt_round.specs.Simulated.{SimulatedAir, PlaysBurst, PlaysDelivery, PlaysFlow, PlaysFrame, PlaysLoss, PlaysNotice, PlaysReset, PlaysTick}
 use Rattle.bt_centre.specs.Progress.{Hand, IsTogether, ItemPlayed}
 

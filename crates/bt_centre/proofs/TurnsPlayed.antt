@@ -21,7 +21,8 @@ use Rattle.bt_history.specs.Machine.{CallStep, Legal, newer_than, running, state
 use Rattle.bt_history.proofs.Histories.{Legal-follows}
 use Rattle.bt_script.specs.declared.script.AirLine.{AirLine}
 use Rattle.bt_script.specs.declared.script.AirLine.TheVariants as line
-use Rattle.bt_round.specs.AirLines.{AirState, Simulated, Apart, PlaysAirLine, PlaysAirLines, PlaysOrder, PlaysTurnIf, TakesTurn, back_of, going, having, installing, is_marked, newest_in, once_answered, target_by, target_of, turning, wanted_in}
+use Rattle.bt_round.specs.declared.worker.CentreOver.TheVariants.{Simulated, Apart}
+use Rattle.bt_round.specs.AirLines.{AirState, PlaysAirLine, PlaysAirLines, PlaysOrder, PlaysTurnIf, TakesTurn, back_of, going, having, installing, is_marked, newest_in, once_answered, target_by, target_of, turning, wanted_in}
 use Rattle.bt_round.proofs.Installed.{newest_ascends}
 use Rattle.bt_centre.specs.Turns.{IsNewestOf, IsNoNewer, LineKnows, LinesKnow, TurnKnows}
 use Rattle.bt_centre.proofs.Lawful.{step_at, steps_first}

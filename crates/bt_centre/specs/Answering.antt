@@ -5,7 +5,7 @@ use Rattle.bt_outside.specs.Told.{gained}
 use Rattle.bt_outside.specs.Input.{given_by}
 use Rattle.bt_outside.specs.Talk.{Shown, Turn, took}
 use Rattle.bt_net.specs.Network.{Net}
-use Rattle.bt_apart.specs.declared.sites.Sites.{Sites}
+use Rattle.bt_bus.specs.declared.sites.Sites.{Sites}
 use Rattle.bt_script.specs.declared.script.Item.{Item}
 use Rattle.bt_history.specs.Book.{Books}
 use Rattle.bt_history.specs.Crash.{Last}
@@ -14,13 +14,13 @@ use Rattle.bt_history.specs.declared.fault.RecoverFault.TheVariants.{OutOfMemory
 use Rattle.bt_talk.specs.declared.block.Step.{Step}
 use Rattle.bt_talk.specs.declared.block.Step.TheVariants as step
 use Rattle.bt_talk.specs.Asked.{open_behind, parts_of}
-use Rattle.bt_talk.specs.Block.{Open}
+use Rattle.bt_talk.specs.Block.{Open, line_bytes}
 use Rattle.bt_centre.specs.declared.session.InputEnd.{InputEnd}
 use Rattle.bt_round.specs.AirLines.{waiting_in}
 use Rattle.bt_centre.specs.Progress.{Hand, IsLeftOf, ItemFailed, ItemPlayed, ItemsDone, Left}
 use Rattle.bt_centre.specs.RecoverFaults.{recover_line, recover_status}
 use Rattle.bt_centre.specs.Run.{at_start, changes_at, opening_on}
-use Rattle.bt_centre.specs.Session.{Exchange, PlaysLines, SessionEndsFrom, ShowsChanges, StopsHearing, heard_in, most_bytes, session_turns, shown_behind}
+use Rattle.bt_centre.specs.Session.{Exchange, PlaysLines, SessionEndsFrom, ShowsChanges, StopsHearing, heard_in, session_turns, shown_behind}
 use Rattle.bt_centre.specs.Talked.{Says, SaysNothing, Talked, spoken}
 use Rattle.bt_centre.specs.Told.{IsTold}
 use Rattle.bt_centre.specs.World.{IsSpelledWorld}
@@ -66,7 +66,7 @@ pub record SessionSaid (net : Net) (sites : Sites) (begun : Books) (exchanges : 
 
 -- an input gave these between two moments
 abbrev pub GaveSince : Sites → Option (List ℕ) → Option (List ℕ) → List (Option (List ℕ)) → Type 0
-GaveSince sites (Some bytes) (Some rest) lines = given_by (most_bytes sites) bytes ≡ lines ++ given_by (most_bytes sites) rest
+GaveSince sites (Some bytes) (Some rest) lines = given_by (line_bytes sites) bytes ≡ lines ++ given_by (line_bytes sites) rest
 GaveSince sites (Some bytes) None lines = ⊥
 GaveSince sites None (Some rest) lines = ⊥
 GaveSince sites None None lines = Unit {0}

@@ -7,8 +7,8 @@ use Rattle.bt_outside.specs.Told.{GainsPrefix, gained}
 use Rattle.bt_net.specs.Network.{Net}
 use Rattle.bt_air.specs.declared.event.Event.{Event}
 use Rattle.bt_air.specs.declared.order.Order.{Order}
-use Rattle.bt_apart.specs.declared.sites.Sites.{Sites}
-use Rattle.bt_apart.specs.declared.sites.Sites.TheVariants.{Together}
+use Rattle.bt_bus.specs.declared.sites.Sites.{Sites}
+use Rattle.bt_bus.specs.declared.sites.Sites.TheVariants.{Together}
 use Rattle.bt_demand.specs.declared.burst.Burst.{Burst}
 use Rattle.bt_events.specs.Air.{IsAir, IsSafe, modes_in_front}
 use Rattle.bt_events.specs.Event.{Frame, Opening}

@@ -5,8 +5,7 @@ use Rattle.bt_outside.specs.Told.{Rose}
 use Rattle.bt_outside.specs.Input.{given_by}
 use Rattle.bt_outside.specs.Talk.{Shown, Turn, Heard, Said, took}
 use Rattle.bt_net.specs.Network.{Net}
-use Rattle.bt_apart.specs.declared.sites.Sites.{Sites}
-use Rattle.bt_apart.specs.declared.sites.Sites.TheVariants.{Together, Apart}
+use Rattle.bt_bus.specs.declared.sites.Sites.{Sites}
 use Rattle.bt_air.specs.declared.event.Event.{Event}
 use Rattle.bt_journal.specs.declared.call.Change.{Change}
 use Rattle.bt_history.specs.Crash.{Last}
@@ -21,14 +20,14 @@ use Rattle.bt_talk.specs.declared.block.Step.{Step}
 use Rattle.bt_talk.specs.declared.block.Step.TheVariants as step
 use Rattle.bt_talk.specs.Answers.{answer_of, input_fault_line, ready_line}
 use Rattle.bt_talk.specs.Asked.{open_behind, parts_of}
-use Rattle.bt_talk.specs.Block.{Open, row_of}
+use Rattle.bt_talk.specs.Block.{Open, line_bytes, row_of}
 use Rattle.bt_timeline.specs.Timeline.{restart_line}
 use Rattle.bt_report.specs.declared.status.TheConstants.{DONE, READ_FAILED, STORE_FAILED, WRITE_FAILED}
 use Rattle.bt_report.specs.Stored.{Stored}
 use Rattle.bt_centre.specs.declared.history.History.{History}
 use Rattle.bt_centre.specs.declared.session.InputEnd.{InputEnd}
 use Rattle.bt_centre.specs.declared.session.InputEnd.TheVariants as ending
-use Rattle.bt_frame.specs.declared.limits.TheConstants.{MOST_ANSWERS, MOST_SESSION_LINE_BYTES, MOST_STATION_LINE_BYTES}
+use Rattle.bt_frame.specs.declared.limits.TheConstants.{MOST_ANSWERS}
 use Rattle.bt_round.specs.AirLines.{waiting_in}
 use Rattle.bt_centre.specs.Lines.{total_of}
 use Rattle.bt_centre.specs.RecoverFaults.{recover_line, recover_status}
@@ -118,18 +117,13 @@ closing_text end histories = input_text end ++ total_of (entries_of histories)
 abbrev pub status_behind : InputEnd → List History → ℕ
 status_behind end histories = if has_lost histories then STORE_FAILED else input_status end
 
--- the bytes of a line at most: where the sites are apart, a line of the bus has more than another
-abbrev pub most_bytes : Sites → ℕ
-most_bytes Together = MOST_SESSION_LINE_BYTES
-most_bytes Apart = MOST_STATION_LINE_BYTES
-
 -- these are the first lines that the input gives, where its bytes are told
 abbrev pub WereGiven : Sites → Talked → List (Option (List ℕ)) → Type 0
-WereGiven sites talk lines = IfSome talk.coming (λ bytes. (more : List (Option (List ℕ))) × (given_by (most_bytes sites) bytes ≡ lines ++ more))
+WereGiven sites talk lines = IfSome talk.coming (λ bytes. (more : List (Option (List ℕ))) × (given_by (line_bytes sites) bytes ≡ lines ++ more))
 
 -- these are all that it gives
 abbrev pub AllGiven : Sites → Talked → List (Option (List ℕ)) → Type 0
-AllGiven sites talk lines = IfSome talk.coming (λ bytes. given_by (most_bytes sites) bytes ≡ lines)
+AllGiven sites talk lines = IfSome talk.coming (λ bytes. given_by (line_bytes sites) bytes ≡ lines)
 
 -- why no line was heard behind these: none was left, or as many were heard as are counted; or the input failed
 abbrev pub StopsHearing : Sites → Talked → List (Option (List ℕ)) → InputEnd → Type 0

@@ -23,7 +23,7 @@ IsAnswer net changes waiting (query.Room from to) text = text ≡ link_room_line
 IsAnswer net changes waiting query.Demand text = IsLinksText net changes None text
 IsAnswer net changes waiting query.Installed text = text ≡ plan_spelling net (newest changes)
 IsAnswer net changes waiting query.Waiting text = text ≡ waiting_lines net waiting
-IsAnswer net changes waiting query.Help text = text ≡ help_text
+IsAnswer net changes waiting (query.Help sites) text = text ≡ help_text sites
 
 -- the same, with the number of its lines in front
 pub record IsTold (net : Net) (changes : List Change) (waiting : List (ℕ × Place)) (asked : Query) (text : List ℕ) : Type 0 where

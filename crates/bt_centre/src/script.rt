@@ -1,7 +1,7 @@
 // The run of a script from its start to its last line.
 ghost use Rattle.std.specs.Prelude.{◌≡◌, ◌≤◌, All, IsErrOf, OnOk};
 ghost use Rattle.bt_outside.specs.Told.{GainsPrefix, Rose, gained};
-ghost use Rattle.bt_apart.specs.declared.sites.Sites.TheVariants.{Together};
+ghost use Rattle.bt_bus.specs.declared.sites.Sites.TheVariants.{Together};
 ghost use Rattle.bt_script.specs.Named.{IsItemFor};
 ghost use Rattle.bt_centre.specs.Lines.{total_of};
 ghost use Rattle.bt_centre.specs.Progress.{IsBegun, PartsEnded};
@@ -14,8 +14,8 @@ use crate::run::play_items;
 use crate::total::{add_total, has_lost};
 use crate::{Histories, History};
 use bt_air::Event;
-use bt_apart::Sites;
 use bt_book::installed_plans_are_good;
+use bt_bus::Sites;
 use bt_net::Network;
 use bt_outside::{Keeper, Sink, SinkFault};
 use bt_report::{DONE, STORE_FAILED, unwritten};

@@ -1,5 +1,5 @@
 // A session: lines come one by one, and each is played and answered before the next is heard.
-ghost use Rattle.std.specs.Prelude.{◌≡◌, ◌≤◌, ◌<◌, ◌++◌, [], IfErr, IfOk, IsErrOf, OnErr, OnOk};
+ghost use Rattle.std.specs.Prelude.{◌≡◌, ◌≤◌, ◌<◌, ◌++◌, [], length, IfErr, IfOk, IfSome, IsErrOf, OnErr, OnOk};
 ghost use Rattle.bt_outside.specs.Told.{GainsPrefix, Rose, gained};
 ghost use Rattle.bt_outside.specs.Input.{said_by};
 ghost use Rattle.bt_outside.specs.Talk.{said, took};
@@ -7,10 +7,10 @@ ghost use Rattle.bt_history.specs.Crash.{Last};
 ghost use Rattle.bt_history.specs.Store.{IsKept, lost_of};
 ghost use Rattle.bt_timeline.specs.Timeline.{restart_line};
 ghost use Rattle.bt_talk.specs.Answers.{answer_of, ready_line};
-ghost use Rattle.bt_talk.specs.Block.{IsOpenFor, IsStepFor, row_of};
+ghost use Rattle.bt_talk.specs.Block.{IsOpenFor, IsStepFor, line_bytes, row_of};
 ghost use Rattle.bt_centre.specs.Answering.{SaysNamed, SessionEnded, SessionHeard};
 ghost use Rattle.bt_centre.specs.Progress.{IsBegun, start_of};
-ghost use Rattle.bt_centre.specs.Session.{SessionTo, closing_text, input_status, input_text, most_bytes, status_behind};
+ghost use Rattle.bt_centre.specs.Session.{SessionTo, closing_text, input_status, input_text, status_behind};
 ghost use Rattle.bt_centre.specs.Talked.{SaysOrNot};
 
 use crate::SessionHistories;
@@ -18,14 +18,14 @@ use crate::live::{Live, LiveRemains, play_step};
 use crate::open::open;
 use crate::playing::Playing;
 use crate::say::{say_fault, say_restart_fault, say_text};
-use bt_apart::Sites;
 use bt_book::{RecoverFault, installed_plans_are_good};
-use bt_frame::{MOST_ANSWERS, MOST_SESSION_LINE_BYTES, MOST_STATION_LINE_BYTES, OutOfMemory};
+use bt_bus::Sites;
+use bt_frame::{MOST_ANSWERS, OutOfMemory};
 use bt_net::Network;
 use bt_outside::{Incoming, Keeper, SinkFault, SourceFault, Talk};
 use bt_report::{DONE, OUT_OF_MEMORY, READ_FAILED, STORE_FAILED, unwritten};
 use bt_round::Gate;
-use bt_talk::{Block, Step, add_input_fault, add_ready, answer_text};
+use bt_talk::{Block, Step, add_input_fault, add_ready, answer_text, line_bytes};
 use bt_timeline::start_text;
 use bt_world::{Events, TracedEvents, frames_are_safe};
 use std::alloc::Global;
@@ -187,7 +187,7 @@ fn play_lines<R: Threads + Wait + Sync, G: Gate + Sync, T: Talk<K>, K: Keeper + 
     }
     let mut block = Block::closed();
     for at in 1..MOST_ANSWERS {
-        let came = match talk.hear(alloc, most_bytes(sites)) {
+        let came = match talk.hear(alloc, line_bytes(sites)) {
             Ok(Some(came)) => came,
             Ok(None) => return Ok((playing, InputEnd::Over)),
             Err(SourceFault::Failed) => return Ok((playing, InputEnd::Failed)),
@@ -214,16 +214,6 @@ fn play_lines<R: Threads + Wait + Sync, G: Gate + Sync, T: Talk<K>, K: Keeper + 
     Ok((playing, InputEnd::Over))
 }
 
-/// The bytes of a line at most.
-fn most_bytes(sites: Sites) -> usize
-    ensures { result ≡ most_bytes sites }
-{
-    match sites {
-        Sites::Together => MOST_SESSION_LINE_BYTES,
-        Sites::Apart => MOST_STATION_LINE_BYTES,
-    }
-}
-
 /// What line `at` comes to, with the block behind it, and its answer.
 fn take(
     alloc: Global,
@@ -234,6 +224,7 @@ fn take(
     block: Block,
 ) -> Result<(Block, Step, Vec<u8>), OutOfMemory>
     requires terminals { IsOpenFor net.now block }
+    requires short { IfSome (said_by came.now) (λ text. length text ≤ line_bytes sites) }
     ensures row { IfOk result (λ on. (on.0, on.1) ≡ row_of net.now sites block (said_by came.now)) }
     ensures answer { IfOk result (λ on. on.2.items ≡ answer_of at on.1) }
     ensures terminals { IfOk result (λ on. IsOpenFor net.now on.0) }

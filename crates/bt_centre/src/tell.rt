@@ -54,6 +54,6 @@ fn answer<K: Keeper, E: Events>(
         Query::Demand => demand_of_book(alloc, net, book),
         Query::Installed => newest_of_book(alloc, net, book),
         Query::Waiting => centre.waiting_text(alloc, net),
-        Query::Help => help_text(alloc),
+        Query::Help(sites) => help_text(alloc, sites),
     }
 }

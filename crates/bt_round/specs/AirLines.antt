@@ -12,8 +12,8 @@ use Rattle.bt_events.specs.World.{wanted}
 use Rattle.bt_machines.specs.Plans.{newest_of, plan_of}
 use Rattle.bt_bus.specs.declared.heard.BusLine.{BusLine}
 use Rattle.bt_apart.specs.Apart.{apart_at_start, going_apart, having_apart, heard_apart, lines_apart}
-use Rattle.bt_apart.specs.declared.sites.Sites.{Sites}
-use Rattle.bt_apart.specs.declared.sites.Sites.TheVariants as sites
+use Rattle.bt_bus.specs.declared.sites.Sites.{Sites}
+use Rattle.bt_bus.specs.declared.sites.Sites.TheVariants as sites
 use Rattle.bt_journal.specs.declared.call.Call.TheVariants as call
 use Rattle.bt_journal.specs.declared.entry.Entry.{Entry}
 use Rattle.bt_journal.specs.declared.reply.Reply.{Reply}

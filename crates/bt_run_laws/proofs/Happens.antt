@@ -6,7 +6,8 @@ use Rattle.bt_events.specs.Event.{Event}
 use Rattle.bt_events.proofs.Ranges.{Fits, world-fits}
 use Rattle.bt_run_laws.specs.Readable.{AreLines}
 use Rattle.bt_run_laws.specs.Small.{IsSmall}
-use Rattle.bt_round.specs.AirLines.{AirState, Simulated}
+use Rattle.bt_round.specs.declared.worker.CentreOver.TheVariants.{Simulated}
+use Rattle.bt_round.specs.AirLines.{AirState}
 use Rattle.bt_round.specs.Simulated.{SimulatedAir, having, mark_of, sends_text, sent_by, sent_count, sent_in}
 use Rattle.bt_round.specs.Worker.{NamesOwn}
 use Rattle.bt_round.proofs.Marks.{mark-small}

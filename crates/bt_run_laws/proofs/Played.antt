@@ -19,7 +19,8 @@ use Rattle.bt_run_lines.specs.declared.printed.Value.TheVariants as value
 use Rattle.bt_run_lines.specs.Printers.{numbers}
 use Rattle.bt_run_laws.specs.Readable.{AreLines}
 use Rattle.bt_run_laws.specs.Small.{IsSmall}
-use Rattle.bt_round.specs.AirLines.{AirState, Simulated, PlaysAhead, PlaysBack, going}
+use Rattle.bt_round.specs.declared.worker.CentreOver.TheVariants.{Simulated}
+use Rattle.bt_round.specs.AirLines.{AirState, PlaysAhead, PlaysBack, going}
 use Rattle.bt_round.specs.Simulated.{SimulatedAir, PlaysBurst, PlaysDeliveries, PlaysDelivery, PlaysFlow, PlaysFrame, PlaysHearing, PlaysLoss, PlaysNotice, PlaysReset, PlaysTick, ShowsFrame, awaiting, bridging, happened, having, mark_of, notice_text, noticed}
 use Rattle.bt_round.specs.Waiting.{left_of, loses, lost_of}
 use Rattle.bt_run_laws.proofs.Frames.{frame_printed}

@@ -16,7 +16,8 @@ use Rattle.bt_script.specs.declared.script.Item.TheVariants as item
 use Rattle.bt_script.specs.declared.script.Round.{Round}
 use Rattle.bt_script.specs.Length.{item_length, script_length}
 use Rattle.bt_timeline.specs.Timeline.{restart_line, round_line, start_line, total_line}
-use Rattle.bt_round.specs.AirLines.{AirState, Simulated, Apart, hearing, mark_of}
+use Rattle.bt_round.specs.declared.worker.CentreOver.TheVariants.{Simulated, Apart}
+use Rattle.bt_round.specs.AirLines.{AirState, hearing, mark_of}
 use Rattle.bt_round.specs.Desks.{Sight, desks_text}
 use Rattle.bt_round.specs.Planning.{planner_text}
 use Rattle.bt_run_lines.specs.Printers.{numbers}

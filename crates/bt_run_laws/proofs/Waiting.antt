@@ -15,9 +15,10 @@ use Rattle.bt_air.specs.Sent.{sent_as}
 use Rattle.bt_events.specs.Event.{Event, RestartCentre}
 use Rattle.bt_events.specs.World.{terminals}
 use Rattle.bt_journal.specs.declared.call.Change.{Change}
-use Rattle.bt_apart.specs.declared.sites.Sites.TheVariants.{Together}
+use Rattle.bt_bus.specs.declared.sites.Sites.TheVariants.{Together}
 use Rattle.bt_bus.specs.declared.heard.BusLine.{BusLine}
-use Rattle.bt_round.specs.AirLines.{AirState, Simulated, Apart, going, having, hearing, restarting}
+use Rattle.bt_round.specs.declared.worker.CentreOver.TheVariants.{Simulated, Apart}
+use Rattle.bt_round.specs.AirLines.{AirState, going, having, hearing, restarting}
 use Rattle.bt_round.specs.Simulated as simulated
 use Rattle.bt_round.specs.Simulated.{SimulatedAir, awaiting, sent_by, sent_count}
 use Rattle.bt_round.specs.Waiting.{deliveries, deliveries_of, receivers}

@@ -18,7 +18,8 @@ use Rattle.bt_journal.specs.declared.reply.Reply.TheVariants as reply
 use Rattle.bt_script.specs.declared.script.AirLine.{AirLine}
 use Rattle.bt_script.specs.declared.script.AirLine.TheVariants as line
 use Rattle.bt_bus.specs.declared.heard.BusLine.{BusLine}
-use Rattle.bt_round.specs.AirLines.{AirState, Simulated, Apart, PlaysAirLine, PlaysAirLines, PlaysBack, PlaysOrder, PlaysSimulated, PlaysTurnIf, PlaysTurning, events_in, going, having, hearing, installing, is_marked, once_answered, opening_in, restarting, turning, wanted_in}
+use Rattle.bt_round.specs.declared.worker.CentreOver.TheVariants.{Simulated, Apart}
+use Rattle.bt_round.specs.AirLines.{AirState, PlaysAirLine, PlaysAirLines, PlaysBack, PlaysOrder, PlaysSimulated, PlaysTurnIf, PlaysTurning, events_in, going, having, hearing, installing, is_marked, once_answered, opening_in, restarting, turning, wanted_in}
 use Rattle.bt_round.specs.Simulated as simulated
 use Rattle.bt_round.specs.Simulated.{SimulatedAir, PlaysBurst, PlaysDeliveries, PlaysDelivery, PlaysFlow, PlaysFrame, PlaysLoss, PlaysNotice, PlaysReset, PlaysTick, awaiting, bridging, happened, noticed}
 use Rattle.bt_round.proofs.Running.{last-first}

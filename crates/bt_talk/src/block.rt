@@ -96,7 +96,7 @@ impl Block {
         came: Option<&[u8]>,
     ) -> Result<(Block, Step), OutOfMemory>
         requires terminals { IsOpenFor net.now self }
-        requires short { IfSome came.entry (λ text. length text.now ≤ line_bytes sites) }
+        requires short { IfSome came (λ text. length text.now ≤ line_bytes sites) }
         ensures row { IfOk result (λ on. (on.0, on.1) ≡ row_of net.now sites self (option_map (λ text. text.now) came.entry)) }
         ensures terminals { IfOk result (λ on. IsOpenFor net.now on.0) }
         ensures part { IfOk result (λ on. IsStepFor net.now on.1) }

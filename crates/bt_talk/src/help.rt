@@ -64,10 +64,16 @@ help: these lines\n";
 pub fn help_text(alloc: Global, sites: Sites) -> Result<Vec<u8>, OutOfMemory>
     ensures text { IfOk result (λ text. text.items ≡ help_text sites) }
 {
-    let lines = match sites {
-        Sites::Together => HELP,
-        Sites::Apart => APART_HELP,
-    };
+    match sites {
+        Sites::Together => text_of(alloc, HELP),
+        Sites::Apart => text_of(alloc, APART_HELP),
+    }
+}
+
+/// These lines.
+fn text_of(alloc: Global, lines: &str) -> Result<Vec<u8>, OutOfMemory>
+    ensures text { IfOk result (λ text. text.items ≡ lines.now) }
+{
     let mut text = Vec::new(alloc);
     text.extend_from_slice(lines.as_bytes())?;
     Ok(text)

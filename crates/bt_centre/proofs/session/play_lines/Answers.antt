@@ -35,7 +35,7 @@ loop-at-init g c =
 pub returns-in-Ok-None-clause-heard : goal.returns-in-Ok-None-clause-heard
 returns-in-Ok-None-clause-heard g c =
     let at = c.loop-at.invariant in
-    let comes = comes_of c.args.sites c.most_bytes.result (g.T.Talk.coming c.loop-at.talk) (g.T.Talk.coming c.hear.new.self) _ _ c.most_bytes.ensures c.in-Ok-None.field-0-is c.in-Ok-None.ensures.next in
+    let comes = comes_of c.args.sites c.line_bytes.result (g.T.Talk.coming c.loop-at.talk) (g.T.Talk.coming c.hear.new.self) _ _ c.line_bytes.ensures c.in-Ok-None.field-0-is c.in-Ok-None.ensures.next in
     let turn = subst (λ (o : Option Incoming). g.T.Talk.turns c.hear.new.self ≡ took (g.T.Talk.turns c.loop-at.talk) (heard o)) c.in-Ok-None.field-0-is c.in-Ok-None.ensures.turn in
     heard_over c.args.net.now c.args.sites c.args.playing.book c.loop-at.at c.loop-at.block c.loop-at.playing _ _ _ _ _ _ _ _ _ _ _ _ _ _ at.going comes c.hear.ensures.output turn
 
@@ -64,7 +64,7 @@ returns-in-Err-say_both-clause-ended g c =
     let at = c.loop-at.invariant in
     let why = c.in-Err-say_both.fault in
     let text = c.in-Ok-play_step.text.items in
-    let comes = comes_of c.args.sites c.most_bytes.result (g.T.Talk.coming c.loop-at.talk) (g.T.Talk.coming c.hear.new.self) _ _ c.most_bytes.ensures c.in-Ok-Some.field-0-is c.in-Ok-Some.ensures.next in
+    let comes = comes_of c.args.sites c.line_bytes.result (g.T.Talk.coming c.loop-at.talk) (g.T.Talk.coming c.hear.new.self) _ _ c.line_bytes.ensures c.in-Ok-Some.field-0-is c.in-Ok-Some.ensures.next in
     let turn = subst (λ (o : Option Incoming). g.T.Talk.turns c.hear.new.self ≡ took (g.T.Talk.turns c.loop-at.talk) (heard o)) c.in-Ok-Some.field-0-is c.in-Ok-Some.ensures.turn in
     same_session_end c.args.net.now c.args.sites _ _ _ _ _ _ _ _ _ c.args.playing.book c.stop-in-Err-say_both.result _ _ _ _ _ _ c.unwritten-in-Err-say_both.result end.told end.faults end.crashes end.histories end.events end.status
     (going_not_said c.args.net.now c.args.sites c.args.playing.book c.loop-at.at c.loop-at.block c.in-Ok.taken.0 c.in-Ok-Some.came c.in-Ok.taken.1 c.loop-at.playing c.in-Ok-play_step.next text
@@ -78,7 +78,7 @@ pub returns-in-Err-play_step-clause-ended : goal.returns-in-Err-play_step-clause
 returns-in-Err-play_step-clause-ended g c =
     let end = c.end-in-Err-play_step.ensures in
     let at = c.loop-at.invariant in
-    let comes = comes_of c.args.sites c.most_bytes.result (g.T.Talk.coming c.loop-at.talk) (g.T.Talk.coming c.hear.new.self) _ _ c.most_bytes.ensures c.in-Ok-Some.field-0-is c.in-Ok-Some.ensures.next in
+    let comes = comes_of c.args.sites c.line_bytes.result (g.T.Talk.coming c.loop-at.talk) (g.T.Talk.coming c.hear.new.self) _ _ c.line_bytes.ensures c.in-Ok-Some.field-0-is c.in-Ok-Some.ensures.next in
     let turn = subst (λ (o : Option Incoming). g.T.Talk.turns c.hear.new.self ≡ took (g.T.Talk.turns c.loop-at.talk) (heard o)) c.in-Ok-Some.field-0-is c.in-Ok-Some.ensures.turn in
     same_session_end c.args.net.now c.args.sites _ _ _ _ _ _ _ _ _ c.args.playing.book c.in-Err-play_step.remains _ _ _ _ _ _ c.say_no_restart-status.result end.told end.faults end.crashes end.histories end.events end.status
     (going_not_played c.args.net.now c.args.sites c.args.playing.book c.loop-at.at c.loop-at.block c.in-Ok.taken.0 c.in-Ok-Some.came c.in-Ok.taken.1 c.loop-at.playing c.in-Err-play_step.remains
@@ -89,7 +89,7 @@ pub loop-at-preserved : goal.loop-at-preserved
 loop-at-preserved g c =
     let at = c.loop-at.invariant in
     let text = c.in-Ok-play_step.text.items in
-    let comes = comes_of c.args.sites c.most_bytes.result (g.T.Talk.coming c.loop-at.talk) (g.T.Talk.coming c.hear.new.self) _ _ c.most_bytes.ensures c.in-Ok-Some.field-0-is c.in-Ok-Some.ensures.next in
+    let comes = comes_of c.args.sites c.line_bytes.result (g.T.Talk.coming c.loop-at.talk) (g.T.Talk.coming c.hear.new.self) _ _ c.line_bytes.ensures c.in-Ok-Some.field-0-is c.in-Ok-Some.ensures.next in
     let turn = subst (λ (o : Option Incoming). g.T.Talk.turns c.hear.new.self ≡ took (g.T.Talk.turns c.loop-at.talk) (heard o)) c.in-Ok-Some.field-0-is c.in-Ok-Some.ensures.turn in
     record {
       later = omega (arith, at.later, c.hear.ensures.output_faults, c.say_both.ensures.later);

@@ -1,7 +1,7 @@
 use Rattle.std.proofs.lemmas.Result.{on_ok_weaker}
 use Rattle.bt_round.specs.AirLines.{back_of, mark_of, newest_in, turn_text_by}
 use Rattle.bt_round.proofs.Turning.{turn-told}
-use Rattle.bt_round.proofs.worker.CentreOver+SimulatedCentre+E.act.Goals as goal
+use Rattle.bt_round.proofs.turn.CentreOver+SimulatedCentre+E.act.Goals as goal
 
 pub returns-clause-text : goal.returns-clause-text
 returns-clause-text g c =

@@ -2,7 +2,7 @@ use Rattle.std.proofs.Common.{◌≡◌, take}
 use Rattle.bt_round.specs.AirLines.{PlaysAirLines, opening_in}
 use Rattle.bt_round.specs.Callers.{IsSameCaller, own_of}
 use Rattle.bt_round.specs.Worker.{Asks}
-use Rattle.bt_round.proofs.worker.CentreOver+SimulatedCentre+E.play_lines.Given as goal
+use Rattle.bt_round.proofs.lines.CentreOver+SimulatedCentre+E.play_lines.Given as goal
 
 -- the lines so far were played
 abbrev pub invariant-loop-line : goal.invariant-loop-line

@@ -4,7 +4,7 @@ use Rattle.bt_history.specs.Causes.{CanCome}
 use Rattle.bt_round.specs.Callers.{own_of}
 use Rattle.bt_round.proofs.Wanted.{order-answers}
 use Rattle.bt_round.proofs.Turning.{none-asked}
-use Rattle.bt_round.proofs.worker.CentreOver+SimulatedCentre+E.place_wanted.Goals as goal
+use Rattle.bt_round.proofs.turn.CentreOver+SimulatedCentre+E.place_wanted.Goals as goal
 
 pub returns-in_default-clause-played : goal.returns-in_default-clause-played
 returns-in_default-clause-played g c =

@@ -7,7 +7,7 @@ use Rattle.bt_history.specs.Changes.{newest}
 use Rattle.bt_round.specs.Callers.{own_of}
 use Rattle.bt_round.proofs.Asking.{still_same}
 use Rattle.bt_round.proofs.Turning.{lent-newer, newer-holds, turn-done}
-use Rattle.bt_round.proofs.worker.CentreOver+SimulatedCentre+E.take_turn.Goals as goal
+use Rattle.bt_round.proofs.turn.CentreOver+SimulatedCentre+E.take_turn.Goals as goal
 
 pub install-requires-clause-flyable : goal.install-requires-clause-flyable
 install-requires-clause-flyable g c =

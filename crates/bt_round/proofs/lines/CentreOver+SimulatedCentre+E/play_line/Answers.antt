@@ -3,7 +3,7 @@ use Rattle.bt_script.specs.declared.script.AirLine.TheVariants as line
 use Rattle.bt_round.specs.AirLines.{PlaysAhead, PlaysBack}
 use Rattle.bt_round.specs.Callers.{own_of}
 use Rattle.bt_round.proofs.PlayedLines.{apart-line, asks-nothing, is-own, on-line, simulated-line}
-use Rattle.bt_round.proofs.worker.CentreOver+SimulatedCentre+E.play_line.Goals as goal
+use Rattle.bt_round.proofs.lines.CentreOver+SimulatedCentre+E.play_line.Goals as goal
 
 pub returns-in-Turn-clause-played : goal.returns-in-Turn-clause-played
 returns-in-Turn-clause-played g c =

@@ -1,7 +1,7 @@
 use Rattle.std.proofs.lemmas.Result.{on_ok_weaker}
 use Rattle.bt_round.specs.Callers.{own_of}
 use Rattle.bt_round.proofs.Turning.{turn-marked, turn-unmarked}
-use Rattle.bt_round.proofs.worker.CentreOver+SimulatedCentre+E.turn.Goals as goal
+use Rattle.bt_round.proofs.turn.CentreOver+SimulatedCentre+E.turn.Goals as goal
 
 pub returns-then-is_marked-clause-played : goal.returns-then-is_marked-clause-played
 returns-then-is_marked-clause-played g c =

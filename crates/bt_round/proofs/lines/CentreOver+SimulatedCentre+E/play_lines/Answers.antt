@@ -3,7 +3,7 @@ use Rattle.bt_script.specs.declared.script.AirLine.TheVariants as line
 use Rattle.bt_round.specs.Callers.{own_of}
 use Rattle.bt_round.proofs.Asking.{same_as_now, same_network, still_same}
 use Rattle.bt_round.proofs.PlayedLines.{lines-more, lines-none}
-use Rattle.bt_round.proofs.worker.CentreOver+SimulatedCentre+E.play_lines.Goals as goal
+use Rattle.bt_round.proofs.lines.CentreOver+SimulatedCentre+E.play_lines.Goals as goal
 
 pub loop-line-init : goal.loop-line-init
 loop-line-init g c = record {
