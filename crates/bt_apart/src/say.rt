@@ -111,16 +111,15 @@ impl ApartCentre {
             return Err(OutOfMemory);
         }
         sent_text(alloc, net, self.said, one.sent(), text)?;
-        let message = self.message(alloc, net, one.aired())?;
+        let message = self.message(alloc, one.aired())?;
         add_radio(alloc, self.mark, &message, text)?;
         self.said += 1;
         Ok(())
     }
 
     // The message, with what the plans have for it.
-    fn message(&self, alloc: Global, net: &Network, said: Aired) -> Result<Message, OutOfMemory>
-        requires network { net.now ≡ self.now.opening.net }
-        requires sayable { IsSayable net.now self.now.plans said }
+    fn message(&self, alloc: Global, said: Aired) -> Result<Message, OutOfMemory>
+        requires { IsSayable self.now.opening.net self.now.plans said }
         ensures { IfOk result (λ message. message ≡ carried self.now.plans said) }
     {
         self.centre.message(alloc, self.loaded(said), said)
