@@ -56,14 +56,21 @@ known-in false m k is = omega (arith, is)
 known-behind : (o : Opening) (before : List Act) (air : ApartAir) → IsCentreAt o before air → known step.Centre before ≤ air.mark.0
 known-behind o before air at = known-in air.marked air.mark.0 (known step.Centre before) at.knows
 
+-- it goes on with a superframe that begins, where that is not behind one that it knew
+pub begun-onward : (o : Opening) (before : List Act) (air : ApartAir) (stamp : ℕ) → IsCentreAt o before air → reached o step.Centre before ≤ stamp → takes_up air (Begun stamp) ≡ true
+    → IsNotBehind o (Hears step.Centre (Begun stamp) ∷ before) (heard_apart air (heard_as (Begun stamp)))
+begun-onward o before air stamp at behind takes =
+    let on = not-behind air.mark.0 stamp takes in
+    subst (λ (a : ApartAir). IsNotBehind o (Hears step.Centre (Begun stamp) ∷ before) a)
+    (sym (if-true (nat_le air.mark.0 stamp) (record air { mark = mark_of stamp; marked = true }) air takes))
+    (max-le behind (max-le (omega (arith, known-behind o before air at, on)) (omega arith)))
+
 -- it goes on with each line
 pub hears-onward : (o : Opening) (before : List Act) (air : ApartAir) (line : Line) → IsCentreAt o before air → IsNotBehind o before air → takes_up air line ≡ true
     → IsNotBehind o (Hears step.Centre line ∷ before) (heard_apart air (heard_as line))
 hears-onward o before air (Begun stamp) at behind takes =
     let on = not-behind air.mark.0 stamp takes in
-    subst (λ (a : ApartAir). IsNotBehind o (Hears step.Centre (Begun stamp) ∷ before) a)
-    (sym (if-true (nat_le air.mark.0 stamp) (record air { mark = mark_of stamp; marked = true }) air takes))
-    (max-le (omega (arith, behind, on)) (max-le (omega (arith, known-behind o before air at, on)) (omega arith)))
+    begun-onward o before air stamp at (omega (arith, behind, on)) takes
 hears-onward o before air (Radio stamp bytes) at behind takes =
     let k = known step.Centre before in
     let later = later_mark air.mark (mark_of stamp) in

@@ -114,3 +114,9 @@ IsSayable (Radio stamp bytes) = (stamp ≤ LAST_MARK) × IsBytes bytes
 -- a text is heard as this line
 abbrev pub IsHeardAs : List ℕ → Line → Type 0
 IsHeardAs text line = bus_line_of text ≡ Some (heard_as line)
+
+-- what was read of a text is what is heard of some line, of a superframe from 1 on where one begins
+pub record IsOfLine (one : BusLine) : Type 0 where
+  pub line : Line
+  pub is : heard_as line ≡ one
+  pub some : BeginsSome line

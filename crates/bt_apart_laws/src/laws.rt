@@ -1,5 +1,5 @@
 // The centre of sites apart is a site that hears lines with stamps, of which the laws of `bt_sites` speak.
-ghost use Rattle.std.specs.Prelude.{◌≡◌, ℕ, ◌<◌, ◌++◌, Bool, true, false, [], ◌∷◌, List, IsSome, Option};
+ghost use Rattle.std.specs.Prelude.{◌≡◌, ℕ, ◌<◌, ◌≤◌, ◌++◌, Bool, true, false, [], ◌∷◌, List, IsSome, Option, Some};
 ghost use Rattle.std.specs.List.{flat_map};
 ghost use Rattle.std.specs.List.Sorted.{IsPermutation};
 ghost use Rattle.bt_frame.specs.declared.numbers.EditionNo.{EditionNo};
@@ -15,10 +15,12 @@ ghost use Rattle.bt_events.specs.World.{terminals};
 ghost use Rattle.bt_sites.specs.Fits.{AreSmall};
 ghost use Rattle.bt_sites.specs.OnAir.{AreSentIn, IsOnBoard};
 ghost use Rattle.bt_sites.specs.Sites.{satellite_after};
-ghost use Rattle.bt_sites.specs.Stamps.{Act, AreStamped, HasLine, Hears, Installs, Line, MayAct, Places, Restarts, Turns, actor_of, is_same_site, lines, lines_by, steps_by};
+ghost use Rattle.bt_sites.specs.Stamps.{Act, AreStamped, Begun, HasLine, Hears, Installs, Line, MayAct, Places, Restarts, Turns, actor_of, is_same_site, lines, lines_by, reached, steps_by};
 ghost use Rattle.bt_sites.specs.Step as site;
+ghost use Rattle.bt_bus.specs.Heard.{bus_line_of};
+ghost use Rattle.bt_bus.specs.declared.heard.BusLine.{BusLine};
 ghost use Rattle.bt_apart.specs.Apart.{ApartAir, apart_at_start, going_apart, having_apart, heard_apart};
-ghost use Rattle.bt_apart_laws.specs.Acts.{BeginsSome, IsAct, IsCentreAt, IsHeardAs, IsNotBehind, IsPlanInFront, IsSafeInFront, IsSayable, heard_as, is_hearing, opening_again, takes_up, text_of, words_of};
+ghost use Rattle.bt_apart_laws.specs.Acts.{BeginsSome, IsAct, IsCentreAt, IsHeardAs, IsNotBehind, IsOfLine, IsPlanInFront, IsSafeInFront, IsSayable, heard_as, is_hearing, opening_again, takes_up, text_of, words_of};
 
 use bt_events::{banks_hold_plans, frames_are_safe};
 use bt_sites::{
@@ -26,10 +28,12 @@ use bt_sites::{
     stamped_superframes_are_safe,
 };
 
-/// Each line that can be said, its newline left out, is heard as it was said.
+/// Each line that can be said, its newline left out, is heard as it was said, and what is read of any text is what is heard
+/// of some line.
 pub fn lines_are_heard_as_said()
     ensures said { (line : Line) → text_of line ≡ spaced (words_of line) ++ 10 ∷ [] }
     ensures heard { (line : Line) → IsSayable line → IsHeardAs (spaced (words_of line)) line }
+    ensures read { (text : List ℕ) (one : BusLine) → bus_line_of text ≡ Some one → IsOfLine one }
 {}
 
 /// The centre that opens is what it is before any act, and one that starts again with the plans and the orders to which the
@@ -68,10 +72,13 @@ pub fn centre_may_act()
     ensures restart { (o : Opening) (before : List Act) (air : ApartAir) (kept : Bool) → IsCentreAt o before air → (kept ≡ true → IsSome air.centre.wanted) → MayAct o before (Restarts kept) }
 {}
 
-/// The centre of one process is never behind a superframe that it knew, its restarts within the process included: at its
-/// first start, once it took up a line, and whatever else was done, by itself or by another site.
+/// The centre is never behind a superframe that it knew: where it opens, and in a new process from the first mark that it
+/// takes up on, where that is not behind; once it took up a line, and whatever else was done, by itself, its restarts
+/// within the process included, or by another site.
 pub fn centre_goes_on()
     ensures start { (o : Opening) → IsNotBehind o [] (apart_at_start o) }
+    ensures first { (o : Opening) (before : List Act) (air : ApartAir) (stamp : ℕ) → IsCentreAt o before air → reached o site.Centre before ≤ stamp → takes_up air (Begun stamp) ≡ true
+        → IsNotBehind o (Hears site.Centre (Begun stamp) ∷ before) (heard_apart air (heard_as (Begun stamp))) }
     ensures heard { (o : Opening) (before : List Act) (air : ApartAir) (line : Line) → IsCentreAt o before air → IsNotBehind o before air → takes_up air line ≡ true
         → IsNotBehind o (Hears site.Centre line ∷ before) (heard_apart air (heard_as line)) }
     ensures does { (o : Opening) (before : List Act) (air : ApartAir) (event : Event) (act : Act) → IsCentreAt o before air → IsNotBehind o before air → is_hearing act ≡ false
