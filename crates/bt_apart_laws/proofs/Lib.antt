@@ -1,0 +1,4 @@
+mod Acts
+mod Front
+mod May
+mod Said
