@@ -8,9 +8,9 @@ returns g c =
     let run = c.args.run.now in
     let taken = c.take_entries.ensures in
     record {
-      same = handed_on log.times c.add.new.self.times log.front c.add.new.self.front c.of.result c.take_entries.result.items run c.take_entries.new.self
-          c.add.ensures.times c.add.ensures.front c.of.ensures.same taken.handed;
+      same = handed_on log.times c.add.new.self.times log.front c.add.new.self.front c.of-entries.result c.take_entries.result.items run c.take_entries.new.self
+          c.add.ensures.times c.add.ensures.front c.of-entries.ensures.same taken.handed;
       none = taken.none;
-      live = live_handed log.front c.add.new.self.front c.of.result c.take_entries.result.items run c.take_entries.new.self c.add.ensures.front c.of.ensures.same taken.handed taken.none taken.kept
+      live = live_handed log.front c.add.new.self.front c.of-entries.result c.take_entries.result.items run c.take_entries.new.self c.add.ensures.front c.of-entries.ensures.same taken.handed taken.none taken.kept
           c.requires.live;
     }
