@@ -1,0 +1,5 @@
+pub mod Object
+pub mod Said
+pub mod Forms
+pub mod Table
+pub mod Row
