@@ -1,7 +1,7 @@
 -- The object of a line says that line.
 use Rattle.std.proofs.Common.{◌≡◌, ℕ, ◌+◌, ◌==◌, ◌||◌, Bool, true, false, not, cond, codes, List, [], ◌∷◌, length, map, Option, Some, None, option_map, option_and_then, refl, sym, ap, ◌∙◌, arith}
 use Rattle.std.specs.List.{list_all}
-use Rattle.std.proofs.lemmas.Bool.{and_parts}
+use Rattle.std.proofs.lemmas.Bool.{and_parts, leb-true}
 use Rattle.std.proofs.lemmas.List.Sums.{sum_by-cons}
 use Rattle.std.proofs.lemmas.List.Splits.{join_with_byte-slice_split}
 use Rattle.std.proofs.lemmas.Slice.Eq.{bytes_eq-Decides}
@@ -31,12 +31,12 @@ other_name : (name first : List ℕ) → bytes_eq name first ≡ false → name 
 other_name name first other same = absurd (let is = (bytes_eq-Decides name first).1 same in cc)
 
 -- what a field was put
-field_put : (name word : List ℕ) (value : Option Data) (members after : Members) → option_map (λ v. put name v members) value ≡ Some after → (v : Data) × (value ≡ Some v) × (after ≡ put name v members)
+pub field_put : (name word : List ℕ) (value : Option Data) (members after : Members) → option_map (λ v. put name v members) value ≡ Some after → (v : Data) × (value ≡ Some v) × (after ≡ put name v members)
 field_put name word None members after is = absurd cc
 field_put name word (Some v) members after is = (v, refl, cc)
 
 -- fields under names one after the other
-fields_step : (first : Option Members) (names words : List (List ℕ)) (after : Members) → option_and_then (with_fields names words) first ≡ Some after → (between : Members) × (first ≡ Some between) × (with_fields names words between ≡ Some after)
+pub fields_step : (first : Option Members) (names words : List (List ℕ)) (after : Members) → option_and_then (with_fields names words) first ≡ Some after → (between : Members) × (first ≡ Some between) × (with_fields names words between ≡ Some after)
 fields_step None names words after is = absurd cc
 fields_step (Some between) names words after is = (between, refl, is)
 
@@ -153,9 +153,9 @@ form_says places names line after is fits has =
     let plain = and_parts (are_plain places) (list_all (lacks 32) ws) is.plain in
     let form : get_member (codes "form") after ≡ Some (string (spaced ws)) = others_stay (codes "form") names (open_words places (words line)) (form_member places names) after apart.0 has in
     let said : words_for (object after) ws ≡ Some (words line) = filled_says places names (words line) after fits is.count apart.1 plain.0 (form_member places names) has in
-    rw form (rw (words-spaced ws is.some plain.1, said) (ap (λ (l : List ℕ). Some l) (join_with_byte-slice_split 32 line)))
+    rw form (rw (words-spaced ws (leb-true 1 (length ws) is.some) plain.1, said) (ap (λ (l : List ℕ). Some l) (join_with_byte-slice_split 32 line)))
 
-object_made : (made : Option Members) (value : Data) → option_map object made ≡ Some value → (members : Members) × (made ≡ Some members) × (value ≡ object members)
+pub object_made : (made : Option Members) (value : Data) → option_map object made ≡ Some value → (members : Members) × (made ≡ Some members) × (value ≡ object members)
 object_made None value is = absurd cc
 object_made (Some members) value is = (members, refl, cc)
 
@@ -164,7 +164,7 @@ of_form places names line value is fits made =
     let (members, has, same) = object_made (with_fields names (open_words places (words line)) (form_member places names)) value made in
     rw same (form_says places names line members is fits has)
 
-text_made : (is : Bool) (line : List ℕ) (value : Data) → option_map (λ text. object (member (codes "text") text no_members)) (cond is (Some (string line)) None) ≡ Some value → value ≡ object (member (codes "text") (string line) no_members)
+pub text_made : (is : Bool) (line : List ℕ) (value : Data) → option_map (λ text. object (member (codes "text") text no_members)) (cond is (Some (string line)) None) ≡ Some value → value ≡ object (member (codes "text") (string line) no_members)
 text_made true line value made = cc
 text_made false line value made = absurd cc
 

@@ -1,5 +1,5 @@
 -- Lines that have the places of a form, and forms whose words can be told apart from the names of their open places.
-use Rattle.std.specs.Prelude.{◌≡◌, ℕ, ◌<◌, ◌==◌, ◌&&◌, Bool, true, not, IsTrue, List, [], ◌∷◌, codes, length}
+use Rattle.std.specs.Prelude.{◌≡◌, ℕ, nat_lt, ◌==◌, ◌&&◌, Bool, true, not, IsTrue, List, [], ◌∷◌, codes, length}
 use Rattle.std.specs.List.{list_all}
 use Rattle.bt_text.specs.Text.{lacks}
 use Rattle.bt_words.specs.Forms as part
@@ -32,7 +32,7 @@ is_plain places names = are_plain places && list_all (lacks 32) (form_words plac
 
 -- A form: it has a place, each open one has a name of its own, none of them is `form`, and its words are plain.
 pub record IsForm (places : List Part) (names : List (List ℕ)) : Type 0 where
-  pub some : 0 < length (form_words places names)
+  pub some : IsTrue (nat_lt 0 (length (form_words places names)))
   pub count : length names ≡ open_places places
   pub apart : IsTrue (are_apart (codes "form" ∷ names))
   pub plain : IsTrue (is_plain places names)

@@ -3,3 +3,6 @@ pub mod Said
 pub mod Forms
 pub mod Table
 pub mod Row
+pub mod Json
+pub mod Flat
+pub mod Added
