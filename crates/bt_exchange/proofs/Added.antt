@@ -1,5 +1,5 @@
 -- The JSON of one line more, and its fault.
-use Rattle.std.proofs.Common.{◌≡◌, ℕ, ◌+◌, ◌<◌, List, [], ◌∷◌, ◌++◌, length, Option, Some, None, Result, Ok, Err, refl, sym, ap, subst, ◌∙◌, append_assoc}
+use Rattle.std.proofs.Common.{◌≡◌, ℕ, ◌+◌, ◌<◌, List, [], ◌∷◌, ◌++◌, length, Option, Some, None, Ok, Err, refl, sym, ap, subst, ◌∙◌, append_assoc}
 use Rattle.std.proofs.lemmas.List.{append-nil}
 use Rattle.bt_text.specs.Reading.{◌>>=◌, IsFaultOf, LineReading, or_fault}
 use Rattle.bt_text.specs.Text.{lines}
@@ -20,9 +20,6 @@ nothing_in_front (Err fault) = refl
 moved : (text piece : List ℕ) (reading : LineReading JsonCode (List ℕ)) → behind (text ++ piece) reading ≡ behind text (reading >>= λ more. Ok (piece ++ more))
 moved text piece (Ok more) = ap (λ (t : List ℕ). Ok t) (append_assoc text piece more)
 moved text piece (Err fault) = refl
-
-
-
 
 step : (at : ℕ) (old new : List ℕ) (one : Option (List ℕ)) (reading : LineReading JsonCode (List ℕ)) → with_json at old one ≡ Ok new
     → behind new reading ≡ behind old (or_fault (O1, at) one >>= λ json. reading >>= λ more. Ok ((json ++ 10 ∷ []) ++ more))

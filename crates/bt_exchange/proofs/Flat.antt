@@ -1,5 +1,5 @@
 -- Objects of numbers and texts are written exactly.
-use Rattle.std.proofs.Common.{◌≡◌, ℕ, suc, ◌≤◌, ◌||◌, Bool, true, false, cond, codes, List, [], ◌∷◌, Ordering, Less, Equal, Greater, Option, Some, None, option_map, option_and_then, refl, sym, ap, subst, ◌∙◌, arith}
+use Rattle.std.proofs.Common.{◌≡◌, ℕ, ◌≤◌, ◌||◌, Bool, true, false, cond, codes, List, [], ◌∷◌, Ordering, Less, Equal, Greater, Option, Some, None, refl, sym, subst, arith}
 use Rattle.std.specs.Ordering.{match_ordering, nat_cmp}
 use Rattle.std.specs.Cmp.Lexicographic.{slice_cmp}
 use Rattle.std.specs.Str.{is_utf8}
@@ -8,7 +8,7 @@ use Rattle.serde_json.specs.Written.{has_float, members_have_float}
 use Rattle.bt_text.specs.Text.{number_of_digits, words}
 use Rattle.bt_words.specs.Forms.{Part}
 use Rattle.bt_exchange.specs.Flat.{IsFlat}
-use Rattle.bt_exchange.specs.Object.{form_member, form_object, number_or_text, open_words, text_object, text_value, value_of, with_field, with_fields}
+use Rattle.bt_exchange.specs.Object.{form_member, form_object, number_or_text, open_words, text_object, value_of, with_field, with_fields}
 use Rattle.bt_exchange.proofs.Back.{field_put, fields_step, object_made, text_made}
 
 -- members of numbers and texts

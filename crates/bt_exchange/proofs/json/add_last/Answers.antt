@@ -1,10 +1,10 @@
 -- the line behind the last newline
-use Rattle.std.proofs.Common.{◌≡◌, ℕ, ◌<◌, List, length, sym, subst, ◌∙◌, arith}
+use Rattle.std.proofs.Common.{ℕ, ◌<◌, List, length, sym, subst, ◌∙◌, arith}
 use Rattle.std.proofs.lemmas.Bool.Decides.{nat_tests}
 use Rattle.std.proofs.lemmas.Result.{err_from_is_err_and}
 use Rattle.bt_text.specs.Reading.{IsFaultOf, LineReading}
 use Rattle.bt_exchange.specs.declared.json.JsonCode.{JsonCode}
-use Rattle.bt_exchange.proofs.Added.{last_back, last_line}
+use Rattle.bt_exchange.proofs.Added.{last_line}
 use Rattle.bt_exchange.proofs.json.add_last.Goals as goal
 
 pub returns-clause-added : goal.returns-clause-added

@@ -3,7 +3,7 @@ use Rattle.std.proofs.Common.{◌≡◌, ℕ, List, [], ◌∷◌, ◌++◌, Opt
 use Rattle.serde_json.specs.Read.{read}
 use Rattle.serde_json.specs.View.{view}
 use Rattle.serde_json.specs.Written.{compact_text}
-use Rattle.bt_exchange.specs.Json.{json_line, line_object}
+use Rattle.bt_exchange.specs.Json.{line_object}
 use Rattle.bt_exchange.specs.Said.{line_of_object, said_by}
 use Rattle.bt_exchange.proofs.Lines.{line_flat, line_says}
 use Rattle.bt_exchange.proofs.json.add_line.Goals as goal
