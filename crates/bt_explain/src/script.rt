@@ -4,6 +4,7 @@ use crate::cause::Cause;
 use crate::fault::Fault;
 use crate::form::forms_of;
 use crate::lines::{Lines, Words};
+use bt_bus::Sites;
 use bt_frame::MOST_DIGITS;
 use bt_talk::help_text;
 use bt_text::{is_word, number};
@@ -78,7 +79,7 @@ fn is_of_desk(word: &[u8]) -> bool {
 
 /// Whether a line of a session begins with this word, by what a session tells of its lines. Where memory is wanting, none does.
 fn begins_session_line(alloc: Global, word: &[u8]) -> bool {
-    match help_text(alloc) {
+    match help_text(alloc, Sites::Together) {
         Ok(help) => Lines::of(help.as_slice()).any(|(_, line)| is_word(told_first(line), word)),
         Err(_) => false,
     }
