@@ -57,7 +57,7 @@ fn sites_asked(words: &[String]) -> Sites
     ensures { result ≡ sites_asked (map string_bytes words.now) }
 {
     match words {
-        [command, ..] if command == "centre" => Sites::Apart,
+        [command, ..] if command.as_str() == "centre" => Sites::Apart,
         _ => Sites::Together,
     }
 }

@@ -48,7 +48,7 @@ whole_printed : (net : Net) (tells : _) (opening : List Change) (items : List It
     → IsRun net Together tells opening items histories events lines → AreLines net (whole_text net opening lines histories)
 whole_printed net tells opening items histories events lines stored sound parts opens world run =
     let start = at_start net Together opening in
-    let set : IsSet net start = record { follow = opens.follow; few = opens.few; air = few_at_start net Together opening } in
+    let set : IsSet net start = record { follow = opens.follow; few = opens.few; air = few_at_start net opening } in
     let end = told_at_end net tells opening items histories events lines run world in
     let told = told_at_start net tells start items lines run.end run.played end in
     let first = start_printed net opening start.air opens.follow opens.few told.world set.air in

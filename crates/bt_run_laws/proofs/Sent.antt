@@ -18,7 +18,7 @@ use Rattle.bt_run_lines.specs.Printers.{numbers}
 use Rattle.bt_timeline.specs.Air.{reference_line, sent_line, status_line}
 use Rattle.bt_run_laws.specs.Readable.{AreLines}
 use Rattle.bt_run_laws.specs.Small.{IsSmall}
-use Rattle.bt_round.specs.AirLines.{sent_lines}
+use Rattle.bt_round.specs.Simulated.{sent_lines}
 use Rattle.bt_round.specs.Worker.{NamesOwn}
 use Rattle.bt_run_laws.proofs.Read.{line_printed, more_lines, no_lines}
 

@@ -25,7 +25,7 @@ use Rattle.bt_run_lines.specs.Printers.{numbers}
 use Rattle.bt_run_laws.specs.Readable.{AreLines}
 use Rattle.bt_run_laws.specs.Small.{IsAnswered, IsSmall, IsSmallReply}
 use Rattle.bt_round.specs.declared.worker.CentreOver.TheVariants.{Simulated, Apart}
-use Rattle.bt_round.specs.AirLines.{turn_text_by, AirState, PlaysOrder, PlaysTurn, PlaysTurning, TakesTurn, answer_text, having, installing, newest_in, once_answered, turning, wanted_in}
+use Rattle.bt_round.specs.AirLines.{turn_text_by, AirState, PlaysOrder, PlaysTurn, PlaysTurning, TakesTurn, answer_text, installing, newest_in, once_answered, turning, wanted_in}
 use Rattle.bt_round.specs.Simulated as simulated
 use Rattle.bt_round.specs.Worker.{AnswersOrder}
 use Rattle.bt_round.proofs.Unplaced.{change-answers}
