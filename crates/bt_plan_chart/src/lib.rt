@@ -33,4 +33,5 @@ pub use laws::{
     good_plans_have_no_overlap, meeting_bursts_are_marked, meeting_bursts_overlap,
     permutations_are_told,
 };
+pub use modes::connections_of;
 pub use scale::{Direction, Scale};

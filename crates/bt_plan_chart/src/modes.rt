@@ -111,9 +111,9 @@ fn add_mode(
     )
 }
 
-/// What a mode connects.
-fn connections_of(alloc: Global, net: &Network, perm: &[u8]) -> Result<String, OutOfMemory>
-    ensures { IfOk result (λ text. string_bytes text ≡ connections_text net.now perm.now) }
+/// What a mode connects: each uplink beam with its downlink beam, in the order of the uplinks.
+pub fn connections_of(alloc: Global, net: &Network, perm: &[u8]) -> Result<String, OutOfMemory>
+    ensures told { IfOk result (λ text. string_bytes text ≡ connections_text net.now perm.now) }
 {
     let mut text = String::new(alloc);
     for up in 0..perm.len() {

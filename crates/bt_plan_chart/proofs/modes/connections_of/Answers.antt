@@ -18,4 +18,4 @@ pub returns : goal.returns
 unfolding connections_text
 returns c =
     let same : c.loop-up.up ≡ length c.args.perm.now = omega arith in
-    c.loop-up.invariant ∙ ap (λ n. flat_map (connection_text c.args.net.now c.args.perm.now) (range_with_len 0 n)) same
+    record { told = c.loop-up.invariant ∙ ap (λ n. flat_map (connection_text c.args.net.now c.args.perm.now) (range_with_len 0 n)) same }
