@@ -1,4 +1,11 @@
+mod Others
 mod Acts
 mod Front
 mod May
 mod Said
+mod Journals
+mod Near
+mod Stations
+mod Within
+mod Processes
+mod Running
