@@ -9,3 +9,4 @@ mod Stations
 mod Within
 mod Processes
 mod Running
+mod Claims
