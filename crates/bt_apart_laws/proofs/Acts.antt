@@ -82,7 +82,7 @@ pub known-some : (o : Opening) (before : List Act) (air : ApartAir) → IsCentre
 known-some o before air at marked = omega (arith, at.some marked, known-marked o before air at marked)
 
 -- behind each message that is printed stands the line that is said
-printed : (net : Net) (all : List Plan) (mark : Mark) (first : ℕ) (said : List Aired) → said_lines net all mark first said ≡ printed_with net first said (radios mark.0 all said)
+pub printed : (net : Net) (all : List Plan) (mark : Mark) (first : ℕ) (said : List Aired) → said_lines net all mark first said ≡ printed_with net first said (radios mark.0 all said)
 printed net all mark first [] = refl
 printed net all mark first (one ∷ more) =
     ap (λ (text : List ℕ). (sent_line net first (sent_as one) ++ text_of (Radio mark.0 (bytes_of all one))) ++ text) (printed net all mark (first + 1) more)

@@ -5,8 +5,10 @@ mod May
 mod Said
 mod Journals
 mod Near
+mod Begins
 mod Stations
 mod Within
 mod Processes
 mod Running
 mod Claims
+mod Printed

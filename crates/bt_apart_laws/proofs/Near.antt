@@ -373,3 +373,17 @@ near-opens o acts air all placed reach kept was n =
       reached = reached-more o step.Centre acts (Restarts (is_kept kept)) reach 0 n.reached done.knows;
       within = le-max_right reach 0;
     }
+
+-- as far as a later superframe
+pub near-lower : (o : Opening) (acts : List Act) (air : ApartAir) (all : List Plan) (placed : List Order) (reach bound : ℕ) → reach ≤ bound → IsNear o acts air all placed reach
+    → IsNear o acts air all placed bound
+near-lower o acts air all placed reach bound most n = record {
+  at = n.at;
+  agree = n.agree;
+  planned = n.planned;
+  next = n.next;
+  orders = n.orders;
+  count = n.count;
+  reached = omega (arith, n.reached, most);
+  within = omega (arith, n.within, most);
+}

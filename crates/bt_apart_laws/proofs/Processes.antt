@@ -1,5 +1,5 @@
 -- Processes that share nothing but lines do what sites that hear lines with stamps do.
-use Rattle.std.proofs.Common.{◌≡◌, inl, inr, ℕ, zero, suc, ◌+◌, ◌<◌, ◌≤◌, ◌==◌, ◌||◌, max, if◌then◌else◌, Bool, true, false, List, [], ◌∷◌, ◌++◌, length, All, Option, Some, None, IfSome, refl, sym, ap, ◌∙◌, subst, arith}
+use Rattle.std.proofs.Common.{◌≡◌, inl, inr, ℕ, zero, suc, ◌+◌, ◌-◌, ◌<◌, ◌≤◌, ◌==◌, ◌||◌, max, if◌then◌else◌, Bool, true, false, List, [], ◌∷◌, ◌++◌, length, All, Option, Some, None, IfSome, refl, sym, ap, ◌∙◌, subst, arith}
 use Rattle.std.specs.Prelude.{IsSome, nat_lt}
 use Rattle.std.proofs.Math.Nat.{le-max_right}
 use Rattle.std.proofs.lemmas.Bool.{eqb-true}
@@ -13,7 +13,7 @@ use Rattle.bt_net.specs.Terminals.{IsTerminal}
 use Rattle.bt_demand.specs.declared.plan.Plan.{Plan}
 use Rattle.bt_air.specs.declared.order.Order.{Order}
 use Rattle.bt_air.specs.declared.sent.Aired.TheVariants as sends
-use Rattle.bt_machines.specs.Satellite.{new_at, ticked}
+use Rattle.bt_machines.specs.Satellite.{State as Satellite, new_at, ticked}
 use Rattle.bt_machines.specs.Plans.{StartsEmpty, newest_of, plan_of}
 use Rattle.bt_journal.specs.declared.call.Change.{Change}
 use Rattle.bt_journal.specs.declared.call.Change.TheVariants as change
@@ -21,6 +21,7 @@ use Rattle.bt_history.specs.Causes.{Follows, IsGoodInstall}
 use Rattle.bt_history.specs.Changes.{newest}
 use Rattle.bt_history.proofs.Flying.{install_flies}
 use Rattle.bt_history.proofs.Redone.{FollowFrom-at}
+use Rattle.bt_site.specs.World.{greatest_due}
 use Rattle.bt_site.specs.Event.{Install, Opening, Ordered, RestartCentre, Turn}
 use Rattle.bt_sites.specs.Late.{now_of}
 use Rattle.bt_sites.specs.Sites.{satellite_after}
@@ -45,6 +46,7 @@ use Rattle.bt_apart_laws.specs.Acts.{heard_as, known_in, takes_up}
 use Rattle.bt_apart_laws.specs.Premises.{AreProcesses, GoesOnBy, IsHeardBy, IsStart, IsUnderWay, MayAsk, MayDo, MayHear}
 use Rattle.bt_apart_laws.specs.Processes.{Asks, Deed, Goes, Hears, Learns, Makes, Opens, Places, Restarts, StandbyStarts, Start, Starts, Turns, asked_lines, begun_lines, centre_by, is_started, journal_by, known_by, lines_said, opening_over, present_in, radios, reached_by, satellite_by, standby_by, terminal_by, with_one}
 use Rattle.bt_apart_laws.proofs.Acts.{order-lines, turn-lines}
+use Rattle.bt_apart_laws.proofs.Begins.{begin, begun-near, begun-reached, begun-satellite, begun-stamped, begun-standby, begun-started, begun-terminal}
 use Rattle.bt_apart_laws.proofs.Journals.{newest-first, newest-over, orders-edit, orders-install, orders-order, orders_over, plans-edit, plans-install, plans-order, plans_over}
 use Rattle.bt_apart_laws.proofs.May.{may-install, may-order, may-restart, may-turn}
 use Rattle.bt_apart_laws.proofs.Near.{IsNear, has-all, near-goes, near-heard, near-idle, near-installed, near-learns, near-opens, near-other, near-placed, near-restarts, near-start, near-turn, newest-own, with_plans}
@@ -105,7 +107,7 @@ acts_with s before (Restarts one) = act.Restarts (kept_by one) ∷ installs_by o
 acts_with s before (Makes one) = installs_by (Some one)
 
 abbrev pub acts_of : Start → List Deed → List Act
-acts_of s [] = []
+acts_of s [] = begin (s.mark.0 - greatest_due (over s).orders)
 acts_of s (deed ∷ before) = acts_with s before deed ++ acts_of s before
 
 -- what holds after deeds and these acts
@@ -121,19 +123,25 @@ pub record Stands (s : Start) (deeds : List Deed) (acts : List Act) : Type 0 whe
   pub follows : Follows s.net (journal_by s deeds)
   pub starts : StartsEmpty (plans_over (journal_by s deeds))
 
--- before anything
-pub stands-start : (s : Start) → IsStart s → Stands s [] []
+-- before anything: superframes have begun up to that in which the satellite starts
+pub stands-start : (s : Start) → IsStart s → Stands s [] (begin (s.mark.0 - greatest_due (over s).orders))
 stands-start s start =
-    let from = start.mark in
+    let o = over s in
+    let n = s.mark.0 - greatest_due o.orders in
+    let is : s.mark.0 ≡ greatest_due o.orders + n = omega (arith, start.mark) in
     record {
-      stamped = start.opens;
-      satellite = record { shown = 0; is = ap (λ (n : ℕ). station.Satellite (record { site = new_at (record { 0 = n }); shown = 0 })) from };
-      terminals = λ number. record { is = refl; reached = omega (arith, from) };
-      started = λ number. refl;
+      stamped = begun-stamped o n start.opens (omega (arith, is, start.range));
+      satellite = record {
+        shown = 0;
+        is = ap (λ (m : ℕ). station.Satellite (record { site = new_at (record { 0 = m }); shown = 0 })) is
+            ∙ ap (λ (x : Satellite). station.Satellite (record { site = x; shown = 0 })) (sym (begun-satellite o n));
+      };
+      terminals = λ number. record { is = begun-terminal o number n; reached = begun-reached o (site.Terminal number) n s.mark.0 refl start.mark };
+      started = λ number. begun-started number n;
       named = λ number is. absurd (cc is);
-      standby = record { is = refl; reached = omega (arith, from) };
-      centre = near-start (over s) s.mark.0 start.opens (omega (arith, from));
-      said = within-none [];
+      standby = record { is = begun-standby o n; reached = begun-reached o site.Standby n s.mark.0 refl start.mark };
+      centre = begun-near o n s.mark.0 start.opens start.mark;
+      said = within-none (act_lines o (begin n));
       follows = start.follows;
       starts = start.opens.starts;
     }

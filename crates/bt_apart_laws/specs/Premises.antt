@@ -1,5 +1,6 @@
 -- What must hold of each deed of processes, and what is then claimed. Lists of deeds have the latest first.
 use Rattle.std.specs.Prelude.{◌≡◌, ◌⊎◌, ℕ, ◌<◌, ◌≤◌, true, List, [], ◌∷◌, ◌++◌, length, reverse, All, Option, Some, None, IsSome}
+use Rattle.bt_frame.specs.declared.limits.TheConstants.{LAST_MARK}
 use Rattle.bt_frame.specs.declared.numbers.Mark.{Mark}
 use Rattle.bt_frame.specs.declared.numbers.TermNo.{TermNo}
 use Rattle.bt_net.specs.Network.{Net}
@@ -29,7 +30,7 @@ use Rattle.bt_station.specs.Acts.{asked_by_line}
 use Rattle.bt_station.specs.Asked.{asked_of}
 use Rattle.bt_station.specs.Satellite.{SatelliteAt}
 use Rattle.bt_station.specs.Terminal.{TerminalAt, sent_in}
-use Rattle.bt_apart_laws.specs.Acts.{heard_as, takes_up}
+use Rattle.bt_apart_laws.specs.Acts.{heard_as, takes_up, texts_of}
 use Rattle.bt_apart_laws.specs.Processes.{Asks, Deed, Goes, Hears, Learns, Makes, Opens, Places, Restarts, StandbyStarts, Start, Starts, Turns, centre_by, is_started, journal_by, known_by, lines_said, opening_over, reached_by, satellite_by, terminal_by, with_one}
 
 -- the process of a site hears this text as that line
@@ -92,12 +93,13 @@ MayDo s before (Goes back) = Unit {0}
 MayDo s before (Restarts one) = IsUnderWay s before one
 MayDo s before (Makes one) = IsNoOrder one × Follows s.net (journal_by s before ++ one ∷ [])
 
--- The journal tells changes that follow, a centre may open with them, and the satellite starts in the greatest superframe for which one
--- of their orders arms, in 0 where none does.
+-- The journal tells changes that follow, a centre may open with them, and the satellite starts in a superframe that is not behind any
+-- for which one of their orders arms.
 pub record IsStart (s : Start) : Type 0 where
   pub follows : Follows s.net s.changes
   pub opens : IsOpening (opening_over s.net s.changes)
-  pub mark : s.mark.0 ≡ greatest_due (opening_over s.net s.changes).orders
+  pub mark : greatest_due (opening_over s.net s.changes).orders ≤ s.mark.0
+  pub range : s.mark.0 ≤ LAST_MARK
 
 -- processes, each deed of which meets what must hold of it
 abbrev pub AreProcesses : Start → List Deed → Type 0
@@ -147,3 +149,8 @@ pub record IsGoodInFront (net : Net) (changes : List Change) (onboard : Satellit
 pub record IsSafeInGood (net : Net) (changes : List Change) (onboard : Satellite) (bursts : List Burst) : Type 0 where
   pub front : IsGoodInFront net changes onboard
   pub safe : IsSafe net front.plan.schedule.modes bursts
+
+-- a piece is some text, and these lines behind it
+pub record SaysBehind (said : List ℕ) (lines : List Line) : Type 0 where
+  pub log : List ℕ
+  pub is : said ≡ log ++ texts_of lines

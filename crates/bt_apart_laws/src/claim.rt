@@ -1,14 +1,22 @@
 // What holds of processes that share nothing but lines, whoever is killed and started again.
-ghost use Rattle.std.specs.Prelude.{List};
+ghost use Rattle.std.specs.Prelude.{◌≡◌, ℕ, ◌∷◌, [], List, Some};
 ghost use Rattle.std.specs.List.{flat_map};
 ghost use Rattle.std.specs.List.Sorted.{IsPermutation};
 ghost use Rattle.bt_frame.specs.declared.numbers.TermNo.{TermNo};
-ghost use Rattle.bt_net.specs.Network.{IsSound};
+ghost use Rattle.bt_net.specs.Network.{IsSound, Net};
 ghost use Rattle.bt_demand.specs.declared.burst.Burst.{Burst};
+ghost use Rattle.bt_air.specs.declared.sent.Aired.TheVariants as sends;
+ghost use Rattle.bt_site.specs.Event.{Event};
 ghost use Rattle.bt_site.specs.World.{terminals};
+ghost use Rattle.bt_apart.specs.Apart.{ApartAir, lines_apart, says_apart};
+ghost use Rattle.bt_station.specs.declared.station.Station.{Station};
+ghost use Rattle.bt_station.specs.Asked.{asked_of};
 ghost use Rattle.bt_station.specs.Satellite.{SatelliteAt};
-ghost use Rattle.bt_apart_laws.specs.Premises.{AreProcesses, AreTransmitted, IsGoodInFront, IsOnBoard, IsSafeInGood, IsSmall};
-ghost use Rattle.bt_apart_laws.specs.Processes.{Deed, Start, journal_by, opening_over};
+ghost use Rattle.bt_station.specs.Station.{answer};
+ghost use Rattle.bt_station.specs.Terminal.{start_lines};
+ghost use Rattle.bt_apart_laws.specs.Acts.{printed_with, texts_of};
+ghost use Rattle.bt_apart_laws.specs.Premises.{AreProcesses, AreTransmitted, IsGoodInFront, IsOnBoard, IsSafeInGood, IsSmall, SaysBehind};
+ghost use Rattle.bt_apart_laws.specs.Processes.{Deed, Start, asked_lines, journal_by, opening_over, radios};
 
 use crate::superframes_are_of_installed_plans;
 use bt_history::installed_plans_are_good;
@@ -30,3 +38,11 @@ pub fn processes_are_safe()
     stamped_superframes_are_safe();
     superframes_are_of_installed_plans();
 }
+
+/// The lines that are taken to be said are those that the programs print: those of a station stand behind its log, a terminal
+/// says its first at its start, and those of the centre stand each behind the message that it prints.
+pub fn lines_are_printed()
+    ensures station { (net : Net) (at : ℕ) (x : Station) (text : List ℕ) → SaysBehind (answer net at x (Some text)) (asked_lines x (asked_of net text)) }
+    ensures start { (number : TermNo) → start_lines number ≡ texts_of (radios 0 [] (sends.Lost number ∷ [])) }
+    ensures centre { (net : Net) (air : ApartAir) (event : Event) → lines_apart net air event ≡ printed_with net air.said (says_apart air event) (radios air.mark.0 air.plans (says_apart air event)) }
+{}

@@ -11,4 +11,4 @@ pub use laws::{
     centre_goes_on, centre_is_a_site, centre_may_act, lines_are_heard_as_said,
     superframes_are_of_installed_plans,
 };
-pub use claim::processes_are_safe;
+pub use claim::{lines_are_printed, processes_are_safe};
