@@ -1,5 +1,5 @@
 -- Superframes that begin before anything else.
-use Rattle.std.proofs.Common.{◌≡◌, ℕ, zero, suc, ◌+◌, ◌<◌, ◌≤◌, max, false, List, [], ◌∷◌, refl, sym, ap, ◌∙◌, arith}
+use Rattle.std.proofs.Common.{◌≡◌, ℕ, zero, suc, ◌+◌, ◌≤◌, max, false, List, [], ◌∷◌, refl, ap, ◌∙◌, arith}
 use Rattle.std.proofs.Math.Nat.{max-le}
 use Rattle.bt_frame.specs.declared.limits.TheConstants.{LAST_MARK}
 use Rattle.bt_frame.specs.declared.numbers.Mark.{Mark}

@@ -1,5 +1,5 @@
 -- What processes transmit is safe, through the modes of a plan that is good for its edition.
-use Rattle.std.proofs.Common.{◌≡◌, ◌⊎◌, inl, inr, ℕ, ◌+◌, ◌<◌, ◌≤◌, ◌==◌, max, if◌then◌else◌, Bool, true, false, List, [], ◌∷◌, ◌++◌, length, reverse, All, Option, Some, None, IfSome, refl, sym, ap, ◌∙◌, subst, append_assoc, arith}
+use Rattle.std.proofs.Common.{◌≡◌, ◌⊎◌, inl, inr, ℕ, ◌<◌, ◌==◌, max, if◌then◌else◌, Bool, true, false, List, [], ◌∷◌, ◌++◌, All, Option, Some, None, IfSome, refl, sym, ap, ◌∙◌, subst, append_assoc, arith}
 use Rattle.std.specs.List.{flat_map}
 use Rattle.std.specs.List.Sorted.{IsPermutation}
 use Rattle.std.proofs.Math.Nat.{le-max_right}
@@ -24,27 +24,25 @@ use Rattle.bt_history.specs.Causes.{Follows, IsGoodForItsEdition}
 use Rattle.bt_history.specs.Changes.{installs, orders, plans}
 use Rattle.bt_site.specs.Air.{IsSafe}
 use Rattle.bt_site.specs.Event.{Opening}
-use Rattle.bt_site.specs.Present.{present_with}
 use Rattle.bt_site.specs.World.{terminals}
 use Rattle.bt_site.proofs.WorldPlans.{plan-holds}
 use Rattle.bt_sites.specs.Fits.{AreSmall}
 use Rattle.bt_sites.specs.OnAir.{AreSentIn, IsOnBoard as IsOnBoardBy, SendsIn}
 use Rattle.bt_sites.specs.Sites.{satellite_after, terminal_after}
-use Rattle.bt_sites.specs.Stamps.{Act, AreStamped, Begun, HasLine, Hears as Acts, known, steps_by}
+use Rattle.bt_sites.specs.Stamps.{Act, AreStamped, Begun, Hears as Acts, known, steps_by}
 use Rattle.bt_sites.specs.Step as site
 use Rattle.bt_apart.specs.Apart.{ApartAir}
 use Rattle.bt_station.specs.declared.asked.Asked.{Asked}
 use Rattle.bt_station.specs.declared.asked.Asked.TheVariants as asked
 use Rattle.bt_station.specs.declared.station.Station.{Station}
 use Rattle.bt_station.specs.declared.station.Station.TheVariants as station
-use Rattle.bt_station.specs.Acts.{satellite_at, terminal_at}
-use Rattle.bt_station.specs.Asked.{if_begun}
+use Rattle.bt_station.specs.Acts.{terminal_at}
 use Rattle.bt_station.specs.Satellite.{SatelliteAt}
 use Rattle.bt_station.specs.Terminal.{TerminalAt, is_present, sent_in, terminal_of}
 use Rattle.bt_station.proofs.Acts.{begun-some, goes-on_with}
 use Rattle.bt_apart_laws.specs.Acts.{IsCentreAt, IsPlanInFront}
-use Rattle.bt_apart_laws.specs.Premises.{AreProcesses, AreTransmitted, IsGoodInFront, IsMoment, IsOnBoard, IsSafeInGood, IsSmall, MayAsk, TransmitsIn}
-use Rattle.bt_apart_laws.specs.Processes.{Asks, Deed, Start, centre_by, journal_by, satellite_by, terminal_by}
+use Rattle.bt_apart_laws.specs.Premises.{ActAsSites, AreProcesses, AreTransmitted, IsGoodInFront, IsMoment, IsOnBoard, IsSafeInGood, IsSmall, MayAsk, TransmitsIn}
+use Rattle.bt_apart_laws.specs.Processes.{Asks, Deed, Start, centre_by, journal_by, satellite_by}
 use Rattle.bt_apart_laws.proofs.Front.{small-moment}
 use Rattle.bt_apart_laws.proofs.Journals.{all-over, plans_over}
 use Rattle.bt_apart_laws.proofs.Near.{with_plans}
@@ -83,6 +81,20 @@ are-behind s (deed ∷ later) done are = are-behind s later done are.1
 
 are-at : (s : Start) (deeds done : List Deed) → IsMoment deeds done → AreProcesses s deeds → AreProcesses s done
 are-at s deeds done moment are = are-behind s moment.later done (subst (λ (list : List Deed). AreProcesses s list) (sym moment.is) are)
+
+-- so they do what sites do
+pub acts-as : (s : Start) (deeds : List Deed) → IsSound s.net → AreProcesses s deeds → ActAsSites s deeds
+acts-as s deeds sound are =
+    let st = stands s sound deeds are in
+    record {
+      acts = acts_of s deeds;
+      stamped = st.stamped;
+      shown = st.satellite.shown;
+      satellite = st.satellite.is;
+      terminals = λ number. (st.terminals number).is;
+      standby = st.standby.is;
+      said = st.said;
+    }
 
 -- no number of the journal is too great for the sites
 small-of : (s : Start) (deeds : List Deed) (acts : List Act) → Stands s deeds acts → IsSmall (journal_by s deeds) → AreSmall (over s) (steps_by (over s) acts)

@@ -10,7 +10,6 @@ use Rattle.bt_frame.specs.declared.numbers.Mark.{Mark}
 use Rattle.bt_frame.specs.declared.numbers.TermNo.{TermNo}
 use Rattle.bt_net.specs.Network.{Net}
 use Rattle.bt_demand.specs.declared.plan.Plan.{Plan}
-use Rattle.bt_demand.specs.Plan.{empty_plan}
 use Rattle.bt_air.specs.declared.message.Message.{Message}
 use Rattle.bt_air.specs.declared.message.Message.TheVariants as message
 use Rattle.bt_air.specs.declared.order.Order.{Order}
@@ -26,7 +25,6 @@ use Rattle.bt_site.specs.World.{greatest_due, terminals}
 use Rattle.bt_site.proofs.Banks.{act-planned, if-some-still, joined-planned, plan-stays, still}
 use Rattle.bt_sites.specs.Fits.{order_count}
 use Rattle.bt_sites.specs.Late.{now_of}
-use Rattle.bt_sites.specs.Sites.{centre_after, plans_after}
 use Rattle.bt_sites.specs.Stamps.{Act, Begun, Hears, Installs, Line, Places, Radio, Restarts, Turns, actor_of, is_same_site, known, late_of, made_in, reached, steps_by}
 use Rattle.bt_sites.specs.Step as step
 use Rattle.bt_script.specs.declared.heard.BusLine.{BusLine}

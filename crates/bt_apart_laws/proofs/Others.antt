@@ -1,8 +1,6 @@
 -- What another site does leaves a site as it is.
-use Rattle.std.proofs.Common.{◌≡◌, ℕ, zero, suc, ◌+◌, ◌<◌, ◌≤◌, ◌==◌, max, if◌then◌else◌, Bool, true, false, List, [], ◌∷◌, Option, Some, None, refl, sym, ap, ◌∙◌, subst, arith}
+use Rattle.std.proofs.Common.{◌≡◌, ℕ, zero, suc, ◌<◌, ◌≤◌, ◌==◌, max, if◌then◌else◌, Bool, true, false, List, ◌∷◌, Option, refl, sym, ap, ◌∙◌, arith}
 use Rattle.std.proofs.Math.Nat.{le-max_left, le-max_right, max-le}
-use Rattle.std.proofs.lemmas.Bool.{eqb-true}
-use Rattle.std.proofs.lemmas.Bool.Decides.{nat_tests}
 use Rattle.bt_frame.specs.declared.numbers.Mark.{Mark}
 use Rattle.bt_frame.specs.declared.numbers.TermNo.{TermNo}
 use Rattle.bt_air.specs.declared.order.Status.{Status}
@@ -16,7 +14,6 @@ use Rattle.bt_sites.specs.Stamps.{Act, Begins, Begun, Hears, Installs, Places, R
 use Rattle.bt_sites.specs.Step.{Site, Step}
 use Rattle.bt_sites.specs.Step as step
 use Rattle.bt_station.specs.Asked.{if_begun}
-use Rattle.bt_station.specs.declared.station.Station.{Station}
 use Rattle.bt_station.specs.declared.station.Station.TheVariants as station
 use Rattle.bt_station.specs.Acts.{satellite_at, standby_at, terminal_at}
 

@@ -1,5 +1,5 @@
 -- What a process prints has the lines that it says to the others behind its log.
-use Rattle.std.proofs.Common.{◌≡◌, ℕ, if◌then◌else◌, Bool, true, false, List, [], ◌∷◌, ◌++◌, Option, Some, None, refl, sym, ap, ◌∙◌, arith}
+use Rattle.std.proofs.Common.{◌≡◌, ℕ, if◌then◌else◌, Bool, true, false, List, [], ◌∷◌, ◌++◌, Option, Some, None, refl, sym, ap}
 use Rattle.std.specs.Prelude.{nat_lt}
 use Rattle.std.proofs.lemmas.List.{append-nil}
 use Rattle.bt_frame.specs.declared.limits.TheConstants.{LAST_MARK}
@@ -12,7 +12,6 @@ use Rattle.bt_air.specs.declared.sent.Aired.TheVariants as sends
 use Rattle.bt_machines.specs.Satellite.{status_of, step_of as take, ticked}
 use Rattle.bt_machines.specs.Terminal.{State as Terminal, step_of as hear}
 use Rattle.bt_site.specs.Sites.{satellite_says, standby_says, terminal_says}
-use Rattle.bt_sites.specs.Stamps.{Line}
 use Rattle.bt_timeline.specs.Air.{last_tick_line, standby_burst_line}
 use Rattle.bt_station.specs.declared.asked.Asked.{Asked}
 use Rattle.bt_station.specs.declared.asked.Asked.TheVariants as asked
@@ -20,13 +19,13 @@ use Rattle.bt_station.specs.declared.station.Station.{Station}
 use Rattle.bt_station.specs.declared.station.Station.TheVariants as station
 use Rattle.bt_station.specs.Asked.{asked_of}
 use Rattle.bt_station.specs.Lines.{burst_frame_lines, fault_line, mark_line, radio_line, radio_lines}
-use Rattle.bt_station.specs.Satellite.{SatelliteAt, begun_lines as begun_texts, frame_lines, heard_by_satellite, taken_line, tick_lines}
+use Rattle.bt_station.specs.Satellite.{SatelliteAt, begun_lines as begun_texts, frame_lines, heard_by_satellite, taken_line}
 use Rattle.bt_station.specs.Standby.{StandbyAt, heard_by_standby, second_lines as second_texts}
 use Rattle.bt_station.specs.Station.{answer, answer_asked}
-use Rattle.bt_station.specs.Terminal.{TerminalAt, heard_by_terminal, heard_line, present_by, sent_in, start_lines}
+use Rattle.bt_station.specs.Terminal.{heard_by_terminal, heard_line, present_by, sent_in, start_lines}
 use Rattle.bt_apart_laws.specs.Acts.{texts_of}
 use Rattle.bt_apart_laws.specs.Premises.{SaysBehind}
-use Rattle.bt_apart_laws.specs.Processes.{asked_lines, begun_lines, confirm_lines, radios, satellite_lines, second_lines}
+use Rattle.bt_apart_laws.specs.Processes.{asked_lines, begun_lines, confirm_lines, radios, second_lines}
 
 -- nothing is for the others
 log-alone : (log : List ℕ) → SaysBehind log []

@@ -1,37 +1,26 @@
 -- Processes that share nothing but lines do what sites that hear lines with stamps do.
-use Rattle.std.proofs.Common.{◌≡◌, inl, inr, ℕ, zero, suc, ◌+◌, ◌-◌, ◌<◌, ◌≤◌, ◌==◌, ◌||◌, max, if◌then◌else◌, Bool, true, false, List, [], ◌∷◌, ◌++◌, length, All, Option, Some, None, IfSome, refl, sym, ap, ◌∙◌, subst, arith}
-use Rattle.std.specs.Prelude.{IsSome, nat_lt}
-use Rattle.std.proofs.Math.Nat.{le-max_right}
+use Rattle.std.proofs.Common.{◌≡◌, ℕ, zero, suc, ◌+◌, ◌-◌, ◌<◌, ◌≤◌, ◌==◌, ◌||◌, max, if◌then◌else◌, Bool, true, false, List, [], ◌∷◌, ◌++◌, Option, Some, None, refl, sym, ap, ◌∙◌, subst, arith}
+use Rattle.std.specs.Prelude.{nat_lt}
 use Rattle.std.proofs.lemmas.Bool.{eqb-true}
 use Rattle.std.proofs.lemmas.Bool.Decides.{nat_tests}
 use Rattle.bt_frame.specs.declared.limits.TheConstants.{LAST_MARK}
-use Rattle.bt_frame.specs.declared.numbers.EditionNo.{EditionNo}
-use Rattle.bt_frame.specs.declared.numbers.Mark.{Mark}
 use Rattle.bt_frame.specs.declared.numbers.TermNo.{TermNo}
-use Rattle.bt_net.specs.Network.{IsSound, Net}
+use Rattle.bt_net.specs.Network.{Net}
 use Rattle.bt_net.specs.Terminals.{IsTerminal}
-use Rattle.bt_demand.specs.declared.plan.Plan.{Plan}
-use Rattle.bt_air.specs.declared.order.Order.{Order}
 use Rattle.bt_air.specs.declared.sent.Aired.TheVariants as sends
 use Rattle.bt_machines.specs.Satellite.{State as Satellite, new_at, ticked}
-use Rattle.bt_machines.specs.Plans.{StartsEmpty, newest_of, plan_of}
+use Rattle.bt_machines.specs.Plans.{StartsEmpty}
 use Rattle.bt_journal.specs.declared.call.Change.{Change}
 use Rattle.bt_journal.specs.declared.call.Change.TheVariants as change
-use Rattle.bt_history.specs.Causes.{Follows, IsGoodInstall}
-use Rattle.bt_history.specs.Changes.{newest}
-use Rattle.bt_history.proofs.Flying.{install_flies}
-use Rattle.bt_history.proofs.Redone.{FollowFrom-at}
+use Rattle.bt_history.specs.Causes.{Follows}
 use Rattle.bt_site.specs.World.{greatest_due}
-use Rattle.bt_site.specs.Event.{Install, Opening, Ordered, RestartCentre, Turn}
+use Rattle.bt_site.specs.Event.{Opening}
 use Rattle.bt_sites.specs.Late.{now_of}
 use Rattle.bt_sites.specs.Sites.{satellite_after}
 use Rattle.bt_sites.specs.Stamps.{Act, AreStamped, Begun, HasLine, Line, MayAct, Radio, actor_of, has_started, is_same_site, known, lines as act_lines, lines_by, reached, stamp_of, steps_by}
 use Rattle.bt_sites.specs.Stamps as act
 use Rattle.bt_sites.specs.Step.{Site}
 use Rattle.bt_sites.specs.Step as site
-use Rattle.bt_script.specs.Heard.{bus_line_of}
-use Rattle.bt_script.specs.declared.heard.BusLine.{BusLine}
-use Rattle.bt_apart.specs.Apart.{ApartAir, going_apart, having_apart, heard_apart}
 use Rattle.bt_station.specs.declared.asked.Asked.{Asked}
 use Rattle.bt_station.specs.declared.asked.Asked.TheVariants as asked
 use Rattle.bt_station.specs.declared.station.Station.{Station}
@@ -42,17 +31,15 @@ use Rattle.bt_station.specs.Satellite.{SatelliteAt}
 use Rattle.bt_station.specs.Station.{after, after_asked}
 use Rattle.bt_station.specs.Terminal.{terminal_of}
 use Rattle.bt_station.proofs.Acts.{satellite-heard, satellite-ticks, standby-heard, standby-passed_over, standby-seconds, terminal-heard, terminal-modem, terminal-passed_over, terminal-starts}
-use Rattle.bt_apart_laws.specs.Acts.{heard_as, known_in, takes_up}
-use Rattle.bt_apart_laws.specs.Premises.{AreProcesses, GoesOnBy, IsHeardBy, IsStart, IsUnderWay, MayAsk, MayDo, MayHear}
-use Rattle.bt_apart_laws.specs.Processes.{Asks, Deed, Goes, Hears, Learns, Makes, Opens, Places, Restarts, StandbyStarts, Start, Starts, Turns, asked_lines, begun_lines, centre_by, is_started, journal_by, known_by, lines_said, opening_over, present_in, radios, reached_by, satellite_by, standby_by, terminal_by, with_one}
-use Rattle.bt_apart_laws.proofs.Acts.{order-lines, turn-lines}
+use Rattle.bt_apart_laws.specs.Acts.{takes_up}
+use Rattle.bt_apart_laws.specs.Premises.{GoesOnBy, IsStart, MayAsk, MayHear}
+use Rattle.bt_apart_laws.specs.Processes.{Asks, Deed, Goes, Hears, Learns, Makes, Opens, Places, Restarts, StandbyStarts, Start, Starts, Turns, asked_lines, begun_lines, centre_by, is_started, journal_by, known_by, lines_said, opening_over, present_in, radios, reached_by, satellite_by, standby_by, terminal_by}
 use Rattle.bt_apart_laws.proofs.Begins.{begin, begun-near, begun-reached, begun-satellite, begun-stamped, begun-standby, begun-started, begun-terminal}
-use Rattle.bt_apart_laws.proofs.Journals.{newest-first, newest-over, orders-edit, orders-install, orders-order, orders_over, plans-edit, plans-install, plans-order, plans_over}
-use Rattle.bt_apart_laws.proofs.May.{may-install, may-order, may-restart, may-turn}
-use Rattle.bt_apart_laws.proofs.Near.{IsNear, has-all, near-goes, near-heard, near-idle, near-installed, near-learns, near-opens, near-other, near-placed, near-restarts, near-start, near-turn, newest-own, with_plans}
-use Rattle.bt_apart_laws.proofs.Others.{if-false, if-true}
+use Rattle.bt_apart_laws.proofs.Journals.{orders_over, plans_over}
+use Rattle.bt_apart_laws.proofs.Near.{IsNear, near-idle, near-other}
+use Rattle.bt_apart_laws.proofs.Others.{if-false}
 use Rattle.bt_apart_laws.proofs.Stations.{IsSatelliteAt, IsStandbyAt, IsTerminalAt, satellite-begins, satellite-kept, satellite-says, standby-idle, standby-kept, standby-known, standby-next, standby-says, terminal-idle, terminal-kept, terminal-known, terminal-next, terminal-says, terminal-silent}
-use Rattle.bt_apart_laws.proofs.Within.{AreWithin, begun-past, order-within, turn-within, within-both, within-none, within-same}
+use Rattle.bt_apart_laws.proofs.Within.{AreWithin, begun-past, within-both, within-none, within-same}
 
 -- the opening of the sites
 abbrev pub over : Start → Opening

@@ -1,5 +1,5 @@
 -- What the process of the centre does, and all processes after any deeds.
-use Rattle.std.proofs.Common.{◌≡◌, inl, inr, ℕ, ◌+◌, ◌<◌, ◌≤◌, max, if◌then◌else◌, Bool, true, false, List, [], ◌∷◌, ◌++◌, All, Option, Some, None, IfSome, refl, sym, ap, ◌∙◌, subst, arith}
+use Rattle.std.proofs.Common.{◌≡◌, ℕ, ◌<◌, max, if◌then◌else◌, Bool, true, false, List, [], ◌∷◌, ◌++◌, Option, Some, None, refl, sym, ap, ◌∙◌, subst, arith}
 use Rattle.std.specs.Prelude.{IsSome}
 use Rattle.std.proofs.Math.Nat.{le-max_right, max-le}
 use Rattle.bt_frame.specs.declared.numbers.EditionNo.{EditionNo}
@@ -17,13 +17,13 @@ use Rattle.bt_history.specs.Causes.{Follows}
 use Rattle.bt_history.specs.Changes.{newest}
 use Rattle.bt_history.proofs.Flying.{install_flies}
 use Rattle.bt_history.proofs.Redone.{FollowFrom-at}
-use Rattle.bt_site.specs.Event.{Install, Opening, Ordered, RestartCentre, Turn}
+use Rattle.bt_site.specs.Event.{Opening, Ordered, Turn}
 use Rattle.bt_sites.specs.Stamps.{Act, AreStamped, Begun, HasLine, Line, MayAct, Radio, has_started, known, lines as act_lines, lines_by}
 use Rattle.bt_sites.specs.Stamps as act
 use Rattle.bt_sites.specs.Step as site
 use Rattle.bt_script.specs.Heard.{bus_line_of}
 use Rattle.bt_script.specs.declared.heard.BusLine.{BusLine}
-use Rattle.bt_apart.specs.Apart.{ApartAir, apart_at_start, going_apart, having_apart, heard_apart, says_apart}
+use Rattle.bt_apart.specs.Apart.{ApartAir, apart_at_start, going_apart, having_apart, says_apart}
 use Rattle.bt_station.specs.Asked.{asked_of}
 use Rattle.bt_station.specs.Acts.{IsTakenUp}
 use Rattle.bt_apart_laws.specs.Acts.{BeginsSome, IsCentreAt, heard_as, known_in, takes_up}
@@ -32,7 +32,7 @@ use Rattle.bt_apart_laws.specs.Processes.{Asks, Deed, Goes, Hears, Learns, Makes
 use Rattle.bt_apart_laws.proofs.Acts.{known-some, order-lines, passes-over, turn-lines}
 use Rattle.bt_apart_laws.proofs.Journals.{newest-first, newest-over, orders-edit, orders-install, orders-order, orders_over, plans-edit, plans-install, plans-order, plans_over, starts-more}
 use Rattle.bt_apart_laws.proofs.May.{may-install, may-order, may-restart, may-turn}
-use Rattle.bt_apart_laws.proofs.Near.{IsNear, WasWanted, has-all, is_kept, near-goes, near-heard, near-idle, near-installed, near-learns, near-opens, near-placed, near-restarts, near-turn, newest-own, once_kept, with_plans}
+use Rattle.bt_apart_laws.proofs.Near.{IsNear, has-all, near-goes, near-heard, near-idle, near-installed, near-learns, near-opens, near-placed, near-restarts, near-turn, newest-own, with_plans}
 use Rattle.bt_apart_laws.proofs.Processes.{Stands, acts_of, goes-on, installs_by, kept_by, over, stands-satellite_asks, stands-satellite_hears, stands-standby_asks, stands-standby_hears, stands-standby_starts, stands-start, stands-starts, stands-terminal_asks, stands-terminal_hears}
 use Rattle.bt_apart_laws.proofs.Stations.{IsSatelliteAt, IsStandbyAt, IsTerminalAt, satellite-kept, standby-idle, standby-kept, standby-lower, terminal-idle, terminal-kept, terminal-lower}
 use Rattle.bt_apart_laws.proofs.Within.{AreWithin, begun-past, order-within, turn-within, within-both, within-none}

@@ -1,7 +1,6 @@
 -- What must hold of each deed of processes, and what is then claimed. Lists of deeds have the latest first.
 use Rattle.std.specs.Prelude.{◌≡◌, ◌⊎◌, ℕ, ◌<◌, ◌≤◌, true, List, [], ◌∷◌, ◌++◌, length, reverse, All, Option, Some, None, IsSome}
 use Rattle.bt_frame.specs.declared.limits.TheConstants.{LAST_MARK}
-use Rattle.bt_frame.specs.declared.numbers.Mark.{Mark}
 use Rattle.bt_frame.specs.declared.numbers.TermNo.{TermNo}
 use Rattle.bt_net.specs.Network.{Net}
 use Rattle.bt_net.specs.Terminals.{IsTerminal}
@@ -18,7 +17,7 @@ use Rattle.bt_history.specs.Changes.{newest, orders, plans}
 use Rattle.bt_site.specs.Air.{IsSafe}
 use Rattle.bt_site.specs.Fits.{IsOpening}
 use Rattle.bt_site.specs.World.{greatest_due}
-use Rattle.bt_sites.specs.Stamps.{Begun, HasLine, Line, Radio}
+use Rattle.bt_sites.specs.Stamps.{Act, AreStamped, Begun, HasLine, Line, Radio, lines}
 use Rattle.bt_sites.specs.Step.{Site}
 use Rattle.bt_sites.specs.Step as site
 use Rattle.bt_script.specs.Heard.{bus_line_of}
@@ -26,12 +25,12 @@ use Rattle.bt_apart.specs.Apart.{ApartAir}
 use Rattle.bt_station.specs.declared.asked.Asked.{Asked}
 use Rattle.bt_station.specs.declared.asked.Asked.TheVariants as asked
 use Rattle.bt_station.specs.declared.station.Station.TheVariants as station
-use Rattle.bt_station.specs.Acts.{asked_by_line}
+use Rattle.bt_station.specs.Acts.{asked_by_line, satellite_at, standby_at, terminal_at}
 use Rattle.bt_station.specs.Asked.{asked_of}
 use Rattle.bt_station.specs.Satellite.{SatelliteAt}
 use Rattle.bt_station.specs.Terminal.{TerminalAt, sent_in}
 use Rattle.bt_apart_laws.specs.Acts.{heard_as, takes_up, texts_of}
-use Rattle.bt_apart_laws.specs.Processes.{Asks, Deed, Goes, Hears, Learns, Makes, Opens, Places, Restarts, StandbyStarts, Start, Starts, Turns, centre_by, is_started, journal_by, known_by, lines_said, opening_over, reached_by, satellite_by, terminal_by, with_one}
+use Rattle.bt_apart_laws.specs.Processes.{Asks, Deed, Goes, Hears, Learns, Makes, Opens, Places, Restarts, StandbyStarts, Start, Starts, Turns, centre_by, is_started, journal_by, known_by, lines_said, opening_over, reached_by, satellite_by, standby_by, terminal_by, with_one}
 
 -- the process of a site hears this text as that line
 abbrev pub IsHeardBy : Start → Site → List ℕ → Line → Type 0
@@ -105,6 +104,17 @@ pub record IsStart (s : Start) : Type 0 where
 abbrev pub AreProcesses : Start → List Deed → Type 0
 AreProcesses s [] = IsStart s
 AreProcesses s (deed ∷ before) = MayDo s before deed × AreProcesses s before
+
+-- What processes do is what sites do that hear lines with stamps (`bt_sites`): each station is the site after these acts, and each line
+-- that is said is said with them.
+pub record ActAsSites (s : Start) (deeds : List Deed) : Type 0 where
+  pub acts : List Act
+  pub stamped : AreStamped (opening_over s.net s.changes) acts
+  pub shown : ℕ
+  pub satellite : satellite_by s deeds ≡ satellite_at (opening_over s.net s.changes) shown acts
+  pub terminals : (number : TermNo) → terminal_by s number deeds ≡ terminal_at (opening_over s.net s.changes) number acts
+  pub standby : standby_by s deeds ≡ standby_at (opening_over s.net s.changes) acts
+  pub said : (line : Line) → HasLine (lines_said s deeds) line → HasLine (lines (opening_over s.net s.changes) acts) line
 
 -- no number of the journal is too great for a message: its plans are stored ones, and four bytes count its orders
 pub record IsSmall (changes : List Change) : Type 0 where

@@ -15,7 +15,7 @@ ghost use Rattle.bt_station.specs.Satellite.{SatelliteAt};
 ghost use Rattle.bt_station.specs.Station.{answer};
 ghost use Rattle.bt_station.specs.Terminal.{start_lines};
 ghost use Rattle.bt_apart_laws.specs.Acts.{printed_with, texts_of};
-ghost use Rattle.bt_apart_laws.specs.Premises.{AreProcesses, AreTransmitted, IsGoodInFront, IsOnBoard, IsSafeInGood, IsSmall, SaysBehind};
+ghost use Rattle.bt_apart_laws.specs.Premises.{ActAsSites, AreProcesses, AreTransmitted, IsGoodInFront, IsOnBoard, IsSafeInGood, IsSmall, SaysBehind};
 ghost use Rattle.bt_apart_laws.specs.Processes.{Deed, Start, asked_lines, journal_by, opening_over, radios};
 
 use crate::superframes_are_of_installed_plans;
@@ -23,11 +23,12 @@ use bt_history::installed_plans_are_good;
 use bt_sites::stamped_superframes_are_safe;
 
 /// Whatever the processes of a satellite, of terminals, of a standby and of a centre say, each by its own program, over lines
-/// that come late, more than once, in any order or never, whoever is killed and started again: the edition in front on board
-/// is at each moment that of a plan that the journal then tells, which carries exactly the demand of its edition in the least
+/// that come late, more than once, in any order or never, whoever is killed and started again: they do what sites do that hear
+/// lines with stamps, of which the laws of `bt_sites` speak. The edition in front on board is at each moment that of a plan that the journal then tells, which carries exactly the demand of its edition in the least
 /// length, or the empty plan of edition 0; and in each superframe what terminals transmit is safe through that plan's modes,
 /// each at whatever moments its modem asks for that superframe.
 pub fn processes_are_safe()
+    ensures sites { (s : Start) (deeds : List Deed) → IsSound s.net → AreProcesses s deeds → ActAsSites s deeds }
     ensures front { (s : Start) (deeds board : List Deed) (onboard : SatelliteAt) → IsSound s.net → AreProcesses s deeds → IsSmall (journal_by s deeds) → IsOnBoard s deeds board onboard
         → IsGoodInFront s.net (journal_by s board) onboard.site }
     ensures safe { (s : Start) (deeds board : List Deed) (onboard : SatelliteAt) (sends : TermNo → List Burst) (bursts : List Burst) → IsSound s.net → AreProcesses s deeds

@@ -4,11 +4,11 @@
 //! (`bt_sites`). `specs/Acts.antt` says where the centre is after acts; `laws.rt` has what holds of it. All of `specs/` is promise.
 #![tactic(auto)]
 
-mod laws;
 mod claim;
+mod laws;
 
+pub use claim::{lines_are_printed, processes_are_safe};
 pub use laws::{
     centre_goes_on, centre_is_a_site, centre_may_act, lines_are_heard_as_said,
     superframes_are_of_installed_plans,
 };
-pub use claim::{lines_are_printed, processes_are_safe};
