@@ -24,9 +24,9 @@ use bt_sites::stamped_superframes_are_safe;
 
 /// Whatever the processes of a satellite, of terminals, of a standby and of a centre say, each by its own program, over lines
 /// that come late, more than once, in any order or never, whoever is killed and started again: they do what sites do that hear
-/// lines with stamps, of which the laws of `bt_sites` speak. The edition in front on board is at each moment that of a plan that the journal then tells, which carries exactly the demand of its edition in the least
-/// length, or the empty plan of edition 0; and in each superframe what terminals transmit is safe through that plan's modes,
-/// each at whatever moments its modem asks for that superframe.
+/// lines with stamps. The edition in front on board is at each moment that of a plan that the journal then tells, which carries
+/// exactly the demand of its edition in the least length, or is the empty plan of edition 0. In each superframe what terminals
+/// transmit is safe through the modes of the plan in front in it, each at whatever moments its modem asks for that superframe.
 pub fn processes_are_safe()
     ensures sites { (s : Start) (deeds : List Deed) → IsSound s.net → AreProcesses s deeds → ActAsSites s deeds }
     ensures front { (s : Start) (deeds board : List Deed) (onboard : SatelliteAt) → IsSound s.net → AreProcesses s deeds → IsSmall (journal_by s deeds) → IsOnBoard s deeds board onboard
