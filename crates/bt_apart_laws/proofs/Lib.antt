@@ -12,3 +12,4 @@ mod Processes
 mod Running
 mod Claims
 mod Printed
+mod Started

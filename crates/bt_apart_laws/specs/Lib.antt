@@ -1,3 +1,4 @@
 pub mod Acts
 pub mod Processes
 pub mod Premises
+pub mod Example

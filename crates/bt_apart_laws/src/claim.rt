@@ -4,6 +4,7 @@ ghost use Rattle.std.specs.List.{flat_map};
 ghost use Rattle.std.specs.List.Sorted.{IsPermutation};
 ghost use Rattle.bt_frame.specs.declared.numbers.TermNo.{TermNo};
 ghost use Rattle.bt_net.specs.Network.{IsSound, Net};
+ghost use Rattle.bt_net.specs.Terminals.{IsTerminal};
 ghost use Rattle.bt_demand.specs.declared.burst.Burst.{Burst};
 ghost use Rattle.bt_air.specs.declared.sent.Aired.TheVariants as sends;
 ghost use Rattle.bt_site.specs.Event.{Event};
@@ -15,11 +16,12 @@ ghost use Rattle.bt_station.specs.Satellite.{SatelliteAt};
 ghost use Rattle.bt_station.specs.Station.{answer};
 ghost use Rattle.bt_station.specs.Terminal.{start_lines};
 ghost use Rattle.bt_apart_laws.specs.Acts.{printed_with, texts_of};
+ghost use Rattle.bt_apart_laws.specs.Example.{empty_start, first_superframe};
 ghost use Rattle.bt_apart_laws.specs.Premises.{ActAsSites, AreProcesses, AreTransmitted, IsGoodInFront, IsOnBoard, IsSafeInGood, IsSmall, SaysBehind};
 ghost use Rattle.bt_apart_laws.specs.Processes.{Deed, Start, asked_lines, journal_by, opening_over, radios};
 
 use crate::superframes_are_of_installed_plans;
-use bt_history::installed_plans_are_good;
+use bt_history::{installed_plans_are_good, installed_plans_can_be_flown};
 use bt_sites::stamped_superframes_are_safe;
 
 /// Whatever the processes of a satellite, of terminals, of a standby and of a centre say, each by its own program, over lines
@@ -47,3 +49,11 @@ pub fn lines_are_printed()
     ensures start { (number : TermNo) → start_lines number ≡ texts_of (radios 0 [] (sends.Lost number ∷ [])) }
     ensures centre { (net : Net) (air : ApartAir) (event : Event) → lines_apart net air event ≡ printed_with net air.said (says_apart air event) (radios air.mark.0 air.plans (says_apart air event)) }
 {}
+
+/// There are such processes: where a journal is empty, a superframe begins, and a terminal starts and hears of it.
+pub fn some_processes_go()
+    ensures go { (net : Net) (number : TermNo) → IsSound net → IsTerminal net number → AreProcesses (empty_start net) (first_superframe number) }
+{
+    bt_station::lines_are_heard_as_said();
+    installed_plans_can_be_flown();
+}

@@ -10,7 +10,7 @@
 mod claim;
 mod laws;
 
-pub use claim::{lines_are_printed, processes_are_safe};
+pub use claim::{lines_are_printed, processes_are_safe, some_processes_go};
 pub use laws::{
     centre_goes_on, centre_is_a_site, centre_may_act, lines_are_heard_as_said,
     superframes_are_of_installed_plans,
