@@ -1,2 +1,3 @@
+pub mod OnePage
 pub mod OneChart
 pub mod Naming

@@ -4,4 +4,5 @@ pub mod CommandLine
 pub mod Choosing
 pub mod Plans
 pub mod Runs
+pub mod Pages
 pub mod Top
