@@ -1,3 +1,5 @@
 pub mod OnePage
 pub mod OneChart
 pub mod Naming
+pub mod Newest
+pub mod Rows

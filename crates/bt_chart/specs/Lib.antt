@@ -6,3 +6,6 @@ pub mod Plans
 pub mod Runs
 pub mod Pages
 pub mod Top
+pub mod Fixed
+pub mod Pieces
+pub mod Page

@@ -3,7 +3,7 @@
 use Rattle.std.specs.Prelude.{◌≡◌, ◌⊎◌, ℕ, List, codes, Option}
 use Rattle.bt_net.specs.Network.{IsSound, Net}
 use Rattle.bt_history.specs.Recovery.{IsFirstNoLine, IsFirstStray}
-use Rattle.bt_page.specs.Page.{TellsPage}
+use Rattle.bt_chart.specs.Page.{TellsPage}
 use Rattle.bt_report.specs.declared.status.TheConstants.{DONE, FAULTY_JOURNAL}
 use Rattle.bt_report.specs.Faults.{line_fault_words}
 use Rattle.bt_report.specs.Outcome.{Outcome, Says, text_alone}

@@ -12,7 +12,7 @@ use bt_book::RecoverFault;
 use bt_load::{load_journal, load_network};
 use bt_net::Network;
 use bt_outside::Files;
-use bt_page::page_of_journal;
+use crate::page_of_journal;
 use bt_report::{DONE, FAULTY_JOURNAL, Report, Stop};
 use bt_words::Word;
 use std::alloc::Global;

@@ -5,3 +5,12 @@ pub mod NoEdits
 pub mod Done
 pub mod Pieces
 pub mod Gauges
+pub mod Fields
+pub mod Values
+pub mod Back
+pub mod Rows
+pub mod EachForm
+pub mod Flat
+pub mod Shapes
+pub mod Added
+pub mod Lines
