@@ -108,8 +108,8 @@ fn say_behind(
     } else if done.program == Program::Chart && command == "plan" {
         say_part(alloc, behind, net, page);
     } else if done.program == Program::Chart && command == "page" {
-        page.add("the words behind JOURNAL are to be every SECONDS, 1 to 86400 of them, ");
-        page.add("in digits without a 0 in front");
+        page.add("the words behind JOURNAL are to be ANSWERS, or every SECONDS, or both, ");
+        page.add("SECONDS 1 to 86400, in digits without a 0 in front");
     } else if done.program == Program::Chart {
         say_stranger(alloc, behind, net, page);
     } else if command == "demand" {
