@@ -18,14 +18,17 @@ commands
       example: nozgurt run examples/four-terminals.net examples/lossy-day.script
                lossy.journal | chart ladder examples/four-terminals.net -
 
-  page NET JOURNAL [every SECONDS]
+  page NET JOURNAL [ANSWERS] [every SECONDS]
       Makes a page, one file in HTML that a browser shows, of the journal in the
       file JOURNAL for the network in the file NET: its last edition, its newest
       plan and how full it is; what is asked of each beam, as bars with their
       numbers; the picture of the newest plan, as `chart plan` draws it, and its
       modes; and the links, the largest first.
-      It shows no more than the journal tells, and writes nothing. With `every` a
-      browser loads it again each time that SECONDS have passed.
+      With ANSWERS, what `nozgurt live` or `nozgurt centre` printed, it also shows the
+      edition in front, what the satellite is armed for, the terminals that are
+      missing, the last refusals and faults, and the last superframes as a ladder.
+      It reads and writes nothing else. With `every` a browser loads it again each
+      time that SECONDS have passed.
       example: chart page examples/two-beams.net examples/calm-change.journal
                every 60
 
@@ -54,8 +57,8 @@ commands
   --version   prints the version
 
 Pictures are printed as SVG 1.1, and pages as HTML; browsers show both. The word
-`-` in the place of PLAN, OUTPUT or JOURNAL is standard input; a file of that
-name is `./-`.
+`-` in the place of PLAN, OUTPUT, JOURNAL or ANSWERS is standard input; a file of
+that name is `./-`.
 
 exit status
 ";
@@ -69,7 +72,7 @@ const LETTERS: &str = "  The letter of a CODE names the file that is at fault: N
 /// The forms of the commands: of each its word, and the names of the words behind it.
 pub const FORMS: [&str; 4] = [
     "ladder NET OUTPUT [all] [FIRST-LAST] [NAME ..]",
-    "page NET JOURNAL [every SECONDS]",
+    "page NET JOURNAL [ANSWERS] [every SECONDS]",
     "plan NET PLAN [BEAM ..] [FIRST-LAST]",
     "run NET OUTPUT [all] [FIRST-LAST] [NAME ..]",
 ];
