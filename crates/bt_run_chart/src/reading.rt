@@ -81,7 +81,7 @@ impl Context {
     }
 
     // The step that a line tells of.
-    fn step_of(&mut self, line: &Printed) -> Option<Step> {
+    fn step_of(&mut self, line: &Printed<'_>) -> Option<Step> {
         if let Some(message) = self.message_of(line) {
             return Some(Step::Sent(message));
         }
@@ -99,7 +99,7 @@ impl Context {
     }
 
     // The superframe that begins with the turn of a centre apart.
-    fn superframe_of(&mut self, line: &Printed) -> Option<Step> {
+    fn superframe_of(&mut self, line: &Printed<'_>) -> Option<Step> {
         match (line.form, line.values()) {
             (Form::Turn | Form::BackTurn, [Value::Number(mark), _]) if self.mark != Some(*mark) => {
                 self.mark = Some(*mark);
@@ -110,7 +110,7 @@ impl Context {
     }
 
     // The message that was sent.
-    fn message_of(&mut self, line: &Printed) -> Option<SentMessage> {
+    fn message_of(&mut self, line: &Printed<'_>) -> Option<SentMessage> {
         let [Value::Number(number), rest @ ..] = line.values() else {
             return None;
         };
@@ -131,7 +131,7 @@ impl Context {
     }
 
     // The delivery that was made, of a message that the text has.
-    fn delivery_of(&self, line: &Printed) -> Option<Delivery> {
+    fn delivery_of(&self, line: &Printed<'_>) -> Option<Delivery> {
         if self.is_apart {
             return None;
         }
@@ -184,7 +184,7 @@ fn joins_edits(note: &mut Note, newest: u64) -> bool {
 
 // What a message says, from the values behind its number.
 #[rattlefmt::skip]
-fn said_of(form: Form, values: &[Value]) -> Option<Said> {
+fn said_of(form: Form, values: &[Value<'_>]) -> Option<Said> {
     match (form, values) {
         (Form::SentLoad, [Value::Number(command), Value::Number(edition)]) => Some(Said::Load { command: *command, edition: *edition }),
         (Form::SentArm, [_, Value::Number(edition), Value::Number(due)]) => Some(Said::Arm(ArmedChange { edition: *edition, due: *due })),
@@ -199,7 +199,7 @@ fn said_of(form: Form, values: &[Value]) -> Option<Said> {
 }
 
 // What a status says, from the values behind its number.
-fn status_of(values: &[Value]) -> Option<Said> {
+fn status_of(values: &[Value<'_>]) -> Option<Said> {
     let [
         Value::Number(mark),
         Value::Number(fore),
@@ -234,7 +234,7 @@ fn status_of(values: &[Value]) -> Option<Said> {
 }
 
 // Who heard a message, what that did with it, and whether it refused, from the values behind the number.
-fn answer_of(form: Form, values: &[Value]) -> Option<(Station, &'static str, bool)> {
+fn answer_of(form: Form, values: &[Value<'_>]) -> Option<(Station, &'static str, bool)> {
     Some(match (form, values) {
         (Form::GotSatellite, [Value::Taken(taken)]) => satellite_answer(*taken),
         (Form::GotCentre, []) => (Station::Centre, "noted", false),
@@ -265,7 +265,7 @@ fn terminal_answer(terminal: TermNo, heard: Heard) -> (Station, &'static str, bo
 
 // A step that is no message.
 #[rattlefmt::skip]
-fn happening_of(line: &Printed) -> Option<Step> {
+fn happening_of(line: &Printed<'_>) -> Option<Step> {
     match (line.form, line.values()) {
         (Form::Start, [_, _, Value::Number(mark)]) => Some(Step::Begin(*mark)),
         (Form::Tick, [Value::Number(mark)]) => Some(Step::Begin(*mark)),
