@@ -16,4 +16,5 @@ pub mod Command
 pub mod Replay
 pub mod Looks
 pub mod Edits
+pub mod Carry
 pub mod Top

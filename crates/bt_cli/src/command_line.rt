@@ -1,7 +1,7 @@
 // What the words after the program's name ask for.
 ghost use Rattle.std.specs.Prelude.{◌≡◌, Some, map, codes, IfSome, option_map};
 ghost use Rattle.std.specs.String.{string_bytes};
-ghost use Rattle.bt_cli.specs.Request.{asked, asked_with_four, asked_with_one, asked_with_three, asked_with_two, capacity_request, check_plan_request, check_request, compact_request, demand_at_request, demand_request, edits_by_request, edits_request, first_word, installed_at_request, installed_request, look_with_three, look_with_two, make_request, metrics_request, modes_request, name_of, part_request, plan_request, replay_request, request_of, run_request, state_request, timing_request, trans_request};
+ghost use Rattle.bt_cli.specs.Request.{asked, asked_with_four, asked_with_one, asked_with_three, asked_with_two, capacity_request, carry_request, check_plan_request, check_request, compact_request, demand_at_request, demand_request, edits_by_request, edits_request, first_word, installed_at_request, installed_request, look_with_three, look_with_two, make_request, metrics_request, modes_request, name_of, part_request, plan_request, replay_request, request_of, run_request, state_request, timing_request, trans_request};
 
 use crate::number_word::{AskingDesk, BeamCount, Transponders, edition_of, seed_of};
 use bt_frame::EditionNo;
@@ -98,6 +98,12 @@ pub enum CommandLine<'a> {
         net: &'a str,
         journal: &'a str,
     },
+    /// `carry NET JOURNAL NEWNET`.
+    TellCarry {
+        net: &'a str,
+        journal: &'a str,
+        new: &'a str,
+    },
 }
 
 /// The command line that the words are.
@@ -184,7 +190,8 @@ fn with_three<'a>(command: &str, first: &'a str, second: &'a str, third: &'a str
     }
 }
 
-/// The command line of that look at a journal with three words, of which the last is an edition, or a traffic.
+/// The command line of that look at a journal with three words, of which the last is an edition, a traffic or another
+/// network.
 fn look_with_three<'a>(
     command: &str,
     net: &'a str,
@@ -200,6 +207,8 @@ fn look_with_three<'a>(
         installed_at(net, journal, edition_of(1, last))
     } else if command == "edits" {
         edits_of(net, journal, last, Some(AskingDesk::first()))
+    } else if command == "carry" {
+        carry_of(net, journal, last)
     } else {
         CommandLine::Faulty
     }
@@ -377,6 +386,17 @@ fn metrics_of<'a>(net: &'a str, journal: &'a str) -> CommandLine<'a>
         CommandLine::Faulty
     } else {
         CommandLine::TellMetrics { net, journal }
+    }
+}
+
+fn carry_of<'a>(net: &'a str, journal: &'a str, new: &'a str) -> CommandLine<'a>
+    ensures asked { asked result ≡ carry_request net.now journal.now new.now }
+    ensures named { IfSome (name_of result) (λ name. name ≡ codes "carry") }
+{
+    if net.is_empty() || journal.is_empty() || new.is_empty() {
+        CommandLine::Faulty
+    } else {
+        CommandLine::TellCarry { net, journal, new }
     }
 }
 

@@ -8,6 +8,7 @@ ghost use Rattle.bt_cli.specs.Command.{no_store};
 ghost use Rattle.bt_cli.specs.Top.{AsksNoStore, Reported, Reports};
 
 use crate::capacity::tell_capacity;
+use crate::carry::tell_carry;
 use crate::check::check_files;
 use crate::check_plan::check_plan_files;
 use crate::command_line::{CommandLine, command_line_of};
@@ -81,6 +82,9 @@ fn answer<F: Files>(alloc: Global, line: CommandLine<'_>, files: &mut F) -> Resu
             desk,
         } => tell_edits(alloc, files, net, journal, traffic, desk.as_desk_no()),
         CommandLine::TellMetrics { net, journal } => tell_metrics(alloc, files, net, journal),
+        CommandLine::TellCarry { net, journal, new } => {
+            tell_carry(alloc, files, net, journal, new)
+        }
         CommandLine::PlanDrawn { beams, seed } => drawn_report(alloc, beams, seed),
         CommandLine::RunScript { .. } | CommandLine::ReplayJournal { .. } => unreachable!(),
     }

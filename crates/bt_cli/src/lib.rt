@@ -11,6 +11,7 @@
 
 mod asked;
 mod capacity;
+mod carry;
 mod check;
 mod check_plan;
 mod command_line;

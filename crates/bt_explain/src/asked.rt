@@ -10,6 +10,7 @@ fn called(letter: u8) -> &'static str {
         b'X' => "MATRIX",
         b'M' => "MODES",
         b'N' => "NET",
+        b'C' => "NEWNET",
         b'T' => "TRAFFIC",
         b'P' => "PLAN",
         b'G' => "DELAYS",

@@ -13,6 +13,7 @@
 mod alarm;
 mod asked;
 mod bytes;
+mod carry;
 mod cause;
 mod delays;
 mod fault;

@@ -1,6 +1,7 @@
 // What a program says on standard error when it ends.
 use crate::asked::file_of;
 use crate::bytes::{number_at, word_of};
+use crate::carry::tell_carried;
 use crate::fault::{Named, tell_line};
 use crate::fit::{tell_fit, tell_size};
 use crate::kept_files::KeptFiles;
@@ -141,13 +142,22 @@ fn explain_kept<F>(alloc: Global, done: &Done<'_>, files: &KeptFiles<F>, page: &
     let code = word_of(done.line, 1);
     match done.status {
         FAULTY_WORDS => tell_words(alloc, done, net.as_ref(), page),
-        NO_NETWORK => match kept.named(files, b'N') {
+        NO_NETWORK => match kept.named(files, network_at_fault(kept.net)) {
             Some(named) => tell_network(alloc, done, named, code, word_of(done.line, 2), page),
             None => false,
         },
         FAULTY_TEXT | FAULTY_JOURNAL => explain_text(alloc, &kept, files, code, page),
         NOT_GOOD => explain_verdict(alloc, &kept, files, page),
         _ => false,
+    }
+}
+
+/// The letter of the network that is at fault: where the first is one, it is the other.
+fn network_at_fault(net: Option<&Network>) -> u8 {
+    if net.is_some() {
+        b'C'
+    } else {
+        b'N'
     }
 }
 
@@ -182,6 +192,9 @@ fn explain_text<F>(
     page: &mut Page,
 ) -> bool {
     let letter = code.first().copied().unwrap_or(b'?');
+    if letter == b'T' && file_of(&kept.done, b'C').is_some() {
+        return explain_carried(alloc, kept, files, code, page);
+    }
     let Some(named) = kept.named(files, letter) else {
         return false;
     };
@@ -192,6 +205,23 @@ fn explain_text<F>(
             Some(at) => tell_line(alloc, &kept.done, named, code, at, page),
             None => false,
         },
+    }
+}
+
+/// Appends what is known of a demand that has no place on another network.
+fn explain_carried<F>(
+    alloc: Global,
+    kept: &Kept<'_>,
+    files: &KeptFiles<F>,
+    code: &[u8],
+    page: &mut Page,
+) -> bool {
+    let Some(named) = kept.named(files, b'C') else {
+        return false;
+    };
+    match Network::read(alloc, named.text) {
+        Ok(new) => tell_carried(alloc, &kept.done, kept.net, named.file, &new, code, page),
+        Err(_) => false,
     }
 }
 

@@ -5,3 +5,7 @@ pub mod NoEdits
 pub mod Done
 pub mod Pieces
 pub mod Gauges
+pub mod Total
+pub mod Names
+pub mod Carrying
+pub mod CarriedBack

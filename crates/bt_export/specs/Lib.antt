@@ -1,2 +1,4 @@
+pub mod Carry
 pub mod Edits
 pub mod Metrics
+pub mod Named

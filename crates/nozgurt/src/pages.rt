@@ -148,6 +148,18 @@ commands of the centre
                examples/calm-change.script calm.journal
 
 commands that look at a journal
+  carry NET JOURNAL NEWNET
+      Prints a journal on the network in the file NEWNET with the demand of that in
+      the file JOURNAL, on the network in the file NET, by the names of terminals:
+      the mark of NEWNET, and an edit for each link. NEWNET may have more terminals
+      and beams, another frame and another order. A link whose terminals it does not
+      have both is refused, and so is a demand that does not fit its frame. Given up
+      is what `compact` gives up: the next plan has to be made anew, and until each
+      terminal has it no burst of the old one is to be sent. The file JOURNAL stays
+      as it is.
+      example: nozgurt carry examples/two-beams.net
+               examples/calm-change.journal examples/four-terminals.net
+
   compact NET JOURNAL
       Prints a journal that comes to the same demand as that in the file JOURNAL,
       on the network in the file NET, with the fewest edits: its mark, and an edit
@@ -242,6 +254,7 @@ pub const FORMS: [&str; 18] = [
     "live NET JOURNAL",
     "replay NET JOURNAL",
     "run NET SCRIPT JOURNAL",
+    "carry NET JOURNAL NEWNET",
     "compact NET JOURNAL",
     "demand NET JOURNAL [EDITION]",
     "edits NET JOURNAL TRAFFIC [DESK]",
