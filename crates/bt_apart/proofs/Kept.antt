@@ -9,10 +9,10 @@ use Rattle.bt_air.specs.Range.{IsMark}
 use Rattle.bt_machines.specs.CentreSteps.{needed_by}
 use Rattle.bt_machines.specs.Last.{last_order}
 use Rattle.bt_machines.specs.Plans.{IsStored, StartsEmpty, newest_of}
-use Rattle.bt_events.specs.Event.{Opening}
-use Rattle.bt_events.specs.Fits.{IsOpening}
-use Rattle.bt_events.specs.World.{terminals}
-use Rattle.bt_events.proofs.Counted.{due-in_time}
+use Rattle.bt_site.specs.Event.{Opening}
+use Rattle.bt_site.specs.Fits.{IsOpening}
+use Rattle.bt_site.specs.World.{terminals}
+use Rattle.bt_site.proofs.Counted.{due-in_time}
 use Rattle.bt_apart.specs.Apart.{ApartAir, IsInstalled, apart_at_start}
 use Rattle.bt_apart.specs.Inside.{IsApart, IsReady}
 use Rattle.bt_apart.proofs.Ready.{back-still, begun-ready, installed-ready, starts-more}

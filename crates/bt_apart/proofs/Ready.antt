@@ -12,9 +12,9 @@ use Rattle.bt_air.specs.Orders.{edition_ordered}
 use Rattle.bt_machines.specs.Centre.{State as Centre, AreNumbered, act_at, after_turn, begins_with, turn_at}
 use Rattle.bt_machines.specs.Plans.{StartsEmpty, newest_of, plan_of}
 use Rattle.bt_machines.specs.Turn.{wanted_by}
-use Rattle.bt_events.specs.Fits.{HasPlan, IsInTime}
-use Rattle.bt_events.proofs.Banks.{act-planned, if-some-still, still}
-use Rattle.bt_events.proofs.Counted.{IsNumbered, act-numbered}
+use Rattle.bt_site.specs.Fits.{HasPlan, IsInTime}
+use Rattle.bt_site.proofs.Banks.{act-planned, if-some-still, still}
+use Rattle.bt_site.proofs.Counted.{IsNumbered, act-numbered}
 use Rattle.bt_apart.specs.Apart.{IsTimely}
 use Rattle.bt_apart.specs.Inside.{IsReady, MayJoin}
 

@@ -24,8 +24,8 @@ use Rattle.bt_machines.specs.Plans.{IsStored, bursts_for, has_burst, modes_of, p
 use Rattle.bt_machines.specs.Says.{last_plans, order_again, plans_for, sent_by_act, sent_by_order, sent_to_asking}
 use Rattle.bt_machines.specs.Terminals.{has, terminals_of}
 use Rattle.bt_site.specs.Sites.{turn_says}
-use Rattle.bt_events.specs.Fits.{IsInTime}
-use Rattle.bt_events.proofs.Ranges.{Acts, IsEdition, MayRepeat, Placed, Taken, act-acts, command-word, known-fits, load_of-word, next-fits, numbered-fits, wanted-fits}
+use Rattle.bt_site.specs.Fits.{IsInTime}
+use Rattle.bt_site.proofs.Ranges.{Acts, IsEdition, MayRepeat, Placed, Taken, act-acts, command-word, known-fits, load_of-word, next-fits, numbered-fits, wanted-fits}
 use Rattle.bt_apart.specs.Inside.{IsReady, IsSayable}
 use Rattle.bt_apart.proofs.Ready.{numbered-next, planned-next}
 

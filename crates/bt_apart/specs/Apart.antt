@@ -16,12 +16,12 @@ use Rattle.bt_machines.specs.CentreSteps.{beginning, once_placed, orders_kept}
 use Rattle.bt_machines.specs.Plans.{plan_of}
 use Rattle.bt_machines.specs.Says.{carried, sent_by_order}
 use Rattle.bt_site.specs.Sites.{centre_with, turn_says}
-use Rattle.bt_events.specs.Event.{Opening, Event, Turn, Ordered, RestartCentre, Install}
-use Rattle.bt_events.specs.World.{greatest_due, terminals}
+use Rattle.bt_site.specs.Event.{Opening, Event, Turn, Ordered, RestartCentre, Install}
+use Rattle.bt_site.specs.World.{greatest_due, terminals}
 use Rattle.bt_timeline.specs.Air.{sent_line}
-use Rattle.bt_bus.specs.Said.{radio_line}
-use Rattle.bt_bus.specs.declared.heard.BusLine.{BusLine}
-use Rattle.bt_bus.specs.declared.heard.BusLine.TheVariants as bus
+use Rattle.bt_script.specs.BusSaid.{radio_line}
+use Rattle.bt_script.specs.declared.heard.BusLine.{BusLine}
+use Rattle.bt_script.specs.declared.heard.BusLine.TheVariants as bus
 
 -- The state of the air as such a centre knows it: what it opened with, its plans, the centre by its table, the superframe that it takes
 -- for the present one, whether it has heard since its start that one began, how many messages it has said, and the edition to

@@ -12,7 +12,7 @@ use Rattle.bt_machines.specs.Centre.{State as Centre, AreNumbered}
 use Rattle.bt_machines.specs.Plans.{IsStored, StartsEmpty}
 use Rattle.bt_machines.specs.Says.{carried}
 use Rattle.bt_site.specs.Address.{IsAddressed}
-use Rattle.bt_events.specs.Fits.{HasPlan, IsInTime, IsOpening}
+use Rattle.bt_site.specs.Fits.{HasPlan, IsInTime, IsOpening}
 use Rattle.bt_timeline.specs.Air.{NamesTerminal}
 use Rattle.bt_apart.specs.Apart.{ApartAir, IsInstalled, IsTimely}
 

@@ -3,16 +3,15 @@ ghost use Rattle.std.specs.Prelude.{◌≡◌, ◌<◌, [], length, reverse, is_
 ghost use Rattle.bt_demand.specs.Flyable.{IsFlyable};
 ghost use Rattle.bt_air.specs.Range.{IsMark};
 ghost use Rattle.bt_machines.specs.Plans.{newest_of, plan_of};
-ghost use Rattle.bt_events.specs.Event.{Install, RestartCentre};
-ghost use Rattle.bt_events.specs.Fits.{AreStored, IsOpening};
+ghost use Rattle.bt_site.specs.Event.{Install, RestartCentre};
+ghost use Rattle.bt_site.specs.Fits.{AreStored, IsOpening};
 ghost use Rattle.bt_apart.specs.Apart.{IsInstalled, IsTimely, apart_at_start, going_apart, having_apart};
 
 use bt_air::Order;
 use bt_demand::Plan;
-use bt_events::greatest_due;
 use bt_frame::{EditionNo, Mark, OutOfMemory};
 use bt_net::Network;
-use bt_site::CentreSite;
+use bt_site::{CentreSite, greatest_due};
 use std::alloc::Global;
 use std::marker::Model;
 

@@ -1,14 +1,14 @@
 // The centre of sites apart hears a line of the bus.
 ghost use Rattle.std.specs.Prelude.{◌≡◌, IfSome};
 ghost use Rattle.bt_air.specs.Range.{IsInRange, IsMark};
-ghost use Rattle.bt_bus.specs.Heard.{IsOnBus};
-ghost use Rattle.bt_bus.specs.declared.heard.BusLine.TheVariants as bus;
+ghost use Rattle.bt_script.specs.Heard.{IsOnBus};
+ghost use Rattle.bt_script.specs.declared.heard.BusLine.TheVariants as bus;
 ghost use Rattle.bt_apart.specs.Apart.{heard_apart, later_mark};
 
 use crate::ApartCentre;
 use bt_air::Message;
-use bt_bus::BusLine;
 use bt_frame::Mark;
+use bt_script::BusLine;
 
 impl ApartCentre {
     /// It hears a line: that a superframe begins, or a message, behind the superframe that its sayer takes for the present one.

@@ -1,8 +1,8 @@
 //! The centre as a site apart: its satellite and its terminals are no machines of its process, and it hears and says lines.
 //!
-//! It stands on the sites (`bt_site`) and on the lines of the bus (`bt_bus`). `docs/sites.md` has the protocol. Promises:
+//! It stands on the sites (`bt_site`) and on the lines of the bus (`bt_script`). `docs/sites.md` has the protocol. Promises:
 //! `specs/Apart.antt` says what the centre is, what it says and what it is once it has heard a line, in the words of `bt_site` and
-//! `bt_events`; `Inside` is for bodies alone. `centre.rt` has the centre, `hear.rt` what it hears, `say.rt` what it says.
+//! `bt_site`; `Inside` is for bodies alone. `centre.rt` has the centre, `hear.rt` what it hears, `say.rt` what it says.
 #![tactic(auto)]
 
 mod centre;

@@ -5,16 +5,16 @@ ghost use Rattle.bt_demand.specs.declared.plan.Plan.{Plan};
 ghost use Rattle.bt_machines.specs.Plans.{plan_of};
 ghost use Rattle.bt_machines.specs.Says.{carried};
 ghost use Rattle.bt_site.specs.Address.{IsLoaded};
-ghost use Rattle.bt_events.specs.Event.{Ordered, Turn};
+ghost use Rattle.bt_site.specs.Event.{Ordered, Turn};
 ghost use Rattle.bt_apart.specs.Apart.{IsInstalled, having_apart, having_said, lines_apart, said_line, said_lines};
 ghost use Rattle.bt_apart.specs.Inside.{IsSayable};
 
 use crate::ApartCentre;
 use bt_air::{Aired, Message};
-use bt_bus::add_radio;
 use bt_demand::{Plan, flyable_plans_are_small};
 use bt_frame::{EditionNo, MOST_COUNTED, MOST_TERMINALS, OutOfMemory};
 use bt_net::Network;
+use bt_script::add_radio;
 use bt_site::Posted;
 use bt_timeline::sent_text;
 use std::alloc::Global;

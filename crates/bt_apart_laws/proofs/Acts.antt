@@ -17,15 +17,15 @@ use Rattle.bt_machines.specs.CentreSteps.{beginning, once_placed, with_wanted}
 use Rattle.bt_machines.specs.Says.{sent_by_order}
 use Rattle.bt_site.specs.Sites.{centre_with, turn_says as says_in_turn}
 use Rattle.bt_timeline.specs.Air.{sent_line}
-use Rattle.bt_events.specs.Event.{Install, Opening, Ordered, RestartCentre, Turn}
-use Rattle.bt_events.specs.World.{terminals}
+use Rattle.bt_site.specs.Event.{Install, Opening, Ordered, RestartCentre, Turn}
+use Rattle.bt_site.specs.World.{terminals}
 use Rattle.bt_sites.specs.Late.{Late, now_of, site_of, steps_of}
 use Rattle.bt_sites.specs.Sites.{bytes_of, centre_after, plans_after, said_with}
 use Rattle.bt_sites.specs.Sites as sites
 use Rattle.bt_sites.specs.Stamps.{Act, Begins, Begun, Hears, Installs, Line, Places, Radio, Restarts, Seconds, StandbyStarts, Starts, Turns, actor_of, is_same_site, joined, known, known_by, late_of, lines_by, made_in, said_if, steps_by, where_known}
 use Rattle.bt_sites.specs.Step.{Step}
 use Rattle.bt_sites.specs.Step as step
-use Rattle.bt_bus.specs.Heard.{if_read, read_of}
+use Rattle.bt_script.specs.Heard.{if_read, read_of}
 use Rattle.bt_apart.specs.Apart.{ApartAir, apart_at_start, heard_apart, later_mark, noting_apart, said_lines, says_apart}
 use Rattle.bt_apart_laws.specs.Acts.{BeginsSome, IsAct, IsCentreAt, heard_as, known_in, opening_again, printed_with, takes_up, text_of}
 

@@ -10,13 +10,13 @@ use Rattle.bt_demand.specs.Flyable.{IsFlyable}
 use Rattle.bt_air.specs.Range.{IsWord}
 use Rattle.bt_machines.specs.Plans.{IsStored, modes_of, plan_of}
 use Rattle.bt_machines.specs.Satellite.{State as Satellite}
-use Rattle.bt_events.proofs.Banks.{world-banked}
-use Rattle.bt_events.proofs.Plans.{plan-holds, plans-flyable}
-use Rattle.bt_events.specs.Air.{AreFlyable, IsSafe}
-use Rattle.bt_events.specs.Event.{Event, Opening}
-use Rattle.bt_events.specs.Fits.{IsWorld}
-use Rattle.bt_events.specs.Satellite.{BanksHold, satellite}
-use Rattle.bt_events.specs.World.{log, plans}
+use Rattle.bt_site.proofs.Banks.{world-banked}
+use Rattle.bt_site.proofs.Plans.{plan-holds, plans-flyable}
+use Rattle.bt_site.specs.Air.{AreFlyable, IsSafe}
+use Rattle.bt_site.specs.Event.{Event, Opening}
+use Rattle.bt_site.specs.Fits.{IsWorld}
+use Rattle.bt_site.specs.Satellite.{BanksHold, satellite}
+use Rattle.bt_site.specs.World.{log, plans}
 use Rattle.bt_sites.specs.Behind.{HasWorldBehind}
 use Rattle.bt_sites.specs.Fits.{AreSites, AreSmall, order_count}
 use Rattle.bt_sites.specs.Late.{AreLate, HasOrder, Late, now_of, steps_of}

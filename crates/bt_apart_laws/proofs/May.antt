@@ -10,10 +10,10 @@ use Rattle.bt_demand.specs.declared.plan.Plan.{Plan}
 use Rattle.bt_demand.specs.Flyable.{IsFlyable}
 use Rattle.bt_machines.specs.Centre.{State as Centre}
 use Rattle.bt_machines.specs.Plans.{newest_of, plan_of}
-use Rattle.bt_events.specs.Event.{Opening, Event, Tick, Turn, Second, Ordered, Deliver, Frame, ResetTerminal, RestartCentre, Install}
+use Rattle.bt_site.specs.Event.{Opening, Event, Tick, Turn, Second, Ordered, Deliver, Frame, ResetTerminal, RestartCentre, Install}
 use Rattle.bt_sites.specs.Stamps.{Act, Begins, Begun, HasLine, Hears, Installs, Line, MayAct, MayHear, Places, Radio, Restarts, Seconds, StandbyStarts, Starts, Turns, known, lines, reached, stamp_of}
 use Rattle.bt_sites.specs.Step as step
-use Rattle.bt_bus.specs.Heard.{read_of}
+use Rattle.bt_script.specs.Heard.{read_of}
 use Rattle.bt_apart.specs.Apart.{ApartAir, having_apart, heard_apart, later_mark, noting_apart}
 use Rattle.bt_apart_laws.specs.Acts.{IsCentreAt, IsNotBehind, heard_as, is_hearing, takes_up}
 use Rattle.bt_apart_laws.proofs.Acts.{if-true, known-marked, known-some, later-either, mark_of}

@@ -16,8 +16,8 @@ use Rattle.bt_text.proofs.TextNumbers.{lacks-decimal, number_of-decimal}
 use Rattle.bt_words.specs.Lines.{line_of, spaced_out}
 use Rattle.bt_sites.specs.Stamps.{Begun, Line, Radio}
 use Rattle.bt_apart_laws.specs.Acts.{IsHeardAs, IsOfLine, IsSayable, text_of, words_of}
-use Rattle.bt_bus.specs.Heard.{at_most, begins, begun_in, bus_line_of, bus_words_of, if_begun, number_in, radio_in, said_in}
-use Rattle.bt_bus.specs.declared.heard.BusLine.{BusLine}
+use Rattle.bt_script.specs.Heard.{at_most, begins, begun_in, bus_line_of, bus_words_of, if_begun, number_in, radio_in, said_in}
+use Rattle.bt_script.specs.declared.heard.BusLine.{BusLine}
 
 -- the superframe of that number
 abbrev mark_of : ℕ → Mark

@@ -13,14 +13,14 @@ use Rattle.bt_machines.specs.Plans.{plan_of}
 use Rattle.bt_machines.specs.Satellite.{State as Satellite}
 use Rattle.bt_words.specs.Lines.{line_of}
 use Rattle.bt_timeline.specs.Air.{sent_line}
-use Rattle.bt_events.specs.Air.{IsSafe}
-use Rattle.bt_events.specs.Event.{Opening, Event}
+use Rattle.bt_site.specs.Air.{IsSafe}
+use Rattle.bt_site.specs.Event.{Opening, Event}
 use Rattle.bt_sites.specs.Sites.{centre_after, plans_after}
 use Rattle.bt_sites.specs.Stamps.{Act, Begun, Hears, Line, Radio, known, lines_by, reached, steps_by}
 use Rattle.bt_sites.specs.Step as site
-use Rattle.bt_bus.specs.Heard.{bus_line_of, read_of}
-use Rattle.bt_bus.specs.declared.heard.BusLine.{BusLine}
-use Rattle.bt_bus.specs.declared.heard.BusLine.TheVariants as bus
+use Rattle.bt_script.specs.Heard.{bus_line_of, read_of}
+use Rattle.bt_script.specs.declared.heard.BusLine.{BusLine}
+use Rattle.bt_script.specs.declared.heard.BusLine.TheVariants as bus
 use Rattle.bt_apart.specs.Apart.{ApartAir, having_apart, lines_apart, says_apart}
 
 -- the words of a line: `mark N`, or `radio N HEX`

@@ -10,19 +10,19 @@ ghost use Rattle.bt_demand.specs.declared.burst.Burst.{Burst};
 ghost use Rattle.bt_demand.specs.declared.plan.Plan.{Plan};
 ghost use Rattle.bt_demand.specs.Flyable.{IsFlyable};
 ghost use Rattle.bt_machines.specs.Plans.{newest_of, plan_of};
-ghost use Rattle.bt_events.specs.Event.{Event, Install, Opening, Ordered, RestartCentre, Turn};
-ghost use Rattle.bt_events.specs.World.{terminals};
+ghost use Rattle.bt_site.specs.Event.{Event, Install, Opening, Ordered, RestartCentre, Turn};
+ghost use Rattle.bt_site.specs.World.{terminals};
 ghost use Rattle.bt_sites.specs.Fits.{AreSmall};
 ghost use Rattle.bt_sites.specs.OnAir.{AreSentIn, IsOnBoard};
 ghost use Rattle.bt_sites.specs.Sites.{satellite_after};
 ghost use Rattle.bt_sites.specs.Stamps.{Act, AreStamped, Begun, HasLine, Hears, Installs, Line, MayAct, Places, Restarts, Turns, actor_of, is_same_site, lines, lines_by, reached, steps_by};
 ghost use Rattle.bt_sites.specs.Step as site;
-ghost use Rattle.bt_bus.specs.Heard.{bus_line_of};
-ghost use Rattle.bt_bus.specs.declared.heard.BusLine.{BusLine};
+ghost use Rattle.bt_script.specs.Heard.{bus_line_of};
+ghost use Rattle.bt_script.specs.declared.heard.BusLine.{BusLine};
 ghost use Rattle.bt_apart.specs.Apart.{ApartAir, apart_at_start, going_apart, having_apart, heard_apart};
 ghost use Rattle.bt_apart_laws.specs.Acts.{BeginsSome, IsAct, IsCentreAt, IsHeardAs, IsNotBehind, IsOfLine, IsPlanInFront, IsSafeInFront, IsSayable, heard_as, is_hearing, opening_again, takes_up, text_of, words_of};
 
-use bt_events::{banks_hold_plans, frames_are_safe};
+use bt_site::{banks_hold_plans, frames_are_safe};
 use bt_sites::{
     late_sites_are_sites, sites_are_a_world, stamped_sites_are_late_sites,
     stamped_superframes_are_safe,

@@ -1,6 +1,6 @@
 //! The centre of sites apart as one of the sites of `bt_sites`: what it hears, does and says are acts of its own.
 //!
-//! It stands on the centre of sites apart (`bt_apart`), on the lines of the bus (`bt_bus`) and on sites that hear lines with stamps
+//! It stands on the centre of sites apart (`bt_apart`), on the lines of the bus (`bt_script`) and on sites that hear lines with stamps
 //! (`bt_sites`). `specs/Acts.antt` says where the centre is after acts; `laws.rt` has what holds of it. All of `specs/` is promise.
 #![tactic(auto)]
 

@@ -1,1 +1,5 @@
 mod LookUp
+mod Faults
+mod Life
+mod Steps
+mod Telling

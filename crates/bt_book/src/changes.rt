@@ -2,7 +2,7 @@
 ghost use Rattle.std.specs.Prelude.{◌≡◌, ◌++◌, ◌∷◌, []};
 
 use bt_journal::Change;
-use bt_trace::Trace;
+use bt_outside::Trace;
 use std::marker::Model;
 
 /// The changes that a machine made, the first first: those of its journal, and those of its calls.

@@ -6,10 +6,9 @@ ghost use Rattle.bt_history.specs.Causes.{GetsVerdict, IsPlanOn};
 ghost use Rattle.bt_history.specs.Records.{IsFirstCause};
 
 use crate::machine::Machine;
-use bt_demand::Plan;
+use bt_demand::{Plan, Verdict, check};
 use bt_frame::OutOfMemory;
 use bt_journal::Reply;
-use bt_verdict::{Verdict, check};
 use std::alloc::Global;
 
 impl Machine {

@@ -1,11 +1,11 @@
 -- What an air opened with stays what it opened with.
 use Rattle.std.proofs.Common.{◌≡◌, nat_le, if◌then◌else◌, Bool, true, false, refl}
 use Rattle.bt_apart.specs.Apart.{ApartAir, later_mark, noting_apart}
-use Rattle.bt_bus.specs.declared.sites.Sites.{Sites}
-use Rattle.bt_bus.specs.declared.sites.Sites.TheVariants.{Together, Apart as Away}
-use Rattle.bt_bus.specs.declared.heard.BusLine.{BusLine}
-use Rattle.bt_bus.specs.declared.heard.BusLine.TheVariants as bus
-use Rattle.bt_events.specs.Event.{Opening}
+use Rattle.bt_script.specs.declared.sites.Sites.{Sites}
+use Rattle.bt_script.specs.declared.sites.Sites.TheVariants.{Together, Apart as Away}
+use Rattle.bt_script.specs.declared.heard.BusLine.{BusLine}
+use Rattle.bt_script.specs.declared.heard.BusLine.TheVariants as bus
+use Rattle.bt_site.specs.Event.{Opening}
 use Rattle.bt_round.specs.declared.worker.CentreOver.TheVariants.{Simulated, Apart}
 use Rattle.bt_round.specs.AirLines.{AirState, hearing, opening_in, restarting, start_air}
 

@@ -3,18 +3,18 @@ use Rattle.std.proofs.Common.{◌≡◌, ℕ, ◌≤◌, Bool, inl, inr, List, [
 use Rattle.std.specs.Prelude.{IfSome, option_map}
 use Rattle.std.specs.Option.{is_some}
 use Rattle.bt_net.specs.Network.{Net}
-use Rattle.bt_bus.specs.declared.sites.Sites.{Sites}
-use Rattle.bt_bus.specs.declared.sites.Sites.TheVariants.{Together}
+use Rattle.bt_script.specs.declared.sites.Sites.{Sites}
+use Rattle.bt_script.specs.declared.sites.Sites.TheVariants.{Together}
 use Rattle.bt_air.specs.declared.event.Event.{Event}
 use Rattle.bt_demand.specs.declared.burst.Burst.{Burst}
 use Rattle.bt_journal.specs.declared.call.Change.{Change}
 use Rattle.bt_history.specs.declared.fault.RecoverFault.{RecoverFault}
 use Rattle.bt_history.specs.declared.fault.RecoverFault.TheVariants.{StoreFault}
 use Rattle.bt_history.specs.Recovery.{IsReadable, Recovered, marked}
-use Rattle.bt_events.specs.Air.{AreFlyable, IsAir, IsSafe, modes_in_front}
-use Rattle.bt_events.specs.Event.{Frame, Opening}
-use Rattle.bt_events.specs.Fits.{IsWorld}
-use Rattle.bt_events.specs.World.{log}
+use Rattle.bt_site.specs.Air.{AreFlyable, IsAir, IsSafe, modes_in_front}
+use Rattle.bt_site.specs.Event.{Frame, Opening}
+use Rattle.bt_site.specs.Fits.{IsWorld}
+use Rattle.bt_site.specs.World.{log}
 use Rattle.bt_script.specs.declared.script.Item.{Item}
 use Rattle.bt_script.specs.declared.script.Script.{Script}
 use Rattle.bt_centre.specs.declared.history.History.{History}

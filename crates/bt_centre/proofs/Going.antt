@@ -2,8 +2,8 @@
 use Rattle.std.proofs.Common.{◌≡◌, ℕ, List, [], ◌∷◌, ◌++◌, length, reverse, refl, sym, ap, ◌∙◌, subst, arith, inl}
 use Rattle.std.specs.Option.{is_some}
 use Rattle.bt_net.specs.Network.{Net}
-use Rattle.bt_bus.specs.declared.heard.BusLine.{BusLine}
-use Rattle.bt_bus.specs.declared.sites.Sites.{Sites}
+use Rattle.bt_script.specs.declared.heard.BusLine.{BusLine}
+use Rattle.bt_script.specs.declared.sites.Sites.{Sites}
 use Rattle.bt_journal.specs.declared.call.Change.{Change}
 use Rattle.bt_journal.specs.declared.entry.Entry.{Entry}
 use Rattle.bt_history.specs.Book.{Books}
@@ -17,7 +17,7 @@ use Rattle.bt_centre.specs.declared.history.History.{History}
 use Rattle.bt_round.specs.AirLines.{hearing, opening_in}
 use Rattle.bt_round.specs.Rounds.{BookRan}
 use Rattle.bt_round.proofs.Closing.{ran_nothing}
-use Rattle.bt_events.specs.Event.{Opening}
+use Rattle.bt_site.specs.Event.{Opening}
 use Rattle.bt_centre.specs.Progress.{GoesOn, Hand, IsBegun, IsLeftEarly, IsLeftOf, IsLegalHand, Left, RestartPlayed, histories_in, history_in}
 use Rattle.bt_centre.specs.Run.{AreLegalTimes, AreTimes, BreaksOff, IsLegalHistory, lost_in, opening_on}
 use Rattle.bt_centre.proofs.Airs.{opening_hearing, opening_restarting, opening_start}

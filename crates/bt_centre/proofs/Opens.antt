@@ -22,7 +22,7 @@ use Rattle.bt_history.specs.Causes.{CanCome, FollowFrom, Follows, IsInTurn}
 use Rattle.bt_demand.specs.Plan.{empty_plan}
 use Rattle.bt_history.specs.Changes.{is_installed, last_command, newest, order_in, orders, plan_in, plans}
 use Rattle.bt_machines.specs.Centre.{AreNumbered}
-use Rattle.bt_events.specs.Fits.{HasPlan, IsInTime, IsOpening}
+use Rattle.bt_site.specs.Fits.{HasPlan, IsInTime, IsOpening}
 use Rattle.bt_machines.specs.Plans.{StartsEmpty, newest_of, first_or, plan_of}
 use Rattle.bt_world.specs.Life.{opening_of}
 use Rattle.bt_round.proofs.Installed.{newest-install}

@@ -15,14 +15,14 @@ use Rattle.bt_air.specs.declared.sent.Place.{Place}
 use Rattle.bt_machines.specs.Last.{last_order}
 use Rattle.bt_machines.specs.Turn.{act_of, wanted_by}
 use Rattle.bt_machines.specs.declared.turn.Turn.{Turn as Sight}
-use Rattle.bt_events.specs.Event.{Event, Tick, Second, Ordered, Deliver, Frame, ResetTerminal, RestartCentre, Install, Happening}
+use Rattle.bt_site.specs.Event.{Event, Tick, Second, Ordered, Deliver, Frame, ResetTerminal, RestartCentre, Install, Happening}
 use Rattle.bt_machines.specs.Plans.{newest_of}
-use Rattle.bt_events.specs.World.{comes_to, kept, orders as placed, plans, sight, terminals, wanted}
+use Rattle.bt_site.specs.World.{comes_to, kept, orders as placed, plans, sight, terminals, wanted}
 use Rattle.bt_machines.specs.Centre.{State as Centre, turn_at}
 use Rattle.bt_machines.specs.CentreSteps.{once_heard, once_placed, with_wanted}
 use Rattle.bt_site.specs.Sites.{aired_of}
-use Rattle.bt_bus.specs.declared.heard.BusLine.{BusLine}
-use Rattle.bt_bus.specs.declared.heard.BusLine.TheVariants as bus
+use Rattle.bt_script.specs.declared.heard.BusLine.{BusLine}
+use Rattle.bt_script.specs.declared.heard.BusLine.TheVariants as bus
 use Rattle.bt_apart.specs.Apart.{ApartAir, later_mark, noting_apart}
 use Rattle.bt_journal.specs.declared.call.Call.{Call}
 use Rattle.bt_journal.specs.declared.call.Call.TheVariants as call

@@ -8,9 +8,9 @@ use Rattle.std.proofs.lemmas.List.Elements.{All-append, All-nil}
 use Rattle.bt_frame.proofs.Pairs.{AllPairs-append}
 use Rattle.bt_outside.specs.Told.{gained}
 use Rattle.bt_net.specs.Network.{Net}
-use Rattle.bt_bus.specs.declared.sites.Sites.{Sites}
-use Rattle.bt_bus.specs.declared.sites.Sites.TheVariants.{Together}
-use Rattle.bt_bus.specs.declared.heard.BusLine.{BusLine}
+use Rattle.bt_script.specs.declared.sites.Sites.{Sites}
+use Rattle.bt_script.specs.declared.sites.Sites.TheVariants.{Together}
+use Rattle.bt_script.specs.declared.heard.BusLine.{BusLine}
 use Rattle.bt_journal.specs.declared.call.Change.{Change}
 use Rattle.bt_journal.specs.declared.entry.Entry.{Entry}
 use Rattle.bt_journal.specs.Journal.{changes_of}

@@ -8,7 +8,7 @@ use Rattle.bt_outside.specs.declared.source.Incoming.{Incoming}
 use Rattle.bt_outside.specs.Input.{Comes, said_by}
 use Rattle.bt_outside.specs.Talk.{Shown, Turn, Heard, Said, heard, said, took}
 use Rattle.bt_net.specs.Network.{Net}
-use Rattle.bt_bus.specs.declared.sites.Sites.{Sites}
+use Rattle.bt_script.specs.declared.sites.Sites.{Sites}
 use Rattle.bt_history.specs.Book.{Books}
 use Rattle.bt_history.specs.Crash.{Last}
 use Rattle.bt_history.specs.Machine.{State}

@@ -4,8 +4,8 @@ use Rattle.std.specs.Option.{is_some}
 use Rattle.std.proofs.lemmas.List.{get_or-reverse}
 use Rattle.bt_frame.specs.declared.numbers.EditionNo.{EditionNo}
 use Rattle.bt_net.specs.Network.{Net}
-use Rattle.bt_bus.specs.declared.sites.Sites.{Sites}
-use Rattle.bt_bus.specs.declared.sites.Sites.TheVariants.{Together, Apart}
+use Rattle.bt_script.specs.declared.sites.Sites.{Sites}
+use Rattle.bt_script.specs.declared.sites.Sites.TheVariants.{Together, Apart}
 use Rattle.bt_demand.specs.declared.plan.Plan.{Plan}
 use Rattle.bt_demand.specs.Plan.{empty_plan}
 use Rattle.bt_air.specs.declared.event.Event.{Event}

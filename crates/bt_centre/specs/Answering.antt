@@ -5,7 +5,7 @@ use Rattle.bt_outside.specs.Told.{gained}
 use Rattle.bt_outside.specs.Input.{given_by}
 use Rattle.bt_outside.specs.Talk.{Shown, Turn, took}
 use Rattle.bt_net.specs.Network.{Net}
-use Rattle.bt_bus.specs.declared.sites.Sites.{Sites}
+use Rattle.bt_script.specs.declared.sites.Sites.{Sites}
 use Rattle.bt_script.specs.declared.script.Item.{Item}
 use Rattle.bt_history.specs.Book.{Books}
 use Rattle.bt_history.specs.Crash.{Last}

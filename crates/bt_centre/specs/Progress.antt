@@ -7,8 +7,8 @@ use Rattle.bt_outside.specs.Told.{gained}
 use Rattle.bt_net.specs.Network.{Net}
 use Rattle.bt_air.specs.declared.event.Event.{Event}
 use Rattle.bt_air.specs.declared.order.Order.{Order}
-use Rattle.bt_bus.specs.declared.sites.Sites.{Sites}
-use Rattle.bt_bus.specs.declared.sites.Sites.TheVariants.{Together}
+use Rattle.bt_script.specs.declared.sites.Sites.{Sites}
+use Rattle.bt_script.specs.declared.sites.Sites.TheVariants.{Together}
 use Rattle.bt_journal.specs.declared.call.Change.{Change}
 use Rattle.bt_history.specs.declared.fault.RecoverFault.{RecoverFault}
 use Rattle.bt_history.specs.declared.fault.RecoverFault.TheVariants.{OutOfMemory, StoreFault}

@@ -7,13 +7,13 @@ use Rattle.bt_outside.specs.Told.{GainsPrefix, gained}
 use Rattle.bt_net.specs.Network.{Net}
 use Rattle.bt_air.specs.declared.event.Event.{Event}
 use Rattle.bt_air.specs.declared.order.Order.{Order}
-use Rattle.bt_bus.specs.declared.sites.Sites.{Sites}
-use Rattle.bt_bus.specs.declared.sites.Sites.TheVariants.{Together}
+use Rattle.bt_script.specs.declared.sites.Sites.{Sites}
+use Rattle.bt_script.specs.declared.sites.Sites.TheVariants.{Together}
 use Rattle.bt_demand.specs.declared.burst.Burst.{Burst}
-use Rattle.bt_events.specs.Air.{IsAir, IsSafe, modes_in_front}
-use Rattle.bt_events.specs.Event.{Frame, Opening}
+use Rattle.bt_site.specs.Air.{IsAir, IsSafe, modes_in_front}
+use Rattle.bt_site.specs.Event.{Frame, Opening}
 use Rattle.bt_world.specs.Life.{opening_of}
-use Rattle.bt_events.specs.World.{log}
+use Rattle.bt_site.specs.World.{log}
 use Rattle.bt_journal.specs.declared.call.Change.{Change}
 use Rattle.bt_journal.specs.declared.entry.Entry.{Entry}
 use Rattle.bt_journal.specs.Journal.{calls_of, changes_of}

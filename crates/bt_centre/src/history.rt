@@ -3,7 +3,7 @@ ghost use Rattle.std.specs.Prelude.{◌≡◌, ◌++◌, ◌∷◌, []};
 ghost use Rattle.bt_centre.specs.Handed.{history_of};
 
 use bt_journal::Entries;
-use bt_trace::Trace;
+use bt_outside::Trace;
 use std::alloc::Global;
 use std::marker::Model;
 

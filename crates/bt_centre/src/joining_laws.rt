@@ -2,7 +2,7 @@
 ghost use Rattle.std.specs.Prelude.{◌≡◌, ℕ, true, Bool, List};
 ghost use Rattle.std.specs.Option.{is_some};
 ghost use Rattle.bt_net.specs.Network.{Net};
-ghost use Rattle.bt_bus.specs.declared.sites.Sites.{Sites};
+ghost use Rattle.bt_script.specs.declared.sites.Sites.{Sites};
 ghost use Rattle.bt_air.specs.declared.event.Event.{Event};
 ghost use Rattle.bt_centre.specs.declared.history.History.{History};
 ghost use Rattle.bt_centre.specs.Joining.{HasOrders, JoinsWanted, PartHasOrders, RestartJoins};

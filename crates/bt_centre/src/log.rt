@@ -6,7 +6,7 @@ ghost use Rattle.bt_centre.specs.Run.{entries_of};
 use crate::tally::Tally;
 use crate::{History, SessionHistories};
 use bt_journal::Entries;
-use bt_trace::Trace;
+use bt_outside::Trace;
 use std::marker::Model;
 use std::mem;
 

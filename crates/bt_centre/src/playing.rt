@@ -1,16 +1,16 @@
 // What a run has in hand, and what is left of it.
 ghost use Rattle.std.specs.Prelude.{◌≡◌, ◌<◌, ◌∷◌, [], false, true, ℕ, length, vec_capacity};
-ghost use Rattle.bt_bus.specs.Heard.{IsOnBus};
+ghost use Rattle.bt_script.specs.Heard.{IsOnBus};
 ghost use Rattle.bt_round.specs.AirLines.{hearing};
 ghost use Rattle.bt_centre.specs.Progress.{Hand, IsLeftOf, Left};
 ghost use Rattle.bt_centre.specs.Whole.{whole};
 
 use crate::station::book_and_centre;
 use crate::{Histories, History, RunEnd};
-use bt_bus::BusLine;
 use bt_journal::{Entries, Entry};
 use bt_outside::Keeper;
 use bt_round::Station;
+use bt_script::BusLine;
 use bt_world::{Events, KeptEvents};
 use std::alloc::Global;
 use std::marker::Model;

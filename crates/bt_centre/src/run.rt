@@ -1,7 +1,7 @@
 // The parts of a script are played in order, and each is written when it is over.
 ghost use Rattle.std.specs.Prelude.{◌≡◌, ◌≤◌, All, IfErr, IfOk, IsErrOf, OnOk};
 ghost use Rattle.bt_outside.specs.Told.{GainsPrefix, Rose, gained};
-ghost use Rattle.bt_bus.specs.declared.sites.Sites.TheVariants.{Together};
+ghost use Rattle.bt_script.specs.declared.sites.Sites.TheVariants.{Together};
 ghost use Rattle.bt_script.specs.Named.{IsItemFor};
 ghost use Rattle.bt_centre.specs.Progress.{IsBegun, ItemsWritten, PartsEnded, start_of};
 

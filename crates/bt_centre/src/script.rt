@@ -1,7 +1,7 @@
 // The run of a script from its start to its last line.
 ghost use Rattle.std.specs.Prelude.{◌≡◌, ◌≤◌, All, IsErrOf, OnOk};
 ghost use Rattle.bt_outside.specs.Told.{GainsPrefix, Rose, gained};
-ghost use Rattle.bt_bus.specs.declared.sites.Sites.TheVariants.{Together};
+ghost use Rattle.bt_script.specs.declared.sites.Sites.TheVariants.{Together};
 ghost use Rattle.bt_script.specs.Named.{IsItemFor};
 ghost use Rattle.bt_centre.specs.Lines.{total_of};
 ghost use Rattle.bt_centre.specs.Progress.{IsBegun, PartsEnded};
@@ -15,12 +15,11 @@ use crate::total::{add_total, has_lost};
 use crate::{Histories, History};
 use bt_air::Event;
 use bt_book::installed_plans_are_good;
-use bt_bus::Sites;
 use bt_net::Network;
 use bt_outside::{Keeper, Sink, SinkFault};
 use bt_report::{DONE, STORE_FAILED, unwritten};
 use bt_round::Gate;
-use bt_script::Script;
+use bt_script::{Script, Sites};
 use bt_world::{KeptEvents, frames_are_safe};
 use std::alloc::Global;
 use std::sync::Wait;

@@ -1,2 +1,4 @@
 pub mod OneChart
 pub mod Naming
+pub mod Newest
+pub mod Rows

@@ -5,3 +5,6 @@ pub mod Choosing
 pub mod Plans
 pub mod Runs
 pub mod Top
+pub mod Fixed
+pub mod Pieces
+pub mod Page

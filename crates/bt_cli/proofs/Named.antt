@@ -3,11 +3,11 @@ use Rattle.std.proofs.Common.{ℕ, List, Some, None}
 use Rattle.bt_net.specs.Network.{Net}
 use Rattle.bt_demand.specs.declared.demand.Link.{Link}
 use Rattle.bt_demand.specs.declared.plan.Plan.{Plan}
-use Rattle.bt_verdict.specs.declared.verdict.Verdict.{Verdict}
-use Rattle.bt_verdict.specs.declared.verdict.Verdict.TheVariants.{Good, V1, V2, V3, V4, V5, V6, V7, V8}
+use Rattle.bt_demand.specs.declared.verdict.Verdict.{Verdict}
+use Rattle.bt_demand.specs.declared.verdict.Verdict.TheVariants.{Good, V1, V2, V3, V4, V5, V6, V7, V8}
 use Rattle.bt_frame.specs.declared.schedule.Schedule.{Schedule}
-use Rattle.bt_verdict.specs.Verdict.{IsVerdict}
-use Rattle.bt_verdict.specs.PlanVerdict.{IsPlanVerdict}
+use Rattle.bt_demand.specs.Verdict.{IsVerdict}
+use Rattle.bt_demand.specs.PlanVerdict.{IsPlanVerdict}
 use Rattle.bt_timeline.specs.Verdicts.{CanName}
 
 pub verdict_names : (net : Net) (links : List Link) (plan : Plan) (verdict : Verdict) → IsPlanVerdict net links plan verdict → CanName (Some net) verdict

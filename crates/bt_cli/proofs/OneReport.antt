@@ -1,11 +1,11 @@
 -- What finishes a command with its value has one outcome.
 use Rattle.std.proofs.Common.{◌≡◌, ℕ, inl, inr, List, Option, Some, None, sym, ap, ◌∙◌, arith}
 use Rattle.bt_frame.specs.declared.schedule.Schedule.{Schedule}
-use Rattle.bt_verdict.specs.declared.verdict.Verdict.{Verdict}
+use Rattle.bt_demand.specs.declared.verdict.Verdict.{Verdict}
 use Rattle.bt_net.specs.Network.{Net}
 use Rattle.bt_demand.specs.declared.demand.Link.{Link}
 use Rattle.bt_demand.specs.declared.plan.Plan.{Plan}
-use Rattle.bt_verdict.specs.Verdict.{IsVerdict}
+use Rattle.bt_demand.specs.Verdict.{IsVerdict}
 use Rattle.bt_cli.specs.CheckPlan.{JudgesPlan}
 use Rattle.bt_timing.specs.Times.{Times}
 use Rattle.bt_cli.specs.Timing.{NamesVerdict, TellsTimes}

@@ -6,7 +6,7 @@ use Rattle.bt_frame.specs.declared.mode.Mode.{Mode}
 use Rattle.bt_frame.specs.declared.schedule.Schedule.{Schedule}
 use Rattle.bt_matrix.specs.Traffic.{IsTraffic}
 use Rattle.bt_matrix.specs.Good.{IsGood}
-use Rattle.bt_verdict.specs.declared.verdict.Verdict.TheVariants.{Good}
+use Rattle.bt_demand.specs.declared.verdict.Verdict.TheVariants.{Good}
 use Rattle.bt_plan.specs.MatrixText.{matrix_reading}
 use Rattle.bt_plan.specs.ScheduleSpelling.{IsInRange}
 use Rattle.bt_plan.proofs.Spelled.{matrix_reading-IsTraffic, matrix_reading-line_small}

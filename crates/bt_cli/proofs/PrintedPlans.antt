@@ -15,7 +15,7 @@ use Rattle.bt_demand.specs.Plan.{IsGoodPlan}
 use Rattle.bt_demand.specs.Traffic.{matrix_of, AreOfNetwork}
 use Rattle.bt_demand.proofs.BurstTriples.{held_within}
 use Rattle.bt_demand.proofs.Matrices.{length-matrix_of}
-use Rattle.bt_verdict.specs.declared.verdict.Verdict.TheVariants.{Good}
+use Rattle.bt_demand.specs.declared.verdict.Verdict.TheVariants.{Good}
 use Rattle.bt_plan.specs.PlanSpelling.{IsPlanInRange}
 use Rattle.bt_plan.specs.ScheduleSpelling.{IsInRange}
 use Rattle.bt_words.specs.Lines.{line_of}

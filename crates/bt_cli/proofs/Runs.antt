@@ -1,7 +1,7 @@
 -- What a run and a replay come to is one of their outcomes, printed.
 use Rattle.std.proofs.Common.{◌≡◌, ◌≢◌, ℕ, ◌++◌, Bool, true, false, if◌then◌else◌, inl, inr, refl, ◌∙◌, sym, List, []}
 use Rattle.bt_net.specs.Network.{Net, IsSound}
-use Rattle.bt_bus.specs.declared.sites.Sites.TheVariants.{Together}
+use Rattle.bt_script.specs.declared.sites.Sites.TheVariants.{Together}
 use Rattle.bt_air.specs.declared.event.Event.{Event}
 use Rattle.bt_script.specs.declared.script.Script.{Script}
 use Rattle.bt_history.specs.declared.fault.RecoverFault.{RecoverFault}

@@ -1,7 +1,7 @@
 -- What is said of a session that is kept from its start; and a session in which nothing fails comes to its end.
 use Rattle.std.proofs.Common.{◌≡◌, ℕ, inl, inr, List, length, Option, Some, refl, sym, ◌∙◌, subst}
 use Rattle.bt_outside.specs.Told.{Rose}
-use Rattle.bt_bus.specs.declared.sites.Sites.{Sites}
+use Rattle.bt_script.specs.declared.sites.Sites.{Sites}
 use Rattle.bt_net.specs.Network.{Net, IsSound}
 use Rattle.bt_air.specs.declared.event.Event.{Event}
 use Rattle.bt_journal.specs.declared.call.Change.{Change}

@@ -12,9 +12,9 @@ use Rattle.bt_timing.specs.Times.{Times}
 use Rattle.bt_report.specs.declared.report.Report.{Report}
 use Rattle.bt_report.specs.declared.report.Stop.{Stop}
 use Rattle.bt_report.specs.declared.report.Stop.TheVariants.{Early, OutOfMemory}
-use Rattle.bt_verdict.specs.declared.verdict.Verdict.{Verdict}
-use Rattle.bt_verdict.specs.declared.verdict.Verdict.TheVariants.{Good}
-use Rattle.bt_verdict.specs.PlanVerdict.{IsPlanVerdict}
+use Rattle.bt_demand.specs.declared.verdict.Verdict.{Verdict}
+use Rattle.bt_demand.specs.declared.verdict.Verdict.TheVariants.{Good}
+use Rattle.bt_demand.specs.PlanVerdict.{IsPlanVerdict}
 use Rattle.bt_demand.specs.Demand.{IsDemand}
 use Rattle.bt_cli.specs.Fitting.{Fits}
 use Rattle.bt_load.specs.Files.{IsLoaded}

@@ -1,9 +1,9 @@
 -- `check MATRIX MODES`: the matrix is loaded, then the schedule, and the verdict is printed.
 use Rattle.std.specs.Prelude.{ℕ, List, length, None}
 use Rattle.bt_frame.specs.declared.schedule.Schedule.{Schedule}
-use Rattle.bt_verdict.specs.declared.verdict.Verdict.{Verdict}
-use Rattle.bt_verdict.specs.declared.verdict.Verdict.TheVariants.{Good}
-use Rattle.bt_verdict.specs.Verdict.{IsVerdict}
+use Rattle.bt_demand.specs.declared.verdict.Verdict.{Verdict}
+use Rattle.bt_demand.specs.declared.verdict.Verdict.TheVariants.{Good}
+use Rattle.bt_demand.specs.Verdict.{IsVerdict}
 use Rattle.bt_timeline.specs.Verdicts.{verdict_words}
 use Rattle.bt_report.specs.declared.status.TheConstants.{DONE, NOT_GOOD}
 use Rattle.bt_load.specs.Kinds.{matrix_file, schedule_file}

@@ -3,9 +3,9 @@ use Rattle.std.specs.Prelude.{ℕ, List, Some}
 use Rattle.bt_net.specs.Network.{Net}
 use Rattle.bt_demand.specs.declared.demand.Link.{Link}
 use Rattle.bt_demand.specs.declared.plan.Plan.{Plan}
-use Rattle.bt_verdict.specs.declared.verdict.Verdict.{Verdict}
+use Rattle.bt_demand.specs.declared.verdict.Verdict.{Verdict}
 use Rattle.bt_demand.specs.Demand.{IsDemand}
-use Rattle.bt_verdict.specs.PlanVerdict.{IsPlanVerdict}
+use Rattle.bt_demand.specs.PlanVerdict.{IsPlanVerdict}
 use Rattle.bt_cli.specs.Check.{verdict_status}
 use Rattle.bt_cli.specs.Fitting.{asked_files}
 use Rattle.bt_load.specs.Kinds.{plan_file}

@@ -2,8 +2,8 @@
 -- tells. The sites of the one are together, and those of the other apart.
 use Rattle.std.specs.Prelude.{◌≡◌, ◌⊎◌, ℕ, ◌&&◌, ◌||◌, if◌then◌else◌, nat_lt, Bool, length, codes, List, [], ◌∷◌, Option, Some, None}
 use Rattle.std.specs.Str.{bytes_eq}
-use Rattle.bt_bus.specs.declared.sites.Sites.{Sites}
-use Rattle.bt_bus.specs.declared.sites.Sites.TheVariants.{Together, Apart}
+use Rattle.bt_script.specs.declared.sites.Sites.{Sites}
+use Rattle.bt_script.specs.declared.sites.Sites.TheVariants.{Together, Apart}
 use Rattle.bt_net.specs.Network.{Net, IsSound}
 use Rattle.bt_report.specs.Faults.{SaysFaultyWords}
 use Rattle.bt_report.specs.Input.{Input, FilesFailed}

@@ -7,9 +7,9 @@ use Rattle.bt_demand.specs.declared.plan.Plan.{Plan}
 use Rattle.bt_demand.specs.Apart.{AreBetweenTerminals}
 use Rattle.bt_demand.specs.Demand.{IsDemand}
 use Rattle.bt_demand.specs.Plan.{IsGoodPlan}
-use Rattle.bt_verdict.specs.declared.verdict.Verdict.{Verdict}
-use Rattle.bt_verdict.specs.declared.verdict.Verdict.TheVariants.{Good}
-use Rattle.bt_verdict.specs.PlanVerdict.{IsPlanVerdict}
+use Rattle.bt_demand.specs.declared.verdict.Verdict.{Verdict}
+use Rattle.bt_demand.specs.declared.verdict.Verdict.TheVariants.{Good}
+use Rattle.bt_demand.specs.PlanVerdict.{IsPlanVerdict}
 use Rattle.bt_timing.specs.Times.{Times, AreTimes}
 use Rattle.bt_timing.specs.SendsText.{sends_spelling}
 use Rattle.bt_timeline.specs.Verdicts.{verdict_words}

@@ -7,15 +7,15 @@ ghost use Rattle.bt_load.specs.Loaders.{Loads, file};
 ghost use Rattle.bt_cli.specs.Check.{Judges, schedule_files, verdict_status};
 ghost use Rattle.bt_report.specs.Printing.{CameTo};
 ghost use Rattle.bt_timeline.specs.Verdicts.{CanName};
-ghost use Rattle.bt_verdict.specs.Verdict.{IsVerdict};
+ghost use Rattle.bt_demand.specs.Verdict.{IsVerdict};
 
+use bt_demand::{Verdict, check_modes};
 use bt_frame::Schedule;
 use bt_load::{load_matrix, load_schedule};
 use bt_matrix::{Dense, Traffic};
 use bt_outside::Files;
 use bt_report::{DONE, NOT_GOOD, Report, Stop};
 use bt_timeline::verdict_text;
-use bt_verdict::{Verdict, check_modes};
 use std::alloc::Global;
 
 /// The verdict on the schedule in a file, for the matrix in another.

@@ -2,7 +2,7 @@
 ghost use Rattle.std.specs.Prelude.{length, Some};
 ghost use Rattle.bt_outside.specs.Told.{Rose};
 ghost use Rattle.bt_frame.specs.Critical.{IsOfBeams};
-ghost use Rattle.bt_verdict.specs.PlanVerdict.{AreBetweenTerminals, IsPlanVerdict};
+ghost use Rattle.bt_demand.specs.PlanVerdict.{AreBetweenTerminals, IsPlanVerdict};
 ghost use Rattle.bt_demand.specs.Traffic.{matrix_of, AreOfNetwork, HasSumsTo};
 ghost use Rattle.bt_load.specs.Kinds.{plan_file};
 ghost use Rattle.bt_load.specs.Loaders.{Loads, file};
@@ -12,14 +12,13 @@ ghost use Rattle.bt_report.specs.Printing.{CameTo};
 
 use crate::asked::load_asked;
 use crate::check::status_of;
-use bt_demand::{Demand, Plan};
+use bt_demand::{Demand, Plan, Verdict, check};
 use bt_load::load_plan;
 use bt_matrix::MOST_SUM;
 use bt_net::Network;
 use bt_outside::Files;
 use bt_report::{Report, Stop};
 use bt_timeline::verdict_text;
-use bt_verdict::{Verdict, check};
 use std::alloc::Global;
 
 /// The verdict on the plan in a file, for the demand and the network in two others.

@@ -26,10 +26,9 @@ ghost use Rattle.bt_cli.specs.Run.{End};
 ghost use Rattle.bt_cli.specs.Top.{AreOneStore, AreTold, Ends, IsOneReport, Reports, Serves};
 
 use bt_book::journals_tell_one_thing;
-use bt_demand::{good_plans_are_flyable, links_tell_demands};
+use bt_demand::{good_plans_are_flyable, links_tell_demands, one_plan_verdict, one_verdict};
 use bt_matrix::one_line_is_heaviest;
 use bt_plan::{plans_have_one_spelling, schedules_have_one_spelling};
-use bt_verdict::{one_plan_verdict, one_verdict};
 
 /// Where the files that are asked for are told and none of them failed, and for a run and a replay the store, what is asked
 /// has one report: no two cases of the promise hold together. Of the good schedules for a matrix any may be printed, of the

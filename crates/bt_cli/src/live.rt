@@ -2,7 +2,7 @@
 ghost use Rattle.std.specs.Prelude.{◌≡◌, ℕ, List, Some, map, option_map};
 ghost use Rattle.std.specs.String.{string_bytes};
 ghost use Rattle.bt_outside.specs.Told.{Rose};
-ghost use Rattle.bt_bus.specs.declared.sites.Sites.{Sites};
+ghost use Rattle.bt_script.specs.declared.sites.Sites.{Sites};
 ghost use Rattle.bt_net.specs.Network.{Net};
 ghost use Rattle.bt_load.specs.Kinds.{network_file};
 ghost use Rattle.bt_centre.specs.Talked.{Talked};
@@ -15,12 +15,12 @@ ghost use Rattle.bt_cli.specs.Live.{EndsLive, EndsOn, SaysOneOf, SaysStop, is_se
 ghost use Rattle.bt_cli.specs.Run.{End};
 
 use bt_book::journals_tell_one_thing;
-use bt_bus::Sites;
 use bt_centre::{NoGate, SessionEnd, run_session, say_text};
 use bt_demand::links_tell_demands;
 use bt_load::load_network;
 use bt_outside::{Files, Keeper, Talk};
 use bt_report::{OUT_OF_MEMORY, Stop, faulty_words};
+use bt_script::Sites;
 use std::alloc::Global;
 use std::sync::Wait;
 use std::thread::Threads;

@@ -5,7 +5,7 @@ ghost use Rattle.bt_frame.specs.Critical.{IsOfBeams};
 ghost use Rattle.bt_demand.specs.Plan.{IsGoodPlan};
 ghost use Rattle.bt_demand.specs.Traffic.{matrix_of, AreOfNetwork, HasSumsTo};
 ghost use Rattle.bt_timing.specs.Times.{AreTimes};
-ghost use Rattle.bt_verdict.specs.PlanVerdict.{AreBetweenTerminals};
+ghost use Rattle.bt_demand.specs.PlanVerdict.{AreBetweenTerminals};
 ghost use Rattle.bt_timeline.specs.Verdicts.{CanName, verdict_words};
 ghost use Rattle.bt_report.specs.declared.status.TheConstants.{NOT_GOOD};
 ghost use Rattle.bt_cli.specs.Fitting.{Fits};
@@ -18,7 +18,7 @@ ghost use Rattle.bt_cli.specs.Timing.{NamesVerdict, PrintsSends, TellsTimes, del
 
 use crate::asked::load_asked;
 use crate::check_plan::verdict_on;
-use bt_demand::{Demand, Plan};
+use bt_demand::{Demand, Plan, Verdict, one_plan_verdict};
 use bt_load::{load_delays, load_plan};
 use bt_matrix::MOST_SUM;
 use bt_net::Network;
@@ -26,7 +26,6 @@ use bt_outside::Files;
 use bt_report::{DONE, NOT_GOOD, Report, Stop};
 use bt_timeline::verdict_text;
 use bt_timing::{Timing, sends_text};
-use bt_verdict::{Verdict, one_plan_verdict};
 use std::alloc::Global;
 
 /// The times of the plan in a file, for the demand and the network in two others and by the delays in a fourth.

@@ -18,7 +18,7 @@ use Rattle.bt_demand.specs.Apart.{Collide}
 use Rattle.bt_demand.specs.Traffic.{AreOfNetwork, units_between}
 use Rattle.bt_cut.specs.Parts.{IsPart}
 use Rattle.bt_cut.specs.Serving.{IsPiece}
-use Rattle.bt_verdict.proofs.Begins.{begin_of-next}
+use Rattle.bt_demand.proofs.Begins.{begin_of-next}
 use Rattle.bt_cut.proofs.Numbers.{one_mode}
 use Rattle.bt_cut.proofs.Parts.{units_between-more}
 use Rattle.bt_cut.proofs.Links.{share-same}

@@ -26,7 +26,7 @@ use Rattle.bt_demand.proofs.Links.{units_of_at}
 use Rattle.bt_cut.specs.Parts.{IsPart}
 use Rattle.bt_cut.specs.Serving.{number_at, IsPiece}
 use Rattle.bt_cut.proofs.Good.{through, beam_inside}
-use Rattle.bt_verdict.proofs.Begins.{begin_of-le, begin_of-next, one_beam}
+use Rattle.bt_demand.proofs.Begins.{begin_of-le, begin_of-next, one_beam}
 use Rattle.bt_cut.proofs.Numbers.{numbers_grow}
 use Rattle.bt_cut.proofs.Parts.{other_ends, units_between-more}
 use Rattle.bt_cut.proofs.Links.{share-same}

@@ -16,7 +16,7 @@ use Rattle.bt_cut.specs.Cutting.{Takes, IsUnitOf, IsSlotOf, IsCut}
 use Rattle.bt_cut.specs.Parts.{IsPart}
 use Rattle.bt_cut.specs.Serving.{number_at}
 use Rattle.bt_cut.proofs.Numbers.{number_next, slots_in-le}
-use Rattle.bt_verdict.proofs.Begins.{one_beam}
+use Rattle.bt_demand.proofs.Begins.{one_beam}
 
 -- The slot has a number that is among those of a link, and among those of a mode that begins at this slot.
 pub record IsNumbered (first last low high begin slot : ℕ) : Type 0 where

@@ -15,7 +15,7 @@ use Rattle.bt_net.specs.Terminals.{IsInBeam}
 use Rattle.bt_cut.specs.Parts.{IsPart}
 use Rattle.bt_cut.specs.Serving.{IsPiece}
 use Rattle.bt_cut.proofs.Numbers.{number_next, slots_in-le}
-use Rattle.bt_verdict.proofs.Begins.{one_beam}
+use Rattle.bt_demand.proofs.Begins.{one_beam}
 
 if_some : (test : Bool) (n : ℕ) → 0 < (if test then n else 0) → test ≡ true
 if_some true n some = refl

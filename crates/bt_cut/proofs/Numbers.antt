@@ -5,7 +5,7 @@ use Rattle.std.proofs.lemmas.List.Sums.{sum_by_more}
 use Rattle.bt_frame.specs.declared.mode.Mode.{Mode}
 use Rattle.bt_matrix.specs.Good.{slots_in}
 use Rattle.bt_demand.specs.Plan.{begin_of}
-use Rattle.bt_verdict.proofs.Begins.{begin_of-next, begin_of-le}
+use Rattle.bt_demand.proofs.Begins.{begin_of-next, begin_of-le}
 use Rattle.bt_cut.specs.Serving.{number_at}
 use Rattle.bt_cut.proofs.Prefixes.{prefix_grows}
 

@@ -15,7 +15,7 @@ use Rattle.bt_demand.specs.Traffic.{units_between}
 use Rattle.bt_net.specs.Terminals.{IsInBeam, is_in_beam}
 use Rattle.bt_frame.proofs.Pairs.{AllPairs-append}
 use Rattle.bt_demand.proofs.Tables.{in_its_beam}
-use Rattle.bt_verdict.proofs.Begins.{one_beam}
+use Rattle.bt_demand.proofs.Begins.{one_beam}
 use Rattle.bt_cut.specs.Serving.{IsPiece, ArePieces}
 use Rattle.bt_cut.specs.Parts.{IsPart, AreParts}
 

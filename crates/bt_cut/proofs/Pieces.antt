@@ -8,7 +8,7 @@ use Rattle.bt_frame.specs.declared.mode.Mode.{Mode}
 use Rattle.bt_demand.specs.declared.burst.Burst.{Burst}
 use Rattle.bt_demand.specs.Plan.{begin_of}
 use Rattle.bt_cut.specs.Serving.{number_at, IsPiece, ArePieces}
-use Rattle.bt_verdict.proofs.Begins.{begin_of-le}
+use Rattle.bt_demand.proofs.Begins.{begin_of-le}
 use Rattle.bt_cut.proofs.Numbers.{numbers_grow, numbers_step}
 
 -- bursts with equal fields are the same

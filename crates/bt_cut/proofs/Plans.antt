@@ -20,10 +20,10 @@ use Rattle.bt_demand.specs.Burst.{IsNotAfter}
 use Rattle.bt_demand.specs.Demand.{IsDemand, units_of}
 use Rattle.bt_demand.specs.Plan.{IsGoodPlan}
 use Rattle.bt_demand.specs.Apart.{AreBetweenTerminals, slots_sent}
-use Rattle.bt_verdict.specs.PlanVerdict.{HasGoodModes}
+use Rattle.bt_demand.specs.PlanVerdict.{HasGoodModes}
 use Rattle.bt_demand.specs.Traffic.{AreOfNetwork, matrix_of, units_between}
 use Rattle.bt_demand.proofs.Matrices.{length-matrix_of}
-use Rattle.bt_verdict.proofs.PlanParts.{good_by_parts}
+use Rattle.bt_demand.proofs.PlanParts.{good_by_parts}
 use Rattle.bt_cut.specs.Cutting.{IsCutting}
 use Rattle.bt_cut.specs.Parts.{IsPart, AreParts}
 use Rattle.bt_cut.proofs.Apart.{part_between, parts_that_meet}

@@ -6,7 +6,7 @@
 //! order: these are for bodies alone. Of a drawn demand `specs/Generator.antt` says which numbers are drawn, and
 //! `specs/Made.antt` which demand they make, which is promised; `specs/Standing.antt` is for bodies alone.
 //!
-//! It stands on `bt_modes` for the modes, on `bt_demand` for demands and plans, and on `bt_verdict` for what makes a
+//! It stands on `bt_modes` for the modes, on `bt_demand` for demands and plans, and on `bt_demand` for what makes a
 //! plan good.
 #![tactic(auto)]
 

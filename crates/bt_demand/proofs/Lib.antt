@@ -9,3 +9,14 @@ pub mod Matrices
 pub mod Pushed
 pub mod SameDemand
 pub mod Tables
+pub mod Begins
+pub mod FirstPlaces
+pub mod LatestEnds
+pub mod LineSums
+pub mod OnePlanVerdict
+pub mod OneVerdict
+pub mod PlanParts
+pub mod Seen
+pub mod SentTable
+pub mod SumsSoFar
+pub mod Triples

@@ -5,3 +5,9 @@ pub mod Burst
 pub mod Plan
 pub mod Apart
 pub mod Flyable
+pub mod Verdict
+pub mod Short
+pub mod PlanVerdict
+pub mod Meeting
+pub mod Turn
+pub mod Unserved

@@ -9,3 +9,12 @@ pub mod Total
 pub mod Names
 pub mod Carrying
 pub mod CarriedBack
+pub mod Fields
+pub mod Values
+pub mod Back
+pub mod Rows
+pub mod EachForm
+pub mod Flat
+pub mod Shapes
+pub mod Added
+pub mod Lines

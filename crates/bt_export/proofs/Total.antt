@@ -16,7 +16,7 @@ use Rattle.bt_demand.specs.Demand.{units_where}
 use Rattle.bt_demand.specs.Traffic.{AreOfNetwork, HasSumsTo, matrix_of, units_between}
 use Rattle.bt_demand.proofs.Matrices.{length-matrix_of}
 use Rattle.bt_demand.proofs.Tables.{in_its_beam}
-use Rattle.bt_verdict.proofs.LineSums.{column_sum-le-units, row_sum-le-units}
+use Rattle.bt_demand.proofs.LineSums.{column_sum-le-units, row_sum-le-units}
 use Rattle.bt_look.proofs.Adds.{beam_of_terminal}
 use Rattle.bt_look.proofs.Ends.{beam_inside}
 

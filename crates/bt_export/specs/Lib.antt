@@ -2,3 +2,11 @@ pub mod Carry
 pub mod Edits
 pub mod Metrics
 pub mod Named
+pub mod Object
+pub mod Said
+pub mod Forms
+pub mod Table
+pub mod Row
+pub mod Json
+pub mod Flat
+pub mod Added

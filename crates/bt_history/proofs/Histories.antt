@@ -13,9 +13,9 @@ use Rattle.bt_net.specs.Network.{Net, IsSound}
 use Rattle.bt_net.specs.Terminals.{IsInBeam}
 use Rattle.bt_demand.specs.declared.demand.Link.{Link}
 use Rattle.bt_demand.specs.declared.plan.Plan.{Plan}
-use Rattle.bt_verdict.specs.declared.verdict.Verdict.{Verdict}
-use Rattle.bt_verdict.specs.declared.verdict.Verdict.TheVariants.{Good, V1, V2, V3, V4, V5, V6, V7, V8}
-use Rattle.bt_verdict.specs.PlanVerdict.{IsPlanVerdict}
+use Rattle.bt_demand.specs.declared.verdict.Verdict.{Verdict}
+use Rattle.bt_demand.specs.declared.verdict.Verdict.TheVariants.{Good, V1, V2, V3, V4, V5, V6, V7, V8}
+use Rattle.bt_demand.specs.PlanVerdict.{IsPlanVerdict}
 use Rattle.bt_journal.specs.declared.call.Call.{Call}
 use Rattle.bt_journal.specs.declared.call.Call.TheVariants as call
 use Rattle.bt_journal.specs.declared.call.Change.{Change}

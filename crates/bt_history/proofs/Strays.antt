@@ -9,10 +9,10 @@ use Rattle.bt_demand.specs.declared.plan.Plan.{Plan}
 use Rattle.bt_demand.specs.Demand.{units_where}
 use Rattle.bt_demand.proofs.SameDemand.{same_demands}
 use Rattle.bt_air.specs.declared.order.Order.{Order}
-use Rattle.bt_verdict.specs.declared.verdict.Verdict.{Verdict}
-use Rattle.bt_verdict.specs.declared.verdict.Verdict.TheVariants.{Good}
-use Rattle.bt_verdict.specs.PlanVerdict.{IsPlanVerdict}
-use Rattle.bt_verdict.proofs.OnePlanVerdict.{the_same}
+use Rattle.bt_demand.specs.declared.verdict.Verdict.{Verdict}
+use Rattle.bt_demand.specs.declared.verdict.Verdict.TheVariants.{Good}
+use Rattle.bt_demand.specs.PlanVerdict.{IsPlanVerdict}
+use Rattle.bt_demand.proofs.OnePlanVerdict.{the_same}
 use Rattle.bt_journal.specs.declared.call.Edit.{Edit}
 use Rattle.bt_journal.specs.declared.call.Edit.TheVariants.{Add, Drop, Move}
 use Rattle.bt_journal.specs.declared.call.Change.{Change}

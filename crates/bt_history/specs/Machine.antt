@@ -9,7 +9,7 @@ use Rattle.bt_net.specs.Terminals.{IsBetweenTerminals}
 use Rattle.bt_matrix.specs.Traffic.{IsHeaviest}
 use Rattle.bt_demand.specs.declared.demand.Link.{Link}
 use Rattle.bt_demand.specs.declared.plan.Plan.{Plan}
-use Rattle.bt_verdict.specs.declared.verdict.Verdict.TheVariants.{V7}
+use Rattle.bt_demand.specs.declared.verdict.Verdict.TheVariants.{V7}
 use Rattle.bt_journal.specs.declared.call.Call.{Call}
 use Rattle.bt_journal.specs.declared.call.Call.TheVariants as call
 use Rattle.bt_journal.specs.declared.call.Change.{Change}

@@ -1,7 +1,7 @@
 //! What a history of calls is: the changes that it made, the desk machine that answers, and what a store tells of it; and how the
 //! frame is occupied by the demand.
 //!
-//! It stands on the network, the demand, which is kept as linked nodes (`bt_links`), the checker's verdicts, and the journal's
+//! It stands on the network, the demand, which is kept as linked nodes (`bt_matrix`), the checker's verdicts, and the journal's
 //! calls, replies and lines. These are promises: `specs/Changes.antt`, what a list of changes made, with each sum taken afresh;
 //! `specs/EditCauses.antt` and `specs/Causes.antt`, why a change is refused; `specs/Machine.antt`, the desk machine as a
 //! relation over the list of changes; `specs/Recovery.antt`, what a journal tells, and its first line that tells nothing;

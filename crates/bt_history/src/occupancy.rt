@@ -12,8 +12,7 @@ ghost use Rattle.bt_history.specs.Occupancy.{HasEnds, EditsLinks, HasRoom, HasRo
 use bt_demand::{Demand, LinkRoom};
 use bt_frame::{BeamNo, MOST_SLOTS, OutOfMemory, TermNo, Units};
 use bt_journal::Edit;
-use bt_links::Crosslinked;
-use bt_matrix::{MOST_SUM, Traffic};
+use bt_matrix::{Crosslinked, MOST_SUM, Traffic};
 use bt_net::Network;
 use std::alloc::Global;
 use std::marker::Model;

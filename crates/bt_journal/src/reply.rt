@@ -2,9 +2,8 @@
 ghost use Rattle.std.specs.Prelude.{◌≡◌, IfOk};
 ghost use Rattle.bt_journal.specs.Journal.{is_fault, is_made, is_refusal};
 
-use bt_demand::{Demand, Plan};
+use bt_demand::{Demand, Plan, Verdict};
 use bt_frame::{BeamNo, Command, EditionNo, OutOfMemory};
-use bt_verdict::Verdict;
 use std::alloc::Global;
 
 /// The answer to a call. A refusal leaves the demand, the plans and the orders as they were.

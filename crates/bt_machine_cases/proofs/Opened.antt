@@ -7,7 +7,7 @@ use Rattle.bt_demand.specs.Flyable.{IsFlyable}
 use Rattle.bt_demand.proofs.Flyable.{empty_flies}
 use Rattle.bt_air.specs.declared.order.Order.{Order}
 use Rattle.bt_demand.specs.Plan.{empty_plan}
-use Rattle.bt_events.specs.Fits.{HasPlan, IsInTime, IsOpening}
+use Rattle.bt_site.specs.Fits.{HasPlan, IsInTime, IsOpening}
 use Rattle.bt_world.specs.Life.{opening_of}
 
 -- a world opens with the empty plan

@@ -4,19 +4,18 @@ ghost use Rattle.std.specs.Bool.{OnTrue};
 ghost use Rattle.bt_net.specs.Terminals.{IsTerminal};
 ghost use Rattle.bt_demand.specs.Flyable.{IsFlyable};
 ghost use Rattle.bt_timeline.specs.Air.{NamesTerminal};
-ghost use Rattle.bt_events.specs.Fits.{IsPlace, Meets};
+ghost use Rattle.bt_site.specs.Fits.{IsPlace, Meets};
 ghost use Rattle.bt_world.specs.Life.{past_of};
 
 use crate::lines::{end_line, put_numbers, put_word};
 use crate::shown::put_shown;
 use bt_air::{Event, Place, Sent, Shown};
-use bt_demand::{Plan, empty_plan, good_plans_are_flyable};
+use bt_demand::{Plan, Verdict, check, empty_plan, good_plans_are_flyable};
 use bt_frame::{EditionNo, LAST_MARK, MOST_COUNTED, MOST_SLOTS, MOST_TEXT_BYTES, TermNo};
 use bt_net::Network;
 use bt_plan::{read_demand, read_plan};
 use bt_sheet::{CaseFault, Part, Result, byte_of, number_of, put_lines};
 use bt_timeline::sent_text;
-use bt_verdict::{Verdict, check};
 use bt_world::World;
 use std::alloc::Global;
 

@@ -3,7 +3,7 @@
 //! whose line sums are equal, as padding makes it, is taken apart into modes that sum to it exactly (`pad`, `decompose`), by
 //! permutations inside its positive entries (`perfect`).
 //!
-//! It stands on matrices (`bt_matrix`), kept as linked nodes (`bt_links`), whose entries it reads on a counter of steps. Promises
+//! It stands on matrices (`bt_matrix`), kept as linked nodes (`bt_matrix`), whose entries it reads on a counter of steps. Promises
 //! are in `specs/Matching.antt`, what partial maps of rows to columns are, in `specs/Padding.antt`, what a padding is, and in
 //! `specs/Decomposition.antt`, when modes together are a matrix. `specs/Search.antt`, what the search for the column of one row
 //! keeps and finds, and `specs/Serving.antt`, what a mode may serve and leaves, are

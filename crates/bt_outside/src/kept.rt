@@ -6,7 +6,7 @@ ghost use Rattle.bt_outside.specs.Talk.{Heard, Shown};
 
 use crate::{Incoming, Keeper, Sink, SinkFault, SourceFault, Talk};
 use bt_frame::OutOfMemory;
-use bt_trace::Trace;
+use bt_outside::Trace;
 use std::alloc::Global;
 
 /// One turn of a talk, as it is kept.

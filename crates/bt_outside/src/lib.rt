@@ -5,6 +5,9 @@
 //! what the outside tells, `Crash.antt` what a crash may leave of a store, `Input.antt` the lines that bytes are and what a source
 //! gives of them, `Talk.antt` what was heard and said over a store, in order, and `Kept.antt` the same as it is kept. `proofs/Moments.antt` says
 //! for all above how crashes go on from call to call. Files, a sink and stores in memory has `bt_base`, which gives these out too.
+//!
+//! A `Trace` is a list of what happened that clauses read, and that has no bytes at run time: the ghost list of the kit's
+//! `http_server`, which alone of that crate is used here.
 #![tactic(auto)]
 
 mod console;
@@ -21,6 +24,7 @@ mod std_sink;
 mod std_source;
 mod streams;
 mod talk;
+mod trace;
 mod waiting;
 
 pub use console::Console;
@@ -37,4 +41,5 @@ pub use std_sink::StdSink;
 pub use std_source::StdSource;
 pub use streams::take_closed_streams;
 pub use talk::Talk;
+pub use trace::Trace;
 pub use waiting::Waiting;

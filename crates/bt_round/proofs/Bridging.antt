@@ -12,9 +12,9 @@ use Rattle.bt_air.specs.declared.sent.Sent.{Sent}
 use Rattle.bt_air.specs.declared.sent.Sent.TheVariants as printed
 use Rattle.bt_air.specs.Sent.{sent_as}
 use Rattle.bt_net.specs.Network.{Net}
-use Rattle.bt_events.specs.Event.{Second}
-use Rattle.bt_events.specs.Fits.{Meets}
-use Rattle.bt_events.specs.World.{is_told, tells, sent}
+use Rattle.bt_site.specs.Event.{Second}
+use Rattle.bt_site.specs.Fits.{Meets}
+use Rattle.bt_site.specs.World.{is_told, tells, sent}
 use Rattle.bt_world.specs.Life.{Life, past_of}
 use Rattle.bt_machines.specs.declared.standby.Noticed.{Noticed}
 use Rattle.bt_machines.specs.Standby.{is_wrong, named, step_of}

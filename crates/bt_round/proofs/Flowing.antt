@@ -15,8 +15,8 @@ use Rattle.bt_frame.specs.declared.numbers.Command.{Command}
 use Rattle.bt_machines.specs.declared.burst_bank.Holding.{Holding}
 use Rattle.bt_machines.specs.Said.{load_in}
 use Rattle.bt_timeline.specs.Air.{flow_line}
-use Rattle.bt_events.specs.Event.{Opening, Deliver, Happening}
-use Rattle.bt_events.specs.World.{accepted, held, held_by, joins, last_heard, mark, plans, sent_by_hearing, sent_by_satellite, sent_by_terminal, terminals}
+use Rattle.bt_site.specs.Event.{Opening, Deliver, Happening}
+use Rattle.bt_site.specs.World.{accepted, held, held_by, joins, last_heard, mark, plans, sent_by_hearing, sent_by_satellite, sent_by_terminal, terminals}
 use Rattle.bt_machines.specs.Says.{confirms}
 use Rattle.bt_round.specs.Simulated.{SimulatedAir, PlaysDeliveries, PlaysFlow, PlaysNext, awaiting, happened, sent_by, sent_count, sent_in}
 use Rattle.bt_round.specs.Waiting.{deliveries, deliveries_of, receivers}

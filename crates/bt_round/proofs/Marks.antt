@@ -1,10 +1,10 @@
 -- The superframe of a world is never past the last.
 use Rattle.std.proofs.Common.{◌≡◌, ◌+◌, ◌≤◌, List, [], ◌∷◌, reverse, sym, ap, ◌∙◌, arith}
-use Rattle.bt_events.specs.Event.{Opening, Event, Tick, Turn, Second, Ordered, Deliver, Frame, ResetTerminal, RestartCentre, Install, Happening}
+use Rattle.bt_site.specs.Event.{Opening, Event, Tick, Turn, Second, Ordered, Deliver, Frame, ResetTerminal, RestartCentre, Install, Happening}
 use Rattle.bt_frame.specs.declared.limits.TheConstants.{LAST_MARK}
-use Rattle.bt_events.specs.Fits.{IsWorld}
-use Rattle.bt_events.specs.World.{log, mark}
-use Rattle.bt_events.proofs.Counted.{due-in_time}
+use Rattle.bt_site.specs.Fits.{IsWorld}
+use Rattle.bt_site.specs.World.{log, mark}
+use Rattle.bt_site.proofs.Counted.{due-in_time}
 use Rattle.bt_round.specs.Simulated.{SimulatedAir, having, mark_of}
 use Rattle.bt_round.specs.Worker.{IsRunning}
 use Rattle.bt_round.proofs.Running.{past-having}

@@ -14,11 +14,11 @@ use Rattle.bt_air.specs.declared.sent.Aired.{Aired}
 use Rattle.bt_air.specs.declared.sent.Aired.TheVariants as sends
 use Rattle.bt_air.specs.Sent.{sent_as}
 use Rattle.bt_frame.specs.declared.numbers.EditionNo.{EditionNo}
-use Rattle.bt_events.specs.Event.{Opening, Event, Happening}
-use Rattle.bt_events.specs.Fits.{IsPlace, IsWorld, Meets}
+use Rattle.bt_site.specs.Event.{Opening, Event, Happening}
+use Rattle.bt_site.specs.Fits.{IsPlace, IsWorld, Meets}
 use Rattle.bt_machines.specs.Plans.{plan_of}
 use Rattle.bt_world.specs.Life.{Life, having_had, past_of}
-use Rattle.bt_events.specs.World.{comes_to, is_told, log, plans, sent, tells, terminals}
+use Rattle.bt_site.specs.World.{comes_to, is_told, log, plans, sent, tells, terminals}
 use Rattle.bt_round.specs.Simulated.{SimulatedAir, happened, having, sends_text, sent_by, sent_count, sent_in, sent_lines}
 use Rattle.bt_round.specs.Waiting.{deliveries, deliveries_of, receivers}
 use Rattle.bt_round.specs.Worker.{CanHear, IsHeard, IsPlanned, IsRunning, NamesOwn, numbered}

@@ -20,9 +20,9 @@ use Rattle.bt_frame.specs.declared.numbers.Command.{Command}
 use Rattle.bt_machines.specs.Last.{load_of}
 use Rattle.bt_machines.specs.declared.burst_bank.Holding.{Holding}
 use Rattle.bt_machines.specs.Said.{load_in}
-use Rattle.bt_events.specs.Event.{Opening, Event, Tick, Turn, Second, Ordered, Deliver, Frame, ResetTerminal, RestartCentre, Install, Happening}
-use Rattle.bt_events.specs.Fits.{IsPlace, IsWorld, Meets}
-use Rattle.bt_events.specs.World.{accepted, act, announced, comes_to, held, held_by, is_asking, is_missing, joins, known_now, last_heard, log, mark, orders, plans, sent, sent_by_hearing, sent_by_satellite, sent_by_terminal, sent_with, terminals, wanted, where_told}
+use Rattle.bt_site.specs.Event.{Opening, Event, Tick, Turn, Second, Ordered, Deliver, Frame, ResetTerminal, RestartCentre, Install, Happening}
+use Rattle.bt_site.specs.Fits.{IsPlace, IsWorld, Meets}
+use Rattle.bt_site.specs.World.{accepted, act, announced, comes_to, held, held_by, is_asking, is_missing, joins, known_now, last_heard, log, mark, orders, plans, sent, sent_by_hearing, sent_by_satellite, sent_by_terminal, sent_with, terminals, wanted, where_told}
 use Rattle.bt_machines.specs.Says.{confirms, last_plans, order_again, plans_for, sent_by_act, sent_by_order, sent_to_asking}
 use Rattle.bt_machines.specs.Plans.{has_burst, plan_of}
 use Rattle.bt_round.specs.Worker.{NamesOwn}

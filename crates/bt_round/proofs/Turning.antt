@@ -12,7 +12,7 @@ use Rattle.bt_journal.specs.declared.call.Call.{Call}
 use Rattle.bt_journal.specs.declared.call.Call.TheVariants as call
 use Rattle.bt_journal.specs.declared.entry.Entry.{Entry}
 use Rattle.bt_journal.specs.declared.reply.Reply.TheVariants as replies
-use Rattle.bt_events.specs.Event.{Turn}
+use Rattle.bt_site.specs.Event.{Turn}
 use Rattle.bt_round.specs.AirLines.{AirState, PlaysOrder, PlaysTurn, PlaysTurnIf, PlaysTurning, TakesTurn, back_of, having, installing, is_marked, mark_of, newest_in, sends_text, target_of, turn_text_by, turning, wanted_in}
 use Rattle.bt_round.specs.Callers.{Calling, IsAnswered}
 use Rattle.bt_timeline.specs.Air.{turn_nomark_line}

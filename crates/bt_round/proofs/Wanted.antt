@@ -20,8 +20,8 @@ use Rattle.bt_frame.specs.declared.numbers.Command.{Command}
 use Rattle.bt_machines.specs.declared.turn.Turn.{Turn as Sight}
 use Rattle.bt_machines.specs.Last.{last_order}
 use Rattle.bt_machines.specs.Turn.{act_of, arm_after, attempt, is_before, is_ready, may_arm, wanted_by}
-use Rattle.bt_events.specs.Event.{Opening, Event, Tick, Turn, Second, Ordered, Deliver, Frame, ResetTerminal, RestartCentre, Install}
-use Rattle.bt_events.specs.World.{kept, log, orders, sight, wanted}
+use Rattle.bt_site.specs.Event.{Opening, Event, Tick, Turn, Second, Ordered, Deliver, Frame, ResetTerminal, RestartCentre, Install}
+use Rattle.bt_site.specs.World.{kept, log, orders, sight, wanted}
 
 either : (b : Bool) (x y : Act) → (b ≡ true → IfSome (wanted_by x) CanCome) → (b ≡ false → IfSome (wanted_by y) CanCome) → IfSome (wanted_by (if b then x else y)) CanCome
 either true x y first second = first refl

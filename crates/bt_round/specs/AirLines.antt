@@ -7,13 +7,13 @@ use Rattle.bt_net.specs.Network.{Net}
 use Rattle.bt_demand.specs.declared.plan.Plan.{Plan}
 use Rattle.bt_air.specs.declared.order.Order.{Order}
 use Rattle.bt_air.specs.declared.sent.Place.{Place}
-use Rattle.bt_events.specs.Event.{Opening, Event, Turn, Ordered, RestartCentre, Install}
-use Rattle.bt_events.specs.World.{wanted}
+use Rattle.bt_site.specs.Event.{Opening, Event, Turn, Ordered, RestartCentre, Install}
+use Rattle.bt_site.specs.World.{wanted}
 use Rattle.bt_machines.specs.Plans.{newest_of, plan_of}
-use Rattle.bt_bus.specs.declared.heard.BusLine.{BusLine}
+use Rattle.bt_script.specs.declared.heard.BusLine.{BusLine}
 use Rattle.bt_apart.specs.Apart.{apart_at_start, going_apart, having_apart, heard_apart, lines_apart}
-use Rattle.bt_bus.specs.declared.sites.Sites.{Sites}
-use Rattle.bt_bus.specs.declared.sites.Sites.TheVariants as sites
+use Rattle.bt_script.specs.declared.sites.Sites.{Sites}
+use Rattle.bt_script.specs.declared.sites.Sites.TheVariants as sites
 use Rattle.bt_journal.specs.declared.call.Call.TheVariants as call
 use Rattle.bt_journal.specs.declared.entry.Entry.{Entry}
 use Rattle.bt_journal.specs.declared.reply.Reply.{Reply}

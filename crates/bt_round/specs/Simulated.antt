@@ -16,10 +16,10 @@ use Rattle.bt_air.specs.declared.sent.Aired.TheVariants as sends
 use Rattle.bt_air.specs.Sent.{sent_as}
 use Rattle.bt_air.specs.declared.shown.AirFrame.{AirFrame}
 use Rattle.bt_air.specs.declared.shown.Shown.TheVariants.{Delivered, Framed}
-use Rattle.bt_events.specs.Event.{Event, Tick, Second, Deliver, Frame, ResetTerminal, Happening}
+use Rattle.bt_site.specs.Event.{Event, Tick, Second, Deliver, Frame, ResetTerminal, Happening}
 use Rattle.bt_world.specs.Life.{Life, having_had, past_of}
 use Rattle.bt_world.specs.Shown.{IsShown}
-use Rattle.bt_events.specs.World.{comes_to, frames_shown, mark, orders, plans, sent, sent_with, terminals}
+use Rattle.bt_site.specs.World.{comes_to, frames_shown, mark, orders, plans, sent, sent_with, terminals}
 use Rattle.bt_machines.specs.Standby.{named, step_of}
 use Rattle.bt_script.specs.declared.script.Losing.{Losing}
 use Rattle.bt_timeline.specs.Air.{tick_line, last_tick_line, flow_line, got_line, lost_line, not_sent_line, frame_lines, over_line, reset_line, sent_line, noticed_line, unnoticed_line, unsent_line, standby_burst_line}

@@ -9,9 +9,9 @@ use Rattle.bt_air.specs.declared.sent.Aired.{Aired}
 use Rattle.bt_air.specs.Sent.{sent_as}
 use Rattle.bt_air.specs.declared.sent.Place.{Place}
 use Rattle.bt_air.specs.declared.sent.Place.TheVariants.{Centre}
-use Rattle.bt_events.specs.Fits.{IsPlace, IsWorld}
+use Rattle.bt_site.specs.Fits.{IsPlace, IsWorld}
 use Rattle.bt_world.specs.Life.{Life, past_of}
-use Rattle.bt_events.specs.World.{is_told, plans, sent}
+use Rattle.bt_site.specs.World.{is_told, plans, sent}
 use Rattle.bt_machines.specs.Plans.{plan_of}
 use Rattle.bt_journal.specs.declared.entry.Entry.{Entry}
 use Rattle.bt_journal.specs.declared.reply.Reply.{Reply}

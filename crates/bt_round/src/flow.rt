@@ -1,7 +1,7 @@
 // Deliveries: one out of turn, and all that wait.
 ghost use Rattle.std.specs.Prelude.{◌≡◌, ◌<◌, ◌≤◌, length, OnOk, Some};
 ghost use Rattle.bt_air.specs.declared.sent.Place.{Place};
-ghost use Rattle.bt_events.specs.Fits.{IsPlace};
+ghost use Rattle.bt_site.specs.Fits.{IsPlace};
 ghost use Rattle.bt_round.specs.Simulated.{PlaysDelivery, PlaysFlow, PlaysHearing, sent_count};
 ghost use Rattle.bt_round.specs.Worker.{ComeFirst, Plays, PlaysFirst};
 

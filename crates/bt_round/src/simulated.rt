@@ -1,12 +1,12 @@
 // The centre's worker over a simulated air: the world is its own, and all events happen through it.
 ghost use Rattle.std.specs.Prelude.{◌≡◌, ◌≤◌, ◌++◌, [], drop, length, reverse, All, IfOk, IfSome, None, OnOk, is_some};
-ghost use Rattle.bt_events.specs.Event as event;
+ghost use Rattle.bt_site.specs.Event as event;
 ghost use Rattle.bt_frame.specs.declared.limits.TheConstants.{LAST_MESSAGE};
-ghost use Rattle.bt_events.specs.Fits.{AreStored, IsWorld, Meets};
+ghost use Rattle.bt_site.specs.Fits.{AreStored, IsWorld, Meets};
 ghost use Rattle.bt_machines.specs.Plans.{newest_of, plan_of};
 ghost use Rattle.bt_world.specs.Life.{past_of};
 ghost use Rattle.bt_world.specs.Shown.{IsShown};
-ghost use Rattle.bt_events.specs.World.{sent, wanted};
+ghost use Rattle.bt_site.specs.World.{sent, wanted};
 ghost use Rattle.bt_history.specs.Causes.{CanCome};
 ghost use Rattle.bt_timeline.specs.Air.{waiting_lines};
 ghost use Rattle.bt_round.specs.AirLines.{target_by};
@@ -15,10 +15,10 @@ ghost use Rattle.bt_round.specs.Worker.{IsPlanned, IsRunning, NamesOwn};
 
 use crate::waiting::Waiting;
 use bt_air::{Event, Order, Shown};
-use bt_events::{newest_edition_has_a_plan, plans_stay};
 use bt_frame::{EditionNo, MOST_COUNTED, Mark, OutOfMemory};
 use bt_machines::Standby;
 use bt_net::Network;
+use bt_site::{newest_edition_has_a_plan, plans_stay};
 use bt_timeline::sent_text;
 use bt_world::{Events, WorldOver};
 use std::alloc::Global;

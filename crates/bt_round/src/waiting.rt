@@ -4,7 +4,7 @@ ghost use Rattle.bt_frame.specs.declared.numbers.TermNo.{TermNo};
 ghost use Rattle.bt_air.specs.declared.sent.Place.{Place};
 ghost use Rattle.bt_air.specs.declared.sent.Place.TheVariants.{Terminal};
 ghost use Rattle.bt_world.specs.Life.{past_of};
-ghost use Rattle.bt_events.specs.World.{sent};
+ghost use Rattle.bt_site.specs.World.{sent};
 ghost use Rattle.bt_timeline.specs.Air.{IsPlaceOf, waiting_lines};
 ghost use Rattle.bt_round.specs.Waiting.{deliveries, deliveries_of, is_same_place, left_of, loses, lost_of, receivers};
 ghost use Rattle.bt_round.specs.Worker.{Begins, numbered};

@@ -2,22 +2,22 @@
 ghost use Rattle.std.specs.Prelude.{◌≡◌, ◌<◌, ◌≤◌, ◌++◌, [], length, reverse, IfOk, IfSome, IsSome, None, OnOk};
 ghost use Rattle.bt_demand.specs.Flyable.{IsFlyable};
 ghost use Rattle.bt_frame.specs.declared.limits.TheConstants.{LAST_MESSAGE};
-ghost use Rattle.bt_events.specs.Event.{Install, Ordered, Turn};
-ghost use Rattle.bt_events.specs.Fits.{AreStored, IsWorld};
-ghost use Rattle.bt_events.specs.World.{log, sent};
+ghost use Rattle.bt_site.specs.Event.{Install, Ordered, Turn};
+ghost use Rattle.bt_site.specs.Fits.{AreStored, IsWorld};
+ghost use Rattle.bt_site.specs.World.{log, sent};
 ghost use Rattle.bt_machines.specs.Plans.{plan_of};
 ghost use Rattle.bt_history.specs.Causes.{CanCome};
 ghost use Rattle.bt_timeline.specs.Air.{waiting_lines};
-ghost use Rattle.bt_bus.specs.Heard.{IsOnBus};
+ghost use Rattle.bt_script.specs.Heard.{IsOnBus};
 ghost use Rattle.bt_round.specs.AirLines.{KeepsWanted, back_of, events_in, going, has_plan, having, hearing, installing, is_marked, mark_of, newest_in, opening_in, orders_in, plans_in, restarting, sends_text, target_of, waiting_in, wanted_in};
 
 use crate::simulated::SimulatedCentre;
 use bt_air::{Event, Order};
 use bt_apart::ApartCentre;
-use bt_bus::BusLine;
 use bt_demand::Plan;
 use bt_frame::{EditionNo, Mark, OutOfMemory};
 use bt_net::Network;
+use bt_script::BusLine;
 use bt_world::{Events, WorldOver};
 use std::alloc::Global;
 

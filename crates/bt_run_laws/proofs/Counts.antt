@@ -5,7 +5,7 @@ use Rattle.std.proofs.lemmas.List.Concat.{flat_map-append}
 use Rattle.std.proofs.lemmas.List.Sums.{sum_by-cons}
 use Rattle.bt_frame.specs.declared.limits.TheConstants.{MOST_LINES}
 use Rattle.bt_net.specs.Network.{Net}
-use Rattle.bt_bus.specs.declared.sites.Sites.TheVariants.{Together}
+use Rattle.bt_script.specs.declared.sites.Sites.TheVariants.{Together}
 use Rattle.bt_journal.specs.declared.call.Change.{Change}
 use Rattle.bt_journal.specs.declared.entry.Entry.{Entry}
 use Rattle.bt_journal.specs.Journal.{asks_edit, calls_of, is_fault, is_made, is_refusal, failed_of, refused_of}

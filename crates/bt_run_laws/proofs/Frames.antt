@@ -13,12 +13,12 @@ use Rattle.bt_demand.specs.Apart.{bursts_from}
 use Rattle.bt_demand.specs.Flyable.{IsFlyable, IsSentBy}
 use Rattle.bt_demand.proofs.Flyable.{sent_by}
 use Rattle.bt_air.specs.declared.shown.AirFrame.{AirFrame}
-use Rattle.bt_events.specs.Air.{bursts_under, transmits, where_held}
-use Rattle.bt_events.specs.Event.{Opening, Event, Happening}
-use Rattle.bt_events.specs.World.{accepted, frames_shown, heard, held, log, mark, plans, terminals}
+use Rattle.bt_site.specs.Air.{bursts_under, transmits, where_held}
+use Rattle.bt_site.specs.Event.{Opening, Event, Happening}
+use Rattle.bt_site.specs.World.{accepted, frames_shown, heard, held, log, mark, plans, terminals}
 use Rattle.bt_machines.specs.Plans.{bursts_for, plan_of}
-use Rattle.bt_events.proofs.Plans.{flies-each, plan-holds, plans-flyable}
-use Rattle.bt_events.proofs.Ranges.{front-fits, world-fits}
+use Rattle.bt_site.proofs.Plans.{flies-each, plan-holds, plans-flyable}
+use Rattle.bt_site.proofs.Ranges.{front-fits, world-fits}
 use Rattle.bt_world.specs.Shown.{IsFrame}
 use Rattle.bt_words.specs.declared.form.Form.TheVariants as form
 use Rattle.bt_timeline.specs.Air.{frame_lines}

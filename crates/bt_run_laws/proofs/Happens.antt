@@ -2,8 +2,8 @@
 use Rattle.std.proofs.Common.{◌≡◌, ℕ, List, ◌++◌, reverse, All, sym, subst, arith}
 use Rattle.bt_frame.proofs.Pairs.{All-second}
 use Rattle.bt_net.specs.Network.{Net, IsSound}
-use Rattle.bt_events.specs.Event.{Event}
-use Rattle.bt_events.proofs.Ranges.{Fits, world-fits}
+use Rattle.bt_site.specs.Event.{Event}
+use Rattle.bt_site.proofs.Ranges.{Fits, world-fits}
 use Rattle.bt_run_laws.specs.Readable.{AreLines}
 use Rattle.bt_run_laws.specs.Small.{IsSmall}
 use Rattle.bt_round.specs.declared.worker.CentreOver.TheVariants.{Simulated}

@@ -14,9 +14,9 @@ use Rattle.bt_air.specs.declared.sent.Place.TheVariants.{Satellite, Centre, Term
 use Rattle.bt_air.specs.declared.sent.Taken.{Taken}
 use Rattle.bt_air.specs.declared.sent.Taken.TheVariants as taken
 use Rattle.bt_air.specs.declared.shown.Shown.TheVariants as shows
-use Rattle.bt_events.specs.Event.{Opening, Happening, Deliver}
-use Rattle.bt_events.specs.Fits.{IsPlace}
-use Rattle.bt_events.specs.World.{sent}
+use Rattle.bt_site.specs.Event.{Opening, Happening, Deliver}
+use Rattle.bt_site.specs.Fits.{IsPlace}
+use Rattle.bt_site.specs.World.{sent}
 use Rattle.bt_world.specs.Shown.{IsShown, answer_to, noted_by}
 use Rattle.bt_words.specs.declared.form.Form.TheVariants as form
 use Rattle.bt_timeline.specs.Air.{got_line}

@@ -21,3 +21,4 @@ mod Air
 mod Desks
 mod Runs
 mod Outputs
+mod PassedOver

@@ -1,9 +1,9 @@
 -- The output of a whole run is read.
 use Rattle.std.proofs.Common.{◌≡◌, ℕ, ◌≤◌, List, ◌++◌, length, reverse, Ok, sym, ◌∙◌, subst, arith}
 use Rattle.bt_net.specs.Network.{IsSound, Net}
-use Rattle.bt_bus.specs.declared.sites.Sites.TheVariants.{Together}
+use Rattle.bt_script.specs.declared.sites.Sites.TheVariants.{Together}
 use Rattle.bt_air.specs.declared.event.Event.{Event}
-use Rattle.bt_events.specs.Event.{Opening}
+use Rattle.bt_site.specs.Event.{Opening}
 use Rattle.bt_journal.specs.declared.call.Change.{Change}
 use Rattle.bt_script.specs.declared.script.Item.{Item}
 use Rattle.bt_report.specs.Stored.{Stored}

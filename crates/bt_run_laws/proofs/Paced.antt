@@ -15,11 +15,11 @@ use Rattle.bt_air.specs.declared.sent.Aired.{Aired}
 use Rattle.bt_machines.specs.declared.turn.Turn.{Turn as Seen}
 use Rattle.bt_machines.specs.Last.{last_order}
 use Rattle.bt_machines.specs.Turn.{act_of, arm_after, attempt, is_before, may_arm, wanted_by}
-use Rattle.bt_events.specs.Event.{Opening, Event, Tick, Turn, Second, Ordered, Deliver, Frame, ResetTerminal, RestartCentre, Install, Happening}
-use Rattle.bt_events.specs.Fits.{IsWorld}
-use Rattle.bt_events.specs.World.{comes_to, greatest_due, kept, log, mark, orders, sent, sent_with, sight, wanted}
+use Rattle.bt_site.specs.Event.{Opening, Event, Tick, Turn, Second, Ordered, Deliver, Frame, ResetTerminal, RestartCentre, Install, Happening}
+use Rattle.bt_site.specs.Fits.{IsWorld}
+use Rattle.bt_site.specs.World.{comes_to, greatest_due, kept, log, mark, orders, sent, sent_with, sight, wanted}
 use Rattle.bt_machines.specs.CentreSteps.{with_wanted}
-use Rattle.bt_events.proofs.Standing.{KeepsSound, world-holds}
+use Rattle.bt_site.proofs.Standing.{KeepsSound, world-holds}
 use Rattle.bt_centre.specs.World.{IsSpelledWorld}
 
 -- Orders, the latest first, of a world that opened with `opened` of them in the superframe `first`. Where a Load is the last, at most one

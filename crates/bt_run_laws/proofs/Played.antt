@@ -8,7 +8,7 @@ use Rattle.bt_net.specs.Terminals.{IsTerminal}
 use Rattle.bt_air.specs.declared.sent.Aired.{Aired}
 use Rattle.bt_air.specs.declared.sent.Aired.TheVariants as sends
 use Rattle.bt_air.specs.declared.sent.Place.{Place}
-use Rattle.bt_events.specs.Event.{Tick, Deliver, Frame, ResetTerminal}
+use Rattle.bt_site.specs.Event.{Tick, Deliver, Frame, ResetTerminal}
 use Rattle.bt_script.specs.declared.script.Losing.{Losing}
 use Rattle.bt_machines.specs.declared.standby.Noticed.{Noticed}
 use Rattle.bt_machines.specs.declared.standby.Noticed.TheVariants as notice

@@ -11,7 +11,7 @@ use Rattle.bt_air.specs.declared.sent.Aired.{Aired}
 use Rattle.bt_air.specs.declared.sent.Aired.TheVariants as sends
 use Rattle.bt_air.specs.Range.{IsArmed, IsStatus, IsWord}
 use Rattle.bt_air.specs.Sent.{sent_as}
-use Rattle.bt_events.proofs.Ranges.{Fits}
+use Rattle.bt_site.proofs.Ranges.{Fits}
 use Rattle.bt_words.specs.declared.form.Form.TheVariants as form
 use Rattle.bt_run_lines.specs.declared.printed.Value.TheVariants as value
 use Rattle.bt_run_lines.specs.Printers.{numbers}

@@ -7,12 +7,12 @@ use Rattle.bt_net.specs.Network.{Net, IsSound}
 use Rattle.bt_demand.specs.declared.plan.Plan.{Plan}
 use Rattle.bt_air.specs.declared.order.Order.{Order}
 use Rattle.bt_air.specs.declared.order.Order.TheVariants.{Load, Arm}
-use Rattle.bt_events.specs.Event.{Opening, Event, Ordered, Install}
+use Rattle.bt_site.specs.Event.{Opening, Event, Ordered, Install}
 use Rattle.bt_machines.specs.Plans.{IsStored, newest_of}
-use Rattle.bt_events.specs.World.{log, orders, plans, wanted}
-use Rattle.bt_events.proofs.Banks.{world-planned}
-use Rattle.bt_events.proofs.Counted.{world-counted}
-use Rattle.bt_events.proofs.Ranges.{Taken, wanted-fits}
+use Rattle.bt_site.specs.World.{log, orders, plans, wanted}
+use Rattle.bt_site.proofs.Banks.{world-planned}
+use Rattle.bt_site.proofs.Counted.{world-counted}
+use Rattle.bt_site.proofs.Ranges.{Taken, wanted-fits}
 use Rattle.bt_words.specs.declared.form.Form.TheVariants as form
 use Rattle.bt_history.specs.Machine.{Step}
 use Rattle.bt_journal.specs.declared.call.Call.{Call}

@@ -12,11 +12,11 @@ use Rattle.bt_air.specs.declared.sent.Place.TheVariants.{Terminal}
 use Rattle.bt_air.specs.declared.sent.Sent.{Sent}
 use Rattle.bt_air.specs.declared.sent.Sent.TheVariants as sends
 use Rattle.bt_air.specs.Sent.{sent_as}
-use Rattle.bt_events.specs.Event.{Event, RestartCentre}
-use Rattle.bt_events.specs.World.{terminals}
+use Rattle.bt_site.specs.Event.{Event, RestartCentre}
+use Rattle.bt_site.specs.World.{terminals}
 use Rattle.bt_journal.specs.declared.call.Change.{Change}
-use Rattle.bt_bus.specs.declared.sites.Sites.TheVariants.{Together}
-use Rattle.bt_bus.specs.declared.heard.BusLine.{BusLine}
+use Rattle.bt_script.specs.declared.sites.Sites.TheVariants.{Together}
+use Rattle.bt_script.specs.declared.heard.BusLine.{BusLine}
 use Rattle.bt_round.specs.declared.worker.CentreOver.TheVariants.{Simulated, Apart}
 use Rattle.bt_round.specs.AirLines.{AirState, going, having, hearing, restarting}
 use Rattle.bt_round.specs.Simulated as simulated

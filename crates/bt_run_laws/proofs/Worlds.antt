@@ -8,16 +8,16 @@ use Rattle.bt_air.specs.declared.order.Order.{Order}
 use Rattle.bt_air.specs.declared.sent.Aired.{Aired}
 use Rattle.bt_air.specs.declared.sent.Aired.TheVariants as sends
 use Rattle.bt_air.specs.declared.sent.Place.{Place}
-use Rattle.bt_events.specs.Event.{Opening, Event, Tick, Turn, Ordered, Deliver, Frame, ResetTerminal, RestartCentre, Install}
-use Rattle.bt_events.specs.Fits.{Meets}
-use Rattle.bt_events.specs.World.{comes_to, log, sent, sent_with}
-use Rattle.bt_events.proofs.Ranges.{stored-before}
+use Rattle.bt_site.specs.Event.{Opening, Event, Tick, Turn, Ordered, Deliver, Frame, ResetTerminal, RestartCentre, Install}
+use Rattle.bt_site.specs.Fits.{Meets}
+use Rattle.bt_site.specs.World.{comes_to, log, sent, sent_with}
+use Rattle.bt_site.proofs.Ranges.{stored-before}
 use Rattle.bt_journal.specs.declared.entry.Entry.{Entry}
 use Rattle.bt_journal.specs.declared.reply.Reply.{Reply}
 use Rattle.bt_journal.specs.declared.reply.Reply.TheVariants as reply
 use Rattle.bt_script.specs.declared.script.AirLine.{AirLine}
 use Rattle.bt_script.specs.declared.script.AirLine.TheVariants as line
-use Rattle.bt_bus.specs.declared.heard.BusLine.{BusLine}
+use Rattle.bt_script.specs.declared.heard.BusLine.{BusLine}
 use Rattle.bt_round.specs.declared.worker.CentreOver.TheVariants.{Simulated, Apart}
 use Rattle.bt_round.specs.AirLines.{AirState, PlaysAirLine, PlaysAirLines, PlaysBack, PlaysOrder, PlaysSimulated, PlaysTurnIf, PlaysTurning, events_in, going, having, hearing, installing, is_marked, once_answered, opening_in, restarting, turning, wanted_in}
 use Rattle.bt_round.specs.Simulated as simulated

@@ -6,5 +6,4 @@ pub mod Printing
 pub mod WordsRead
 pub mod FormsApart
 pub mod ReadBack
-pub mod PassedOver
 pub mod OfARun

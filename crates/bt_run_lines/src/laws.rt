@@ -5,7 +5,6 @@ ghost use Rattle.bt_text.specs.Text.{ended, lacks, lines};
 ghost use Rattle.bt_net.specs.Network.{Net, IsSound};
 ghost use Rattle.bt_air.specs.declared.sent.Answer.{Answer};
 ghost use Rattle.bt_air.specs.declared.sent.Place.{Place};
-ghost use Rattle.bt_talk.specs.Answers.{counted};
 ghost use Rattle.bt_timeline.specs.Air.{got_line};
 ghost use Rattle.bt_words.specs.declared.form.Form.TheVariants as form;
 ghost use Rattle.bt_words.specs.Forms.{is_of_a_run};
@@ -37,13 +36,4 @@ pub fn lines_of_forms_are_printed_lines()
 pub fn deliveries_are_printed_lines()
     ensures got { (net : Net) → (number : ℕ) → (place : Place) → (answer : Answer)
         → IfSome (got_printed number place answer) (λ printed. got_line net number place answer ≡ printed_line net printed) }
-{}
-
-/// What a session is told is passed over: in an output with such an answer in front the other lines are those behind it, with the
-/// line that tells how many lines the answer has in front of them.
-pub fn answers_are_passed_over()
-    ensures passed { (net : Net) → (at : ℕ) → (told : List (List ℕ)) → (more : List ℕ) → IsSound net
-        → IsTrue (list_all (lacks 10) told) → length told < 10 ^ 19
-        → lines_from net at 0 (lines (counted (ended told) ++ more))
-        ≡ with_line (line form.Lines (numbers (length told ∷ []))) (lines_from net (at + 1 + length told) 0 (lines more)) }
 {}

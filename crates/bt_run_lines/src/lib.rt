@@ -15,7 +15,7 @@ mod word;
 
 pub use bt_words::Form;
 pub use laws::{
-    answers_are_passed_over, deliveries_are_printed_lines, lines_of_forms_are_printed_lines,
+    deliveries_are_printed_lines, lines_of_forms_are_printed_lines,
     printed_lines_have_one_spelling, spelled_lines_are_read,
 };
 pub use output::{OutputCode, check_output};

@@ -4,3 +4,4 @@ pub mod Grouping
 pub mod Naming
 pub mod Order
 pub mod Counting
+pub mod Words

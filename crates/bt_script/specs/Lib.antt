@@ -8,3 +8,5 @@ pub mod Named
 pub mod Length
 pub mod Said
 pub mod Codes
+pub mod Heard
+pub mod BusSaid

@@ -4,3 +4,12 @@ pub mod Plans
 pub mod Shares
 pub mod Posted
 pub mod Address
+pub mod Event
+pub mod World
+pub mod Laws
+pub mod Air
+pub mod Fits
+pub mod Satellite
+pub mod Ground
+pub mod Centre
+pub mod Example

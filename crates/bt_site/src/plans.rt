@@ -13,7 +13,7 @@ use bt_air::Order;
 use bt_demand::{Burst, Plan};
 use bt_frame::{EditionNo, OutOfMemory, TermNo, TermSet};
 use bt_machines::with_terminal;
-use bt_trace::Trace;
+use bt_outside::Trace;
 use std::alloc::Global;
 use std::marker::Model;
 

@@ -7,7 +7,7 @@ use Rattle.bt_frame.specs.declared.numbers.Mark.{Mark}
 use Rattle.bt_frame.specs.declared.numbers.TermNo.{TermNo}
 use Rattle.bt_net.specs.Terminals.{IsTerminal}
 use Rattle.bt_machines.specs.Plans.{newest_of, plan_of}
-use Rattle.bt_events.specs.Event.{Opening}
+use Rattle.bt_site.specs.Event.{Opening}
 use Rattle.bt_sites.specs.Acts.{AreLed, HasActs, IsLed, has_begun, starts_in}
 use Rattle.bt_sites.specs.Fits.{AreSites, IsNow, MayStep, WasSaid}
 use Rattle.bt_sites.specs.Late.{Late, now_of, steps_of}

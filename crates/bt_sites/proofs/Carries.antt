@@ -5,7 +5,7 @@ use Rattle.bt_demand.specs.declared.plan.Plan.{Plan}
 use Rattle.bt_air.specs.declared.message.Message.{Message}
 use Rattle.bt_air.specs.declared.sent.Aired.{Aired}
 use Rattle.bt_air.specs.Spelling.{message_bytes}
-use Rattle.bt_events.specs.Laws.{IsCarriedAlike}
+use Rattle.bt_site.specs.Laws.{IsCarriedAlike}
 use Rattle.bt_sites.specs.Sites.{bytes_of}
 
 pub bytes-stay : (more all : List Plan) (sent : List Aired) → All (IsCarriedAlike more all) sent → map (λ (one : Aired). bytes_of more one) sent ≡ map (λ (one : Aired). bytes_of all one) sent

@@ -14,13 +14,13 @@ use Rattle.bt_machines.specs.Orders.{telling}
 use Rattle.bt_machines.specs.Satellite.{status_of, step_of as take}
 use Rattle.bt_machines.specs.Terminal.{step_of as hear}
 use Rattle.bt_machines.specs.Says.{carried, confirmed_by, told_by}
-use Rattle.bt_events.specs.Centre.{IsCentreSaid, centre}
-use Rattle.bt_events.specs.Event.{Opening, Event, Second, Happening, Seconds as Happens_second}
-use Rattle.bt_events.specs.Fits.{AreStored, IsWorld, Meets}
-use Rattle.bt_events.specs.Ground.{terminal}
-use Rattle.bt_events.specs.Laws.{IsCarriedAlike}
-use Rattle.bt_events.specs.Satellite.{satellite}
-use Rattle.bt_events.specs.World.{accepted, comes_to, log, mark, plans, sent, sent_by_hearing}
+use Rattle.bt_site.specs.Centre.{IsCentreSaid, centre}
+use Rattle.bt_site.specs.Event.{Opening, Event, Second, Happening, Seconds as Happens_second}
+use Rattle.bt_site.specs.Fits.{AreStored, IsWorld, Meets}
+use Rattle.bt_site.specs.Ground.{terminal}
+use Rattle.bt_site.specs.Laws.{IsCarriedAlike}
+use Rattle.bt_site.specs.Satellite.{satellite}
+use Rattle.bt_site.specs.World.{accepted, comes_to, log, mark, plans, sent, sent_by_hearing}
 
 pub record Cited : Type 0 where
   pub on_mark : (o : Opening) (past : List Happening) → (satellite o past).mark.0 ≡ mark o past

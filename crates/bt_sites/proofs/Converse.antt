@@ -17,15 +17,15 @@ use Rattle.bt_machines.specs.Centre.{State}
 use Rattle.bt_machines.specs.Standby.{named}
 use Rattle.bt_machines.specs.Plans.{newest_of, plan_of}
 use Rattle.bt_machines.specs.Says.{carried}
-use Rattle.bt_events.specs.Event.{Opening, Event, Tick, Turn, Ordered, Deliver, Second, Frame, ResetTerminal, RestartCentre, Install}
-use Rattle.bt_events.specs.Fits.{AreStored, IsWorld, Meets}
-use Rattle.bt_events.specs.World.{is_told, log, mark, plans, sent, wanted}
+use Rattle.bt_site.specs.Event.{Opening, Event, Tick, Turn, Ordered, Deliver, Second, Frame, ResetTerminal, RestartCentre, Install}
+use Rattle.bt_site.specs.Fits.{AreStored, IsWorld, Meets}
+use Rattle.bt_site.specs.World.{is_told, log, mark, plans, sent, wanted}
 use Rattle.bt_sites.specs.Acts.{AreLedEvents, HasActsOf, resets_in, starts_in}
 use Rattle.bt_sites.specs.Behind.{HasSites, IsWorldBehind}
 use Rattle.bt_sites.specs.Fits.{AreSites, IsNow}
 use Rattle.bt_sites.specs.Sites.{bytes_of, centre_after, plans_after, said, satellite_after, standby_after, standby_with}
 use Rattle.bt_sites.specs.Step.{Step, Begins, SatelliteHears, Starts, TerminalHears, CentreHears, Turns, Places, Installs, Restarts, StandbyStarts, StandbyHears, Seconds}
-use Rattle.bt_events.proofs.Ranges.{stored-before}
+use Rattle.bt_site.proofs.Ranges.{stored-before}
 use Rattle.bt_sites.proofs.Follows.{HasSitesOf, Leads, Stands, sent-still}
 use Rattle.bt_sites.proofs.Heard.{Told, found-of, told-said}
 use Rattle.bt_sites.proofs.Seconds.{names-heard, some-same, teller}

@@ -26,12 +26,12 @@ use Rattle.bt_machines.specs.Standby.{named}
 use Rattle.bt_machines.specs.CentreSteps.{beginning, once_heard, once_placed, with_wanted}
 use Rattle.bt_machines.specs.Plans.{newest_of, plan_of}
 use Rattle.bt_machines.specs.Says.{carried, sent_by_order, confirmed_by, told_by}
-use Rattle.bt_events.specs.Centre.{centre}
-use Rattle.bt_events.specs.Event.{Opening, Event, Tick, Turn, Ordered, Deliver, Second, ResetTerminal, RestartCentre, Install, Happening, Ticks, Hears, Turns as Happens_turn}
-use Rattle.bt_events.specs.Fits.{AreStored, IsWorld, Meets}
-use Rattle.bt_events.specs.Ground.{terminal}
-use Rattle.bt_events.specs.Satellite.{satellite, to_satellite}
-use Rattle.bt_events.specs.World.{accepted, act, is_told, greatest_due, log, mark, orders, plans, sent, sent_by_hearing, sent_with, terminals, wanted}
+use Rattle.bt_site.specs.Centre.{centre}
+use Rattle.bt_site.specs.Event.{Opening, Event, Tick, Turn, Ordered, Deliver, Second, ResetTerminal, RestartCentre, Install, Happening, Ticks, Hears, Turns as Happens_turn}
+use Rattle.bt_site.specs.Fits.{AreStored, IsWorld, Meets}
+use Rattle.bt_site.specs.Ground.{terminal}
+use Rattle.bt_site.specs.Satellite.{satellite, to_satellite}
+use Rattle.bt_site.specs.World.{accepted, act, is_told, greatest_due, log, mark, orders, plans, sent, sent_by_hearing, sent_with, terminals, wanted}
 use Rattle.bt_sites.specs.Fits.{IsNow, WasSaid, MayStep, order_count}
 use Rattle.bt_sites.specs.Sites.{bytes_of, centre_after, centre_with, plans_after, read_of, said, satellite_after, satellite_says, satellite_with, standby_after, standby_with, terminal_after, terminal_says, terminal_with, turn_says}
 use Rattle.bt_sites.specs.Step.{Step, Begins, SatelliteHears, Starts, TerminalHears, CentreHears, Turns, Places, Installs, Restarts, StandbyStarts, StandbyHears, Seconds}

@@ -16,12 +16,12 @@ use Rattle.bt_machines.specs.SatelliteRun.{is_accepted}
 use Rattle.bt_machines.specs.Satellite.{State as Onboard, status_of}
 use Rattle.bt_machines.specs.Terminal.{State as Ground, load_of}
 use Rattle.bt_machines.specs.Says.{confirms, confirmed_by, is_confirming, told_by}
-use Rattle.bt_events.specs.Centre.{centre}
-use Rattle.bt_events.specs.Event.{Opening, Event, Happening}
-use Rattle.bt_events.specs.Fits.{IsWorld, Meets}
-use Rattle.bt_events.specs.Ground.{terminal}
-use Rattle.bt_events.specs.Satellite.{satellite}
-use Rattle.bt_events.specs.World.{comes_to, is_told, log, orders, plans, sent, sent_with, tells}
+use Rattle.bt_site.specs.Centre.{centre}
+use Rattle.bt_site.specs.Event.{Opening, Event, Happening}
+use Rattle.bt_site.specs.Fits.{IsWorld, Meets}
+use Rattle.bt_site.specs.Ground.{terminal}
+use Rattle.bt_site.specs.Satellite.{satellite}
+use Rattle.bt_site.specs.World.{comes_to, is_told, log, orders, plans, sent, sent_with, tells}
 use Rattle.bt_sites.specs.Acts.{AreLed, AreLedEvents, has_begun, has_ticked, resets_in, starts_in}
 use Rattle.bt_sites.specs.Behind.{IsWorldBehind}
 use Rattle.bt_sites.specs.Fits.{AreSites, order_count}

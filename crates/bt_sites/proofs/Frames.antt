@@ -7,12 +7,12 @@ use Rattle.bt_frame.specs.declared.numbers.TermNo.{TermNo}
 use Rattle.bt_demand.specs.declared.burst.Burst.{Burst}
 use Rattle.bt_machines.specs.Satellite.{State as Onboard}
 use Rattle.bt_machines.specs.Terminal.{State as Ground, transmitted}
-use Rattle.bt_events.specs.Air.{IsAir, IsSafe, transmits}
-use Rattle.bt_events.specs.Event.{Opening, Event, Happening}
-use Rattle.bt_events.specs.Fits.{IsWorld}
-use Rattle.bt_events.specs.Ground.{terminal}
-use Rattle.bt_events.specs.Satellite.{satellite}
-use Rattle.bt_events.specs.World.{log, mark, terminals}
+use Rattle.bt_site.specs.Air.{IsAir, IsSafe, transmits}
+use Rattle.bt_site.specs.Event.{Opening, Event, Happening}
+use Rattle.bt_site.specs.Fits.{IsWorld}
+use Rattle.bt_site.specs.Ground.{terminal}
+use Rattle.bt_site.specs.Satellite.{satellite}
+use Rattle.bt_site.specs.World.{log, mark, terminals}
 use Rattle.bt_sites.specs.Behind.{HasWorldBehind, IsAirOf, sends_now}
 use Rattle.bt_sites.specs.Sites.{satellite_after, terminal_after}
 use Rattle.bt_sites.specs.Step.{Step}

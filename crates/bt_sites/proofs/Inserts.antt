@@ -5,8 +5,8 @@ use Rattle.std.proofs.lemmas.Bool.{eqb-true}
 use Rattle.bt_frame.specs.declared.numbers.TermNo.{TermNo}
 use Rattle.bt_sites.specs.Step.{Site, Satellite, Centre, Terminal, Standby, Step}
 use Rattle.bt_machines.specs.Satellite.{State as Onboard}
-use Rattle.bt_events.specs.Event.{Opening}
-use Rattle.bt_events.specs.World.{greatest_due}
+use Rattle.bt_site.specs.Event.{Opening}
+use Rattle.bt_site.specs.World.{greatest_due}
 use Rattle.bt_sites.specs.Fits.{AreSites, MayStep, WasSaid}
 use Rattle.bt_sites.specs.Late.{now_of, site_of}
 use Rattle.bt_sites.specs.Sites.{said, said_with}

@@ -6,8 +6,8 @@ use Rattle.std.proofs.lemmas.Bool.Decides.{nat_tests}
 use Rattle.bt_frame.specs.declared.numbers.Mark.{Mark}
 use Rattle.bt_frame.specs.declared.numbers.TermNo.{TermNo}
 use Rattle.bt_sites.specs.Step.{Site, Satellite, Centre, Terminal, Standby, Step}
-use Rattle.bt_events.specs.Event.{Opening}
-use Rattle.bt_events.specs.World.{greatest_due}
+use Rattle.bt_site.specs.Event.{Opening}
+use Rattle.bt_site.specs.World.{greatest_due}
 use Rattle.bt_sites.specs.Late.{IsForward, Late, WasSaidBy, now_of, site_of, steps_of}
 use Rattle.bt_sites.specs.Stamps.{Act, Begins, Begun, Hears, Installs, Line, MayHear, Places, Radio, Restarts, Seconds, StandbyStarts, Starts, Turns, actor_of, is_same_site, joined, known, known_by, late_of, made_in, reached, said_if, stamp_of, step_by, steps_by, where_known}
 use Rattle.bt_sites.specs.Fits.{WasSaid}

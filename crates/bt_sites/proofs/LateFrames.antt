@@ -18,13 +18,13 @@ use Rattle.bt_machines.specs.Orders.{StandsFor}
 use Rattle.bt_machines.specs.Satellite.{State as Onboard}
 use Rattle.bt_machines.specs.Terminal.{State as Ground, transmitted}
 use Rattle.bt_machines.specs.Plans.{IsStored, bursts_for, modes_of, plan_of}
-use Rattle.bt_events.specs.Air.{AreOfPlan, IsSafe, fore, transmits}
-use Rattle.bt_events.specs.Event.{Opening, Event, Happening}
-use Rattle.bt_events.specs.Ground.{terminal}
-use Rattle.bt_events.specs.Satellite.{satellite}
-use Rattle.bt_events.specs.World.{accepted, log, mark, plans, terminals}
-use Rattle.bt_events.proofs.Banks.{world-banked}
-use Rattle.bt_events.proofs.Plans.{flies-each, plan-holds, plans-flyable}
+use Rattle.bt_site.specs.Air.{AreOfPlan, IsSafe, fore, transmits}
+use Rattle.bt_site.specs.Event.{Opening, Event, Happening}
+use Rattle.bt_site.specs.Ground.{terminal}
+use Rattle.bt_site.specs.Satellite.{satellite}
+use Rattle.bt_site.specs.World.{accepted, log, mark, plans, terminals}
+use Rattle.bt_site.proofs.Banks.{world-banked}
+use Rattle.bt_site.proofs.Plans.{flies-each, plan-holds, plans-flyable}
 use Rattle.bt_sites.specs.Behind.{HasWorldBehind}
 use Rattle.bt_sites.specs.Fits.{AreSites, AreSmall}
 use Rattle.bt_sites.specs.Late.{AreLate, AreOnAir, IsMoment, Late, TransmitsIn, now_of, steps_of}

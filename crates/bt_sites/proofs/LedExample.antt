@@ -1,6 +1,6 @@
 -- In the example the terminals start before all else.
 use Rattle.std.proofs.Common.{refl}
-use Rattle.bt_events.specs.Example.{started}
+use Rattle.bt_site.specs.Example.{started}
 use Rattle.bt_sites.specs.Acts.{AreLedEvents}
 
 pub started-led : AreLedEvents started

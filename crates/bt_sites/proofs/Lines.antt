@@ -5,8 +5,8 @@ use Rattle.bt_frame.specs.declared.numbers.Mark.{Mark}
 use Rattle.bt_frame.specs.declared.numbers.TermNo.{TermNo}
 use Rattle.bt_air.specs.declared.sent.Aired.TheVariants as sends
 use Rattle.bt_sites.specs.Step.{Satellite, Centre, Terminal, Standby, Step}
-use Rattle.bt_events.specs.Event.{Opening}
-use Rattle.bt_events.specs.World.{greatest_due}
+use Rattle.bt_site.specs.Event.{Opening}
+use Rattle.bt_site.specs.World.{greatest_due}
 use Rattle.bt_sites.specs.Fits.{WasSaid}
 use Rattle.bt_sites.specs.Late.{WasSaidBy, now_of}
 use Rattle.bt_sites.specs.Sites.{bytes_of}

@@ -9,7 +9,7 @@ use Rattle.bt_air.specs.declared.message.Message.TheVariants as message
 use Rattle.bt_air.specs.declared.sent.Taken.{Taken}
 use Rattle.bt_air.specs.declared.sent.Taken.TheVariants.{Accepted, Stale, Busy, NotLoaded, TooLate}
 use Rattle.bt_machines.specs.Satellite.{State, begun, changed, is_armed, is_due, is_not_loaded, is_stale, is_too_late, loaded, step_of, ticked, with_armed}
-use Rattle.bt_events.specs.Event.{Opening}
+use Rattle.bt_site.specs.Event.{Opening}
 use Rattle.bt_sites.specs.Late.{now_of}
 use Rattle.bt_sites.specs.Sites.{read_of, satellite_after, satellite_with}
 use Rattle.bt_sites.specs.Step.{Step, Begins, SatelliteHears, Starts, TerminalHears, CentreHears, Turns, Places, Installs, Restarts, StandbyStarts, StandbyHears, Seconds}

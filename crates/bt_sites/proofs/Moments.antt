@@ -1,7 +1,7 @@
 -- What a site is at a moment of a late run it is at an end of a superframe of the run in order.
 use Rattle.std.proofs.Common.{◌≡◌, ℕ, ◌<◌, ◌≤◌, List, [], ◌∷◌, ◌++◌, refl, sym, ◌∙◌, ap, subst, append_assoc}
 use Rattle.bt_sites.specs.Step.{Site, Satellite, Step}
-use Rattle.bt_events.specs.Event.{Opening}
+use Rattle.bt_site.specs.Event.{Opening}
 use Rattle.bt_sites.specs.Late.{HasBegun, Late, now_of, site_of, steps_of}
 use Rattle.bt_sites.proofs.Inserts.{AllAfter, IsBefore, cut-at, now-put, others-later, past-both, same-behind, same-put}
 use Rattle.bt_sites.proofs.Same.{SameFor, same-sym, same-trans}

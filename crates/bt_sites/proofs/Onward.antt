@@ -9,8 +9,8 @@ use Rattle.bt_air.specs.declared.message.Message.{Message}
 use Rattle.bt_air.specs.declared.message.Message.TheVariants as message
 use Rattle.bt_machines.specs.Satellite.{State, is_armed, is_not_loaded, is_stale, is_too_late, step_of}
 use Rattle.bt_machines.specs.Plans.{plan_of}
-use Rattle.bt_events.specs.Event.{Opening}
-use Rattle.bt_events.proofs.Banks.{plan-stays}
+use Rattle.bt_site.specs.Event.{Opening}
+use Rattle.bt_site.proofs.Banks.{plan-stays}
 use Rattle.bt_sites.specs.Fits.{AreSites, AreSmall}
 use Rattle.bt_sites.specs.Late.{now_of}
 use Rattle.bt_sites.specs.Sites.{plans_after, read_of, satellite_after, satellite_with}

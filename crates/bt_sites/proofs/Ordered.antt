@@ -8,7 +8,7 @@ use Rattle.bt_demand.specs.declared.plan.Plan.{Plan}
 use Rattle.bt_machines.specs.Satellite.{State as Onboard}
 use Rattle.bt_machines.specs.Centre.{State}
 use Rattle.bt_machines.specs.Plans.{newest_of, plan_of}
-use Rattle.bt_events.specs.Event.{Opening}
+use Rattle.bt_site.specs.Event.{Opening}
 use Rattle.bt_sites.specs.Fits.{AreSites, IsNow, MayStep, WasSaid, order_count}
 use Rattle.bt_sites.specs.Late.{AreLate, HasBegun, HasOrder, IsForward, IsFrom, IsMoment, Late, MayBeLate, WasSaidBy, now_of, site_of, steps_of}
 use Rattle.bt_sites.specs.Sites.{read_of, said, said_with, satellite_after}

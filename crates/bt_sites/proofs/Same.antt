@@ -16,8 +16,8 @@ use Rattle.bt_machines.specs.Standby.{named}
 use Rattle.bt_machines.specs.CentreSteps.{beginning, once_placed, with_wanted}
 use Rattle.bt_machines.specs.Plans.{newest_of, plan_of}
 use Rattle.bt_machines.specs.Says.{sent_by_order}
-use Rattle.bt_events.specs.Event.{Opening}
-use Rattle.bt_events.specs.World.{terminals}
+use Rattle.bt_site.specs.Event.{Opening}
+use Rattle.bt_site.specs.World.{terminals}
 use Rattle.bt_sites.specs.Fits.{MayStep, WasSaid}
 use Rattle.bt_sites.specs.Late.{site_of}
 use Rattle.bt_sites.specs.Sites.{bytes_of, centre_after, centre_with, plans_after, read_of, said, said_with, satellite_after, satellite_says, satellite_with, standby_after, standby_with, terminal_after, terminal_says, terminal_with, turn_says}

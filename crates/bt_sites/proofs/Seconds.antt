@@ -13,7 +13,7 @@ use Rattle.bt_machines.specs.declared.standby.Noticed.{Noticed}
 use Rattle.bt_machines.specs.declared.standby.Noticed.TheVariants.{Noted, WrongMark}
 use Rattle.bt_machines.specs.Standby.{is_wrong, named}
 use Rattle.bt_machines.specs.Says.{carried}
-use Rattle.bt_events.specs.World.{is_told, tells}
+use Rattle.bt_site.specs.World.{is_told, tells}
 use Rattle.bt_sites.specs.Sites.{standby_with}
 use Rattle.bt_sites.proofs.Follows.{WasSent}
 use Rattle.bt_sites.proofs.Knows.{is-itself}

@@ -6,9 +6,9 @@ use Rattle.bt_air.specs.declared.order.Order.{Order}
 use Rattle.bt_air.specs.Range.{IsWord}
 use Rattle.bt_machines.specs.Plans.{IsStored}
 use Rattle.bt_machines.specs.CentreSteps.{with_wanted}
-use Rattle.bt_events.specs.Event.{Opening, Happening}
-use Rattle.bt_events.specs.Fits.{AreStored}
-use Rattle.bt_events.specs.World.{orders, plans}
+use Rattle.bt_site.specs.Event.{Opening, Happening}
+use Rattle.bt_site.specs.Fits.{AreStored}
+use Rattle.bt_site.specs.World.{orders, plans}
 use Rattle.bt_sites.specs.Fits.{AreSmall, order_count}
 use Rattle.bt_sites.specs.Sites.{plans_after}
 use Rattle.bt_sites.specs.Step.{Step, Begins, SatelliteHears, Starts, TerminalHears, CentreHears, Turns, Places, Installs, Restarts, StandbyStarts, StandbyHears, Seconds}

@@ -4,8 +4,8 @@ use Rattle.std.proofs.Math.Nat.{le-max_left}
 use Rattle.bt_frame.specs.declared.numbers.TermNo.{TermNo}
 use Rattle.bt_sites.specs.Step.{Site, Satellite, Centre, Terminal, Standby, Step}
 use Rattle.bt_demand.specs.declared.burst.Burst.{Burst}
-use Rattle.bt_events.specs.Event.{Opening}
-use Rattle.bt_events.specs.World.{greatest_due}
+use Rattle.bt_site.specs.Event.{Opening}
+use Rattle.bt_site.specs.World.{greatest_due}
 use Rattle.bt_sites.specs.Late.{AreOnAir, IsForward, IsFrom, IsMoment, Late, now_of, site_of}
 use Rattle.bt_sites.specs.OnAir.{AreSentIn, IsOnBoard, SendsIn}
 use Rattle.bt_sites.specs.Stamps.{Act, AreStamped, Begins, Hears, Installs, Places, Restarts, Seconds, StandbyStarts, Starts, Turns, actor_of, joined, known, late_of, made_in, reached, step_by, steps_by}

@@ -3,8 +3,8 @@ use Rattle.std.proofs.Common.{◌≡◌, ◌⊎◌, inl, inr, ℕ, suc, ◌+◌,
 use Rattle.std.proofs.Math.Nat.{le-max_left, le-max_right}
 use Rattle.bt_frame.specs.declared.numbers.Mark.{Mark}
 use Rattle.bt_sites.specs.Step.{Site, Satellite, Centre, Terminal, Standby, Step}
-use Rattle.bt_events.specs.Event.{Opening}
-use Rattle.bt_events.specs.World.{greatest_due}
+use Rattle.bt_site.specs.Event.{Opening}
+use Rattle.bt_site.specs.World.{greatest_due}
 use Rattle.bt_sites.specs.Late.{AreLate, HasBegun, IsForward, Late, MayBeLate, WasSaidBy, now_of, site_of}
 use Rattle.bt_sites.specs.Stamps.{Act, AreStamped, Begins, Begun, Hears, Installs, MayAct, Places, Radio, Restarts, Seconds, StandbyStarts, Starts, Turns, joined, known, late_of, made_in, reached, step_by, steps_by}
 use Rattle.bt_sites.specs.Step as step

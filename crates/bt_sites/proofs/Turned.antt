@@ -14,9 +14,9 @@ use Rattle.bt_machines.specs.Known.{known}
 use Rattle.bt_machines.specs.Last.{last_order, next_of}
 use Rattle.bt_machines.specs.Terminals.{has}
 use Rattle.bt_machines.specs.Says.{sent_by_act, sent_to_asking}
-use Rattle.bt_events.specs.Centre.{IsCentreSaid, centre}
-use Rattle.bt_events.specs.Event.{Opening, Happening, Turns}
-use Rattle.bt_events.specs.World.{act, announced, is_asking, is_missing, kept, known_now, mark, orders, plans, sent_with, terminals}
+use Rattle.bt_site.specs.Centre.{IsCentreSaid, centre}
+use Rattle.bt_site.specs.Event.{Opening, Happening, Turns}
+use Rattle.bt_site.specs.World.{act, announced, is_asking, is_missing, kept, known_now, mark, orders, plans, sent_with, terminals}
 use Rattle.bt_sites.specs.Sites.{turn_says}
 use Rattle.bt_sites.proofs.Filters.{same-filter}
 

@@ -3,9 +3,9 @@ use Rattle.std.proofs.Common.{true, false, List, [], ◌∷◌, length, refl}
 use Rattle.bt_net.specs.Network.{IsSound}
 use Rattle.bt_air.specs.declared.sent.Place.TheVariants.{Satellite, Centre, Terminal}
 use Rattle.bt_machines.specs.Standby.{named}
-use Rattle.bt_events.specs.Event.{Opening, Event, Tick, Turn, Ordered, Deliver, Second, ResetTerminal, RestartCentre, Install}
-use Rattle.bt_events.specs.Fits.{AreStored}
-use Rattle.bt_events.specs.World.{log}
+use Rattle.bt_site.specs.Event.{Opening, Event, Tick, Turn, Ordered, Deliver, Second, ResetTerminal, RestartCentre, Install}
+use Rattle.bt_site.specs.Fits.{AreStored}
+use Rattle.bt_site.specs.World.{log}
 use Rattle.bt_sites.specs.Behind.{HasWorldBehind}
 use Rattle.bt_sites.specs.Fits.{AreSites, AreSmall, MayStep}
 use Rattle.bt_sites.specs.Sites.{standby_after}

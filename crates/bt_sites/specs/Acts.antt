@@ -2,7 +2,7 @@
 use Rattle.std.specs.Prelude.{◌≡◌, ◌==◌, ◌||◌, Bool, true, false, List, [], ◌∷◌}
 use Rattle.bt_frame.specs.declared.numbers.TermNo.{TermNo}
 use Rattle.bt_air.specs.declared.sent.Place.TheVariants.{Satellite, Centre, Terminal}
-use Rattle.bt_events.specs.Event.{Opening, Event, Tick, Turn, Second, Ordered, Deliver, ResetTerminal}
+use Rattle.bt_site.specs.Event.{Opening, Event, Tick, Turn, Second, Ordered, Deliver, ResetTerminal}
 use Rattle.bt_sites.specs.Behind.{IsWorldBehind}
 use Rattle.bt_sites.specs.Stamps.{Act, AreStamped, steps_by}
 use Rattle.bt_sites.specs.Step.{Step, Begins, Starts, TerminalHears, CentreHears, Turns, Places, StandbyHears, Seconds}

@@ -7,12 +7,12 @@ use Rattle.bt_demand.specs.declared.burst.Burst.{Burst}
 use Rattle.bt_demand.specs.Burst.{IsNotAfter}
 use Rattle.bt_air.specs.declared.sent.Aired.{Aired}
 use Rattle.bt_machines.specs.Terminal.{transmitted}
-use Rattle.bt_events.specs.Centre.{centre}
-use Rattle.bt_events.specs.Event.{Opening, Event}
-use Rattle.bt_events.specs.Fits.{IsWorld}
-use Rattle.bt_events.specs.Ground.{terminal}
-use Rattle.bt_events.specs.Satellite.{satellite}
-use Rattle.bt_events.specs.World.{log, plans, sent, terminals}
+use Rattle.bt_site.specs.Centre.{centre}
+use Rattle.bt_site.specs.Event.{Opening, Event}
+use Rattle.bt_site.specs.Fits.{IsWorld}
+use Rattle.bt_site.specs.Ground.{terminal}
+use Rattle.bt_site.specs.Satellite.{satellite}
+use Rattle.bt_site.specs.World.{log, plans, sent, terminals}
 use Rattle.bt_sites.specs.Fits.{AreSites}
 use Rattle.bt_sites.specs.Step.{Step}
 use Rattle.bt_sites.specs.Sites.{bytes_of, centre_after, plans_after, said, satellite_after, terminal_after}

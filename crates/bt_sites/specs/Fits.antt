@@ -6,8 +6,8 @@ use Rattle.bt_demand.specs.Flyable.{IsFlyable}
 use Rattle.bt_air.specs.Range.{IsWord}
 use Rattle.bt_net.specs.Terminals.{IsTerminal}
 use Rattle.bt_machines.specs.Plans.{IsStored, newest_of, plan_of}
-use Rattle.bt_events.specs.Event.{Opening}
-use Rattle.bt_events.specs.Fits.{IsOpening}
+use Rattle.bt_site.specs.Event.{Opening}
+use Rattle.bt_site.specs.Fits.{IsOpening}
 use Rattle.bt_sites.specs.Step.{Step, Begins, SatelliteHears, Starts, TerminalHears, CentreHears, Turns, Places, Installs, Restarts, StandbyStarts, StandbyHears, Seconds}
 use Rattle.bt_sites.specs.Sites.{centre_after, plans_after, said, satellite_after}
 

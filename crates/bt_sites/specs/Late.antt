@@ -8,9 +8,9 @@ use Rattle.bt_demand.specs.Flyable.{IsFlyable}
 use Rattle.bt_machines.specs.Terminal.{transmitted}
 use Rattle.bt_net.specs.Terminals.{IsTerminal}
 use Rattle.bt_machines.specs.Plans.{newest_of, plan_of}
-use Rattle.bt_events.specs.Event.{Opening}
-use Rattle.bt_events.specs.Fits.{IsOpening}
-use Rattle.bt_events.specs.World.{greatest_due}
+use Rattle.bt_site.specs.Event.{Opening}
+use Rattle.bt_site.specs.Fits.{IsOpening}
+use Rattle.bt_site.specs.World.{greatest_due}
 use Rattle.bt_sites.specs.Fits.{AreSites, WasSaid, order_count}
 use Rattle.bt_sites.specs.Sites.{centre_after, plans_after, said, said_with, satellite_after, standby_after, terminal_after}
 

@@ -4,7 +4,7 @@ use Rattle.bt_frame.specs.declared.numbers.TermNo.{TermNo}
 use Rattle.bt_sites.specs.Step.{Terminal}
 use Rattle.bt_demand.specs.declared.burst.Burst.{Burst}
 use Rattle.bt_machines.specs.Terminal.{transmitted}
-use Rattle.bt_events.specs.Event.{Opening}
+use Rattle.bt_site.specs.Event.{Opening}
 use Rattle.bt_sites.specs.Late.{now_of}
 use Rattle.bt_sites.specs.Sites.{terminal_after}
 use Rattle.bt_sites.specs.Stamps.{Act, known, steps_by}

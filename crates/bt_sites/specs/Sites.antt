@@ -19,8 +19,8 @@ use Rattle.bt_machines.specs.CentreSteps.{beginning, once_placed, with_wanted}
 use Rattle.bt_machines.specs.Says.{carried, sent_by_order}
 pub use Rattle.bt_site.specs.Sites.{aired_of, satellite_with, satellite_says, terminal_with, terminal_says, centre_with, standby_with, standby_says}
 use Rattle.bt_site.specs.Sites.{turn_says as says_in_turn}
-use Rattle.bt_events.specs.Event.{Opening}
-use Rattle.bt_events.specs.World.{greatest_due, terminals}
+use Rattle.bt_site.specs.Event.{Opening}
+use Rattle.bt_site.specs.World.{greatest_due, terminals}
 use Rattle.bt_sites.specs.Step.{Step, Begins, SatelliteHears, Starts, TerminalHears, CentreHears, Turns, Places, Installs, Restarts, StandbyStarts, StandbyHears, Seconds}
 
 -- the message that was read, if one was

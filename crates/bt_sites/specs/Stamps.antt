@@ -9,9 +9,9 @@ use Rattle.bt_demand.specs.declared.plan.Plan.{Plan}
 use Rattle.bt_demand.specs.Flyable.{IsFlyable}
 use Rattle.bt_net.specs.Terminals.{IsTerminal}
 use Rattle.bt_machines.specs.Plans.{newest_of, plan_of}
-use Rattle.bt_events.specs.Event.{Opening}
-use Rattle.bt_events.specs.Fits.{IsOpening}
-use Rattle.bt_events.specs.World.{greatest_due}
+use Rattle.bt_site.specs.Event.{Opening}
+use Rattle.bt_site.specs.Fits.{IsOpening}
+use Rattle.bt_site.specs.World.{greatest_due}
 use Rattle.bt_sites.specs.Late.{Late, now_of, steps_of}
 use Rattle.bt_sites.specs.Sites.{centre_after, plans_after, said_with}
 use Rattle.bt_sites.specs.Step as step

@@ -4,11 +4,11 @@ ghost use Rattle.std.specs.List.{flat_map};
 ghost use Rattle.std.specs.List.Sorted.{IsPermutation};
 ghost use Rattle.bt_frame.specs.declared.numbers.TermNo.{TermNo};
 ghost use Rattle.bt_demand.specs.declared.burst.Burst.{Burst};
-ghost use Rattle.bt_events.specs.Air.{IsSafe};
-ghost use Rattle.bt_events.specs.Event.{Event, Opening};
-ghost use Rattle.bt_events.specs.Example.{opened, reset, started};
-ghost use Rattle.bt_events.specs.Fits.{AreStored, IsWorld};
-ghost use Rattle.bt_events.specs.World.{log, terminals};
+ghost use Rattle.bt_site.specs.Air.{IsSafe};
+ghost use Rattle.bt_site.specs.Event.{Event, Opening};
+ghost use Rattle.bt_site.specs.Example.{opened, reset, started};
+ghost use Rattle.bt_site.specs.Fits.{AreStored, IsWorld};
+ghost use Rattle.bt_site.specs.World.{log, terminals};
 ghost use Rattle.bt_net.specs.Network.{IsSound};
 ghost use Rattle.bt_sites.specs.Acts.{AreLed, AreLedEvents, HasActs, HasActsOf};
 ghost use Rattle.bt_sites.specs.Behind.{HasSites, HasWorldBehind, IsAirOf};
@@ -20,7 +20,7 @@ ghost use Rattle.bt_sites.specs.Stamps.{Act, AreStamped, late_of, steps_by};
 ghost use Rattle.bt_sites.specs.Step.{Satellite, Step};
 
 use bt_air::messages_have_one_spelling;
-use bt_events::{
+use bt_site::{
     answers_are_said, centre_is_said, examples_are_worlds, frames_are_safe, messages_are_in_range,
     plans_stay, satellite_is_said, seconds_are_said, transmissions_are_said,
 };

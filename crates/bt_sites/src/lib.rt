@@ -1,6 +1,6 @@
 //! Satellite, terminals, centre and standby as sites of their own, which hear of each other by the bytes of messages alone.
 //!
-//! It stands on whole runs of the air (`bt_events`) and on the three machines. `specs/Step.antt` has what a site does,
+//! It stands on whole runs of the air (`bt_site`) and on the three machines. `specs/Step.antt` has what a site does,
 //! `specs/Sites.antt` its state by its own steps and what it says, `specs/Fits.antt` what must hold of each step, and
 //! `specs/Behind.antt` the world behind a run of sites. `specs/Late.antt` has sites each of which is as late as it likes,
 //! and `specs/Stamps.antt` sites that hear each other by lines, each with the superframe of its sayer in front;

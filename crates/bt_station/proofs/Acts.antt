@@ -20,7 +20,7 @@ use Rattle.bt_machines.specs.Satellite.{State as Satellite, begun, changed, is_d
 use Rattle.bt_machines.specs.Terminal.{State as Terminal, new_of, transmitted}
 use Rattle.bt_site.specs.Present.{present_with}
 use Rattle.bt_site.specs.Sites.{satellite_says, satellite_with, standby_says, terminal_says, terminal_with}
-use Rattle.bt_events.specs.Event.{Opening}
+use Rattle.bt_site.specs.Event.{Opening}
 use Rattle.bt_sites.specs.Late.{Late, now_of, steps_of}
 use Rattle.bt_sites.specs.OnAir.{SendsIn}
 use Rattle.bt_sites.specs.Sites.{bytes_of, satellite_after, standby_after, terminal_after}

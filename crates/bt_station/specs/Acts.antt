@@ -11,7 +11,7 @@ use Rattle.bt_machines.specs.Satellite.{State as Satellite, step_of as take}
 use Rattle.bt_machines.specs.Terminal.{State as Terminal, step_of as hear}
 use Rattle.bt_words.specs.Lines.{line_of}
 use Rattle.bt_timeline.specs.Air.{standby_burst_line}
-use Rattle.bt_events.specs.Event.{Opening}
+use Rattle.bt_site.specs.Event.{Opening}
 use Rattle.bt_sites.specs.OnAir.{SendsIn}
 use Rattle.bt_sites.specs.Sites.{satellite_after, standby_after, terminal_after}
 use Rattle.bt_sites.specs.Stamps.{Act, Begun, Line, Radio, known, steps_by}

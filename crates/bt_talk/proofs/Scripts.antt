@@ -14,7 +14,7 @@ use Rattle.bt_text.proofs.TextLines.{spaced-words}
 use Rattle.bt_net.specs.Name.{are_names}
 use Rattle.bt_net.specs.Network.{Net}
 use Rattle.bt_script.specs.declared.fault.ScriptCode.TheVariants.{S1, S2, S3, S4, S5}
-use Rattle.bt_bus.specs.declared.sites.Sites.TheVariants.{Together}
+use Rattle.bt_script.specs.declared.sites.Sites.TheVariants.{Together}
 use Rattle.bt_script.specs.declared.line.ScriptLine.{ScriptLine}
 use Rattle.bt_script.specs.declared.line.ScriptLine.TheVariants as line
 use Rattle.bt_script.specs.declared.script.DeskLine.{DeskLine}

@@ -1,7 +1,7 @@
 -- The parts that the lines of a session ask.
 use Rattle.std.specs.Prelude.{List, [], ◌∷◌, ◌++◌, ℕ, Option}
 use Rattle.bt_net.specs.Network.{Net}
-use Rattle.bt_bus.specs.declared.sites.Sites.{Sites}
+use Rattle.bt_script.specs.declared.sites.Sites.{Sites}
 use Rattle.bt_script.specs.declared.script.Item.{Item}
 use Rattle.bt_talk.specs.declared.block.Step.{Step}
 use Rattle.bt_talk.specs.declared.block.Step.TheVariants as step

@@ -1,8 +1,8 @@
 -- What a session tells of its lines.
 use Rattle.std.specs.Prelude.{ℕ, List, [], ◌∷◌, codes}
 use Rattle.bt_text.specs.Text.{ended}
-use Rattle.bt_bus.specs.declared.sites.Sites.{Sites}
-use Rattle.bt_bus.specs.declared.sites.Sites.TheVariants.{Together, Apart}
+use Rattle.bt_script.specs.declared.sites.Sites.{Sites}
+use Rattle.bt_script.specs.declared.sites.Sites.TheVariants.{Together, Apart}
 
 -- the lines that a session of a simulated air has, and what each does
 abbrev pub help_lines : List (List ℕ)

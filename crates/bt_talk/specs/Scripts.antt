@@ -2,7 +2,7 @@
 use Rattle.std.specs.Prelude.{◌≡◌, ℕ, ◌&&◌, if◌then◌else◌, Bool, false, List, [], ◌∷◌, ◌++◌, codes, map, Option, Some, None, Ok}
 use Rattle.bt_text.specs.Text.{lines}
 use Rattle.bt_net.specs.Network.{Net}
-use Rattle.bt_bus.specs.declared.sites.Sites.TheVariants.{Together}
+use Rattle.bt_script.specs.declared.sites.Sites.TheVariants.{Together}
 use Rattle.bt_script.specs.declared.line.ScriptLine.{ScriptLine}
 use Rattle.bt_script.specs.ScriptText.{ends_round, is_open_behind, items_of, lines_in}
 use Rattle.bt_talk.specs.Asked.{parts_of}

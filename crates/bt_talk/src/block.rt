@@ -18,13 +18,15 @@ ghost use Rattle.bt_text.specs.Text.{words};
 ghost use Rattle.bt_net.specs.Network.{Net};
 ghost use Rattle.bt_net.specs.Terminals.{IsTerminal};
 ghost use Rattle.bt_script.specs.Said.{IsSaidFor};
-ghost use Rattle.bt_bus.specs.Heard.{IsOnBus};
+ghost use Rattle.bt_script.specs.Heard.{IsOnBus};
 ghost use Rattle.bt_talk.specs.Block.{IsOpenFor, IsQueryFor, IsStepFor, block_row, forget_row, go_row, has_line, heard_by, is_of_centre, joined, line_bytes, line_row, lone_row, named_row, plays, room_names, room_row, row_of, said_row, tell_row, waiting_asked, word_asked};
 
-use bt_bus::{BusLine, Sites, read_bus_line};
 use bt_frame::{MOST_LINES, MOST_SESSION_LINE_BYTES, MOST_STATION_LINE_BYTES, OutOfMemory, TermNo};
 use bt_net::{Network, are_names};
-use bt_script::{AirLine, Item, ScriptCode, ScriptFault, ScriptLine, read_line, round_in_front};
+use bt_script::{
+    AirLine, BusLine, Item, ScriptCode, ScriptFault, ScriptLine, Sites, read_bus_line, read_line,
+    round_in_front,
+};
 use bt_text::{WordReader, is_word};
 use std::alloc::Global;
 use std::marker::Model;

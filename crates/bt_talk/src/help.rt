@@ -2,8 +2,8 @@
 ghost use Rattle.std.specs.Prelude.{◌≡◌, IfOk};
 ghost use Rattle.bt_talk.specs.Help.{help_text};
 
-use bt_bus::Sites;
 use bt_frame::OutOfMemory;
+use bt_script::Sites;
 use std::alloc::Global;
 
 /// The lines that a session of a simulated air has, and what each does, in the order of `docs/formats.md`.

@@ -4,7 +4,7 @@ ghost use Rattle.bt_matrix.specs.Walk.{positive_entries};
 
 use crate::texts::matrix_from;
 use bt_frame::{Mode, OutOfMemory, Steps};
-use bt_links::Crosslinked;
+use bt_matrix::Crosslinked;
 use bt_modes::{Padded, decompose, pad};
 use bt_sheet::{CaseFault, Result};
 use std::alloc::Global;

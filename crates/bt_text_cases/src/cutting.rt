@@ -5,13 +5,12 @@ ghost use Rattle.bt_matrix.specs.Good.{IsGood};
 
 use crate::texts::{demand_from, is_line, put_text, schedule_from};
 use bt_cut::cut;
-use bt_demand::{Demand, traffic_of};
+use bt_demand::{Demand, Verdict, check_modes, traffic_of};
 use bt_frame::{EditionNo, MOST_SLOTS, Schedule};
 use bt_matrix::{MOST_SUM, Traffic};
 use bt_net::Network;
 use bt_plan::plan_text;
 use bt_sheet::{CaseFault, Result, number_of};
-use bt_verdict::{Verdict, check_modes};
 use std::alloc::Global;
 
 /// Appends the plan of a demand that is cut from a schedule which is good for it.

@@ -2,8 +2,7 @@
 ghost use Rattle.std.specs.Prelude.{◌≡◌, ◌<◌, length};
 
 use bt_frame::{BeamNo, Critical, MOST_BEAMS, Steps};
-use bt_links::Crosslinked;
-use bt_matrix::{MOST_SUM, Traffic};
+use bt_matrix::{Crosslinked, MOST_SUM, Traffic};
 use bt_sheet::{CaseFault, Result, byte_of, number_of};
 use std::alloc::Global;
 use std::marker::Brand;

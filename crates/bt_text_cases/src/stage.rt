@@ -7,7 +7,7 @@ use crate::planning::show_steps;
 use crate::texts::show_text;
 use crate::twins::put_twins;
 use bt_demand::Demand;
-use bt_links::Crosslinked;
+use bt_matrix::Crosslinked;
 use bt_sheet::{CaseFault, Result, Shelf, number_of};
 use std::alloc::Global;
 

@@ -4,16 +4,15 @@ ghost use Rattle.std.specs.Bool.{OnTrue};
 ghost use Rattle.bt_demand.specs.Traffic.{matrix_of, AreOfNetwork, HasSumsTo};
 ghost use Rattle.bt_frame.specs.Critical.{IsOfBeams};
 ghost use Rattle.bt_matrix.specs.Traffic.{IsLine};
-ghost use Rattle.bt_verdict.specs.PlanVerdict.{AreBetweenTerminals};
+ghost use Rattle.bt_demand.specs.PlanVerdict.{AreBetweenTerminals};
 
-use bt_demand::{Demand, Plan, traffic_of};
+use bt_demand::{Demand, Plan, Verdict, check_modes, traffic_of};
 use bt_frame::{BeamNo, Critical, MOST_BEAMS, MOST_TEXT_BYTES, OutOfMemory, Schedule, TermNo};
 use bt_matrix::{Dense, MOST_SUM, Traffic};
 use bt_net::Network;
 use bt_plan::{plan_text, read_demand, read_matrix, read_plan, read_schedule, schedule_text};
 use bt_sheet::{CaseFault, Part, Result, Shelf, number_of, put_lines, take_bytes};
 use bt_text::{next_line, number, number_text};
-use bt_verdict::{Verdict, check_modes};
 use std::alloc::Global;
 
 /// Shows what the readers make of a text.

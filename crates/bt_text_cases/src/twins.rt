@@ -1,8 +1,7 @@
 // The same calls on two matrices that are kept in different ways.
 use crate::linked::{adds, linked_of, put_heaviest, takes};
 use bt_frame::{BeamNo, Critical, MOST_BEAMS};
-use bt_links::Crosslinked;
-use bt_matrix::{Dense, Traffic};
+use bt_matrix::{Crosslinked, Dense, Traffic};
 use bt_sheet::{CaseFault, Result};
 use std::alloc::Global;
 

@@ -13,7 +13,7 @@ use Rattle.bt_journal.specs.declared.call.Call.TheVariants as call
 use Rattle.bt_journal.specs.declared.entry.Entry.{Entry}
 use Rattle.bt_journal.specs.declared.reply.Reply.{Reply}
 use Rattle.bt_journal.specs.declared.reply.Reply.TheVariants.{Done, SameTerminal, NotThere, RowFull, ColumnFull, BookFull, NotNewer, NoSuchEdition, NotGood, Demand, Installed, StoreFault, Stopped}
-use Rattle.bt_verdict.specs.declared.verdict.Verdict.{Verdict}
+use Rattle.bt_demand.specs.declared.verdict.Verdict.{Verdict}
 use Rattle.bt_words.specs.declared.form.Form.{Form}
 use Rattle.bt_words.specs.declared.form.Form.TheVariants as form
 use Rattle.bt_words.specs.Filled.{form_front, form_line}

@@ -5,8 +5,8 @@ use Rattle.bt_frame.specs.declared.numbers.TermNo.{TermNo}
 use Rattle.bt_frame.specs.declared.schedule.Critical.TheVariants.{Row, Column}
 use Rattle.bt_net.specs.Network.{Net}
 use Rattle.bt_net.specs.Terminals.{IsTerminal, name_at}
-use Rattle.bt_verdict.specs.declared.verdict.Verdict.{Verdict}
-use Rattle.bt_verdict.specs.declared.verdict.Verdict.TheVariants.{Good, V1, V2, V3, V4, V5, V6, V7, V8}
+use Rattle.bt_demand.specs.declared.verdict.Verdict.{Verdict}
+use Rattle.bt_demand.specs.declared.verdict.Verdict.TheVariants.{Good, V1, V2, V3, V4, V5, V6, V7, V8}
 use Rattle.bt_words.specs.Lines.{line_of}
 
 -- the network that is lent, where there is one

@@ -5,10 +5,10 @@ ghost use Rattle.bt_timeline.specs.Verdicts.{CanName};
 ghost use Rattle.bt_words.specs.Written.{Extends};
 
 use crate::verdict::verdict_text;
+use bt_demand::Verdict;
 use bt_frame::{EditionNo, OutOfMemory};
 use bt_journal::Call;
 use bt_net::Network;
-use bt_verdict::Verdict;
 use bt_words::{Form, Word, print, print_front};
 use std::alloc::Global;
 

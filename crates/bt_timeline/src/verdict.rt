@@ -3,9 +3,9 @@ ghost use Rattle.std.specs.Prelude.{◌≡◌, ◌++◌, ◌<◌, length, None, 
 ghost use Rattle.bt_timeline.specs.Verdicts.{CanName, lent, verdict_line};
 ghost use Rattle.bt_net.specs.Terminals.{IsTerminal};
 
+use bt_demand::Verdict;
 use bt_frame::{Critical, OutOfMemory, TermNo};
 use bt_net::Network;
-use bt_verdict::Verdict;
 use bt_words::{Word, add_line};
 use std::alloc::Global;
 

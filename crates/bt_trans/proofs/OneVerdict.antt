@@ -1,8 +1,8 @@
 -- A schedule has at most one verdict for a matrix and a number of connections at once.
 use Rattle.std.proofs.Common.{◌≡◌, ◌≢◌, ℕ, ◌<◌, ◌≤◌, List, length, arith, inl, inr, sym, ap, ◌∙◌, refl, rules}
-use Rattle.bt_verdict.specs.Verdict.{IsFirstWithout}
-use Rattle.bt_verdict.proofs.FirstPlaces.{not_all, one_first}
-use Rattle.bt_verdict.proofs.OneVerdict.{place_order}
+use Rattle.bt_demand.specs.Verdict.{IsFirstWithout}
+use Rattle.bt_demand.proofs.FirstPlaces.{not_all, one_first}
+use Rattle.bt_demand.proofs.OneVerdict.{place_order}
 use Rattle.bt_trans.specs.declared.part.PartSchedule.{PartSchedule}
 use Rattle.bt_trans.specs.declared.verdict.PartVerdict.{PartVerdict}
 use Rattle.bt_trans.specs.declared.verdict.PartVerdict.TheVariants.{Good, Q1, Q2, Q3, Q4, Q5, Q6}

@@ -3,7 +3,7 @@ use Rattle.std.proofs.Common.{◌≡◌, ℕ, ◌<◌, List, [], ◌∷◌, ◌+
 use Rattle.std.proofs.lemmas.List.{get_or_default, get_or-take}
 use Rattle.std.proofs.lemmas.List.Elements.{Contains-push_cases, Contains-append_left}
 use Rattle.std.proofs.lemmas.List.Quantifiers.{all_pairs_push}
-use Rattle.bt_verdict.proofs.Seen.{IsSeen}
+use Rattle.bt_demand.proofs.Seen.{IsSeen}
 
 -- no two are the same, but for those that are silent
 abbrev pub AreOwn : List ℕ → Type 0

@@ -2,7 +2,7 @@
 -- number, at its first place.
 use Rattle.std.specs.Prelude.{◌≡◌, ◌≢◌, ℕ, ◌<◌, ◌≤◌, List, length}
 use Rattle.bt_matrix.specs.Traffic.{entry}
-use Rattle.bt_verdict.specs.Verdict.{IsEarlier, IsFirstWithout}
+use Rattle.bt_demand.specs.Verdict.{IsEarlier, IsFirstWithout}
 use Rattle.bt_trans.specs.declared.part.PartSchedule.{PartSchedule}
 use Rattle.bt_trans.specs.declared.part.Bound.{Bound}
 use Rattle.bt_trans.specs.declared.verdict.PartVerdict.{PartVerdict}

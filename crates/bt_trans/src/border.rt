@@ -19,8 +19,7 @@ ghost use Rattle.bt_trans.specs.Part.{total_slots};
 ghost use Rattle.bt_trans.specs.Border.{bordered_cut, bordered_rows, cell_of, column_wants, cut, overlap, row_wants, HasCuts, IsBordered};
 
 use bt_frame::{BeamNo, MOST_BEAMS, MOST_SUM, OutOfMemory};
-use bt_links::Crosslinked;
-use bt_matrix::{Dense, Traffic};
+use bt_matrix::{Crosslinked, Dense, Traffic};
 use bt_modes::Padded;
 use std::alloc::Global;
 

@@ -1,8 +1,8 @@
 //! Switching schedules of the least length for a satellite with fewer transponders than beams: at most `k` connections
 //! at once, so that uplink beams are silent in some modes.
 //!
-//! It stands on matrices (`bt_matrix`, `bt_links`), on permutations inside them and on decomposition
-//! (`bt_modes`), and on the words of a first fault (`bt_verdict`). Promises: `specs/Part.antt`, when such a schedule is
+//! It stands on matrices (`bt_matrix`, `bt_matrix`), on permutations inside them and on decomposition
+//! (`bt_modes`), and on the words of a first fault (`bt_demand`). Promises: `specs/Part.antt`, when such a schedule is
 //! good; `specs/Allocation.antt`, what an allocation of a matrix is; `specs/PartVerdict.antt`, the table of verdicts; and
 //! `specs/PartText.antt`, how a schedule is spelled. `laws.rt` has what holds whatever the program does.
 //! `specs/Border.antt` and `specs/Short.antt` are for bodies alone.

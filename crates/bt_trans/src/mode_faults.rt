@@ -1,7 +1,7 @@
 // What is wrong with the modes alone? Is each a switching with few connections, does each last, and how many slots have they
 // together?
 ghost use Rattle.std.specs.Prelude.{◌≡◌, ◌⊎◌, ◌<◌, ◌≤◌, ◌↔◌, IsTrue, MatchOption, All, AllPairs};
-ghost use Rattle.bt_verdict.specs.Verdict.{IsFirstWithout};
+ghost use Rattle.bt_demand.specs.Verdict.{IsFirstWithout};
 ghost use Rattle.bt_trans.specs.Part.{connections, part_duration, IsPartSwitching};
 
 use crate::{PartModes, SILENT};

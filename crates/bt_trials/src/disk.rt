@@ -2,8 +2,8 @@
 ghost use Rattle.std.specs.Prelude.{◌≡◌, length, IfOk};
 
 use crate::book::{call_of, network};
+use bt_base::{LineKeeper, MemDisk};
 use bt_book::Book;
-use bt_disk::{LineKeeper, MemDisk};
 use bt_frame::Units;
 use bt_history::RecoverFault;
 use bt_journal::Reply;

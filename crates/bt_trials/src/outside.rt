@@ -1,8 +1,8 @@
 // The adapters to real files, to a writer, to a real store and to a real disk.
 use bt_base::{
-    DirFiles, FileFault, FileKeeper, Files, KeepFault, Keeper, Sink, SinkFault, StdSink,
+    DirFiles, FileDisk, FileFault, FileKeeper, Files, KeepFault, Keeper, LineKeeper, Sink,
+    SinkFault, StdSink,
 };
-use bt_disk::{FileDisk, LineKeeper};
 use std::alloc::Global;
 use std::io::Write;
 use std::sync::atomic::{AtomicU64, Ordering};

@@ -3,7 +3,7 @@ use Rattle.std.proofs.Common.{◌≡◌, ℕ, ◌<◌, List, length, get_or, ari
 use Rattle.std.proofs.lemmas.List.{map-append, length-map, length-reverse}
 use Rattle.std.proofs.lemmas.Option.{slice_get-get_or}
 use Rattle.bt_demand.specs.declared.plan.Plan.{Plan}
-use Rattle.bt_events.specs.Event.{Event, Tick, Turn, Second, Ordered, Deliver, Frame, ResetTerminal, RestartCentre, Install}
+use Rattle.bt_site.specs.Event.{Event, Tick, Turn, Second, Ordered, Deliver, Frame, ResetTerminal, RestartCentre, Install}
 use Rattle.bt_world.specs.Life.{ArePlaces, BringsNoPlan, installs, installed_by, told_in}
 use Rattle.bt_site.proofs.Indexed.{mapped-end}
 use Rattle.bt_site.proofs.Lookup.{mapped-at}

@@ -5,7 +5,7 @@ use crate::Events;
 use bt_air::Event;
 use bt_demand::Plan;
 use bt_frame::OutOfMemory;
-use bt_trace::Trace;
+use bt_outside::Trace;
 use std::alloc::Global;
 use std::marker::Model;
 

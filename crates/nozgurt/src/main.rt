@@ -1,7 +1,7 @@
 //! The program: it makes the real files, the input, the output and the store, and hands its words to the top call, or to that
 //! of a session.
 //!
-//! It stands on the real adapters (`bt_outside`, and `bt_disk` for the store), on what a program ends
+//! It stands on the real adapters (`bt_outside`, and `bt_base` for the store), on what a program ends
 //! with (`bt_report`), on what is said of that (`bt_explain`) and on the top calls (`bt_cli`).
 #![tactic(auto)]
 
@@ -9,8 +9,8 @@ mod dash;
 mod one_file;
 mod pages;
 
+use bt_base::{FileDisk, LineKeeper};
 use bt_cli::{centre_main, journal_of, live_main, live_words};
-use bt_disk::{FileDisk, LineKeeper};
 use bt_explain::{Alarming, Done, KeptFiles, LastLine, tell, tell_status};
 use bt_outside::{
     Console, DirFiles, Files, Keeper, Sink, StdSink, StdSource, Waiting, take_closed_streams,

@@ -1,6 +1,6 @@
 use Rattle.std.proofs.Common.{◌≡◌, ◌-◌, ◌++◌, take, drop}
 use Rattle.bt_world.specs.Life.{past_of}
-use Rattle.bt_events.specs.World.{sent}
+use Rattle.bt_site.specs.World.{sent}
 use Rattle.bt_round.specs.Simulated.{sent_lines}
 use Rattle.bt_round.proofs.simulated.sent_lines.Given as goal
 

@@ -1,4 +1,4 @@
-use Rattle.bt_events.specs.Example.{opened, reset}
+use Rattle.bt_site.specs.Example.{opened, reset}
 use Rattle.bt_sites.proofs.laws.some_sites_change.Goals as goal
 
 pub returns : goal.returns

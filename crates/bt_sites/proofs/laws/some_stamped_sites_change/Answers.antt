@@ -1,4 +1,4 @@
-use Rattle.bt_events.specs.Example.{opened, started}
+use Rattle.bt_site.specs.Example.{opened, started}
 use Rattle.bt_sites.proofs.LedExample.{started-led}
 use Rattle.bt_sites.proofs.laws.some_stamped_sites_change.Goals as goal
 

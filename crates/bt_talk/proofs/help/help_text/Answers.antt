@@ -1,6 +1,6 @@
 -- the lines of a session, by where its sites are
 use Rattle.std.proofs.Common.{◌≡◌, IfOk, subst, sym}
-use Rattle.bt_bus.specs.declared.sites.Sites.{Sites}
+use Rattle.bt_script.specs.declared.sites.Sites.{Sites}
 use Rattle.bt_talk.specs.Help.{help_text}
 use Rattle.bt_talk.proofs.help.help_text.Goals as goal
 

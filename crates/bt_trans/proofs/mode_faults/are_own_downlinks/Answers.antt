@@ -1,7 +1,7 @@
 use Rattle.std.proofs.Common.{rules, ◌≡◌, ◌⊎◌, ℕ, ◌<◌, ◌≤◌, length, All, get_or, true, true≢false, inl, inr, refl, sym, subst, ◌∙◌, arith, length-set}
 use Rattle.std.proofs.lemmas.List.{take_all, take_more}
 use Rattle.std.proofs.lemmas.List.Elements.{All-push}
-use Rattle.bt_verdict.proofs.Seen.{IsSeen-none, IsSeen-push, unmarked}
+use Rattle.bt_demand.proofs.Seen.{IsSeen-none, IsSeen-push, unmarked}
 use Rattle.bt_trans.proofs.OwnDownlinks.{AreOwn, IsSeen-silent, own-silent, own-new, had_twice}
 use Rattle.bt_trans.proofs.mode_faults.are_own_downlinks.Goals as goal
 use Rattle.bt_trans.proofs.mode_faults.are_own_downlinks.Goals.{then-from-size-via-then-from-size, then-from-size-via-else-from-size+then-seen-down, then-down+else-from-size+else-seen-down, else-down}

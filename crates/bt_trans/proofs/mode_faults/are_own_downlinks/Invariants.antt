@@ -1,5 +1,5 @@
 use Rattle.std.proofs.Common.{◌≡◌, ◌⊎◌, ◌<◌, length, take, All}
-use Rattle.bt_verdict.proofs.Seen.{IsSeen}
+use Rattle.bt_demand.proofs.Seen.{IsSeen}
 use Rattle.bt_trans.proofs.OwnDownlinks.{AreOwn}
 use Rattle.bt_trans.proofs.mode_faults.are_own_downlinks.Given as goal
 

@@ -1,6 +1,6 @@
 use Rattle.std.proofs.Common.{All, subst, arith}
 use Rattle.bt_machines.specs.Plans.{IsStored}
-use Rattle.bt_events.specs.Fits.{IsOpening}
+use Rattle.bt_site.specs.Fits.{IsOpening}
 use Rattle.bt_apart.specs.Apart.{ApartAir}
 use Rattle.bt_apart.proofs.centre.ApartCentre.opens.Goals as goal
 

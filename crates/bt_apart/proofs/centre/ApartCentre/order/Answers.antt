@@ -4,7 +4,7 @@ use Rattle.bt_demand.specs.declared.plan.Plan.{Plan}
 use Rattle.bt_air.specs.declared.sent.Aired.{Aired}
 use Rattle.bt_machines.specs.Says.{sent_by_order}
 use Rattle.bt_machines.specs.Terminals.{terminals_of}
-use Rattle.bt_events.proofs.Carried.{bursts-carried, modes-carried}
+use Rattle.bt_site.proofs.Carried.{bursts-carried, modes-carried}
 use Rattle.bt_apart.specs.Apart.{ApartAir}
 use Rattle.bt_apart.specs.Inside.{IsSayable}
 use Rattle.bt_apart.proofs.Says.{order-sayable}

@@ -8,8 +8,8 @@ use Rattle.bt_machines.specs.CentreSteps.{beginning}
 use Rattle.bt_machines.specs.Plans.{IsStored}
 use Rattle.bt_machines.specs.Terminals.{terminals_of}
 use Rattle.bt_site.specs.Sites.{CentreAt}
-use Rattle.bt_events.specs.Event.{Opening}
-use Rattle.bt_events.specs.World.{greatest_due}
+use Rattle.bt_site.specs.Event.{Opening}
+use Rattle.bt_site.specs.World.{greatest_due}
 use Rattle.bt_apart.specs.Apart.{apart_at_start}
 use Rattle.bt_apart.proofs.Kept.{as-apart, begun}
 use Rattle.bt_apart.proofs.centre.ApartCentre.start.Goals as goal

@@ -5,7 +5,7 @@ use Rattle.bt_air.specs.declared.sent.Aired.{Aired}
 use Rattle.bt_machines.specs.Centre.{State as Centre}
 use Rattle.bt_machines.specs.Terminals.{terminals_of}
 use Rattle.bt_site.specs.Sites.{turn_says}
-use Rattle.bt_events.proofs.Carried.{bursts-carried, modes-carried}
+use Rattle.bt_site.proofs.Carried.{bursts-carried, modes-carried}
 use Rattle.bt_apart.specs.Apart.{ApartAir, IsInstalled}
 use Rattle.bt_apart.specs.Inside.{IsReady, IsSayable}
 use Rattle.bt_apart.proofs.Kept.{still-apart}

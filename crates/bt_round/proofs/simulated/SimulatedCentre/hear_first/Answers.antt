@@ -1,5 +1,5 @@
 use Rattle.std.proofs.Common.{refl, ap, ◌∙◌, arith}
-use Rattle.bt_events.specs.Event.{Opening}
+use Rattle.bt_site.specs.Event.{Opening}
 use Rattle.bt_round.proofs.Flowing.{come-more, come-none, some-left}
 use Rattle.bt_round.proofs.simulated.SimulatedCentre.hear_first.Goals as goal
 

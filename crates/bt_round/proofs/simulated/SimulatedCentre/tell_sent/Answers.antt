@@ -1,7 +1,7 @@
 use Rattle.std.proofs.Common.{All, subst, ap, reverse, ◌∙◌}
 use Rattle.bt_net.specs.Network.{Net}
 use Rattle.bt_world.specs.Life.{past_of}
-use Rattle.bt_events.specs.World.{sent}
+use Rattle.bt_site.specs.World.{sent}
 use Rattle.bt_round.specs.Simulated.{SimulatedAir}
 use Rattle.bt_round.specs.Worker.{NamesOwn}
 use Rattle.bt_round.proofs.Sending.{all-name}

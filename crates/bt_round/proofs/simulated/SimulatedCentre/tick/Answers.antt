@@ -2,7 +2,7 @@ use Rattle.std.proofs.Common.{◌≡◌, ◌+◌, ◌<◌, ◌≤◌, ℕ, inl, 
 use Rattle.std.proofs.lemmas.Result.{on_ok_weaker}
 use Rattle.bt_frame.specs.declared.numbers.Mark.{Mark}
 use Rattle.bt_timeline.specs.Air.{last_tick_line, tick_line}
-use Rattle.bt_events.specs.Event.{Tick}
+use Rattle.bt_site.specs.Event.{Tick}
 use Rattle.bt_round.specs.Simulated.{SimulatedAir, mark_of, sends_text}
 use Rattle.bt_round.proofs.Marks.{last-mark, mark-ticked}
 use Rattle.bt_round.proofs.Running.{told}

@@ -1,6 +1,6 @@
 use Rattle.std.proofs.Common.{arith}
 use Rattle.bt_world.specs.Life.{past_of}
-use Rattle.bt_events.specs.World.{sent}
+use Rattle.bt_site.specs.World.{sent}
 use Rattle.bt_round.specs.Worker.{numbered}
 use Rattle.bt_round.proofs.FromNumber.{deliveries-more}
 use Rattle.bt_round.proofs.waiting.Waiting.add_each.Goals as goal

@@ -1,7 +1,7 @@
 use Rattle.std.proofs.Common.{◌≡◌, ◌<◌, ◌∙◌, length, get_or, reverse, sym, ap, subst, arith}
 use Rattle.bt_demand.specs.declared.plan.Plan.{Plan}
 use Rattle.bt_demand.specs.Plan.{empty_plan}
-use Rattle.bt_events.specs.Event.{Install}
+use Rattle.bt_site.specs.Event.{Install}
 use Rattle.bt_world.specs.Life.{Listed, installs}
 use Rattle.bt_world.proofs.Places.{listed-at, placed-at, plan-at}
 use Rattle.bt_world.proofs.kept_events.KeptEventsEvents.installed.Goals as goal

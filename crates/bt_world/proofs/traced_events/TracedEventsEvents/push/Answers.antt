@@ -1,5 +1,5 @@
 use Rattle.std.proofs.Common.{◌∙◌, List, reverse, sym, ap}
-use Rattle.bt_events.specs.Event.{Event}
+use Rattle.bt_site.specs.Event.{Event}
 use Rattle.bt_world.specs.Life.{installs, told_in}
 use Rattle.bt_world.proofs.Places.{installs-more, told-more}
 use Rattle.bt_world.proofs.traced_events.TracedEventsEvents.push.Goals as goal

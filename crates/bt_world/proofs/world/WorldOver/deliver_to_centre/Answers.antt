@@ -4,8 +4,8 @@ use Rattle.bt_air.specs.declared.sent.Aired.{Aired}
 use Rattle.bt_air.specs.declared.sent.Answer.{Answer}
 use Rattle.bt_air.specs.declared.sent.Place.TheVariants.{Centre}
 use Rattle.bt_air.specs.declared.shown.Shown.TheVariants as shows
-use Rattle.bt_events.specs.Event.{Deliver}
-use Rattle.bt_events.specs.World.{plans}
+use Rattle.bt_site.specs.Event.{Deliver}
+use Rattle.bt_site.specs.World.{plans}
 use Rattle.bt_site.specs.Sites.{aired_of, noted_by}
 use Rattle.bt_world.specs.Life.{Life, past_of}
 use Rattle.bt_world.proofs.Kept.{kept-as, logged-more}

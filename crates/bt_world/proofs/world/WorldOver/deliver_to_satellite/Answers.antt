@@ -2,7 +2,7 @@ use Rattle.std.proofs.Common.{◌++◌, List, refl, ◌∙◌, ap}
 use Rattle.std.specs.Option.{option_to_list}
 use Rattle.bt_air.specs.declared.sent.Place.TheVariants.{Satellite}
 use Rattle.bt_air.specs.declared.sent.Aired.{Aired}
-use Rattle.bt_events.specs.Event.{Deliver}
+use Rattle.bt_site.specs.Event.{Deliver}
 use Rattle.bt_world.specs.Life.{Life}
 use Rattle.bt_world.proofs.Kept.{kept-as, logged-more}
 use Rattle.bt_world.proofs.Delivers.{one-delivered, satellite-kept}

@@ -7,7 +7,7 @@ use Rattle.bt_air.specs.declared.sent.Place.TheVariants.{Terminal}
 use Rattle.bt_air.specs.declared.sent.Aired.{Aired}
 use Rattle.bt_machines.specs.Says.{confirmed_by}
 use Rattle.bt_machines.specs.Terminal.{State, step_of}
-use Rattle.bt_events.specs.Event.{Deliver}
+use Rattle.bt_site.specs.Event.{Deliver}
 use Rattle.bt_world.specs.Life.{Life, past_of}
 use Rattle.bt_world.proofs.Kept.{kept-as, logged-more}
 use Rattle.bt_world.proofs.Delivers.{one-delivered, terminal-at, terminal-step, terminal-told, terminal-kept}

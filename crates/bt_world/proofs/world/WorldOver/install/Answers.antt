@@ -1,6 +1,6 @@
 use Rattle.std.proofs.Common.{◌≡◌, ◌<◌, List, refl, sym, subst, ◌∙◌}
 use Rattle.bt_demand.specs.declared.plan.Plan.{Plan}
-use Rattle.bt_events.specs.Event.{Install}
+use Rattle.bt_site.specs.Event.{Install}
 use Rattle.bt_machines.specs.Plans.{newest_of}
 use Rattle.bt_world.specs.Life.{Life, MayCome, having_had, life_of}
 use Rattle.bt_world.proofs.Installs.{install-kept}

@@ -1,7 +1,7 @@
 use Rattle.std.proofs.Common.{ℕ, List, ◌∙◌, ap}
 use Rattle.std.specs.List.{list_any}
 use Rattle.bt_air.specs.declared.sent.Aired.{Aired}
-use Rattle.bt_events.specs.World.{sent, tells}
+use Rattle.bt_site.specs.World.{sent, tells}
 use Rattle.bt_world.specs.Life.{Life, past_of}
 use Rattle.bt_world.proofs.Kept.{kept-as}
 use Rattle.bt_world.proofs.world.WorldOver.is_told.Goals as goal

@@ -6,7 +6,7 @@ use Rattle.bt_air.specs.Range.{IsInRange}
 use Rattle.bt_air.specs.declared.message.Message.{Message}
 use Rattle.bt_air.specs.declared.sent.Aired.{Aired}
 use Rattle.bt_machines.specs.Says.{carried}
-use Rattle.bt_events.specs.World.{plans, sent}
+use Rattle.bt_site.specs.World.{plans, sent}
 use Rattle.bt_site.specs.Address.{IsAddressed, IsLoaded}
 use Rattle.bt_world.specs.Life.{Life, past_of}
 use Rattle.bt_world.proofs.Addressed.{all-addressed}

@@ -2,7 +2,7 @@ use Rattle.std.proofs.Common.{◌≡◌, ◌++◌, List, Option, refl, sym, subs
 use Rattle.std.specs.Prelude.{IsSome}
 use Rattle.bt_air.specs.declared.order.Order.{Order}
 use Rattle.bt_air.specs.declared.sent.Aired.{Aired}
-use Rattle.bt_events.specs.Event.{Ordered}
+use Rattle.bt_site.specs.Event.{Ordered}
 use Rattle.bt_machines.specs.Says.{sent_by_order}
 use Rattle.bt_machines.specs.Terminals.{terminals_of}
 use Rattle.bt_world.specs.Life.{Life, MayCome, having_had, life_of}

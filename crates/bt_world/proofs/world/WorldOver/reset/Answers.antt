@@ -1,6 +1,6 @@
 use Rattle.std.proofs.Common.{◌≡◌, ◌++◌, ◌∷◌, [], List, length, slice_set, get_or, refl, sym, subst, ap, ◌∙◌, arith}
 use Rattle.bt_air.specs.declared.sent.Aired.{Aired}
-use Rattle.bt_events.specs.Event.{ResetTerminal}
+use Rattle.bt_site.specs.Event.{ResetTerminal}
 use Rattle.bt_world.specs.Life.{Life, MayCome, having_had, life_of}
 use Rattle.bt_world.proofs.Resets.{reset-kept, terminals-count}
 use Rattle.bt_world.proofs.world.WorldOver.reset.Goals as goal

@@ -1,5 +1,5 @@
 use Rattle.std.proofs.Common.{◌≡◌, refl, sym, subst, ◌∙◌}
-use Rattle.bt_events.specs.Event.{RestartCentre}
+use Rattle.bt_site.specs.Event.{RestartCentre}
 use Rattle.bt_world.specs.Life.{Life, MayCome, having_had, life_of}
 use Rattle.bt_world.proofs.Placed.{restart-kept}
 use Rattle.bt_world.proofs.world.WorldOver.restart.Goals as goal

@@ -3,7 +3,7 @@ use Rattle.bt_air.specs.declared.order.Status.{Status}
 use Rattle.bt_air.specs.declared.sent.Aired.{Aired}
 use Rattle.bt_air.specs.declared.sent.Aired.TheVariants as sends
 use Rattle.bt_machines.specs.Satellite.{State as Onboard}
-use Rattle.bt_events.specs.Event.{Second}
+use Rattle.bt_site.specs.Event.{Second}
 use Rattle.bt_world.specs.Life.{Life, MayCome, having_had, life_of, past_of}
 use Rattle.bt_world.proofs.Seconds.{second-kept}
 use Rattle.bt_world.proofs.world.WorldOver.second.Goals as goal

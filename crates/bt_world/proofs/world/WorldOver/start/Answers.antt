@@ -9,8 +9,8 @@ use Rattle.bt_machines.specs.Plans.{IsStored, StartsEmpty}
 use Rattle.bt_machines.specs.Satellite.{new_at}
 use Rattle.bt_machines.specs.Terminal.{new_of}
 use Rattle.bt_machines.specs.Terminals.{terminals_of}
-use Rattle.bt_events.specs.Fits.{IsOpening}
-use Rattle.bt_events.specs.World.{greatest_due}
+use Rattle.bt_site.specs.Fits.{IsOpening}
+use Rattle.bt_site.specs.World.{greatest_due}
 use Rattle.bt_site.specs.Sites.{CentreAt}
 use Rattle.bt_world.specs.Life.{opening_of}
 use Rattle.bt_world.proofs.Started.{started}

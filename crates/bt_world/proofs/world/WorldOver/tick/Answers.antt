@@ -1,7 +1,7 @@
 use Rattle.std.proofs.Common.{◌≡◌, refl, ◌∙◌, sym, ap, subst}
 use Rattle.bt_air.specs.declared.order.Status.{Status}
 use Rattle.bt_air.specs.declared.shown.Shown.TheVariants as shows
-use Rattle.bt_events.specs.Event.{Tick}
+use Rattle.bt_site.specs.Event.{Tick}
 use Rattle.bt_world.specs.Life.{Life, MayCome, having_had, life_of}
 use Rattle.bt_machines.specs.Satellite.{status_of}
 use Rattle.bt_world.proofs.Ticks.{tick-told, tick-kept}

@@ -5,7 +5,7 @@ use Rattle.bt_air.specs.declared.sent.Aired.{Aired}
 use Rattle.bt_machines.specs.Centre.{after_turn}
 use Rattle.bt_machines.specs.Satellite.{State as Onboard}
 use Rattle.bt_machines.specs.Terminals.{terminals_of}
-use Rattle.bt_events.specs.Event.{Turn}
+use Rattle.bt_site.specs.Event.{Turn}
 use Rattle.bt_site.specs.Sites.{turn_says}
 use Rattle.bt_world.specs.Life.{Life, MayCome, having_had, life_of, past_of}
 use Rattle.bt_world.proofs.Placed.{centre-says}

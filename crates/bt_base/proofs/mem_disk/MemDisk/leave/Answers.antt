@@ -1,0 +1,5 @@
+use Rattle.bt_base.proofs.Life.{steps_nowhere}
+use Rattle.bt_base.proofs.mem_disk.MemDisk.leave.Goals as goal
+
+pub returns-in_err-bytes-clause-steps : goal.returns-in_err-bytes-clause-steps
+returns-in_err-bytes-clause-steps c = steps_nowhere c.args.self.now.life

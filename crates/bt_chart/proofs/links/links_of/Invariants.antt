@@ -1,0 +1,7 @@
+-- the links of the rows so far
+use Rattle.std.proofs.Common.{◌≡◌, take}
+use Rattle.bt_demand.specs.Rows.{all_links}
+use Rattle.bt_chart.proofs.links.links_of.Given as goal
+
+abbrev pub invariant-loop-row : goal.invariant-loop-row
+invariant-loop-row l = l.links.items ≡ all_links (take l.row-index l.rows)

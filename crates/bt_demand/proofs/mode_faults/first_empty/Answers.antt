@@ -1,0 +1,14 @@
+use Rattle.std.proofs.Common.{rules, ◌<◌}
+use Rattle.bt_frame.specs.declared.mode.Mode.{Mode}
+use Rattle.bt_frame.proofs.Walk.{All-next, All-whole}
+use Rattle.bt_demand.proofs.mode_faults.first_empty.Goals as goal
+
+pub loop-place-preserved : goal.loop-place-preserved
+loop-place-preserved c = record {
+  few = search rules;
+  same = search rules;
+  earlier = All-next (λ (m : Mode). 0 < m.duration) c.args.modes.now c.loop-place.place c.mode-item.result (search rules) (search rules) c.loop-place.invariant.earlier (search rules);
+}
+
+pub returns : goal.returns
+returns c = All-whole (λ (m : Mode). 0 < m.duration) c.args.modes.now c.loop-place.place (search rules) c.loop-place.invariant.earlier

@@ -1,9 +1,0 @@
-pub mod Fields
-pub mod Values
-pub mod Back
-pub mod Rows
-pub mod EachForm
-pub mod Flat
-pub mod Shapes
-pub mod Added
-pub mod Lines

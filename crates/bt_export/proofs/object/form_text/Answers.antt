@@ -1,0 +1,23 @@
+-- the word at the next place was added
+use Rattle.std.proofs.Common.{◌+◌, rules, string_bytes}
+use Rattle.bt_words.proofs.Places.{one_less}
+use Rattle.bt_export.specs.Object.{marked}
+use Rattle.bt_export.proofs.Fields.{names_left, next_fixed, next_open}
+use Rattle.bt_export.proofs.object.form_text.Goals.{in-Text+in_ok-add_word-in-Text, in_default+in-Some+in_ok-add_word-in_default}
+use Rattle.bt_export.proofs.object.form_text.Goals as goal
+
+pub loop-token-preserved : goal.loop-token-preserved
+loop-token-preserved c =
+    let tokens = c.args.tokens.now in
+    let names = c.args.names.now in
+    let at = c.loop-token.token-index in
+    let used = c.loop-token.at in
+    let before = string_bytes c.loop-token.text in
+    elim c.match-token.branch [
+      | in-Text+in_ok-add_word-in-Text w ↦ rw (w.text-is, w.at-is, w.is_further-is)
+          (one_less c.loop-token.is_further before (string_bytes w.add_word.new.text) w.in-Text.word.now _ (names_left tokens at names used) (names_left tokens (at + 1) names used)
+          (next_fixed tokens at names used w.in-Text.word c.loop-token-test.true w.in-Text.is) c.loop-token.invariant w.in_ok-add_word-in-Text.ensures.added)
+      | in_default+in-Some+in_ok-add_word-in_default w ↦ rw (w.text-is, w.at-is, w.is_further-is)
+          (one_less c.loop-token.is_further before (string_bytes w.add_word-in_default.new.text) (marked w.in-Some.name.now.now) _ (names_left tokens at names used) (names_left tokens (at + 1) names (used + 1))
+          (next_open tokens at names used w.in-Some.name.now c.loop-token-test.true w.in_default.not-Text (search rules) (search rules)) c.loop-token.invariant w.in_ok-add_word-in_default.ensures.added)
+    ]

@@ -1,3 +1,0 @@
-pub mod Fixed
-pub mod Pieces
-pub mod Page

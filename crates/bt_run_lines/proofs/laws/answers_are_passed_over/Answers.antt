@@ -1,6 +1,0 @@
--- what a session is told is passed over
-use Rattle.bt_run_lines.proofs.PassedOver.{told_passed}
-use Rattle.bt_run_lines.proofs.laws.answers_are_passed_over.Goals as goal
-
-pub returns : goal.returns
-returns c = record { passed = λ net at told more sound none few. told_passed net at told more sound none few }

@@ -1,5 +1,0 @@
-use Rattle.bt_verdict.proofs.Triples.{line_sum-le-slots}
-use Rattle.bt_verdict.proofs.plan_laws.no_assignment_is_shorter.Goals as goal
-
-pub returns : goal.returns
-returns c = record { least = line_sum-le-slots }
