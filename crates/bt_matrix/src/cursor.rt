@@ -76,7 +76,7 @@ impl<'a> Cursor<'a> {
     }
 }
 
-impl<L: Ledger> bt_matrix::Walk<L> for Crosslinked {
+impl<L: Ledger> crate::Walk<L> for Crosslinked {
     fn size(&self) -> u32 {
         Traffic::size(self)
     }

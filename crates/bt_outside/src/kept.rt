@@ -4,9 +4,8 @@ ghost use Rattle.bt_outside.specs.Input.{said_by};
 ghost use Rattle.bt_outside.specs.Kept.{turn_of};
 ghost use Rattle.bt_outside.specs.Talk.{Heard, Shown};
 
-use crate::{Incoming, Keeper, Sink, SinkFault, SourceFault, Talk};
+use crate::{Incoming, Keeper, Sink, SinkFault, SourceFault, Talk, Trace};
 use bt_frame::OutOfMemory;
-use bt_outside::Trace;
 use std::alloc::Global;
 
 /// One turn of a talk, as it is kept.
