@@ -11,7 +11,7 @@ use Rattle.bt_air.specs.Range.{IsWord}
 use Rattle.bt_machines.specs.Plans.{IsStored, modes_of, plan_of}
 use Rattle.bt_machines.specs.Satellite.{State as Satellite}
 use Rattle.bt_site.proofs.Banks.{world-banked}
-use Rattle.bt_site.proofs.Plans.{plan-holds, plans-flyable}
+use Rattle.bt_site.proofs.WorldPlans.{plan-holds, plans-flyable}
 use Rattle.bt_site.specs.Air.{AreFlyable, IsSafe}
 use Rattle.bt_site.specs.Event.{Event, Opening}
 use Rattle.bt_site.specs.Fits.{IsWorld}

@@ -1,5 +1,5 @@
 mod LookUp
 mod Faults
 mod Life
-mod Steps
+mod DiskSteps
 mod Telling

@@ -6,7 +6,7 @@ use Rattle.bt_outside.specs.Crash.{Both, CouldBeLeft, Elapses, IsSettled, Leaves
 use Rattle.bt_outside.proofs.Moments.{goes_further}
 use Rattle.bt_base.specs.Medium.{IsSynced, Medium, bytes_told, crashes_told}
 use Rattle.bt_base.specs.Lines.{Adds, Cuts, Grows, Pays, Shrinks, Waits}
-use Rattle.bt_base.proofs.Steps.{left_synced, left_whole}
+use Rattle.bt_base.proofs.DiskSteps.{left_synced, left_whole}
 
 -- the store over what is told
 abbrev Settled : Option Medium → Type 0

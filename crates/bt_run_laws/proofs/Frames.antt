@@ -17,7 +17,7 @@ use Rattle.bt_site.specs.Air.{bursts_under, transmits, where_held}
 use Rattle.bt_site.specs.Event.{Opening, Event, Happening}
 use Rattle.bt_site.specs.World.{accepted, frames_shown, heard, held, log, mark, plans, terminals}
 use Rattle.bt_machines.specs.Plans.{bursts_for, plan_of}
-use Rattle.bt_site.proofs.Plans.{flies-each, plan-holds, plans-flyable}
+use Rattle.bt_site.proofs.WorldPlans.{flies-each, plan-holds, plans-flyable}
 use Rattle.bt_site.proofs.Ranges.{front-fits, world-fits}
 use Rattle.bt_world.specs.Shown.{IsFrame}
 use Rattle.bt_words.specs.declared.form.Form.TheVariants as form

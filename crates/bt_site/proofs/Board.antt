@@ -16,7 +16,7 @@ use Rattle.bt_site.specs.World.{mark, plans, accepted, log}
 use Rattle.bt_machines.specs.Plans.{plan_of, modes_of}
 use Rattle.bt_site.proofs.Banks.{banks-hold}
 use Rattle.bt_site.proofs.Frames.{frame-safe}
-use Rattle.bt_site.proofs.Plans.{flies-each}
+use Rattle.bt_site.proofs.WorldPlans.{flies-each}
 
 module _
     (triples : (net : Net) (bursts : List Burst) → AreApart net bursts → AllPairs (λ a b. ¬ (Meet net a b)) (all_triples bursts))

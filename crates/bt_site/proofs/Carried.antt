@@ -16,7 +16,7 @@ use Rattle.bt_demand.specs.Burst.{IsNotAfter}
 use Rattle.bt_demand.specs.Flyable.{IsFlyable, IsSentBy}
 use Rattle.bt_air.specs.Range.{AreBurstsOf, AreModes, IsWord}
 use Rattle.bt_machines.specs.Plans.{IsStored, first_or, plan_of, modes_of, bursts_for}
-use Rattle.bt_site.proofs.Plans.{plan-holds}
+use Rattle.bt_site.proofs.WorldPlans.{plan-holds}
 
 -- modes of so many beams each, few and short enough
 modes-in-range : (beams : ℕ) (modes : List Mode) → IsWithin 1 32 beams → All (λ (mode : Mode). IsPermutation beams mode.perm) modes

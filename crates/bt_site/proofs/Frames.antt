@@ -26,7 +26,7 @@ use Rattle.bt_site.proofs.Heard.{heard-right}
 use Rattle.bt_frame.proofs.Pairs.{AllPairs-append}
 use Rattle.bt_site.proofs.Pairs.{of_members, AllPairs-permutation}
 use Rattle.bt_site.proofs.Triples.{all_switched}
-use Rattle.bt_site.proofs.Plans.{plan-holds, plans-flyable}
+use Rattle.bt_site.proofs.WorldPlans.{plan-holds, plans-flyable}
 
 -- a terminal transmits nothing, or its bursts of the plan in front
 held-one : (all : List Plan) (terminal : TermNo) (front : EditionNo) (test : Bool)

@@ -12,7 +12,7 @@ pub mod Standing
 mod Heard
 mod Pairs
 mod Triples
-pub mod Plans
+pub mod WorldPlans
 mod Frames
 mod Onboard
 pub mod Banks
@@ -23,7 +23,7 @@ pub mod Counted
 pub mod Carried
 pub mod Ranges
 mod Anys
-mod Centre
+mod WorldCentre
 mod Witness
 mod Answers
 mod Board

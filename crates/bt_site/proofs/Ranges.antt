@@ -47,7 +47,7 @@ use Rattle.bt_machines.specs.Says.{carried, plans_for, order_again, last_plans, 
 use Rattle.bt_machines.specs.CentreSteps.{with_wanted}
 use Rattle.bt_site.proofs.Banks.{world-planned}
 use Rattle.bt_site.proofs.Carried.{planned-word, modes-carried, bursts-carried}
-use Rattle.bt_site.proofs.Plans.{flies-each, plans-flyable}
+use Rattle.bt_site.proofs.WorldPlans.{flies-each, plans-flyable}
 use Rattle.bt_site.proofs.Counted.{IsNumbered, world-counted}
 
 -- each field of the message, but for its modes and bursts, is in its range

@@ -24,7 +24,7 @@ use Rattle.bt_site.specs.Ground.{terminal}
 use Rattle.bt_site.specs.Satellite.{satellite}
 use Rattle.bt_site.specs.World.{accepted, log, mark, plans, terminals}
 use Rattle.bt_site.proofs.Banks.{world-banked}
-use Rattle.bt_site.proofs.Plans.{flies-each, plan-holds, plans-flyable}
+use Rattle.bt_site.proofs.WorldPlans.{flies-each, plan-holds, plans-flyable}
 use Rattle.bt_sites.specs.Behind.{HasWorldBehind}
 use Rattle.bt_sites.specs.Fits.{AreSites, AreSmall}
 use Rattle.bt_sites.specs.Late.{AreLate, AreOnAir, IsMoment, Late, TransmitsIn, now_of, steps_of}

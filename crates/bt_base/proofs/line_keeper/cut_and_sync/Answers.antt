@@ -2,7 +2,7 @@ use Rattle.std.proofs.Common.{sym, subst}
 use Rattle.bt_outside.specs.Crash.{Both}
 use Rattle.bt_base.specs.Lines.{Shrinks}
 use Rattle.bt_base.proofs.Faults.{either_fault, either_way, on_ok}
-use Rattle.bt_base.proofs.Steps.{cuts, shrinks_maybe, shrinks_none, shrinks_synced, shrinks_waiting}
+use Rattle.bt_base.proofs.DiskSteps.{cuts, shrinks_maybe, shrinks_none, shrinks_synced, shrinks_waiting}
 use Rattle.bt_base.proofs.line_keeper.cut_and_sync.Goals as goal
 
 -- the cut failed, or memory ran out

@@ -2,7 +2,7 @@ use Rattle.std.proofs.Common.{sym, subst}
 use Rattle.bt_outside.specs.Crash.{Both}
 use Rattle.bt_base.specs.Lines.{Grows}
 use Rattle.bt_base.proofs.Faults.{either_fault, either_way, on_ok}
-use Rattle.bt_base.proofs.Steps.{adds, grows_none, grows_part, grows_synced, grows_waiting}
+use Rattle.bt_base.proofs.DiskSteps.{adds, grows_none, grows_part, grows_synced, grows_waiting}
 use Rattle.bt_base.proofs.line_keeper.write_and_sync.Goals as goal
 
 -- the write failed, or memory ran out

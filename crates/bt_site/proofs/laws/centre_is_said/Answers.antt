@@ -1,4 +1,4 @@
-use Rattle.bt_site.proofs.Centre.{centre-said}
+use Rattle.bt_site.proofs.WorldCentre.{centre-said}
 use Rattle.bt_site.proofs.laws.centre_is_said.Goals as goal
 
 pub returns : goal.returns

@@ -1,6 +1,6 @@
 use Rattle.bt_site.proofs.Board.{safe-on-board}
 use Rattle.bt_site.proofs.Frames.{frame-safe, of_plan-safe, transmits-front}
-use Rattle.bt_site.proofs.Plans.{flies-each}
+use Rattle.bt_site.proofs.WorldPlans.{flies-each}
 use Rattle.bt_site.proofs.laws.frames_are_safe.Goals as goal
 
 pub returns-clause-own : goal.returns-clause-own

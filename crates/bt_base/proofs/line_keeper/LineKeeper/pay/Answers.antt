@@ -2,7 +2,7 @@ use Rattle.std.proofs.Common.{subst}
 use Rattle.bt_outside.specs.Crash.{Both}
 use Rattle.bt_base.specs.Lines.{Pays, Waits}
 use Rattle.bt_base.proofs.Faults.{failed_or_not}
-use Rattle.bt_base.proofs.Steps.{pays, waits}
+use Rattle.bt_base.proofs.DiskSteps.{pays, waits}
 use Rattle.bt_base.proofs.line_keeper.LineKeeper.pay.Goals as goal
 
 pub returns-in-Ok-clause-paid : goal.returns-in-Ok-clause-paid
