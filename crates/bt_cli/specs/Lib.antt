@@ -17,4 +17,6 @@ pub mod Replay
 pub mod Looks
 pub mod Edits
 pub mod Carry
+pub mod Table
+pub mod Json
 pub mod Top
