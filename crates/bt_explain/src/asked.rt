@@ -11,12 +11,14 @@ fn called(letter: u8) -> &'static str {
         b'M' => "MODES",
         b'N' => "NET",
         b'C' => "NEWNET",
+        b'V' => "CSV",
         b'T' => "TRAFFIC",
         b'P' => "PLAN",
         b'G' => "DELAYS",
         b'S' => "SCRIPT",
         b'J' => "JOURNAL",
         b'O' => "OUTPUT",
+        b'F' => "FILE",
         _ => "",
     }
 }

@@ -9,7 +9,8 @@ use bt_text::is_word;
 use std::alloc::Global;
 
 /// What is to be done with a journal of another network.
-const CARRIED: &str = "'carry NET JOURNAL NEWNET' prints a journal's demand as one of another network, by the names of terminals";
+const CARRIED: &str =
+    "'carry NET JOURNAL NEWNET' prints a journal's demand as one of another network, by the names of terminals";
 
 /// Finds out why a line of a journal is at fault that has a form.
 pub fn find_journal(alloc: Global, fault: &Fault<'_>, cause: &mut Cause) {
