@@ -6,10 +6,10 @@ use Rattle.std.proofs.lemmas.List.Elements.{All-more}
 use Rattle.std.proofs.lemmas.List.Sums.{sum_by_more, sum_by-take-le}
 use Rattle.bt_frame.specs.declared.limits.TheConstants.{MOST_SUM}
 use Rattle.bt_frame.specs.declared.numbers.TermNo.{TermNo}
-use Rattle.bt_net.specs.Network.{Net, IsSound}
+use Rattle.bt_net.specs.Network.{Net}
 use Rattle.bt_net.specs.Terminals.{name_at}
 use Rattle.bt_demand.specs.declared.demand.Link.{Link}
-use Rattle.bt_demand.specs.Demand.{Gains, IsDemand, LinkEnds, units_of, units_where}
+use Rattle.bt_demand.specs.Demand.{Gains, IsDemand, LinkEnds, units_of}
 use Rattle.bt_demand.specs.Traffic.{HasSumsTo, matrix_of}
 use Rattle.bt_cut.proofs.Gained.{are_gained}
 use Rattle.bt_export.specs.Carry.{HasEnds, IsCarried, IsFirstGone}

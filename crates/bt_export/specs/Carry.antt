@@ -12,7 +12,6 @@ use Rattle.bt_demand.specs.Traffic.{AreOfNetwork, HasSumsTo, matrix_of}
 use Rattle.bt_journal.specs.declared.call.Change.{Change}
 use Rattle.bt_history.specs.Changes.{IsDemandAfter}
 use Rattle.bt_history.specs.Recovery.{Recovered}
-use Rattle.bt_look.specs.Compact.{compact_lines}
 use Rattle.bt_export.specs.declared.carry.Carried.{Carried}
 use Rattle.bt_export.specs.declared.carry.Carried.TheVariants as carried
 
