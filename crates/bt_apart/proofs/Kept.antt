@@ -1,21 +1,33 @@
 -- What holds of the centre of sites apart stays.
-use Rattle.std.proofs.Common.{◌≡◌, ℕ, ◌<◌, List, [], ◌∷◌, ◌++◌, length, reverse, All, IfSome, refl, sym, ◌∙◌, ap, subst, arith}
+use Rattle.std.proofs.Common.{◌≡◌, ℕ, ◌<◌, if◌then◌else◌, Bool, true, false, List, [], ◌∷◌, ◌++◌, length, reverse, All, Option, Some, None, IfSome, refl, sym, ◌∙◌, ap, subst, arith}
+use Rattle.std.specs.Option.{is_some}
 use Rattle.std.proofs.lemmas.List.{reverse-append}
 use Rattle.std.proofs.lemmas.List.Elements.{All-cons}
+use Rattle.bt_frame.specs.declared.numbers.EditionNo.{EditionNo}
 use Rattle.bt_net.specs.Network.{IsSound}
 use Rattle.bt_demand.specs.declared.plan.Plan.{Plan}
 use Rattle.bt_demand.specs.Flyable.{IsFlyable}
 use Rattle.bt_air.specs.Range.{IsMark}
 use Rattle.bt_machines.specs.CentreSteps.{needed_by}
 use Rattle.bt_machines.specs.Last.{last_order}
-use Rattle.bt_machines.specs.Plans.{IsStored, StartsEmpty, newest_of}
+use Rattle.bt_machines.specs.Plans.{IsStored, StartsEmpty, newest_of, plan_of}
 use Rattle.bt_site.specs.Event.{Opening}
 use Rattle.bt_site.specs.Fits.{IsOpening}
 use Rattle.bt_site.specs.World.{terminals}
 use Rattle.bt_site.proofs.Counted.{due-in_time}
 use Rattle.bt_apart.specs.Apart.{ApartAir, IsInstalled, apart_at_start}
+use Rattle.bt_apart.specs.Back.{if_installed, older_last}
 use Rattle.bt_apart.specs.Inside.{IsApart, IsReady}
 use Rattle.bt_apart.proofs.Ready.{back-still, begun-ready, installed-ready, starts-more}
+
+-- the edition to which it goes back at its start has a plan
+installed-if : (plans : List Plan) (edition : EditionNo) (planned : Bool) → is_some (plan_of plans edition) ≡ planned → IfSome (if planned then Some edition else None) (IsInstalled plans)
+installed-if plans edition true is = is
+installed-if plans edition false is = tt
+
+lasting-installed : (plans : List Plan) (older : Option EditionNo) → IfSome (if_installed plans older) (IsInstalled plans)
+lasting-installed plans None = tt
+lasting-installed plans (Some edition) = installed-if plans edition (is_some (plan_of plans edition)) refl
 
 -- at the start
 pub begun : (o : Opening) → IsSound o.net → IsOpening o → All IsStored o.plans → IsApart (apart_at_start o) (length o.net.terminals) (reverse o.plans)
@@ -30,7 +42,7 @@ begun o sound is stored = record {
   stored = stored;
   ready = begun-ready o.plans o.orders (needed_by (terminals o) o.plans (last_order o.orders)) is.numbered is.in_time is.planned;
   mark = (omega arith, due-in_time o.orders is.in_time);
-  back = tt;
+  back = lasting-installed o.plans (older_last o.orders);
 }
 
 -- by whichever names it goes

@@ -1,6 +1,6 @@
 -- The centre of sites apart, of which satellite and terminals are none of its own process: what it is, what it says, and what it is once
 -- it has heard a line of the bus. Lists of plans and of orders have the latest first.
-use Rattle.std.specs.Prelude.{ℕ, ◌+◌, nat_le, nat_lt, if◌then◌else◌, Bool, true, false, List, [], ◌∷◌, ◌++◌, length, Option, None, IsSome}
+use Rattle.std.specs.Prelude.{ℕ, ◌+◌, nat_le, nat_lt, if◌then◌else◌, Bool, true, false, List, [], ◌∷◌, ◌++◌, length, Option, IsSome}
 use Rattle.bt_frame.specs.declared.numbers.EditionNo.{EditionNo}
 use Rattle.bt_frame.specs.declared.numbers.Mark.{Mark}
 use Rattle.bt_net.specs.Network.{Net}
@@ -22,6 +22,7 @@ use Rattle.bt_timeline.specs.Air.{sent_line}
 use Rattle.bt_script.specs.BusSaid.{radio_line}
 use Rattle.bt_script.specs.declared.heard.BusLine.{BusLine}
 use Rattle.bt_script.specs.declared.heard.BusLine.TheVariants as bus
+use Rattle.bt_apart.specs.Back.{back_lasting}
 
 -- The state of the air as such a centre knows it: what it opened with, its plans, the centre by its table, the superframe that it takes
 -- for the present one, whether it has heard since its start that one began, how many messages it has said, and the edition to
@@ -35,7 +36,8 @@ pub record ApartAir : Type 0 where
   pub said : ℕ
   pub back : Option EditionNo
 
--- at its start: it has heard nothing, and no superframe is behind the greatest for which an order of its opening arms
+-- At its start: it has heard nothing, and no superframe is behind the greatest for which an order of its opening arms. It goes back where
+-- its orders do.
 abbrev pub apart_at_start : Opening → ApartAir
 apart_at_start o = record {
   opening = o;
@@ -44,7 +46,7 @@ apart_at_start o = record {
   mark = record { 0 = greatest_due o.orders };
   marked = false;
   said = 0;
-  back = None;
+  back = back_lasting o.plans o.orders;
 }
 
 -- the edition has a plan

@@ -1,12 +1,14 @@
 // The centre of sites apart.
-ghost use Rattle.std.specs.Prelude.{◌≡◌, ◌<◌, [], length, reverse, is_some, IfOk, IfSome, OnErr, OnOk, None};
+ghost use Rattle.std.specs.Prelude.{◌≡◌, ◌<◌, [], length, reverse, is_some, IfOk, IfSome, OnErr, OnOk};
 ghost use Rattle.bt_demand.specs.Flyable.{IsFlyable};
 ghost use Rattle.bt_air.specs.Range.{IsMark};
 ghost use Rattle.bt_machines.specs.Plans.{newest_of, plan_of};
 ghost use Rattle.bt_site.specs.Event.{Install, RestartCentre};
 ghost use Rattle.bt_site.specs.Fits.{AreStored, IsOpening};
 ghost use Rattle.bt_apart.specs.Apart.{IsInstalled, IsTimely, apart_at_start, going_apart, having_apart};
+ghost use Rattle.bt_apart.specs.Back.{back_lasting};
 
+use crate::back::back_lasting;
 use bt_air::Order;
 use bt_demand::Plan;
 use bt_frame::{EditionNo, Mark, OutOfMemory};
@@ -50,7 +52,7 @@ impl Model for ApartCentre {
 
 impl ApartCentre {
     /// The centre of a network at its start: these plans are installed and these orders are placed, the first first. It has heard
-    /// nothing, and goes back to no edition.
+    /// nothing, and goes back where its orders do.
     pub fn start(
         alloc: Global,
         net: &Network,
@@ -64,6 +66,7 @@ impl ApartCentre {
         let placed = Vec::from_slice(alloc, orders.as_slice())?;
         let net = net.copy(alloc)?;
         let centre = CentreSite::start(alloc, net.terminal_count(), plans.as_slice(), placed)?;
+        let back = back_lasting(centre.plans(), orders.as_slice());
         Ok(ApartCentre {
             net,
             orders,
@@ -73,7 +76,7 @@ impl ApartCentre {
             mark,
             marked: false,
             said: 0,
-            back: None,
+            back,
         })
     }
 
@@ -168,15 +171,15 @@ impl ApartCentre {
         Ok(())
     }
 
-    /// It restarts from its orders, and goes back to no edition. `kept` says whether the order that it wanted is the last of them.
-    /// Want of memory changes nothing.
-    pub fn restart(&mut self, kept: bool) -> Result<(), OutOfMemory>
-        ensures restarted { OnOk result (self.new ≡ going_apart (having_apart self.old (RestartCentre kept)) None) }
+    /// It restarts from its orders. `kept` says whether the order that it wanted is the last of them. `told` are the orders that its
+    /// journal has, the first first: it goes back where they do. Want of memory changes nothing.
+    pub fn restart(&mut self, kept: bool, told: &[Order]) -> Result<(), OutOfMemory>
+        ensures restarted { OnOk result (self.new ≡ going_apart (having_apart self.old (RestartCentre kept)) (back_lasting self.old.plans (reverse told.now))) }
         ensures err { OnErr result (self.new ≡ self.old) }
     {
         self.centre.restart(kept)?;
         self.marked = false;
-        self.back = None;
+        self.back = back_lasting(self.centre.plans(), told);
         Ok(())
     }
 }

@@ -293,10 +293,10 @@ impl Outside {
         shelf: &Shelf,
         words: &[&str],
     ) -> Result<Ending> {
-        if matches!(words, ["run" | "live", ..]) && !self.next.goes_on {
+        if matches!(words, ["run" | "live" | "centre", ..]) && !self.next.goes_on {
             self.store.clear();
         }
-        if matches!(words, ["live", ..]) {
+        if matches!(words, ["live" | "centre", ..]) {
             self.session_end_of(rt, alloc, shelf, words)
         } else if self.next.is_sure {
             self.sure_end_of(rt, alloc, shelf, words)

@@ -1,5 +1,6 @@
 -- What an air opened with stays what it opened with.
-use Rattle.std.proofs.Common.{◌≡◌, nat_le, if◌then◌else◌, Bool, true, false, refl}
+use Rattle.std.proofs.Common.{◌≡◌, nat_le, if◌then◌else◌, Bool, true, false, List, refl}
+use Rattle.bt_air.specs.declared.order.Order.{Order}
 use Rattle.bt_apart.specs.Apart.{ApartAir, later_mark, noting_apart}
 use Rattle.bt_script.specs.declared.sites.Sites.{Sites}
 use Rattle.bt_script.specs.declared.sites.Sites.TheVariants.{Together, Apart as Away}
@@ -15,9 +16,9 @@ opening_start Together o = refl
 opening_start Away o = refl
 
 -- behind a restart
-pub opening_restarting : (air : AirState) (kept : Bool) → opening_in (restarting air kept) ≡ opening_in air
-opening_restarting (Simulated a) kept = refl
-opening_restarting (Apart a) kept = refl
+pub opening_restarting : (air : AirState) (kept : Bool) (told : List Order) → opening_in (restarting air kept told) ≡ opening_in air
+opening_restarting (Simulated a) kept told = refl
+opening_restarting (Apart a) kept told = refl
 
 same_opening : (a over : ApartAir) (b : Bool) → over.opening ≡ a.opening → (if b then over else a).opening ≡ a.opening
 same_opening a over true is = is

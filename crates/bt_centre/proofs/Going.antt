@@ -8,6 +8,7 @@ use Rattle.bt_journal.specs.declared.call.Change.{Change}
 use Rattle.bt_journal.specs.declared.entry.Entry.{Entry}
 use Rattle.bt_history.specs.Book.{Books}
 use Rattle.bt_history.specs.Causes.{Follows}
+use Rattle.bt_history.specs.Changes.{orders}
 use Rattle.bt_history.specs.Crash.{Last}
 use Rattle.bt_history.specs.Machine.{Legal, State, running, state_after}
 use Rattle.bt_history.specs.Recovery.{MaybeRecovered}
@@ -124,7 +125,7 @@ legal_restarts net begun opening old new text played so =
             ap (λ (l : List Entry). length (lost_of l)) played.none,
           )) so.count played.later;
       tells = played.tells ∙ so.tells;
-      world = ap opening_in played.centre.restarts ∙ opening_restarting old.air played.centre.kept ∙ so.world;
+      world = ap opening_in played.centre.restarts ∙ opening_restarting old.air played.centre.kept (reverse (orders new.book.state.changes)) ∙ so.world;
     }
 
 -- the centre heard a line of the bus

@@ -39,15 +39,15 @@ orders-append : (a b : List Change) → orders (a ++ b) ≡ orders a ++ orders b
 orders-append a b = filter_map-append order_in a b
 
 -- the order that was wanted joined
-joined_one : (before after : Stand) (joining : IsJoining before.air after.opening) → after.air ≡ restarting before.air true → JoinsOne before joining.order after
+joined_one : (before after : Stand) (joining : IsJoining before.air after.opening) → after.air ≡ restarting before.air true (reverse (orders after.opening)) → JoinsOne before joining.order after
 joined_one before after joining is =
-    ap orders_in is ∙ restart_joins before.air ∙ ap (λ (w : Option Order). with_wanted w (orders_in before.air)) joining.asked
+    ap orders_in is ∙ restart_joins before.air (reverse (orders after.opening)) ∙ ap (λ (w : Option Order). with_wanted w (orders_in before.air)) joining.asked
 
 -- none did
-joined_none : (before after : Stand) → after.air ≡ restarting before.air false → JoinsNone before after
-joined_none before after is = ap orders_in is ∙ restart_leaves before.air
+joined_none : (before after : Stand) → after.air ≡ restarting before.air false (reverse (orders after.opening)) → JoinsNone before after
+joined_none before after is = ap orders_in is ∙ restart_leaves before.air (reverse (orders after.opening))
 
-joins_wanted_if : (before after : Stand) (kept : Bool) → JoinsOrder before.air after.opening kept → after.air ≡ restarting before.air kept → JoinsWanted before after
+joins_wanted_if : (before after : Stand) (kept : Bool) → JoinsOrder before.air after.opening kept → after.air ≡ restarting before.air kept (reverse (orders after.opening)) → JoinsWanted before after
 joins_wanted_if before after true joins is = inl (joins, joined_one before after joins is)
 joins_wanted_if before after false joins is = inr (joins, joined_none before after is)
 

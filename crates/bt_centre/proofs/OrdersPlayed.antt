@@ -234,18 +234,18 @@ stays_bus (Apart a) (bus.Begun mark) = stays_if a (record a { mark = mark; marke
 stays_bus (Apart a) (bus.Radio stamp message) = stays_if a (noting_apart a (later_mark a.mark stamp) message) a.marked (stays_noting a (later_mark a.mark stamp) message)
 
 -- a restart leaves the newest edition, and the order that is wanted joins the others where it is kept
-pub restart_joins : (air : AirState) → orders_in (restarting air true) ≡ with_wanted (wanted_in air) (orders_in air)
-restart_joins (Simulated a) = ap (placed a.life.opening) (past-having a.life (RestartCentre true))
-restart_joins (Apart a) = refl
+pub restart_joins : (air : AirState) (told : List Order) → orders_in (restarting air true told) ≡ with_wanted (wanted_in air) (orders_in air)
+restart_joins (Simulated a) told = ap (placed a.life.opening) (past-having a.life (RestartCentre true))
+restart_joins (Apart a) told = refl
 
-pub restart_leaves : (air : AirState) → orders_in (restarting air false) ≡ orders_in air
-restart_leaves (Simulated a) = ap (placed a.life.opening) (past-having a.life (RestartCentre false))
-restart_leaves (Apart a) = refl
+pub restart_leaves : (air : AirState) (told : List Order) → orders_in (restarting air false told) ≡ orders_in air
+restart_leaves (Simulated a) told = ap (placed a.life.opening) (past-having a.life (RestartCentre false))
+restart_leaves (Apart a) told = refl
 
-pub restart_newest : (air : AirState) (kept : Bool) → newest_in (restarting air kept) ≡ newest_in air
-restart_newest (Simulated a) true = ap (newest_past a) (past-having a.life (RestartCentre true))
-restart_newest (Simulated a) false = ap (newest_past a) (past-having a.life (RestartCentre false))
-restart_newest (Apart a) kept = refl
+pub restart_newest : (air : AirState) (kept : Bool) (told : List Order) → newest_in (restarting air kept told) ≡ newest_in air
+restart_newest (Simulated a) true told = ap (newest_past a) (past-having a.life (RestartCentre true))
+restart_newest (Simulated a) false told = ap (newest_past a) (past-having a.life (RestartCentre false))
+restart_newest (Apart a) kept told = refl
 
 -- What is played with these entries: the orders that they placed join the world, one that they lost is wanted at the end, and where they
 -- made and lost none, an order that was wanted still is.

@@ -16,17 +16,17 @@ use Rattle.bt_journal.specs.declared.entry.Entry.{Entry}
 use Rattle.bt_journal.specs.Journal.{changes_of}
 use Rattle.bt_history.specs.Book.{Books}
 use Rattle.bt_history.specs.Causes.{Follows}
-use Rattle.bt_history.specs.Changes.{edition, newest, plans}
+use Rattle.bt_history.specs.Changes.{newest, plans}
 use Rattle.bt_history.specs.Machine.{Legal, State}
 use Rattle.bt_script.specs.declared.script.Item.{Item}
 use Rattle.bt_script.specs.declared.script.Item.TheVariants as item
 use Rattle.bt_script.specs.declared.script.Round.{Round}
-use Rattle.bt_timeline.specs.Timeline.{start_line}
 use Rattle.bt_centre.specs.declared.history.History.{History}
-use Rattle.bt_round.specs.AirLines.{AirState, PlaysAirLines, hearing, mark_of}
+use Rattle.bt_round.specs.AirLines.{AirState, PlaysAirLines, back_of, hearing, mark_of}
 use Rattle.bt_round.specs.Desks.{IsNotOlder, Sight}
 use Rattle.bt_round.specs.Rounds.{newest_at}
 use Rattle.bt_round.proofs.Installed.{newest_ascends}
+use Rattle.bt_centre.specs.Lines.{begin_lines}
 use Rattle.bt_centre.specs.Progress.{CentreBegan, Hand, IsBegun, ItemPlayed, ItemsDone, ItemsWritten, RestartPlayed, RoundPlayed, histories_in, start_of}
 use Rattle.bt_centre.specs.Run.{IsNextTime, PlaysItem, PlaysItems, PlaysRestart, PlaysRound, Stand, at_start, changes_at, first_line, histories_at}
 use Rattle.bt_centre.proofs.Going.{legal_begins, legal_goes_on, legal_hears, legal_restarts}
@@ -224,7 +224,7 @@ items_hear net sites begun items line old new lines own so (nothing, is) =
 
 -- the line of a run's start
 pub start_is : (net : Net) (sites : Sites) (hand : Hand) → IsBegun net sites hand → start_of hand ≡ first_line net sites hand.book.state.changes
-start_is net sites hand begins = ap (λ (a : AirState). start_line (edition hand.book.state.changes) (newest hand.book.state.changes).edition.0 (mark_of a).0) begins.air
+start_is net sites hand begins = ap (λ (a : AirState). begin_lines hand.book.state.changes (mark_of a) (back_of a)) begins.air
 
 -- a part more, with the way that it took
 pub item_goes_further : (net : Net) (sites : Sites) (begun : Books) (items : List Item) (one : Item) (old new : Hand) (lines own : List ℕ)

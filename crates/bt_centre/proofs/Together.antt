@@ -1,5 +1,5 @@
 -- A simulated air stays one: the sites that are together stay so.
-use Rattle.std.proofs.Common.{◌≡◌, ℕ, Bool, true, false, List, [], ◌∷◌, Option, Some, None, ap, subst, sym, inl, inr}
+use Rattle.std.proofs.Common.{◌≡◌, ℕ, Bool, true, false, List, [], ◌∷◌, reverse, Option, Some, None, ap, subst, sym, inl, inr}
 use Rattle.bt_frame.specs.declared.numbers.EditionNo.{EditionNo}
 use Rattle.bt_net.specs.Network.{Net}
 use Rattle.bt_demand.specs.declared.plan.Plan.{Plan}
@@ -10,6 +10,7 @@ use Rattle.bt_site.specs.Event.{Install, Ordered, RestartCentre}
 use Rattle.bt_journal.specs.declared.entry.Entry.{Entry}
 use Rattle.bt_journal.specs.declared.reply.Reply.{Reply}
 use Rattle.bt_journal.specs.declared.reply.Reply.TheVariants as reply
+use Rattle.bt_history.specs.Changes.{orders}
 use Rattle.bt_script.specs.declared.script.AirLine.{AirLine}
 use Rattle.bt_script.specs.declared.script.AirLine.TheVariants as line
 use Rattle.bt_script.specs.declared.script.Item.{Item}
@@ -31,9 +32,9 @@ together_going : (air : AirState) (back : Option EditionNo) → IsTogether air �
 together_going (Simulated a) back together = tt
 together_going (Apart a) back together = absurd together
 
-pub together_restarting : (air : AirState) (kept : Bool) → IsTogether air → IsTogether (restarting air kept)
-together_restarting (Simulated a) kept together = tt
-together_restarting (Apart a) kept together = absurd together
+pub together_restarting : (air : AirState) (kept : Bool) (told : List Order) → IsTogether air → IsTogether (restarting air kept told)
+together_restarting (Simulated a) kept told together = tt
+together_restarting (Apart a) kept told together = absurd together
 
 pub together_hearing : (air : AirState) (heard : BusLine) → IsTogether air → IsTogether (hearing air heard)
 together_hearing (Simulated a) heard together = tt
@@ -97,6 +98,7 @@ pub together_item : (net : Net) (one : Item) (old new : Hand) (text : List ℕ) 
 together_item net (item.Round round) old new text played together =
     together_lines net old.air round.air _ played.done.air_text new.air played.done.centre together
 together_item net item.Restart old new text played together =
-    together_is (restarting old.air played.centre.kept) new.air played.centre.restarts (together_restarting old.air played.centre.kept together)
+    let told = reverse (orders new.book.state.changes) in
+    together_is (restarting old.air played.centre.kept told) new.air played.centre.restarts (together_restarting old.air played.centre.kept told together)
 together_item net (item.Heard line) old new text (nothing, is) together =
     together_is (hearing old.air line) new.air (ap (λ (h : Hand). h.air) is) (together_hearing old.air line together)

@@ -13,7 +13,7 @@ use Rattle.bt_machines.specs.Plans.{newest_of}
 use Rattle.bt_journal.specs.declared.call.Change.{Change}
 use Rattle.bt_journal.specs.Journal.{changes_of}
 use Rattle.bt_history.specs.Causes.{Follows}
-use Rattle.bt_history.specs.Changes.{newest, plans}
+use Rattle.bt_history.specs.Changes.{newest, orders, plans}
 use Rattle.bt_history.specs.Machine.{Legal}
 use Rattle.bt_history.specs.Store.{lost_of}
 use Rattle.bt_script.specs.declared.script.Item.{Item}
@@ -83,7 +83,7 @@ restart_no_newer : (net : Net) (before : Stand) (text : List ℕ) (after : Stand
 restart_no_newer net before text after played follow so =
     let next = next_more (changes_at before) (lost_of before.history) after.opening played.next in
     let up = newest_ascends net (changes_at before) next.0 (subst (Follows net) next.1 follow) in
-    let stays : newest_in after.air ≡ newest_in before.air = ap newest_in played.air ∙ restart_newest before.air played.kept in
+    let stays : newest_in after.air ≡ newest_in before.air = ap newest_in played.air ∙ restart_newest before.air played.kept (reverse (orders after.opening)) in
     subst (λ (c : List Change). IsNoNewer c after.air) (sym (begun_changes after played.none ∙ next.1)) (omega (arith, so, up, ap (λ (e : EditionNo). e.0) stays))
 
 part_known : (net : Net) (first : List Change) (before : Stand) (one : Item) (text : List ℕ) (after : Stand) (played : PlaysItem net true before one text after) → IsLawful net first after

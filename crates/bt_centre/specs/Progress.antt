@@ -14,7 +14,7 @@ use Rattle.bt_history.specs.declared.fault.RecoverFault.{RecoverFault}
 use Rattle.bt_history.specs.declared.fault.RecoverFault.TheVariants.{OutOfMemory, StoreFault}
 use Rattle.bt_history.specs.Book.{Books}
 use Rattle.bt_history.specs.Causes.{Follows}
-use Rattle.bt_history.specs.Changes.{edition, newest, orders}
+use Rattle.bt_history.specs.Changes.{orders}
 use Rattle.bt_history.specs.Crash.{Last}
 use Rattle.bt_history.specs.Machine.{Legal, running, state_after}
 use Rattle.bt_history.specs.Recovery.{IsRecoverFault, MaybeRecovered}
@@ -22,13 +22,14 @@ use Rattle.bt_history.specs.Store.{IsKept, IsNextOpening, RoseBy, lost_of}
 use Rattle.bt_script.specs.declared.script.Item.{Item}
 use Rattle.bt_script.specs.declared.script.Item.TheVariants as item
 use Rattle.bt_script.specs.declared.script.Round.{Round}
-use Rattle.bt_timeline.specs.Timeline.{restart_line, round_line, start_line}
+use Rattle.bt_timeline.specs.Timeline.{restart_line, round_line}
 use Rattle.bt_centre.specs.declared.history.History.{History}
 use Rattle.bt_round.specs.declared.worker.CentreOver.TheVariants.{Simulated, Apart}
-use Rattle.bt_round.specs.AirLines.{AirState, events_in, hearing, mark_of, opening_in, restarting}
+use Rattle.bt_round.specs.AirLines.{AirState, back_of, events_in, hearing, mark_of, opening_in, restarting}
 use Rattle.bt_round.specs.Desks.{IsNotOlder, Sight}
 use Rattle.bt_round.specs.Rounds.{BookRan, LastOn, RoundDone, newest_at}
 use Rattle.bt_report.specs.Output.{Output}
+use Rattle.bt_centre.specs.Lines.{begin_lines}
 use Rattle.bt_centre.specs.Run.{AreFew, AreTimes, EndsFrom, JoinsOrder, PlaysItems, Stand, at_start, first_line, lost_in, opening_on}
 use Rattle.bt_centre.specs.World.{IsSpelledWorld}
 
@@ -54,9 +55,9 @@ abbrev pub IsTogether : AirState → Type 0
 IsTogether (Simulated a) = Unit {0}
 IsTogether (Apart a) = ⊥
 
--- the line of a start
+-- the lines of a start
 abbrev pub start_of : Hand → List ℕ
-start_of hand = start_line (edition hand.book.state.changes) (newest hand.book.state.changes).edition.0 (mark_of hand.air).0
+start_of hand = begin_lines hand.book.state.changes (mark_of hand.air) (back_of hand.air)
 
 -- a run at its start, where the sites are so
 pub record IsBegun (net : Net) (sites : Sites) (hand : Hand) : Type 0 where
@@ -133,8 +134,8 @@ TellsJoined changes placed order false = ¬ (HasJoined changes placed order)
 pub record CentreBegan (changes : List Change) (air over : AirState) (text : List ℕ) : Type 0 where
   pub kept : Bool
   pub joins : JoinsOrder air changes kept
-  pub restarts : over ≡ restarting air kept
-  pub printed : text ≡ restart_line ++ start_line (edition changes) (newest changes).edition.0 (mark_of air).0
+  pub restarts : over ≡ restarting air kept (reverse (orders changes))
+  pub printed : text ≡ restart_line ++ begin_lines changes (mark_of air) (back_of over)
 
 -- a time begins over this book, behind these times
 pub record BeganAgain (book : Books) (air : AirState) (over : List History) (rounds : ℕ) (new : Hand) (text : List ℕ) : Type 0 where

@@ -28,12 +28,12 @@ use Rattle.bt_script.specs.declared.script.Item.{Item}
 use Rattle.bt_script.specs.declared.script.Item.TheVariants as item
 use Rattle.bt_script.specs.declared.script.Round.{Round}
 use Rattle.bt_script.specs.declared.script.Script.{Script}
-use Rattle.bt_timeline.specs.Timeline.{start_line, restart_line, round_line}
+use Rattle.bt_timeline.specs.Timeline.{restart_line, round_line}
 use Rattle.bt_centre.specs.declared.history.History.{History}
-use Rattle.bt_round.specs.AirLines.{AirState, PlaysAirLines, events_in, hearing, mark_of, opening_in, orders_in, restarting, start_air, wanted_in}
+use Rattle.bt_round.specs.AirLines.{AirState, PlaysAirLines, back_of, events_in, hearing, mark_of, opening_in, orders_in, restarting, start_air, wanted_in}
 use Rattle.bt_round.specs.Desks.{Sight, IsNotOlder, asked_by, desks_text, shown_to, shows_of}
 use Rattle.bt_round.specs.Planning.{PlaysPlans, planner_text}
-use Rattle.bt_centre.specs.Lines.{total_of}
+use Rattle.bt_centre.specs.Lines.{begin_lines, total_of}
 use Rattle.bt_report.specs.declared.status.TheConstants.{DONE, STORE_FAILED, WRITE_FAILED}
 use Rattle.bt_report.specs.Output.{Output, HasFailed}
 use Rattle.bt_centre.specs.RecoverFaults.{PrintsFault}
@@ -113,12 +113,13 @@ pub record AreFew (net : Net) (changes : List Change) : Type 0 where
 
 -- The centre restarts with the changes that its store tells: those made so far, or these and the one that the store lost. The history
 -- of the time that is over was legal, and the changes with which the next begins follow one another and are few. The centre forgets
--- what it heard, and the edition to which it went back; the order that it wanted joins the others where the store tells it, and is
--- forgotten else. What is on its way stays on its way, the standby keeps what it keeps, and the desks' shows begin anew.
+-- what it heard, and the edition to which it went back, but with sites apart it goes back where the orders that the store tells do; the
+-- order that it wanted joins the others where the store tells it, and is forgotten else. What is on its way stays on its way, the
+-- standby keeps what it keeps, and the desks' shows begin anew.
 pub record PlaysRestart (net : Net) (tells : Bool) (before : Stand) (text : List ℕ) (after : Stand) : Type 0 where
   pub kept : Bool
   pub joins : JoinsOrder before.air after.opening kept
-  pub air : after.air ≡ restarting before.air kept
+  pub air : after.air ≡ restarting before.air kept (reverse (orders after.opening))
   pub next : IsNextTime tells before.opening before.history after.opening
   pub legal : Legal net before.opening before.history
   pub follow : Follows net after.opening
@@ -127,7 +128,7 @@ pub record PlaysRestart (net : Net) (tells : Bool) (before : Stand) (text : List
   pub none : after.history ≡ []
   pub counted : after.rounds ≡ before.rounds
   pub unseen : after.sights ≡ []
-  pub printed : text ≡ restart_line ++ start_line (edition after.opening) (newest after.opening).edition.0 (mark_of before.air).0
+  pub printed : text ≡ restart_line ++ begin_lines after.opening (mark_of before.air) (back_of after.air)
 
 -- A part of a script, over a store that tells its bytes or does not. Where the centre hears a line of the bus, nothing is asked and
 -- nothing is printed.
@@ -178,9 +179,9 @@ at_start net sites opening = record {
   sights = [];
 }
 
--- the first line of a run that begins with these changes
+-- the first line of a run that begins with these changes, and behind it that of the edition to which the centre goes back, if it does
 abbrev pub first_line : Net → Sites → List Change → List ℕ
-first_line net sites opening = start_line (edition opening) (newest opening).edition.0 (mark_of (at_start net sites opening).air).0
+first_line net sites opening = begin_lines opening (mark_of (at_start net sites opening).air) (back_of (at_start net sites opening).air)
 
 -- Each frame of these events, the latest of them first, is safe: no two of its bursts meet at a beam, and the plan in front has
 -- a mode that makes the connection of each.

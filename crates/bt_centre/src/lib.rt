@@ -12,6 +12,7 @@
 //! `lasting_laws.rt` has what holds in all sessions.
 #![tactic(auto)]
 
+mod begin;
 mod fault;
 mod history;
 mod joining_laws;

@@ -158,7 +158,7 @@ fn plans_of<K: Keeper>(alloc: Global, book: &Book<K>) -> Result<Vec<Plan>, OutOf
 }
 
 /// The orders that a book has.
-fn orders_of<K: Keeper>(alloc: Global, book: &Book<K>) -> Result<Vec<Order>, OutOfMemory>
+pub(crate) fn orders_of<K: Keeper>(alloc: Global, book: &Book<K>) -> Result<Vec<Order>, OutOfMemory>
     ensures { IfOk result (λ all. all.items ≡ orders book.now.state.changes) }
 {
     let mut all = Vec::new(alloc);

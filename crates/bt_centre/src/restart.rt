@@ -2,14 +2,14 @@
 // the store tells it.
 ghost use Rattle.std.specs.Prelude.{◌≡◌, ◌<◌, ◌+◌, length, vec_capacity, IfErr, IfOk};
 ghost use Rattle.bt_history.specs.Causes.{Follows};
-ghost use Rattle.bt_history.specs.Changes.{edition, newest};
 ghost use Rattle.bt_centre.specs.Progress.{BeganAgain, CentreBegan, IsLeftBehind, ItemFailed, RestartPlayed, TellsJoined};
 ghost use Rattle.bt_round.specs.AirLines.{opening_in};
 ghost use Rattle.bt_centre.specs.Run.{JoinsOrder};
 ghost use Rattle.bt_script.specs.declared.script.Item.TheVariants as item;
 
 use crate::History;
-use crate::open::changes_are_few;
+use crate::begin::add_begin;
+use crate::open::{changes_are_few, orders_of};
 use crate::playing::{Playing, Remains};
 use crate::station::{book_and_centre, station_of};
 use bt_air::Order;
@@ -19,7 +19,7 @@ use bt_journal::Entries;
 use bt_net::Network;
 use bt_outside::Keeper;
 use bt_round::CentreWorker;
-use bt_timeline::{restart_text, start_text};
+use bt_timeline::restart_text;
 use bt_world::Events;
 use std::alloc::Global;
 use std::sync::Wait;
@@ -161,15 +161,10 @@ fn restart_centre<K: Keeper, E: Events>(
     let mut text = Vec::new(alloc);
     restart_text(alloc, &mut text)?;
     let mark = centre.mark();
-    start_text(
-        alloc,
-        book.edition().0,
-        book.newest().edition.0,
-        mark.0,
-        &mut text,
-    )?;
     let kept = joins_order(book, centre);
-    centre.restart(alloc, net, kept)?;
+    let told = orders_of(alloc, book)?;
+    centre.restart(alloc, net, kept, told.as_slice())?;
+    add_begin(alloc, book, mark, centre.back(), &mut text)?;
     Ok(text)
 }
 

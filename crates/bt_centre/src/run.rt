@@ -6,6 +6,7 @@ ghost use Rattle.bt_script.specs.Named.{IsItemFor};
 ghost use Rattle.bt_centre.specs.Progress.{IsBegun, ItemsWritten, PartsEnded, start_of};
 
 use crate::RunEnd;
+use crate::begin::add_begin;
 use crate::fault::print_restart_fault;
 use crate::play::play_item;
 use crate::playing::Playing;
@@ -15,7 +16,6 @@ use bt_outside::{Keeper, Sink, SinkFault};
 use bt_report::unwritten;
 use bt_round::Gate;
 use bt_script::Item;
-use bt_timeline::start_text;
 use bt_world::KeptEvents;
 use std::alloc::Global;
 use std::sync::Wait;
@@ -73,16 +73,8 @@ fn write_start<O: Sink, K: Keeper>(
 {
     let book = &playing.station.book;
     let mut text = Vec::new(alloc);
-    let mark = playing.station.centre.mark();
-    if start_text(
-        alloc,
-        book.edition().0,
-        book.newest().edition.0,
-        mark.0,
-        &mut text,
-    )
-    .is_err()
-    {
+    let centre = &playing.station.centre;
+    if add_begin(alloc, book, centre.mark(), centre.back(), &mut text).is_err() {
         return Err(SinkFault::OutOfMemory);
     }
     out.write(alloc, text.as_slice())

@@ -14,6 +14,7 @@ ghost use Rattle.bt_centre.specs.Session.{SessionTo, closing_text, input_status,
 ghost use Rattle.bt_centre.specs.Talked.{SaysOrNot};
 
 use crate::SessionHistories;
+use crate::begin::add_begin;
 use crate::live::{Live, LiveRemains, play_step};
 use crate::open::open;
 use crate::playing::Playing;
@@ -26,7 +27,6 @@ use bt_report::{DONE, OUT_OF_MEMORY, READ_FAILED, STORE_FAILED, unwritten};
 use bt_round::Gate;
 use bt_script::Sites;
 use bt_talk::{Block, Step, add_input_fault, add_ready, answer_text, line_bytes};
-use bt_timeline::start_text;
 use bt_world::{Events, TracedEvents, frames_are_safe};
 use std::alloc::Global;
 use std::sync::Wait;
@@ -279,14 +279,8 @@ fn begin_text<K: Keeper>(
 {
     let book = &run.station.book;
     let mut text = Vec::new(alloc);
-    let mark = run.station.centre.mark();
-    start_text(
-        alloc,
-        book.edition().0,
-        book.newest().edition.0,
-        mark.0,
-        &mut text,
-    )?;
+    let centre = &run.station.centre;
+    add_begin(alloc, book, centre.mark(), centre.back(), &mut text)?;
     add_ready(alloc, 0, &mut text)?;
     Ok(text)
 }

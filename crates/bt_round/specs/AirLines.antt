@@ -12,6 +12,7 @@ use Rattle.bt_site.specs.World.{wanted}
 use Rattle.bt_machines.specs.Plans.{newest_of, plan_of}
 use Rattle.bt_script.specs.declared.heard.BusLine.{BusLine}
 use Rattle.bt_apart.specs.Apart.{apart_at_start, going_apart, having_apart, heard_apart, lines_apart}
+use Rattle.bt_apart.specs.Back.{back_lasting}
 use Rattle.bt_script.specs.declared.sites.Sites.{Sites}
 use Rattle.bt_script.specs.declared.sites.Sites.TheVariants as sites
 use Rattle.bt_journal.specs.declared.call.Call.TheVariants as call
@@ -30,7 +31,8 @@ pub use Rattle.bt_round.specs.declared.worker.CentreOver.TheVariants.{Simulated,
 abbrev pub AirState : Type 0
 AirState = CentreOver SimulatedAir
 
--- the air with which a centre opens: nothing has happened, no message is on its way, and it goes back to no edition
+-- The air with which a centre opens: nothing has happened, and no message is on its way. It goes back to no edition, but where its sites
+-- are apart and its orders do.
 abbrev pub start_air : Sites → Opening → AirState
 start_air sites.Together opening = Simulated (record { life = record { opening = opening; events = [] }; waiting = []; back = None; standby = None })
 start_air sites.Apart opening = Apart (apart_at_start opening)
@@ -111,9 +113,14 @@ abbrev pub going : AirState → Option EditionNo → AirState
 going (Simulated a) back = Simulated (simulated.going a back)
 going (Apart a) back = Apart (going_apart a back)
 
--- the centre restarts, and goes back to no edition; all else on a simulated air stays as it is
-abbrev pub restarting : AirState → Bool → AirState
-restarting air kept = going (having air (RestartCentre kept)) None
+-- the edition to which the centre goes back behind a restart at which its journal has these orders: with sites apart where they do
+abbrev pub back_behind : AirState → List Order → Option EditionNo
+back_behind (Simulated a) told = None
+back_behind (Apart a) told = back_lasting a.plans told
+
+-- the centre restarts, where its journal has these orders, the latest first; all else on a simulated air stays as it is
+abbrev pub restarting : AirState → Bool → List Order → AirState
+restarting air kept told = going (having air (RestartCentre kept)) (back_behind air told)
 
 -- where the order that the centre wants is kept at a restart, it wants one
 abbrev pub KeepsWanted : AirState → Bool → Type 0

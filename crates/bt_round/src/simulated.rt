@@ -29,7 +29,7 @@ use std::marker::Model;
 pub struct SimulatedCentre<E: Events> {
     pub(crate) world: WorldOver<E>,
     pub(crate) waiting: Waiting,
-    // the edition to which the centre goes back; no journal has it
+    // the edition to which the centre goes back
     pub(crate) back: Option<EditionNo>,
     // the second reference station; a restart of the centre leaves it
     pub(crate) standby: Standby,
@@ -212,8 +212,7 @@ impl<E: Events> SimulatedCentre<E> {
         self.world.order_count()
     }
 
-    /// The centre restarts, with the order that it wanted or without it, and goes back to no edition: no journal has
-    /// that. What is on its way stays on its way, and the standby keeps what it keeps.
+    /// The centre restarts, with the order that it wanted or without it, and goes back to no edition. What is on its way stays on its way, and the standby keeps what it keeps.
     ///
     /// Where memory runs out, it may have restarted.
     pub(crate) fn restart(

@@ -90,7 +90,7 @@ impl<E: Events> CentreOver<SimulatedCentre<E>> {
     }
 
     /// The edition to which the centre goes back, if it does.
-    pub(crate) fn back(&self) -> Option<EditionNo>
+    pub fn back(&self) -> Option<EditionNo>
         ensures { result ≡ back_of self.now }
     {
         match self {
@@ -229,19 +229,26 @@ impl<E: Events> CentreOver<SimulatedCentre<E>> {
         }
     }
 
-    /// The centre restarts, with the order that it wanted or without it, and goes back to no edition: no journal has
-    /// that. On a simulated air all else stays: what is on its way, and what the standby keeps.
+    /// The centre restarts, with the order that it wanted or without it. `told` are the orders that its journal has, the first first:
+    /// with sites apart it goes back where they do. On a simulated air it goes back to no edition, and all else stays: what is
+    /// on its way, and what the standby keeps.
     ///
     /// Where memory runs out, it may have restarted.
-    pub fn restart(&mut self, alloc: Global, net: &Network, kept: bool) -> Result<(), OutOfMemory>
+    pub fn restart(
+        &mut self,
+        alloc: Global,
+        net: &Network,
+        kept: bool,
+        told: &[Order],
+    ) -> Result<(), OutOfMemory>
         requires network { (opening_in self.old).net ≡ net.now }
         requires kept { KeepsWanted self.old kept }
-        ensures air { OnOk result (self.new ≡ restarting self.old kept) }
+        ensures air { OnOk result (self.new ≡ restarting self.old kept (reverse told.now)) }
         ensures opening { opening_in self.new ≡ opening_in self.old }
     {
         match self {
             CentreWorker::Simulated(centre) => centre.restart(alloc, net, kept),
-            CentreWorker::Apart(centre) => centre.restart(kept),
+            CentreWorker::Apart(centre) => centre.restart(kept, told),
         }
     }
 

@@ -1,14 +1,15 @@
 -- The parts of a run are printed lines.
-use Rattle.std.proofs.Common.{ℕ, ◌+◌, ◌<◌, ◌≤◌, ◌^◌, ◌==◌, Bool, List, [], ◌∷◌, ◌++◌, All, refl, sym, ap, subst, arith}
+use Rattle.std.proofs.Common.{ℕ, ◌+◌, ◌<◌, ◌≤◌, ◌^◌, ◌==◌, Bool, List, [], ◌∷◌, ◌++◌, reverse, All, refl, sym, ap, subst, arith}
 use Rattle.std.proofs.lemmas.List.Elements.{All-contains, All-filter, All-head, All-tail}
 use Rattle.std.proofs.lemmas.List.Sums.{sum_by-cons}
 use Rattle.bt_net.specs.Network.{IsSound, Net}
+use Rattle.bt_air.specs.declared.order.Order.{Order}
 use Rattle.bt_words.specs.declared.form.Form.TheVariants as form
 use Rattle.bt_journal.specs.declared.call.Change.{Change}
 use Rattle.bt_journal.specs.declared.entry.Entry.{Entry}
 use Rattle.bt_journal.specs.Journal.{calls_of}
 use Rattle.bt_history.specs.Causes.{Follows}
-use Rattle.bt_history.specs.Changes.{edition, newest, plans}
+use Rattle.bt_history.specs.Changes.{edition, newest, orders, plans}
 use Rattle.bt_history.specs.Machine.{AreSteps, Legal, State, running, state_from}
 use Rattle.bt_history.proofs.Histories.{steps_follow}
 use Rattle.bt_script.specs.declared.script.Item.{Item}
@@ -17,10 +18,11 @@ use Rattle.bt_script.specs.declared.script.Round.{Round}
 use Rattle.bt_script.specs.Length.{item_length, script_length}
 use Rattle.bt_timeline.specs.Timeline.{restart_line, round_line, start_line, total_line}
 use Rattle.bt_round.specs.declared.worker.CentreOver.TheVariants.{Simulated, Apart}
-use Rattle.bt_round.specs.AirLines.{AirState, hearing, mark_of}
+use Rattle.bt_round.specs.AirLines.{AirState, back_of, hearing, mark_of, restarting}
 use Rattle.bt_round.specs.Desks.{Sight, desks_text}
 use Rattle.bt_round.specs.Planning.{planner_text}
 use Rattle.bt_run_lines.specs.Printers.{numbers}
+use Rattle.bt_centre.specs.Lines.{begin_lines}
 use Rattle.bt_centre.specs.Run.{AreFew, PlaysItem, PlaysItems, PlaysRestart, PlaysRound, Stand, changes_at}
 use Rattle.bt_centre.proofs.Lawful.{steps_first}
 use Rattle.bt_centre.proofs.Whole.{steps_later}
@@ -58,7 +60,7 @@ told_before net tells before (item.Round round) text after played so = record {
 }
 told_before net tells before item.Restart text after played so = record {
   legal = played.legal;
-  world = world_before_restart before.air played.kept (subst IsSpelledAir played.air so.world);
+  world = world_before_restart before.air played.kept (reverse (orders after.opening)) (subst IsSpelledAir played.air so.world);
 }
 told_before net tells before (item.Heard line) text after played so =
     let there = subst (IsTold net) played.1 so in
@@ -88,6 +90,12 @@ start_printed net changes air follow few world of =
     let bounded = are_bounded net changes follow in
     let no_newer : IsSmall (newest changes).edition.0 = omega (arith, bounded.newest, few.edition) in
     line_printed net form.Start (numbers (edition changes ∷ (newest changes).edition.0 ∷ (mark_of air).0 ∷ [])) refl refl (few.edition, (no_newer, (present_small net air world of, tt)))
+
+-- a start behind a restart: a simulated air goes back to no edition
+restart_printed : (net : Net) (changes : List Change) (air : AirState) (kept : Bool) (told : List Order) → Follows net changes → AreFew net changes → IsSpelledAir air → IsAirIn net air
+    → AreLines net (begin_lines changes (mark_of air) (back_of (restarting air kept told)))
+restart_printed net changes (Simulated a) kept told follow few world of = start_printed net changes (Simulated a) follow few world of
+restart_printed net changes (Apart a) kept told follow few world of = absurd of
 
 -- the line that begins a round
 round_printed : (net : Net) (number : ℕ) → number < 10 ^ 19 → AreLines net (round_line number)
@@ -138,11 +146,13 @@ module _ (net : Net) (sound : IsSound net) where
   -- a restart
   restart_goes : (tells : Bool) (before : Stand) (text : List ℕ) (after : Stand) → PlaysRestart net tells before text after → IsSet net before → IsTold net before → PartGoes text after
   restart_goes tells before text after played set told =
-      let start = start_line (edition after.opening) (newest after.opening).edition.0 (mark_of before.air).0 in
+      let orders_told = reverse (orders after.opening) in
+      let start = begin_lines after.opening (mark_of before.air) (back_of after.air) in
+      let begun = subst (λ (a : AirState). AreLines net (begin_lines after.opening (mark_of before.air) (back_of a))) (sym played.air)
+      (restart_printed net after.opening before.air played.kept orders_told played.follow played.few told.world set.air) in
       record {
-        lines = subst (AreLines net) (sym played.printed)
-            (more_lines net restart_line start (line_printed net form.Restart [] refl refl tt) (start_printed net after.opening before.air played.follow played.few told.world set.air));
-        set = record { follow = played.follow; few = played.few; air = subst (IsAirIn net) (sym played.air) (few_restarting net before.air played.kept sound set.air) };
+        lines = subst (AreLines net) (sym played.printed) (more_lines net restart_line start (line_printed net form.Restart [] refl refl tt) begun);
+        set = record { follow = played.follow; few = played.few; air = subst (IsAirIn net) (sym played.air) (few_restarting net before.air played.kept orders_told sound set.air) };
       }
 
   -- parts one after the other

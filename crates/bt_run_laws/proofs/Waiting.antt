@@ -6,6 +6,7 @@ use Rattle.bt_frame.specs.declared.limits.TheConstants.{MOST_TERMINALS}
 use Rattle.bt_frame.specs.declared.numbers.EditionNo.{EditionNo}
 use Rattle.bt_frame.specs.declared.numbers.TermNo.{TermNo}
 use Rattle.bt_net.specs.Network.{Net, IsSound}
+use Rattle.bt_air.specs.declared.order.Order.{Order}
 use Rattle.bt_air.specs.declared.sent.Aired.{Aired}
 use Rattle.bt_air.specs.declared.sent.Place.{Place}
 use Rattle.bt_air.specs.declared.sent.Place.TheVariants.{Terminal}
@@ -86,8 +87,9 @@ pub few_at_start : (net : Net) (opening : List Change) → IsAirIn net (at_start
 few_at_start net opening = record { network = refl; few = omega arith; back = tt }
 
 -- nothing comes to wait at a restart
-pub few_restarting : (net : Net) (air : AirState) (kept : Bool) → IsSound net → IsAirIn net air → IsAirIn net (restarting air kept)
-few_restarting net air kept sound of = going_few net (having air (RestartCentre kept)) None tt (having_in net air (RestartCentre kept) sound of)
+pub few_restarting : (net : Net) (air : AirState) (kept : Bool) (told : List Order) → IsSound net → IsAirIn net air → IsAirIn net (restarting air kept told)
+few_restarting net (Simulated a) kept told sound of = going_few net (having (Simulated a) (RestartCentre kept)) None tt (having_in net (Simulated a) (RestartCentre kept) sound of)
+few_restarting net (Apart a) kept told sound of = absurd of
 
 -- nor where a line of the bus is heard
 pub few_hearing : (net : Net) (air : AirState) (heard : BusLine) → IsAirIn net air → IsAirIn net (hearing air heard)

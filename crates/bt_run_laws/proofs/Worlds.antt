@@ -19,7 +19,7 @@ use Rattle.bt_script.specs.declared.script.AirLine.{AirLine}
 use Rattle.bt_script.specs.declared.script.AirLine.TheVariants as line
 use Rattle.bt_script.specs.declared.heard.BusLine.{BusLine}
 use Rattle.bt_round.specs.declared.worker.CentreOver.TheVariants.{Simulated, Apart}
-use Rattle.bt_round.specs.AirLines.{AirState, PlaysAirLine, PlaysAirLines, PlaysBack, PlaysOrder, PlaysSimulated, PlaysTurnIf, PlaysTurning, events_in, going, having, hearing, installing, is_marked, once_answered, opening_in, restarting, turning, wanted_in}
+use Rattle.bt_round.specs.AirLines.{AirState, PlaysAirLine, PlaysAirLines, PlaysBack, PlaysOrder, PlaysSimulated, PlaysTurnIf, PlaysTurning, back_behind, events_in, going, having, hearing, installing, is_marked, once_answered, opening_in, restarting, turning, wanted_in}
 use Rattle.bt_round.specs.Simulated as simulated
 use Rattle.bt_round.specs.Simulated.{SimulatedAir, PlaysBurst, PlaysDeliveries, PlaysDelivery, PlaysFlow, PlaysFrame, PlaysLoss, PlaysNotice, PlaysReset, PlaysTick, awaiting, bridging, happened, noticed}
 use Rattle.bt_round.proofs.Running.{last-first}
@@ -164,8 +164,8 @@ world_before net air (first ∷ lines) entries text after (between, own, others,
     before_line net air first own begun between now (world_before net between lines others rest after more so)
 
 -- before a restart
-pub world_before_restart : (air : AirState) (kept : Bool) → IsSpelledAir (restarting air kept) → IsSpelledAir air
-world_before_restart air kept so = before_having air (RestartCentre kept) (before_going (having air (RestartCentre kept)) None so)
+pub world_before_restart : (air : AirState) (kept : Bool) (told : List Order) → IsSpelledAir (restarting air kept told) → IsSpelledAir air
+world_before_restart air kept told so = before_having air (RestartCentre kept) (before_going (having air (RestartCentre kept)) (back_behind air told) so)
 
 -- before a line of the bus
 pub world_before_heard : (air : AirState) (heard : BusLine) → IsSpelledAir (hearing air heard) → IsSpelledAir air

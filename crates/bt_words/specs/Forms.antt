@@ -7,7 +7,7 @@ use Rattle.bt_words.specs.declared.token.Token.{Token}
 use Rattle.bt_words.specs.declared.token.Token.TheVariants as token
 
 -- What may stand at a place of a line: a number, a count, the number of a desk, a frame, the name of a beam or of a
--- terminal, what the satellite or a terminal did with a message, and this word alone.
+-- terminal, what the satellite or a terminal did with a message, the tag of those who speak, and this word alone.
 pub data Part : Type 0 where
   Number : Part
   Count : Part
@@ -17,6 +17,7 @@ pub data Part : Type 0 where
   Terminal : Part
   Taken : Part
   Heard : Part
+  Tag : Part
   Text : List ℕ → Part
 
 -- what a token of the code stands for
@@ -29,6 +30,7 @@ part_of token.Beam = Beam
 part_of token.Terminal = Terminal
 part_of token.Taken = Taken
 part_of token.Heard = Heard
+part_of token.Tag = Tag
 part_of (token.Text text) = Text text.now
 
 -- the place has one word alone
@@ -105,6 +107,12 @@ parts_of form.StandbyNotSent = Text (codes "standby") ∷ Text (codes "hears") �
 parts_of form.StandbyBurst = Text (codes "standby") ∷ Text (codes "burst") ∷ []
 parts_of form.StoreFault = Text (codes "fault") ∷ Text (codes "store") ∷ []
 parts_of form.Ready = Text (codes "ready") ∷ Count ∷ []
+parts_of form.ReadyOpen = Text (codes "ready") ∷ Count ∷ Text (codes "open") ∷ Count ∷ []
+parts_of form.ReadyTag = Text (codes "ready") ∷ Count ∷ Tag ∷ []
+parts_of form.ReadyOpenTag = Text (codes "ready") ∷ Count ∷ Text (codes "open") ∷ Count ∷ Tag ∷ []
+parts_of form.BlockOpen = Text (codes "block") ∷ Count ∷ Text (codes "lines") ∷ Count ∷ []
+parts_of form.BlockOpenTag = Text (codes "block") ∷ Count ∷ Text (codes "lines") ∷ Count ∷ Tag ∷ []
+parts_of form.Stopped = Text (codes "stopped") ∷ []
 parts_of form.Lines = Text (codes "lines") ∷ Count ∷ []
 parts_of form.LineFaultS1 = Text (codes "fault") ∷ Text (codes "S1") ∷ Count ∷ []
 parts_of form.LineFaultS2 = Text (codes "fault") ∷ Text (codes "S2") ∷ Count ∷ []
@@ -159,6 +167,8 @@ forms_from head =
     if is_word (codes "reset") head then form.Reset ∷ [] else
     if is_word (codes "standby") head then form.StandbyNoted ∷ form.StandbyWrongMark ∷ form.StandbyNotForMe ∷ form.StandbyNotSent ∷ form.StandbyBurst ∷ [] else
     if is_word (codes "fault") head then form.StoreFault ∷ form.LineFaultS1 ∷ form.LineFaultS2 ∷ form.LineFaultS3 ∷ form.LineFaultS4 ∷ form.LineFaultS5 ∷ form.InputFault ∷ [] else
-    if is_word (codes "ready") head then form.Ready ∷ [] else
+    if is_word (codes "ready") head then form.Ready ∷ form.ReadyOpen ∷ form.ReadyTag ∷ form.ReadyOpenTag ∷ [] else
+    if is_word (codes "block") head then form.BlockOpen ∷ form.BlockOpenTag ∷ [] else
+    if is_word (codes "stopped") head then form.Stopped ∷ [] else
     if is_word (codes "lines") head then form.Lines ∷ [] else
     []

@@ -3,3 +3,4 @@ pub mod Written
 pub mod Forms
 pub mod Filled
 pub mod Names
+pub mod Tags

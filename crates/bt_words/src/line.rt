@@ -14,6 +14,8 @@ use std::alloc::Global;
 pub enum Word<'a> {
     /// This text.
     Text(&'a str),
+    /// A tag, its `@` included.
+    Tag(&'a [u8]),
     /// A number in decimal digits.
     Number(u64),
     /// A superframe and the number of a frame of it, from 0, with a point between them.
@@ -82,6 +84,7 @@ pub fn add_word(alloc: Global, word: &Word<'_>, out: &mut Vec<u8>) -> Result<(),
 {
     match *word {
         Word::Text(text) => Ok(out.extend_from_slice(text.as_bytes())?),
+        Word::Tag(tag) => Ok(out.extend_from_slice(tag)?),
         Word::Number(number) => number_text(alloc, number, out),
         Word::Frame(mark, number) => add_frame(alloc, mark, number, out),
     }
@@ -106,6 +109,7 @@ pub fn put_word(is_further: bool, word: &Word<'_>, text: &mut ShortText) -> bool
 {
     match *word {
         Word::Text(word) => text.put_word(is_further, word.as_bytes()),
+        Word::Tag(tag) => text.put_word(is_further, tag),
         Word::Number(number) => text.put_number(is_further, number),
         Word::Frame(mark, number) => put_frame(is_further, mark, number, text),
     }

@@ -28,6 +28,8 @@ pub enum Token {
     Taken,
     /// What a terminal does with a message that is for it.
     Heard,
+    /// The tag of those who speak in a session: an `@` and their word.
+    Tag,
     /// This word alone.
     Text(&'static str),
 }
@@ -103,6 +105,12 @@ pub fn tokens_of(form: Form) -> &'static [Token]
         Form::StandbyBurst      => &[Text("standby"), Text("burst")],
         Form::StoreFault        => &[Text("fault"), Text("store")],
         Form::Ready             => &[Text("ready"), Count],
+        Form::ReadyOpen         => &[Text("ready"), Count, Text("open"), Count],
+        Form::ReadyTag          => &[Text("ready"), Count, Tag],
+        Form::ReadyOpenTag      => &[Text("ready"), Count, Text("open"), Count, Tag],
+        Form::BlockOpen         => &[Text("block"), Count, Text("lines"), Count],
+        Form::BlockOpenTag      => &[Text("block"), Count, Text("lines"), Count, Tag],
+        Form::Stopped           => &[Text("stopped")],
         Form::Lines             => &[Text("lines"), Count],
         Form::LineFaultS1       => &[Text("fault"), Text("S1"), Count],
         Form::LineFaultS2       => &[Text("fault"), Text("S2"), Count],
@@ -225,7 +233,16 @@ pub fn forms_from(head: &[u8]) -> &'static [Form]
             Form::InputFault,
         ]
     } else if is_word(head, b"ready") {
-        &[Form::Ready]
+        &[
+            Form::Ready,
+            Form::ReadyOpen,
+            Form::ReadyTag,
+            Form::ReadyOpenTag,
+        ]
+    } else if is_word(head, b"block") {
+        &[Form::BlockOpen, Form::BlockOpenTag]
+    } else if is_word(head, b"stopped") {
+        &[Form::Stopped]
     } else if is_word(head, b"lines") {
         &[Form::Lines]
     } else {

@@ -1,5 +1,6 @@
-use Rattle.std.proofs.Common.{◌≡◌, ℕ, List, ◌++◌, false, length, reverse, All, None, sym, ◌∙◌, ap, subst}
+use Rattle.std.proofs.Common.{◌≡◌, ℕ, List, ◌++◌, false, length, reverse, All, Option, sym, ◌∙◌, ap, subst}
 use Rattle.std.proofs.lemmas.List.{append-nil, reverse-reverse}
+use Rattle.bt_frame.specs.declared.numbers.EditionNo.{EditionNo}
 use Rattle.bt_frame.specs.declared.numbers.Mark.{Mark}
 use Rattle.bt_net.specs.Network.{Net, IsSound}
 use Rattle.bt_demand.specs.declared.plan.Plan.{Plan}
@@ -7,10 +8,12 @@ use Rattle.bt_air.specs.declared.order.Order.{Order}
 use Rattle.bt_machines.specs.CentreSteps.{beginning}
 use Rattle.bt_machines.specs.Plans.{IsStored}
 use Rattle.bt_machines.specs.Terminals.{terminals_of}
+use Rattle.bt_site.specs.Plans.{Planned}
 use Rattle.bt_site.specs.Sites.{CentreAt}
 use Rattle.bt_site.specs.Event.{Opening}
 use Rattle.bt_site.specs.World.{greatest_due}
 use Rattle.bt_apart.specs.Apart.{apart_at_start}
+use Rattle.bt_apart.specs.Back.{back_lasting}
 use Rattle.bt_apart.proofs.Kept.{as-apart, begun}
 use Rattle.bt_apart.proofs.centre.ApartCentre.start.Goals as goal
 
@@ -31,6 +34,11 @@ invariant_of-result c =
     ∙ ap (λ (list : List Order). beginning (terminals_of (length o.net.terminals)) o.plans (reverse list)) placed in
     let due = c.greatest_due-mark.ensures.due ∙ ap (λ (list : List Order). greatest_due (reverse list)) c.as_slice.ensures.value in
     let mark : c.greatest_due-mark.result ≡ record { 0 = greatest_due o.orders } = ap (λ (n : ℕ). let m : Mark = record { 0 = n } in m) due in
+    let all_planned = ap (λ (p : Planned). p.all) c.plans.ensures.plans ∙ planned in
+    let back : c.back_lasting-back.result ≡ back_lasting o.plans o.orders =
+    c.back_lasting-back.ensures.back
+    ∙ ap (λ (list : List Plan). back_lasting list (reverse c.as_slice-4.result.now)) all_planned
+    ∙ ap (λ (list : List Order). back_lasting o.plans (reverse list)) c.as_slice-4.ensures.value in
     let same : record {
       opening = record { net = c.in_ok-net.net; plans = o.plans; orders = o.orders };
       plans = c.in_ok-centre.centre.plans;
@@ -38,7 +46,7 @@ invariant_of-result c =
       mark = c.greatest_due-mark.result;
       marked = false;
       said = 0;
-      back = None;
+      back = c.back_lasting-back.result;
     } ≡ apart_at_start o = cc in
     let listed = ap (λ (list : List Plan). c.args.plans.items ++ list) c.new.ensures.items ∙ append-nil c.args.plans.items ∙ sym (reverse-reverse c.args.plans.items) in
     as-apart _ (apart_at_start o) _ (length o.net.terminals) _ (reverse o.plans) same (ap (λ (s : CentreAt). s.terminals) made ∙ count) listed
