@@ -2,7 +2,7 @@
 use crate::bytes::bytes_at;
 use crate::cause::{Cause, add_other_line};
 use crate::fault::{Named, add_heading};
-use crate::lines::Lines;
+use crate::lines::{Lines, Words};
 use crate::near::ask_terminal;
 use crate::page::Page;
 use crate::telling::Done;
@@ -10,7 +10,6 @@ use crate::walk::{say_bad_name, say_number};
 use bt_frame::MOST_UNITS;
 use bt_net::{Network, is_name};
 use bt_text::number;
-use memchr::memchr;
 use std::alloc::Global;
 
 /// A field of a row, the quotes around it left out, and where it begins.
@@ -77,14 +76,9 @@ fn row_of(line: &[u8]) -> Row<'_> {
         units: none,
         count: 0,
     };
-    let mut at: usize = 0;
-    let mut rest = without_return(line);
-    while let Some(comma) = memchr(b',', rest) {
-        put_field(&mut row, at, &rest[..comma]);
-        at = at.saturating_add(comma).saturating_add(1);
-        rest = &rest[comma + 1..];
+    for (at, bytes) in Words::parted(without_return(line), b',') {
+        put_field(&mut row, at, bytes);
     }
-    put_field(&mut row, at, rest);
     row
 }
 
