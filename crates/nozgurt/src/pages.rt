@@ -70,6 +70,14 @@ commands that plan and check
       example: nozgurt timing examples/six-beams.net examples/six-beams.traffic
                examples/six-beams.plan examples/six-beams.delays
 
+  traffic NET CSV
+      Prints the traffic that a table of links says, as `plan` reads it, on the
+      network in the file NET. The file CSV has a row a line, `FROM,TO,UNITS`, and a
+      first row `from,to,units` is the names of the columns. The links are printed in
+      the order of the network's terminals. Whether they fit the frame is not asked:
+      `nozgurt traffic NET CSV | nozgurt capacity NET -` says so.
+      example: nozgurt traffic examples/two-beams.net examples/two-beams.csv
+
   trans K MATRIX
       Prints a switching schedule in the least length for a satellite with K
       transponders, 1 to 16, which makes K connections at once at most. The length
@@ -148,6 +156,18 @@ commands of the centre
                examples/calm-change.script calm.journal
 
 commands that look at a journal
+  carry NET JOURNAL NEWNET
+      Prints a journal on the network in the file NEWNET with the demand of that in
+      the file JOURNAL, on the network in the file NET, by the names of terminals:
+      the mark of NEWNET, and an edit for each link. NEWNET may have more terminals
+      and beams, another frame and another order. A link whose terminals it does not
+      have both is refused, and so is a demand that does not fit its frame. Given up
+      is what `compact` gives up: the next plan has to be made anew, and until each
+      terminal has it no burst of the old one is to be sent. The file JOURNAL stays
+      as it is.
+      example: nozgurt carry examples/two-beams.net
+               examples/calm-change.journal examples/four-terminals.net
+
   compact NET JOURNAL
       Prints a journal that comes to the same demand as that in the file JOURNAL,
       on the network in the file NET, with the fewest edits: its mark, and an edit
@@ -187,6 +207,15 @@ commands that look at a journal
       example: nozgurt installed examples/two-beams.net
                examples/calm-change.journal
 
+  json FILE
+      Prints each line of a text as an object of JSON, a line each: under `form` the
+      form of the line, as docs/formats.md has it, and under the name of each open
+      place the word that stands there, a number where it is one; a line of no form
+      has its text under `text`. So what a run, a session or a journal says, and any
+      other text, goes to a program that reads JSON.
+      example: nozgurt run examples/two-beams.net examples/calm-change.script told.journal |
+               nozgurt json -
+
   metrics NET JOURNAL
       Prints the state of the journal in the file JOURNAL on the network in the
       file NET as gauges in the text format of Prometheus: the last edition; the
@@ -221,7 +250,7 @@ exit status
 /// What it prints behind them.
 const LETTERS: &str = "  The letter of a CODE names the file that is at fault: N the network, X the
   matrix, M the modes, T the traffic, P the plan, G the delays, S the script, J
-  the journal.
+  the journal, O the text of `json`.
   With status 125 the program was not started: it is not built, or another has
   the journal.
   docs/formats.md, the man page nozgurt-formats(5), has the texts of all files
@@ -229,7 +258,7 @@ const LETTERS: &str = "  The letter of a CODE names the file that is at fault: N
 ";
 
 /// The forms of the commands: of each its word, and the names of the words behind it.
-pub const FORMS: [&str; 18] = [
+pub const FORMS: [&str; 21] = [
     "capacity NET TRAFFIC",
     "check MATRIX MODES",
     "check NET TRAFFIC PLAN",
@@ -237,15 +266,18 @@ pub const FORMS: [&str; 18] = [
     "modes MATRIX",
     "plan NET TRAFFIC",
     "timing NET TRAFFIC PLAN DELAYS",
+    "traffic NET CSV",
     "trans K MATRIX",
     "centre NET JOURNAL",
     "live NET JOURNAL",
     "replay NET JOURNAL",
     "run NET SCRIPT JOURNAL",
+    "carry NET JOURNAL NEWNET",
     "compact NET JOURNAL",
     "demand NET JOURNAL [EDITION]",
     "edits NET JOURNAL TRAFFIC [DESK]",
     "installed NET JOURNAL [EDITION]",
+    "json FILE",
     "metrics NET JOURNAL",
     "state NET JOURNAL",
 ];
