@@ -8,11 +8,11 @@ ghost use Rattle.bt_load.specs.Kinds.{journal_file};
 ghost use Rattle.bt_load.specs.Loaders.{Loads, file};
 ghost use Rattle.bt_chart.specs.Pages.{DrawsPage, NamesLine, page_files};
 
+use crate::page_of_journal;
 use bt_book::RecoverFault;
 use bt_load::{load_journal, load_network};
 use bt_net::Network;
 use bt_outside::Files;
-use crate::page_of_journal;
 use bt_report::{DONE, FAULTY_JOURNAL, Report, Stop};
 use bt_words::Word;
 use std::alloc::Global;

@@ -197,7 +197,11 @@ fn add_counts(usage: &str, page: &mut Page) {
     if most == usize::MAX {
         page.add(" or more");
     } else if most > least {
-        page.add(if most.saturating_sub(least) == 1 { " or " } else { " to " });
+        page.add(if most.saturating_sub(least) == 1 {
+            " or "
+        } else {
+            " to "
+        });
         page.add_number(most as u64);
     }
     page.add(if most == 1 { " word" } else { " words" });
