@@ -1,19 +1,20 @@
 -- The place of the block of a tag among those that are open, and what a line leaves there.
-use Rattle.std.proofs.Common.{◌≡◌, ℕ, suc, ◌+◌, ◌<◌, ◌≤◌, Bool, true, false, cond, List, [], ◌∷◌, ◌++◌, length, get_or, take, drop, Option, Some, None, refl, sym, ap, ◌∙◌, subst, arith}
-use Rattle.std.specs.Prelude.{nat_lt, not, remove}
+use Rattle.std.proofs.Common.{◌≡◌, ℕ, suc, ◌+◌, ◌<◌, Bool, true, false, cond, List, [], ◌∷◌, ◌++◌, length, get_or, take, drop, Some, None, refl, sym, ap, ◌∙◌, subst, arith}
+use Rattle.std.specs.Prelude.{nat_lt, not, option_map, remove}
 use Rattle.std.specs.List.{position_or_len}
 use Rattle.std.specs.Option.{is_some}
-use Rattle.std.proofs.lemmas.List.{take-append-drop}
+use Rattle.std.proofs.lemmas.List.{append-nil, take-append-drop}
 use Rattle.std.proofs.lemmas.List.Elements.{All-cons, All-head, All-nil, All-tail}
 use Rattle.bt_text.specs.Text.{is_word}
 use Rattle.bt_net.specs.Network.{Net}
 use Rattle.bt_script.specs.declared.fault.ScriptCode.TheVariants.{S4, S5}
 use Rattle.bt_script.specs.declared.line.ScriptLine.{ScriptLine}
-use Rattle.bt_script.specs.Said.{IsSaidFor}
 use Rattle.bt_talk.specs.declared.block.Step.{Step}
 use Rattle.bt_talk.specs.declared.block.Step.TheVariants as step
 use Rattle.bt_talk.specs.declared.blocks.TheConstants.{MOST_OPEN_BLOCKS}
-use Rattle.bt_talk.specs.Block.{IsOwnFor, Own}
+use Rattle.bt_script.specs.declared.sites.Sites.{Sites}
+use Rattle.bt_talk.specs.Answers.{count_in}
+use Rattle.bt_talk.specs.Block.{IsOwnFor, IsStepFor, Own, line_row}
 use Rattle.bt_talk.specs.Blocks.{IsBlockFor, IsOpenFor, has_room, kept_row, other_row, own_of, with_own, with_said}
 use Rattle.bt_talk.specs.Opened.{Open, OpenBlock}
 
@@ -108,13 +109,16 @@ kept_full at tag blocks said stp none full =
     ap (λ (o : Own). cond (has_room blocks o (Some said)) (with_own at tag blocks (Some said), stp) (blocks, step.Fault S5)) none
     ∙ ap (λ (b : Bool). cond b (with_own at tag blocks (Some said), stp) (blocks, step.Fault S5)) full
 
+-- nothing is put back of one that is closed
+put_none : (place : ℕ) (d : OpenBlock) (blocks : Open) → put_at place d blocks None ≡ remove blocks place
+put_none place d blocks = ap (λ (l : Open). l ++ drop place (remove blocks place)) (append-nil (take place (remove blocks place))) ∙ take-append-drop place (remove blocks place)
+
 -- another's block is given up, where it is open, and where it is not
 pub other_at : (other : List ℕ) (blocks : Open) (d : OpenBlock) → place_in other blocks < length blocks → other_row blocks other ≡ (remove blocks (place_in other blocks), step.Nothing)
 other_at other blocks d within =
     let place = place_in other blocks in
-    let rest : put_at place d blocks None ≡ remove blocks place = take-append-drop place (remove blocks place) in
     ap (λ (o : Own). cond (is_some o) (with_own 0 other blocks None, step.Nothing) (blocks, step.Fault S4)) (own_some other blocks d within)
-    ∙ ap (λ (l : Open). (let row : Open × Step = (l, step.Nothing) in row)) (with_at 0 other blocks d None within ∙ rest)
+    ∙ ap (λ (l : Open). (let row : Open × Step = (l, step.Nothing) in row)) (with_at 0 other blocks d None within ∙ put_none place d blocks)
 
 pub other_none : (other : List ℕ) (blocks : Open) → place_in other blocks ≡ length blocks → other_row blocks other ≡ (blocks, step.Fault S4)
 other_none other blocks none =
@@ -161,3 +165,73 @@ other_for_test net behind blocks false then others = others
 
 pub other_for : (net : Net) (other : List ℕ) (blocks : Open) → IsOpenFor net blocks → IsOpenFor net (other_row blocks other).0
 other_for net other blocks others = other_for_test net (with_own 0 other blocks None) blocks (is_some (own_of other blocks)) (with_for net 0 other blocks None others tt) others
+
+-- the step that a line in its own block comes to, or a fault
+step_for_test : (net : Net) (behind blocks : Open) (stp : Step) (test : Bool) → IsStepFor net stp → IsStepFor net (cond {A = Open × Step} test (behind, stp) (blocks, step.Fault S5)).1
+step_for_test net behind blocks stp true named = named
+step_for_test net behind blocks stp false named = tt
+
+-- what a line comes to in the block of its tag names terminals of the network alone
+pub open_for : (net : Net) (sites : Sites) (at : ℕ) (tag text : List ℕ) (blocks : Open) (own : Own) (stp : Step) (on : Open × Step) → (let row : Own × Step = (own, stp) in row ≡ line_row net sites (own_of tag blocks) text)
+    → on ≡ kept_row at tag blocks (line_row net sites (own_of tag blocks) text) → IsOpenFor net blocks → IsOwnFor net own → IsOpenFor net on.0
+open_for net sites at tag text blocks own stp on row is others named =
+    subst (λ (r : Open × Step). IsOpenFor net r.0) (sym (is ∙ ap (kept_row at tag blocks) (sym row))) (kept_for net at tag blocks (own, stp) others named)
+
+pub step_for : (net : Net) (sites : Sites) (at : ℕ) (tag text : List ℕ) (blocks : Open) (own : Own) (stp : Step) (on : Open × Step) → (let row : Own × Step = (own, stp) in row ≡ line_row net sites (own_of tag blocks) text)
+    → on ≡ kept_row at tag blocks (line_row net sites (own_of tag blocks) text) → IsStepFor net stp → IsStepFor net on.1
+step_for net sites at tag text blocks own stp on row is named =
+    subst (λ (r : Open × Step). IsStepFor net r.1) (sym (is ∙ ap (kept_row at tag blocks) (sym row))) (step_for_test net (with_own at tag blocks own) blocks stp (has_room blocks (own_of tag blocks) own) named)
+
+-- where the block was closed
+pub row_closed : (net : Net) (sites : Sites) (tag text : List ℕ) (blocks : Open) (own closed : Own) (stp : Step) → closed ≡ None → own_of tag blocks ≡ None → (let row : Own × Step = (own, stp) in row ≡ line_row net sites closed text)
+    → (let row : Own × Step = (own, stp) in row ≡ line_row net sites (own_of tag blocks) text)
+row_closed net sites tag text blocks own closed stp is none row = row ∙ ap (λ (o : Own). line_row net sites o text) (is ∙ sym none)
+
+-- where it was open
+pub row_open : (net : Net) (sites : Sites) (tag text : List ℕ) (blocks : Open) (seen d : OpenBlock) (own before : Own) (stp : Step) (place : ℕ) → place ≡ place_in tag blocks → place < length blocks → seen ≡ get_or blocks place d
+    → before ≡ Some seen.said → (let row : Own × Step = (own, stp) in row ≡ line_row net sites before text) → (let row : Own × Step = (own, stp) in row ≡ line_row net sites (own_of tag blocks) text)
+row_open net sites tag text blocks seen d own before stp place at_it within seen_is said row =
+    let there : own_of tag blocks ≡ Some seen.said =
+    own_some tag blocks d (subst (λ (n : ℕ). n < length blocks) at_it within)
+    ∙ ap (λ (n : ℕ). (let found : Own = Some (get_or blocks n d).said in found)) (sym at_it)
+    ∙ ap (λ (one : OpenBlock). (let found : Own = Some one.said in found)) (sym seen_is) in
+    row ∙ ap (λ (o : Own). line_row net sites o text) (said ∙ sym there)
+
+-- what was put back then is the row
+pub put_back_row : (net : Net) (sites : Sites) (at : ℕ) (tag text : List ℕ) (blocks after : Open) (seen d : OpenBlock) (own : Own) (stp : Step) (place : ℕ) → place ≡ place_in tag blocks → place < length blocks → seen ≡ get_or blocks place d
+    → (let row : Own × Step = (own, stp) in row ≡ line_row net sites (own_of tag blocks) text)
+    → after ≡ take place (remove blocks place) ++ with_said (record { tag = seen.tag; since = seen.since; said = [] }) own ++ drop place (remove blocks place)
+    → (let row : Open × Step = (after, stp) in row ≡ kept_row at tag blocks (line_row net sites (own_of tag blocks) text))
+put_back_row net sites at tag text blocks after seen d own stp place at_it within seen_is row after_is =
+    let rest = remove blocks place in
+    let put : after ≡ put_at (place_in tag blocks) d blocks own =
+    after_is
+    ∙ ap (λ (w : Open). take place rest ++ w ++ drop place rest) (said_alone seen.tag seen.since [] seen.said own ∙ ap (λ (one : OpenBlock). with_said one own) seen_is)
+    ∙ ap (λ (n : ℕ). put_at n d blocks own) at_it in
+    ap (λ (l : Open). (let on : Open × Step = (l, stp) in on)) put
+    ∙ sym (kept_at at tag blocks d own stp (subst (λ (n : ℕ). n < length blocks) at_it within))
+    ∙ ap (kept_row at tag blocks) row
+
+-- how many lines wait in a block
+pub count_none : (tag : List ℕ) (blocks self : Open) → blocks ≡ self → place_in tag blocks ≡ length blocks → None ≡ count_in tag self
+count_none tag blocks self same none = sym (ap (option_map (λ (said : List ScriptLine). length said)) (ap (own_of tag) (sym same) ∙ own_none tag blocks none))
+
+pub count_some : (tag : List ℕ) (blocks self : Open) (one d : OpenBlock) (place : ℕ) → blocks ≡ self → place ≡ place_in tag blocks → place < length blocks → one ≡ get_or blocks place d → (count : ℕ) → count ≡ length one.said
+    → Some count ≡ count_in tag self
+count_some tag blocks self one d place same at_it within one_is count is =
+    let there : own_of tag self ≡ Some one.said =
+    ap (own_of tag) (sym same)
+    ∙ own_some tag blocks d (subst (λ (n : ℕ). n < length blocks) at_it within)
+    ∙ ap (λ (n : ℕ). (let found : Own = Some (get_or blocks n d).said in found)) (sym at_it)
+    ∙ ap (λ (b : OpenBlock). (let found : Own = Some b.said in found)) (sym one_is) in
+    ap Some is ∙ sym (ap (option_map (λ (said : List ScriptLine). length said)) there)
+
+-- a block is given up
+pub forgets_none : (other : List ℕ) (blocks self : Open) → blocks ≡ self → place_in other blocks ≡ length blocks → (let on : Open × Step = (blocks, step.Fault S4) in on) ≡ other_row self other
+forgets_none other blocks self same none = sym (ap (λ (l : Open). other_row l other) (sym same) ∙ other_none other blocks none)
+
+pub forgets_at : (other : List ℕ) (blocks self after : Open) (d : OpenBlock) (place : ℕ) → blocks ≡ self → place ≡ place_in other blocks → place < length blocks → after ≡ remove blocks place
+    → (let on : Open × Step = (after, step.Nothing) in on) ≡ other_row self other
+forgets_at other blocks self after d place same at_it within is =
+    ap (λ (l : Open). (let on : Open × Step = (l, step.Nothing) in on)) (is ∙ ap (remove blocks) at_it)
+    ∙ sym (ap (λ (l : Open). other_row l other) (sym same) ∙ other_at other blocks d (subst (λ (n : ℕ). n < length blocks) at_it within))

@@ -171,13 +171,18 @@ says_own net at is_open block text one is =
     ∙ asks_nothing net at is_open block text one is
     ∙ ap (read_row Together block) (same_line net at is_open text one is)
 
+-- none on both ways
+either_none : (test : Bool) → (let none : Option Shape = None in cond test none none) ≡ None
+either_none true = refl
+either_none false = refl
+
 -- a line with a tag is none
 tagged_shape : (text tag second : List ℕ) (rest : List (List ℕ)) → is_tag tag ≡ true → words text ≡ tag ∷ second ∷ rest → shape_of text ≡ None
 tagged_shape text [] second rest is cut = absurd cc
 tagged_shape text (byte ∷ []) second rest is cut = absurd cc
 tagged_shape text (byte ∷ letter ∷ letters) second rest is cut =
-    let first : byte ≡ 64 = eqb-true byte 64 (and_parts (byte == 64) (nat_lt (length letters) MOST_NAME_BYTES && list_all is_tag_byte (letter ∷ letters)) is).0 in
-    shapeless text ((64 ∷ letter ∷ letters) ∷ second ∷ rest) (cut ∙ ap (λ (b : ℕ). (b ∷ letter ∷ letters) ∷ second ∷ rest) first) refl refl
+    let first : byte ≡ 64 = eqb-true byte 64 (and_parts (byte == 64) (nat_lt (length letters) MOST_NAME_BYTES) (and_parts (byte == 64 && nat_lt (length letters) MOST_NAME_BYTES) (list_all is_tag_byte (letter ∷ letters)) is).0).0 in
+    shapeless text ((64 ∷ letter ∷ letters) ∷ second ∷ rest) (cut ∙ ap (λ (b : ℕ). (b ∷ letter ∷ letters) ∷ second ∷ rest) first) refl (either_none (length (second ∷ rest) == 0))
 
 -- so a line of a script has none, and is the whole of its text
 plain_first : (net : Net) (at : ℕ) (is_open : Bool) (text : List ℕ) (one : ScriptLine) (first second : List ℕ) (rest : List (List ℕ)) (test : Bool) → line_in net at is_open text ≡ Ok one → words text ≡ first ∷ second ∷ rest

@@ -1,5 +1,5 @@
 -- A line cut at its first space.
-use Rattle.std.proofs.Common.{◌≡◌, ℕ, suc, ◌+◌, ◌≤◌, Bool, true, false, cond, List, [], ◌∷◌, ◌++◌, length, length-append, drop, Option, Some, None, refl, sym, ap, ◌∙◌, arith}
+use Rattle.std.proofs.Common.{◌≡◌, ℕ, ◌+◌, ◌≤◌, Bool, true, false, cond, List, [], ◌∷◌, length, length-append, drop, Some, sym, ap, ◌∙◌, arith}
 use Rattle.std.specs.Prelude.{◌==◌}
 use Rattle.std.proofs.Math.Seq.{drop-append-add}
 use Rattle.bt_text.specs.Text.{spaced, words}
@@ -27,11 +27,10 @@ cut_words text tag [] parts first is more = absurd cc
 cut_words text tag (word ∷ []) parts first is more = absurd cc
 cut_words text tag (word ∷ second ∷ rest) parts first is more =
     let same : word ≡ tag = cc in
-    let test : is_tag word ≡ true = ap is_tag same ∙ is in
-    (
+    let test : is_tag word ≡ true = ap is_tag same ∙ is in (
       sym same ∙ sym (ap (λ (b : Bool). cond b word []) test),
       ap (λ (w : List ℕ). drop (length w + 1) text) (sym same) ∙ ap (drop (length word + 1)) parts ∙ cut_first word second rest ∙ sym (ap (λ (b : Bool). cond b (spaced (second ∷ rest)) text) test),
-      omega (arith, ap (λ (l : List ℕ). length l) parts, ap (λ (l : List ℕ). length l) same, long_enough word second rest)
+      omega (arith, ap (λ (l : List ℕ). length l) parts, ap (λ (l : List ℕ). length l) same, long_enough word second rest),
     )
 
 pub cut : (text tag : List ℕ) → first_word (words text) ≡ Some tag → is_tag tag ≡ true → (length (drop 1 (words text)) == 0) ≡ false → Cut text tag

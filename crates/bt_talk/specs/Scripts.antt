@@ -1,5 +1,5 @@
 -- The session that asks what a script asks.
-use Rattle.std.specs.Prelude.{◌≡◌, ℕ, ◌&&◌, if◌then◌else◌, Bool, false, List, [], ◌∷◌, ◌++◌, codes, map, Option, Some, None, Ok}
+use Rattle.std.specs.Prelude.{◌≡◌, ℕ, ◌&&◌, if◌then◌else◌, Bool, false, List, [], ◌∷◌, ◌++◌, codes, map, Option, Some, Ok}
 use Rattle.bt_text.specs.Text.{lines}
 use Rattle.bt_net.specs.Network.{Net}
 use Rattle.bt_script.specs.declared.sites.Sites.TheVariants.{Together}

@@ -95,12 +95,14 @@ commands of the centre
       simulated air and without `waiting`, and with two of the bus. `mark N` says
       that superframe N begins; `radio N HEX` is a message, in two digits a byte,
       behind the superframe that its sayer takes for the present one. Both are heard
-      at once, also where a block is open, and answered with `ready N` alone. `turn`
+      at once, also where a block is open, and answered by a `ready` line alone. `turn`
       prints what a run prints of it, and behind each line `sent` the line `radio N
       HEX` by which the message goes out. Before the first mark a turn is
       `turn nomark`, and says nothing. What begins with `radio` is for the other
       sites, all else is for whoever sent the line.
-      An order is a line of the file JOURNAL before its message is said.
+      An order is a line of the file JOURNAL before its message is said. Where the
+      last is of an older edition than one before it, the centre goes back to that
+      edition as it starts and at `restart`, with the line `back E` behind `start`.
       example: nozgurt centre examples/two-beams.net centre.journal < examples/centre.lines
 
   live NET JOURNAL
@@ -109,12 +111,15 @@ commands of the centre
       are the lines of a script, of which each alone is a round by itself, and
       a few more. `round` opens a block, whose lines wait; `go` plays them as one
       round; `forget` gives them up. `state`, `capacity`, `room FROM TO`,
-      `demand`, `installed` and `waiting` ask, and change nothing: `lines K`
-      stands in front of the K lines that are told. `help` tells all the lines
-      that there are. Behind each answer stands `ready N`, which says that line N
-      was answered and the next may come. A line that is at fault has no effect;
-      `fault CODE N` names it, and the session goes on. The end of the input
-      plays no block that is open, and prints the total.
+      `demand`, `installed`, `plans`, `waiting` and `blocks` ask, and change
+      nothing: `lines K` stands in front of the K lines that are told. `help`
+      tells all the lines that there are. Behind each answer stands `ready N`,
+      which says that line N was answered and the next may come. A line may have
+      a tag in front, `@WORD` and a space: its `ready` ends with the tag, and its
+      block is that of the tag alone; `open K` says that this is open and has K
+      lines. A line that is at fault has no effect; `fault CODE N` names it, and
+      the session goes on. The end of the input plays no block that is open, and
+      prints the total.
       It begins with what the file JOURNAL comes to, and each change that is
       accepted is one line more of it before it is answered.
       example: nozgurt live examples/two-beams.net live.journal < examples/live.lines

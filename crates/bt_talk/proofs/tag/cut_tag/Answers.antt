@@ -1,9 +1,8 @@
 -- the tag is the first word, and the line stands behind it and a space
-use Rattle.std.proofs.Common.{◌≡◌, ◌+◌, List, ℕ, Some, true, false, length, drop, ap, sym, ◌∙◌, rules}
+use Rattle.std.proofs.Common.{◌≡◌, Some, false, length, drop, ◌∙◌, rules}
 use Rattle.std.specs.Prelude.{◌==◌}
 use Rattle.bt_text.specs.Text.{words}
 use Rattle.bt_text.specs.WordReader.{first_word}
-use Rattle.bt_words.specs.Tags.{is_tag}
 use Rattle.bt_talk.proofs.Tags.{Cut, cut}
 use Rattle.bt_talk.proofs.tag.cut_tag.Goals as goal
 
@@ -32,4 +31,4 @@ returns-in-Some-clause-line c =
     let first : first_word (words text) ≡ Some tag = cc in
     let more : (length (drop 1 (words text)) == 0) ≡ false = cc in
     let so : Cut text tag = cut text tag first (search rules) more in
-    (?) ∙ so.line_is
+    c.split_at.ensures.back ∙ so.line_is
