@@ -137,6 +137,13 @@ impl Machine {
         &self.kept.plans[place as usize]
     }
 
+    /// Whether a fault of the store has stopped it.
+    pub(crate) fn is_stopped(&self) -> bool
+        ensures { result ≡ self.now.state.stopped }
+    {
+        self.stopped
+    }
+
     /// How many orders were placed.
     pub(crate) fn order_count(&self) -> u32
         ensures count { result ≡ length (orders self.now.state.changes) }

@@ -17,7 +17,7 @@ use Rattle.bt_script.specs.declared.script.Item.{Item}
 use Rattle.bt_script.specs.declared.script.Item.TheVariants as item
 use Rattle.bt_talk.specs.declared.block.Step.{Step}
 use Rattle.bt_talk.specs.declared.block.Step.TheVariants as step
-use Rattle.bt_talk.specs.Block.{Open, row_of}
+use Rattle.bt_talk.specs.Blocks.{Open, row_of}
 use Rattle.bt_report.specs.Stored.{Stored}
 use Rattle.bt_round.proofs.DeskLines.{changes_of-append}
 use Rattle.bt_centre.specs.declared.history.History.{History}
@@ -63,21 +63,21 @@ grows_step net tells before after (step.Fault code) text is played = grows_none 
 grows_step net tells before after (step.Tells one) text is played = grows_none (changes_at before) (changes_at after) (ap changes_at played.1)
 
 -- the first of them
-lasts_first : (net : Net) (sites : Sites) (tells : Bool) (at : ℕ) (block : Open) (before : Stand) (shown : Shown) (exchanges : List Exchange) (after : Stand) (played : PlaysLines net sites tells at block before shown exchanges after)
-    (end : Option Crashes) → EachLasts net sites tells at block before shown exchanges after played end → Last net (changes_at before) shown.crashes end
-lasts_first net sites tells at block before shown [] after played end each = each
-lasts_first net sites tells at block before shown (first ∷ exchanges) after played end each = each.0
+lasts_first : (net : Net) (sites : Sites) (tells : Bool) (at : ℕ) (blocks : Open) (before : Stand) (shown : Shown) (exchanges : List Exchange) (after : Stand) (played : PlaysLines net sites tells at blocks before shown exchanges after)
+    (end : Option Crashes) → EachLasts net sites tells at blocks before shown exchanges after played end → Last net (changes_at before) shown.crashes end
+lasts_first net sites tells at blocks before shown [] after played end each = each
+lasts_first net sites tells at blocks before shown (first ∷ exchanges) after played end each = each.0
 
 -- what lasts behind the last of them makes that each does
-lasts_each : (net : Net) (sites : Sites) (tells : Bool) (at : ℕ) (block : Open) (before : Stand) (shown : Shown) (exchanges : List Exchange) (after : Stand) (end : Option Crashes) → tells ≡ true
-    → (played : PlaysLines net sites tells at block before shown exchanges after) → Last net (changes_at after) (shown_behind shown exchanges).crashes end
-    → EachLasts net sites tells at block before shown exchanges after played end
-lasts_each net sites tells at block before shown [] after end is played last = subst (λ (s : Stand). Last net (changes_at s) shown.crashes end) played last
-lasts_each net sites tells at block before shown (first ∷ exchanges) after end is (next, own, played, going, text_is, shows, lasts) last =
-    let rest_block = (row_of net sites block first.line).0 in
-    let grown = grows_step net tells before next (row_of net sites block first.line).1 own is played in
-    let rest = lasts_each net sites tells (at + 1) rest_block next first.shown exchanges after end is going last in
-    let on = lasts_first net sites tells (at + 1) rest_block next first.shown exchanges after going end rest in
+lasts_each : (net : Net) (sites : Sites) (tells : Bool) (at : ℕ) (blocks : Open) (before : Stand) (shown : Shown) (exchanges : List Exchange) (after : Stand) (end : Option Crashes) → tells ≡ true
+    → (played : PlaysLines net sites tells at blocks before shown exchanges after) → Last net (changes_at after) (shown_behind shown exchanges).crashes end
+    → EachLasts net sites tells at blocks before shown exchanges after played end
+lasts_each net sites tells at blocks before shown [] after end is played last = subst (λ (s : Stand). Last net (changes_at s) shown.crashes end) played last
+lasts_each net sites tells at blocks before shown (first ∷ exchanges) after end is (next, own, played, going, text_is, shows, lasts) last =
+    let rest_open = (row_of net sites at blocks first.line).0 in
+    let grown = grows_step net tells before next (row_of net sites at blocks first.line).1 own is played in
+    let rest = lasts_each net sites tells (at + 1) rest_open next first.shown exchanges after end is going last in
+    let on = lasts_first net sites tells (at + 1) rest_open next first.shown exchanges after going end rest in
     let then = last_first net (changes_at before) grown.more first.shown.crashes end (subst (λ (c : List Change). Last net c first.shown.crashes end) grown.parts on) in
     (last_then net (changes_at before) shown.crashes first.shown.crashes end lasts then, rest)
 
@@ -85,10 +85,10 @@ lasts_each net sites tells at block before shown (first ∷ exchanges) after end
 pub answered_lasts : (net : Net) (sites : Sites) (talk : Talked) (stored : Stored) (opening : List Change) (status : ℕ) (histories : List History) (events : List Event) → is_some stored.before ≡ true
     → (ends : SessionEndsFrom net sites talk stored opening status histories events) → AnsweredLasts net sites talk stored opening status histories events ends
 answered_lasts net sites talk stored opening status histories events tells (inl breaks) =
-    lasts_each net sites (is_some stored.before) 1 None (at_start net sites opening) breaks.start breaks.exchanges breaks.stand talk.store.crashes tells breaks.played breaks.lasts
+    lasts_each net sites (is_some stored.before) 1 [] (at_start net sites opening) breaks.start breaks.exchanges breaks.stand talk.store.crashes tells breaks.played breaks.lasts
 answered_lasts net sites talk stored opening status histories events tells (inr (inl whole)) =
-    lasts_each net sites (is_some stored.before) 1 None (at_start net sites opening) whole.start whole.exchanges whole.session.run.end talk.store.crashes tells whole.session.played whole.lasts
+    lasts_each net sites (is_some stored.before) 1 [] (at_start net sites opening) whole.start whole.exchanges whole.session.run.end talk.store.crashes tells whole.session.played whole.lasts
 answered_lasts net sites talk stored opening status histories events tells (inr (inr (inl unsaid))) =
-    lasts_each net sites (is_some stored.before) 1 None (at_start net sites opening) unsaid.start unsaid.exchanges unsaid.session.run.end talk.store.crashes tells unsaid.session.played unsaid.lasts
+    lasts_each net sites (is_some stored.before) 1 [] (at_start net sites opening) unsaid.start unsaid.exchanges unsaid.session.run.end talk.store.crashes tells unsaid.session.played unsaid.lasts
 answered_lasts net sites talk stored opening status histories events tells (inr (inr (inr until))) =
-    lasts_each net sites (is_some stored.before) 1 None (at_start net sites opening) until.start until.exchanges until.session.run.end talk.store.crashes tells until.session.played until.lasts
+    lasts_each net sites (is_some stored.before) 1 [] (at_start net sites opening) until.start until.exchanges until.session.run.end talk.store.crashes tells until.session.played until.lasts

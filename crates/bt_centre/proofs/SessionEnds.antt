@@ -29,8 +29,8 @@ use Rattle.bt_script.specs.declared.script.Item.TheVariants as item
 use Rattle.bt_talk.specs.declared.block.Step.{Step}
 use Rattle.bt_talk.specs.declared.block.Step.TheVariants as step
 use Rattle.bt_talk.specs.Answers.{answer_of, ready_line}
-use Rattle.bt_talk.specs.Asked.{open_behind}
-use Rattle.bt_talk.specs.Block.{Open, line_bytes, row_of}
+use Rattle.bt_talk.specs.Asked.{row_behind}
+use Rattle.bt_talk.specs.Blocks.{Open, line_bytes, row_of}
 use Rattle.bt_timeline.specs.Timeline.{restart_line}
 use Rattle.bt_report.specs.Stored.{Stored}
 use Rattle.bt_centre.specs.declared.history.History.{History}
@@ -47,7 +47,7 @@ use Rattle.bt_centre.proofs.Going.{breaks_off, left_early}
 use Rattle.bt_centre.proofs.Ended.{AreGood, left_of, only_fault, output_of, rose_from, run_of, world_of}
 use Rattle.bt_centre.proofs.Ends.{AreFlown, AreSafe, frames_safe, leaves_from, run_over, stored_from}
 use Rattle.bt_centre.proofs.Restarts.{left_at_fault, left_unopened, named_fault, tells_marked}
-use Rattle.bt_centre.proofs.Sessions.{Came, LastsIn, gave_more, gave_none, heard_more, last_further, opening_is, row_is, session_begins, session_goes_on, session_turns_more, start_shown, took-nil, took_end, took_heard, took_none, took_same}
+use Rattle.bt_centre.proofs.Sessions.{Came, LastsIn, answer_is, gave_more, gave_none, heard_more, last_further, opening_is, row_is, session_begins, session_goes_on, session_turns_more, start_shown, took-nil, took_end, took_heard, took_none, took_same}
 use Rattle.bt_centre.proofs.Times.{rose_since}
 
 -- what a talk tells, from the start of a session on
@@ -223,7 +223,7 @@ session_whole net sites talk begun exchanges hand start left end status good sho
 
 -- the recovery at a restart failed
 session_at_restart : (net : Net) (sites : Sites) (talk : Talked) (begun : Books) (exchanges : List Exchange) (one : Came) (old : Hand) (start : Shown) (left : Left) (fault : RecoverFault) (status : ℕ)
-    → AreGood net → ShowsChanges net (at_start net sites begun.state.changes) start → SessionDone net sites begun start exchanges old → (row_of net sites (open_behind net sites None (heard_in exchanges)) one).1 ≡ step.Plays item.Restart → WereGiven sites talk (heard_in exchanges ++ one ∷ [])
+    → AreGood net → ShowsChanges net (at_start net sites begun.state.changes) start → SessionDone net sites begun start exchanges old → (row_behind net sites (heard_in exchanges) one).1 ≡ step.Plays item.Restart → WereGiven sites talk (heard_in exchanges ++ one ∷ [])
     → IsLeftAtRestart net old left fault → SaysNamed (behind talk (session_turns net sites begun.state.changes start exchanges ++ Heard one ∷ [])) restart_line fault status
     → talk.store.crashes ≡ left.crashes → SessionEnded net sites talk begun left status
 unfolding run_of
@@ -272,7 +272,7 @@ session_at_restart net sites talk begun exchanges one old start left fault statu
 
 -- what a line comes to could not be played
 session_not_played : (net : Net) (sites : Sites) (talk : Talked) (begun : Books) (exchanges : List Exchange) (one : Came) (stp : Step) (old : Hand) (start : Shown) (left : Left) (fault : RecoverFault) (status : ℕ)
-    → AreGood net → ShowsChanges net (at_start net sites begun.state.changes) start → SessionDone net sites begun start exchanges old → stp ≡ (row_of net sites (open_behind net sites None (heard_in exchanges)) one).1 → WereGiven sites talk (heard_in exchanges ++ one ∷ [])
+    → AreGood net → ShowsChanges net (at_start net sites begun.state.changes) start → SessionDone net sites begun start exchanges old → stp ≡ (row_behind net sites (heard_in exchanges) one).1 → WereGiven sites talk (heard_in exchanges ++ one ∷ [])
     → StepFailed net stp old left fault → SaysNamed (behind talk (session_turns net sites begun.state.changes start exchanges ++ Heard one ∷ [])) restart_line fault status
     → talk.store.crashes ≡ left.crashes → SessionEnded net sites talk begun left status
 session_not_played net sites talk begun exchanges one (step.Plays part) old start left fault status good shows so is given (inl (memory, early)) (inl status_is) store_is =
@@ -299,34 +299,36 @@ session_not_begun net sites hand left why coming u0 u2 before after f0 f2 t0 t2 
     (λ stopped. part_behind [] piece coming u0 u2 before before after f0 f0 f2 t0 t0 t2 s (took_none before t0) (omega arith) (failed stopped) (gains stopped) same) early partly store_is
 
 -- memory ran out over the next line
-pub going_stopped : (net : Net) (sites : Sites) (talk : Talked) (begun : Books) (at : ℕ) (block : Open) (hand : Hand) (left : Left) (coming now before after : Option (List ℕ)) (t1 : Option (List Turn)) (status : ℕ)
-    → SessionGoing net sites begun at block hand coming now before after talk.turns_before t1 → talk.turns_after ≡ t1 → IsLeftOf hand left → status ≡ 1 → talk.store.crashes ≡ left.crashes → SessionEnded net sites talk begun left status
-going_stopped net sites talk begun at block hand left coming now before after t1 status so same is status_is store_is =
+pub going_stopped : (net : Net) (sites : Sites) (talk : Talked) (begun : Books) (at : ℕ) (blocks : Open) (hand : Hand) (left : Left) (coming now before after : Option (List ℕ)) (t1 : Option (List Turn)) (status : ℕ)
+    → SessionGoing net sites begun at blocks hand coming now before after talk.turns_before t1 → talk.turns_after ≡ t1 → IsLeftOf hand left → status ≡ 1 → talk.store.crashes ≡ left.crashes → SessionEnded net sites talk begun left status
+going_stopped net sites talk begun at blocks hand left coming now before after t1 status so same is status_is store_is =
     session_stopped net sites talk begun so.exchanges hand so.said.start left status so.said.done (halts_at net sites talk begun so.exchanges so.said.start so.said.shows (same ∙ so.said.taken.turn)) is status_is store_is
 
 -- memory ran out over a line that was heard
-pub going_not_taken : (net : Net) (sites : Sites) (talk : Talked) (begun : Books) (at : ℕ) (block : Open) (came : Incoming) (hand : Hand) (left : Left) (coming now before after : Option (List ℕ)) (t1 : Option (List Turn)) (status : ℕ)
-    → SessionGoing net sites begun at block hand coming now before after talk.turns_before t1 → talk.turns_after ≡ took t1 (heard (Some came)) → IsLeftOf hand left → status ≡ 1 → talk.store.crashes ≡ left.crashes → SessionEnded net sites talk begun left status
-going_not_taken net sites talk begun at block came hand left coming now before after t1 status so turn is status_is store_is =
+pub going_not_taken : (net : Net) (sites : Sites) (talk : Talked) (begun : Books) (at : ℕ) (blocks : Open) (came : Incoming) (hand : Hand) (left : Left) (coming now before after : Option (List ℕ)) (t1 : Option (List Turn)) (status : ℕ)
+    → SessionGoing net sites begun at blocks hand coming now before after talk.turns_before t1 → talk.turns_after ≡ took t1 (heard (Some came)) → IsLeftOf hand left → status ≡ 1 → talk.store.crashes ≡ left.crashes → SessionEnded net sites talk begun left status
+going_not_taken net sites talk begun at blocks came hand left coming now before after t1 status so turn is status_is store_is =
     session_stopped net sites talk begun so.exchanges hand so.said.start left status so.said.done (halts_heard net sites talk begun so.exchanges so.said.start (said_by came) so.said.shows
     (took_heard (session_turns net sites begun.state.changes so.said.start so.exchanges) came before after after talk.turns_before t1 talk.turns_after so.said.taken refl turn).turn) is status_is store_is
 
 -- a line was played, and the piece was not said to it
-pub going_not_said : (net : Net) (sites : Sites) (begun : Books) (at : ℕ) (block behind_it : Open) (came : Incoming) (stp : Step) (old new : Hand) (own piece : List ℕ) (shown : Shown) (left : Left) (why : SinkFault)
+pub going_not_said : (net : Net) (sites : Sites) (begun : Books) (at : ℕ) (blocks behind_it : Open) (came : Incoming) (stp : Step) (old new : Hand) (own piece : List ℕ) (shown : Shown) (left : Left) (why : SinkFault)
     (coming now next : Option (List ℕ)) (u0 u2 : ℕ) (before b1 b2 after : Option (List ℕ)) (f0 f1 f2 : ℕ) (t0 t1 t2 t3 : Option (List Turn)) (s : Shown) (status : ℕ)
-    → AreGood net → SessionGoing net sites begun at block old coming now before b1 t0 t1 → Comes (line_bytes sites) now (Some came) next → b2 ≡ b1 → t2 ≡ took t1 (heard (Some came))
-    → (let row : Open × Step = (behind_it, stp) in row ≡ row_of net sites block (said_by came)) → StepPlayed net stp old new own → IsLeftOf new left → shown.told ≡ new.book.told → piece ≡ own ++ answer_of at stp
+    → AreGood net → SessionGoing net sites begun at blocks old coming now before b1 t0 t1 → Comes (line_bytes sites) now (Some came) next → b2 ≡ b1 → t2 ≡ took t1 (heard (Some came))
+    → (let row : Open × Step = (behind_it, stp) in row ≡ row_of net sites at blocks (said_by came)) → StepPlayed net stp old new own → IsLeftOf new left → shown.told ≡ new.book.told → piece ≡ own ++ answer_of at (said_by came) (behind_it, stp)
     → f0 ≤ f1 → (why ≡ sink.Failed → Rose f1 f2) → (why ≡ sink.Failed → GainsPrefix b2 piece after) → t3 ≡ t2 → (why ≡ sink.OutOfMemory → status ≡ 1) → (why ≡ sink.Failed → status ≡ 6)
     → s.crashes ≡ left.crashes → shown.crashes ≡ new.book.crashes → LastsIn new → SessionEnded net sites (talk_of coming u0 u2 before after f0 f2 t0 t3 s) begun left status
-going_not_said net sites begun at block behind_it came stp old new own piece shown left why coming now next u0 u2 before b1 b2 after f0 f1 f2 t0 t1 t2 t3 s status good so comes same turn row played is told_is piece_is later failed gains quiet early partly store_is crashes_are last =
+going_not_said net sites begun at blocks behind_it came stp old new own piece shown left why coming now next u0 u2 before b1 b2 after f0 f1 f2 t0 t1 t2 t3 s status good so comes same turn row played is told_is piece_is later failed gains quiet early partly store_is crashes_are last =
     let one : Exchange = record { line = said_by came; piece = piece; shown = shown } in
     let lines = heard_in so.exchanges in
+    let number : at ≡ 1 + length lines = omega (arith, so.count) in
     let talk = talk_of coming u0 u2 before after f0 f2 t0 t3 s in
     let turns = session_turns net sites begun.state.changes so.said.start so.exchanges ++ Heard (said_by came) ∷ [] in
     let taken = took_heard (session_turns net sites begun.state.changes so.said.start so.exchanges) came before b1 b2 t0 t1 t2 so.said.taken same turn in
     let kept = subst (λ (t : Option (List ℕ)). IsKept new.book.net t new.book.state.changes (lost_of new.book.history)) (sym told_is) is.kept in
     session_not_said net sites talk begun (so.exchanges ++ one ∷ []) new turns piece so.said.start shown left why status good so.said.shows (quiet ∙ taken.turn)
-    (session_goes_on net sites begun so.said.start so.exchanges one stp old new own at so.said.done (row_is net sites block behind_it lines (said_by came) stp so.open_is row) (omega (arith, so.count)) played piece_is kept crashes_are last) is
+    (session_goes_on net sites begun so.said.start so.exchanges one behind_it stp old new own so.said.done (row_is net sites at blocks behind_it so.exchanges (said_by came) stp so.open_is number row) played
+    (answer_is at so.exchanges (said_by came) behind_it stp own piece number piece_is) kept crashes_are last) is
     (subst (WereGiven sites talk) (sym (heard_more so.exchanges one)) (were_given sites talk coming next (lines ++ said_by came ∷ []) refl (gave_more sites coming now next lines came so.gave comes)))
     (session_turns_more net sites begun.state.changes so.said.start so.exchanges one)
     (λ stopped. part_behind turns piece coming u0 u2 before b2 after f0 f1 f2 t0 t2 t3 s taken later (failed stopped) (gains stopped) quiet) early partly store_is
@@ -340,42 +342,43 @@ named_behind net sites begun exchanges one start fault coming now u0 u1 u2 befor
     inr (named, says_behind (session_turns net sites begun.state.changes start exchanges ++ Heard one ∷ []) (restart_line ++ recover_line fault) (recover_status fault) status coming now u0 u1 u2 before between after f0 f1 f2 t0 t1 t2 s so later told)
 
 -- what a line comes to could not be played, which was said
-pub going_not_played : (net : Net) (sites : Sites) (begun : Books) (at : ℕ) (block behind_it : Open) (came : Incoming) (stp : Step) (old : Hand) (left : Left) (fault : RecoverFault)
+pub going_not_played : (net : Net) (sites : Sites) (begun : Books) (at : ℕ) (blocks behind_it : Open) (came : Incoming) (stp : Step) (old : Hand) (left : Left) (fault : RecoverFault)
     (coming now next : Option (List ℕ)) (u0 u1 u2 : ℕ) (before b1 b2 after : Option (List ℕ)) (f0 f1 f2 : ℕ) (t0 t1 t2 t3 : Option (List Turn)) (s : Shown) (status : ℕ)
-    → AreGood net → SessionGoing net sites begun at block old coming now before b1 t0 t1 → Comes (line_bytes sites) now (Some came) next → b2 ≡ b1 → t2 ≡ took t1 (heard (Some came))
-    → (let row : Open × Step = (behind_it, stp) in row ≡ row_of net sites block (said_by came)) → StepFailed net stp old left fault → f0 ≤ f1
+    → AreGood net → SessionGoing net sites begun at blocks old coming now before b1 t0 t1 → Comes (line_bytes sites) now (Some came) next → b2 ≡ b1 → t2 ≡ took t1 (heard (Some came))
+    → (let row : Open × Step = (behind_it, stp) in row ≡ row_of net sites at blocks (said_by came)) → StepFailed net stp old left fault → f0 ≤ f1
     → SaysNamed (talk_of next u1 u2 b2 after f1 f2 t2 t3 s) restart_line fault status → s.crashes ≡ left.crashes → SessionEnded net sites (talk_of coming u0 u2 before after f0 f2 t0 t3 s) begun left status
-going_not_played net sites begun at block behind_it came stp old left fault coming now next u0 u1 u2 before b1 b2 after f0 f1 f2 t0 t1 t2 t3 s status good so comes same turn row failed later told store_is =
+going_not_played net sites begun at blocks behind_it came stp old left fault coming now next u0 u1 u2 before b1 b2 after f0 f1 f2 t0 t1 t2 t3 s status good so comes same turn row failed later told store_is =
     let lines = heard_in so.exchanges in
     let talk = talk_of coming u0 u2 before after f0 f2 t0 t3 s in
-    session_not_played net sites talk begun so.exchanges (said_by came) stp old so.said.start left fault status good so.said.shows so.said.done (row_is net sites block behind_it lines (said_by came) stp so.open_is row)
+    session_not_played net sites talk begun so.exchanges (said_by came) stp old so.said.start left fault status good so.said.shows so.said.done
+    (ap (λ (r : Open × Step). r.1) (row_is net sites at blocks behind_it so.exchanges (said_by came) stp so.open_is (let number : at ≡ 1 + length lines = omega (arith, so.count) in number) row))
     (were_given sites talk coming next (lines ++ said_by came ∷ []) refl (gave_more sites coming now next lines came so.gave comes)) failed
     (named_behind net sites begun so.exchanges (said_by came) so.said.start fault coming next u0 u1 u2 before b2 after f0 f1 f2 t0 t2 t3 s status
     (took_heard (session_turns net sites begun.state.changes so.said.start so.exchanges) came before b1 b2 t0 t1 t2 so.said.taken same turn) later told) store_is
 
 -- the end of the input was heard
-pub heard_over : (net : Net) (sites : Sites) (begun : Books) (at : ℕ) (block : Open) (hand : Hand) (coming now next : Option (List ℕ)) (u0 u2 : ℕ) (before b1 after : Option (List ℕ)) (f0 f2 : ℕ) (t0 t1 t2 : Option (List Turn)) (s : Shown)
-    → SessionGoing net sites begun at block hand coming now before b1 t0 t1 → Comes (line_bytes sites) now None next → after ≡ b1 → t2 ≡ took t1 []
+pub heard_over : (net : Net) (sites : Sites) (begun : Books) (at : ℕ) (blocks : Open) (hand : Hand) (coming now next : Option (List ℕ)) (u0 u2 : ℕ) (before b1 after : Option (List ℕ)) (f0 f2 : ℕ) (t0 t1 t2 : Option (List Turn)) (s : Shown)
+    → SessionGoing net sites begun at blocks hand coming now before b1 t0 t1 → Comes (line_bytes sites) now None next → after ≡ b1 → t2 ≡ took t1 []
     → SessionHeard net sites begun (talk_of coming u0 u2 before after f0 f2 t0 t2 s) hand ending.Over
-heard_over net sites begun at block hand coming now next u0 u2 before b1 after f0 f2 t0 t1 t2 s so comes same turn = record {
+heard_over net sites begun at blocks hand coming now next u0 u2 before b1 after f0 f2 t0 t1 t2 s so comes same turn = record {
   exchanges = so.exchanges;
   stops = inl (all_given sites (talk_of coming u0 u2 before after f0 f2 t0 t2 s) coming now next (heard_in so.exchanges) refl so.gave comes);
   said = record { start = so.said.start; done = so.said.done; shows = so.said.shows; taken = took_end (session_turns net sites begun.state.changes so.said.start so.exchanges) before b1 after t0 t1 t2 so.said.taken same turn };
 }
 
 -- as many lines were heard as are counted
-pub heard_all : (net : Net) (sites : Sites) (begun : Books) (at : ℕ) (block : Open) (hand : Hand) (coming now : Option (List ℕ)) (u0 u2 : ℕ) (before after : Option (List ℕ)) (f0 f2 : ℕ) (t0 t2 : Option (List Turn)) (s : Shown)
-    → SessionGoing net sites begun at block hand coming now before after t0 t2 → at ≡ 9223372036854775808 → SessionHeard net sites begun (talk_of coming u0 u2 before after f0 f2 t0 t2 s) hand ending.Over
-heard_all net sites begun at block hand coming now u0 u2 before after f0 f2 t0 t2 s so end = record {
+pub heard_all : (net : Net) (sites : Sites) (begun : Books) (at : ℕ) (blocks : Open) (hand : Hand) (coming now : Option (List ℕ)) (u0 u2 : ℕ) (before after : Option (List ℕ)) (f0 f2 : ℕ) (t0 t2 : Option (List Turn)) (s : Shown)
+    → SessionGoing net sites begun at blocks hand coming now before after t0 t2 → at ≡ 9223372036854775808 → SessionHeard net sites begun (talk_of coming u0 u2 before after f0 f2 t0 t2 s) hand ending.Over
+heard_all net sites begun at blocks hand coming now u0 u2 before after f0 f2 t0 t2 s so end = record {
   exchanges = so.exchanges;
   stops = inr (so.count ∙ end, were_given sites (talk_of coming u0 u2 before after f0 f2 t0 t2 s) coming now (heard_in so.exchanges) refl so.gave);
   said = so.said;
 }
 
 -- the input failed
-pub heard_fault : (net : Net) (sites : Sites) (begun : Books) (at : ℕ) (block : Open) (hand : Hand) (coming now : Option (List ℕ)) (u0 u2 : ℕ) (before b1 after : Option (List ℕ)) (f0 f2 : ℕ) (t0 t1 t2 : Option (List Turn)) (s : Shown)
-    → SessionGoing net sites begun at block hand coming now before b1 t0 t1 → Rose u0 u2 → after ≡ b1 → t2 ≡ t1 → SessionHeard net sites begun (talk_of coming u0 u2 before after f0 f2 t0 t2 s) hand ending.Failed
-heard_fault net sites begun at block hand coming now u0 u2 before b1 after f0 f2 t0 t1 t2 s so rose same turn = record {
+pub heard_fault : (net : Net) (sites : Sites) (begun : Books) (at : ℕ) (blocks : Open) (hand : Hand) (coming now : Option (List ℕ)) (u0 u2 : ℕ) (before b1 after : Option (List ℕ)) (f0 f2 : ℕ) (t0 t1 t2 : Option (List Turn)) (s : Shown)
+    → SessionGoing net sites begun at blocks hand coming now before b1 t0 t1 → Rose u0 u2 → after ≡ b1 → t2 ≡ t1 → SessionHeard net sites begun (talk_of coming u0 u2 before after f0 f2 t0 t2 s) hand ending.Failed
+heard_fault net sites begun at blocks hand coming now u0 u2 before b1 after f0 f2 t0 t1 t2 s so rose same turn = record {
   exchanges = so.exchanges;
   stops = (rose, were_given sites (talk_of coming u0 u2 before after f0 f2 t0 t2 s) coming now (heard_in so.exchanges) refl so.gave);
   said = record { start = so.said.start; done = so.said.done; shows = so.said.shows; taken = took_same (session_turns net sites begun.state.changes so.said.start so.exchanges) before b1 after t0 t1 t2 so.said.taken same turn };
@@ -429,7 +432,7 @@ session_over net sites tells other opening start exchanges histories events same
   parts_are = session.parts_are;
   lines = session.lines;
   run = run_over net sites tells other opening session.parts histories events session.lines same session.run;
-  played = subst (λ (b : Bool). PlaysLines net sites b 1 None (at_start net sites opening) start exchanges session.run.end) same session.played;
+  played = subst (λ (b : Bool). PlaysLines net sites b 1 [] (at_start net sites opening) start exchanges session.run.end) same session.played;
 }
 
 -- the store told bytes before the recovery as behind it, or not, and its count of faults did not fall in it
@@ -456,7 +459,7 @@ session_ends_from net sites talk told given after faults begun now opening statu
   start = breaks.start;
   shows = breaks.shows;
   stand = breaks.stand;
-  played = subst (λ (b : Bool). PlaysLines net sites b 1 None (at_start net sites opening) breaks.start breaks.exchanges breaks.stand) tells breaks.played;
+  played = subst (λ (b : Bool). PlaysLines net sites b 1 [] (at_start net sites opening) breaks.start breaks.exchanges breaks.stand) tells breaks.played;
   lasts = breaks.lasts;
   goes = breaks.goes;
   turns = breaks.turns;

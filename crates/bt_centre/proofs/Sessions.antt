@@ -11,7 +11,7 @@ use Rattle.bt_net.specs.Network.{Net}
 use Rattle.bt_script.specs.declared.sites.Sites.{Sites}
 use Rattle.bt_history.specs.Book.{Books}
 use Rattle.bt_history.specs.Crash.{Last}
-use Rattle.bt_history.specs.Machine.{State}
+use Rattle.bt_history.specs.Machine.{State, state_after}
 use Rattle.bt_history.specs.Store.{IsKept, lost_of}
 use Rattle.bt_history.proofs.Lasting.{last_now, last_then}
 use Rattle.bt_journal.specs.declared.call.Change.{Change}
@@ -23,11 +23,11 @@ use Rattle.bt_talk.specs.declared.block.Query.{Query}
 use Rattle.bt_talk.specs.declared.block.Step.{Step}
 use Rattle.bt_talk.specs.declared.block.Step.TheVariants as step
 use Rattle.bt_talk.specs.Answers.{answer_of, ready_line}
-use Rattle.bt_talk.specs.Asked.{open_behind, part_in, parts_of}
-use Rattle.bt_talk.specs.Block.{Open, line_bytes, row_of}
+use Rattle.bt_talk.specs.Asked.{open_behind, part_in, parts_of, row_behind}
+use Rattle.bt_talk.specs.Blocks.{Open, line_bytes, row_of}
 use Rattle.bt_centre.specs.Answering.{GaveSince, SessionDone, SessionGoing, SessionSaid, StepPlayed, Took}
 use Rattle.bt_centre.specs.Progress.{Hand, IsBegun, ItemPlayed, ItemsDone, start_of}
-use Rattle.bt_centre.specs.Run.{Stand, at_start, changes_at}
+use Rattle.bt_centre.specs.Run.{Stand, at_start, changes_at, state_at}
 use Rattle.bt_centre.specs.Session.{Exchange, PlaysLines, PlaysStep, ShowsChanges, heard_in, opening_text, session_turns, shown_behind, turns_in}
 use Rattle.bt_centre.specs.Talked.{spoken}
 use Rattle.bt_centre.specs.Told.{IsTold}
@@ -106,42 +106,48 @@ session_turns_more net sites opening start exchanges one =
     ∙ sym (append_assoc (session_turns net sites opening start exchanges) (Heard one.line ∷ []) (Said one.piece one.shown ∷ []))
 
 -- a line more is played
-pub lines_more : (net : Net) (sites : Sites) (tells : Bool) (at : ℕ) (block : Open) (before between after : Stand) (shown : Shown) (exchanges : List Exchange) (one : Exchange) (stp : Step) (own : List ℕ) (n : ℕ)
-    → PlaysLines net sites tells at block before shown exchanges between → stp ≡ (row_of net sites (open_behind net sites block (heard_in exchanges)) one.line).1 → n ≡ at + length (heard_in exchanges)
-    → PlaysStep net tells between stp own after → one.piece ≡ own ++ answer_of n stp → ShowsChanges net after one.shown
-    → Last net (changes_at between) (shown_behind shown exchanges).crashes one.shown.crashes → PlaysLines net sites tells at block before shown (exchanges ++ one ∷ []) after
-lines_more net sites tells at block before between after shown [] one stp own n same is number played piece shows last = (
+pub lines_more : (net : Net) (sites : Sites) (tells : Bool) (at : ℕ) (blocks : Open) (before between after : Stand) (shown : Shown) (exchanges : List Exchange) (one : Exchange) (row : Open × Step) (own : List ℕ) (n : ℕ)
+    → PlaysLines net sites tells at blocks before shown exchanges between → row ≡ row_of net sites n (open_behind net sites at blocks (heard_in exchanges)) one.line → n ≡ at + length (heard_in exchanges)
+    → PlaysStep net tells between row.1 own after → one.piece ≡ own ++ answer_of n one.line row → ShowsChanges net after one.shown
+    → Last net (changes_at between) (shown_behind shown exchanges).crashes one.shown.crashes → PlaysLines net sites tells at blocks before shown (exchanges ++ one ∷ []) after
+lines_more net sites tells at blocks before between after shown [] one row own n same is number played piece shows last =
+  let here : n ≡ at = omega (arith, number) in
+  let row_is : row ≡ row_of net sites at blocks one.line = is ∙ ap (λ (m : ℕ). row_of net sites m blocks one.line) here in
+  (
   after,
   own,
-  subst (λ (s : Stand). PlaysStep net tells s (row_of net sites block one.line).1 own after) same (subst (λ (s : Step). PlaysStep net tells between s own after) is played),
+  subst (λ (s : Stand). PlaysStep net tells s (row_of net sites at blocks one.line).1 own after) same (subst (λ (r : Open × Step). PlaysStep net tells between r.1 own after) row_is played),
   refl,
-  piece ∙ ap (λ (m : ℕ). own ++ answer_of m stp) (omega (arith, number)) ∙ ap (λ (s : Step). own ++ answer_of at s) is,
+  piece ∙ ap (λ (m : ℕ). own ++ answer_of m one.line row) here ∙ ap (λ (r : Open × Step). own ++ answer_of at one.line r) row_is,
   shows,
   subst (λ (s : Stand). Last net (changes_at s) shown.crashes one.shown.crashes) same last,
-)
-lines_more net sites tells at block before between after shown (first ∷ exchanges) one stp own n (next, begun, started, going, text_is, shown_is, lasts) is number played piece shows last = (
+  )
+lines_more net sites tells at blocks before between after shown (first ∷ exchanges) one row own n (next, begun, started, going, text_is, shown_is, lasts) is number played piece shows last = (
   next,
   begun,
   started,
-  lines_more net sites tells (at + 1) (row_of net sites block first.line).0 next between after first.shown exchanges one stp own n going is (omega (arith, number)) played piece shows last,
+  lines_more net sites tells (at + 1) (row_of net sites at blocks first.line).0 next between after first.shown exchanges one row own n going is (omega (arith, number)) played piece shows last,
   text_is,
   shown_is,
   lasts,
 )
 
 -- the parts that they ask
-pub parts_more : (net : Net) (sites : Sites) (block : Open) (lines : List Came) (one : Came) → parts_of net sites block (lines ++ one ∷ []) ≡ parts_of net sites block lines ++ part_in (row_of net sites (open_behind net sites block lines) one).1
-parts_more net sites block [] one = append-nil (part_in (row_of net sites block one).1)
-parts_more net sites block (first ∷ lines) one =
-    let own = part_in (row_of net sites block first).1 in
-    let next = (row_of net sites block first).0 in
-    ap (λ (l : List Item). own ++ l) (parts_more net sites next lines one)
-    ∙ sym (append_assoc own (parts_of net sites next lines) (part_in (row_of net sites (open_behind net sites next lines) one).1))
+pub parts_more : (net : Net) (sites : Sites) (at : ℕ) (blocks : Open) (lines : List Came) (one : Came) (n : ℕ) → n ≡ at + length lines
+    → parts_of net sites at blocks (lines ++ one ∷ []) ≡ parts_of net sites at blocks lines ++ part_in (row_of net sites n (open_behind net sites at blocks lines) one).1
+parts_more net sites at blocks [] one n number =
+    append-nil (part_in (row_of net sites at blocks one).1) ∙ ap (λ (m : ℕ). part_in (row_of net sites m blocks one).1) (let here : at ≡ n = omega (arith, number) in here)
+parts_more net sites at blocks (first ∷ lines) one n number =
+    let own = part_in (row_of net sites at blocks first).1 in
+    let next = (row_of net sites at blocks first).0 in
+    ap (λ (l : List Item). own ++ l) (parts_more net sites (at + 1) next lines one n (omega (arith, number)))
+    ∙ sym (append_assoc own (parts_of net sites (at + 1) next lines) (part_in (row_of net sites n (open_behind net sites (at + 1) next lines) one).1))
 
--- the block behind them
-pub open_more : (net : Net) (sites : Sites) (block : Open) (lines : List Came) (one : Came) → open_behind net sites block (lines ++ one ∷ []) ≡ (row_of net sites (open_behind net sites block lines) one).0
-open_more net sites block [] one = refl
-open_more net sites block (first ∷ lines) one = open_more net sites (row_of net sites block first).0 lines one
+-- the blocks behind them
+pub open_more : (net : Net) (sites : Sites) (at : ℕ) (blocks : Open) (lines : List Came) (one : Came) (n : ℕ) → n ≡ at + length lines
+    → open_behind net sites at blocks (lines ++ one ∷ []) ≡ (row_of net sites n (open_behind net sites at blocks lines) one).0
+open_more net sites at blocks [] one n number = ap (λ (m : ℕ). (row_of net sites m blocks one).0) (let here : at ≡ n = omega (arith, number) in here)
+open_more net sites at blocks (first ∷ lines) one n number = open_more net sites (at + 1) (row_of net sites at blocks first).0 lines one n (omega (arith, number))
 
 -- a crash now leaves the changes of the book in hand
 abbrev pub LastsIn : Hand → Type 0
@@ -203,37 +209,40 @@ session_begins net sites hand start begun crashes_are last = record {
   lasts = last_shown net sites hand.book [] hand [] start (items_begin net sites hand begun) crashes_are last;
 }
 
+-- the line that is heard behind these comes to this, and these blocks are open behind it
+abbrev pub IsRow : Net → Sites → List Exchange → Came → Open → Step → Type 0
+IsRow net sites exchanges one blocks stp = (let row : Open × Step = (blocks, stp) in row ≡ row_behind net sites (heard_in exchanges) one)
+
 -- the part of a line more
-asked_more : (net : Net) (sites : Sites) (exchanges : List Exchange) (one : Exchange) (stp : Step) (parts : List Item) → parts ≡ parts_of net sites None (heard_in exchanges)
-    → stp ≡ (row_of net sites (open_behind net sites None (heard_in exchanges)) one.line).1 → parts ++ part_in stp ≡ parts_of net sites None (heard_in (exchanges ++ one ∷ []))
+asked_more : (net : Net) (sites : Sites) (exchanges : List Exchange) (one : Exchange) (stp : Step) (parts : List Item) → parts ≡ parts_of net sites 1 [] (heard_in exchanges)
+    → stp ≡ (row_behind net sites (heard_in exchanges) one.line).1 → parts ++ part_in stp ≡ parts_of net sites 1 [] (heard_in (exchanges ++ one ∷ []))
 asked_more net sites exchanges one stp parts parts_are is =
     let lines = heard_in exchanges in
-    ap (λ (l : List Item). l ++ part_in stp) parts_are ∙ ap (λ (s : Step). parts_of net sites None lines ++ part_in s) is ∙ sym (parts_more net sites None lines one.line)
-    ∙ ap (parts_of net sites None) (sym (heard_more exchanges one))
+    ap (λ (l : List Item). l ++ part_in stp) parts_are ∙ ap (λ (s : Step). parts_of net sites 1 [] lines ++ part_in s) is ∙ sym (parts_more net sites 1 [] lines one.line (1 + length lines) refl)
+    ∙ ap (parts_of net sites 1 []) (sym (heard_more exchanges one))
 
 -- a line more, which plays nothing
-nothing_more : (net : Net) (sites : Sites) (begun : Books) (start : Shown) (exchanges : List Exchange) (one : Exchange) (stp : Step) (hand : Hand) (own : List ℕ) (n : ℕ) → (so : SessionDone net sites begun start exchanges hand)
-    → stp ≡ (row_of net sites (open_behind net sites None (heard_in exchanges)) one.line).1 → n ≡ 1 + length (heard_in exchanges) → part_in stp ≡ []
-    → PlaysStep net (is_some begun.told) so.done.end stp own so.done.end → one.piece ≡ own ++ answer_of n stp → ShowsChanges net so.done.end one.shown
+nothing_more : (net : Net) (sites : Sites) (begun : Books) (start : Shown) (exchanges : List Exchange) (one : Exchange) (blocks : Open) (stp : Step) (hand : Hand) (own : List ℕ) → (so : SessionDone net sites begun start exchanges hand)
+    → IsRow net sites exchanges one.line blocks stp → part_in stp ≡ []
+    → PlaysStep net (is_some begun.told) so.done.end stp own so.done.end → one.piece ≡ own ++ answer_of (1 + length (heard_in exchanges)) one.line (blocks, stp) → ShowsChanges net so.done.end one.shown
     → one.shown.crashes ≡ hand.book.crashes → LastsIn hand → SessionDone net sites begun start (exchanges ++ one ∷ []) hand
-nothing_more net sites begun start exchanges one stp hand own n so is number none played piece shows crashes_are last = record {
+nothing_more net sites begun start exchanges one blocks stp hand own so is none played piece shows crashes_are last = record {
   parts = so.parts;
-  parts_are = sym (append-nil so.parts) ∙ ap (λ (l : List Item). so.parts ++ l) (sym none) ∙ asked_more net sites exchanges one stp so.parts so.parts_are is;
+  parts_are = sym (append-nil so.parts) ∙ ap (λ (l : List Item). so.parts ++ l) (sym none) ∙ asked_more net sites exchanges one stp so.parts so.parts_are (ap (λ (r : Open × Step). r.1) is);
   lines = so.lines;
   done = so.done;
-  played = lines_more net sites (is_some begun.told) 1 None (at_start net sites begun.state.changes) so.done.end so.done.end start exchanges one stp own n so.played is number played piece shows
+  played = lines_more net sites (is_some begun.told) 1 [] (at_start net sites begun.state.changes) so.done.end so.done.end start exchanges one (blocks, stp) own (1 + length (heard_in exchanges)) so.played is refl played piece shows
       (subst (Last net (changes_at so.done.end) (shown_behind start exchanges).crashes) (sym crashes_are) so.lasts);
   lasts = last_behind net sites begun so.parts hand so.lines start exchanges one so.done crashes_are last;
 }
 
 -- what was told of what a run has in hand was told of how far it has come
 told_at : (net : Net) (sites : Sites) (begun : Books) (parts : List Item) (hand : Hand) (lines : List ℕ) (asked : Query) (text : List ℕ) → (so : ItemsDone net sites begun parts hand lines)
-    → IsTold net hand.book.state.changes (waiting_in hand.air) asked text → IsTold net (changes_at so.end) (waiting_in so.end.air) asked text
+    → IsTold net hand.book.state (waiting_in hand.air) asked text → IsTold net (state_at so.end) (waiting_in so.end.air) asked text
 told_at net sites begun parts hand lines asked text so told =
-    let changes : hand.book.state.changes ≡ changes_at so.end =
-    ap (λ (s : State). s.changes) so.so_far.reached ∙ ap (λ (h : List Entry). so.end.opening ++ changes_of h) (sym so.history_is) in
-    subst (λ (c : List Change). IsTold net c (waiting_in so.end.air) asked text) changes
-    (subst (λ (a : AirState). IsTold net hand.book.state.changes (waiting_in a) asked text) (sym so.air_is) told)
+    let state : hand.book.state ≡ state_at so.end = so.so_far.reached ∙ ap (state_after so.end.opening) (sym so.history_is) in
+    subst (λ (s : State). IsTold net s (waiting_in so.end.air) asked text) state
+    (subst (λ (a : AirState). IsTold net hand.book.state (waiting_in a) asked text) (sym so.air_is) told)
 
 -- a store that tells the changes of a book tells those made up to there
 pub shown_at : (net : Net) (sites : Sites) (begun : Books) (parts : List Item) (hand : Hand) (lines : List ℕ) (shown : Shown) → (so : ItemsDone net sites begun parts hand lines)
@@ -257,32 +266,32 @@ unfolding items_begin
 start_shown net sites hand start begun kept = shown_at net sites hand.book [] hand [] start (items_begin net sites hand begun) kept
 
 -- a line more
-pub session_goes_on : (net : Net) (sites : Sites) (begun : Books) (start : Shown) (exchanges : List Exchange) (one : Exchange) (stp : Step) (old new : Hand) (own : List ℕ) (n : ℕ) → (so : SessionDone net sites begun start exchanges old)
-    → stp ≡ (row_of net sites (open_behind net sites None (heard_in exchanges)) one.line).1 → n ≡ 1 + length (heard_in exchanges) → StepPlayed net stp old new own → one.piece ≡ own ++ answer_of n stp
+pub session_goes_on : (net : Net) (sites : Sites) (begun : Books) (start : Shown) (exchanges : List Exchange) (one : Exchange) (blocks : Open) (stp : Step) (old new : Hand) (own : List ℕ) → (so : SessionDone net sites begun start exchanges old)
+    → IsRow net sites exchanges one.line blocks stp → StepPlayed net stp old new own → one.piece ≡ own ++ answer_of (1 + length (heard_in exchanges)) one.line (blocks, stp)
     → IsKept new.book.net one.shown.told new.book.state.changes (lost_of new.book.history)
     → one.shown.crashes ≡ new.book.crashes → LastsIn new → SessionDone net sites begun start (exchanges ++ one ∷ []) new
-session_goes_on net sites begun start exchanges one (step.Plays part) old new own n so is number played piece kept crashes_are last =
+session_goes_on net sites begun start exchanges one blocks (step.Plays part) old new own so is played piece kept crashes_are last =
     let further = item_goes_further net sites begun so.parts part old new so.lines own so.done played in
     record {
       parts = so.parts ++ part ∷ [];
-      parts_are = asked_more net sites exchanges one (step.Plays part) so.parts so.parts_are is;
+      parts_are = asked_more net sites exchanges one (step.Plays part) so.parts so.parts_are (ap (λ (r : Open × Step). r.1) is);
       lines = so.lines ++ own;
       done = further.done;
-      played = lines_more net sites (is_some begun.told) 1 None (at_start net sites begun.state.changes) so.done.end further.done.end start exchanges one (step.Plays part) own n so.played is number further.way piece
+      played = lines_more net sites (is_some begun.told) 1 [] (at_start net sites begun.state.changes) so.done.end further.done.end start exchanges one (blocks, step.Plays part) own (1 + length (heard_in exchanges)) so.played is refl further.way piece
           (shown_at net sites begun (so.parts ++ part ∷ []) new (so.lines ++ own) one.shown further.done kept)
           (subst (Last net (changes_at so.done.end) (shown_behind start exchanges).crashes) (sym crashes_are)
           (last_further net sites begun so.parts old so.lines (shown_behind start exchanges).crashes new.book.crashes so.done so.lasts (item_last net part old new own so.done.so_far.network played)));
       lasts = last_behind net sites begun (so.parts ++ part ∷ []) new (so.lines ++ own) start exchanges one further.done crashes_are last;
     }
-session_goes_on net sites begun start exchanges one step.Nothing old new own n so is number (same, nothing) piece kept crashes_are last =
+session_goes_on net sites begun start exchanges one blocks step.Nothing old new own so is (same, nothing) piece kept crashes_are last =
     subst (SessionDone net sites begun start (exchanges ++ one ∷ [])) (sym same)
-    (nothing_more net sites begun start exchanges one step.Nothing old own n so is number refl (nothing, refl) piece (shown_before net sites begun so.parts old new so.lines one.shown so.done same kept) (crashes_are ∙ ap (λ (h : Hand). h.book.crashes) same) (subst LastsIn same last))
-session_goes_on net sites begun start exchanges one (step.Fault code) old new own n so is number (same, nothing) piece kept crashes_are last =
+    (nothing_more net sites begun start exchanges one blocks step.Nothing old own so is refl (nothing, refl) piece (shown_before net sites begun so.parts old new so.lines one.shown so.done same kept) (crashes_are ∙ ap (λ (h : Hand). h.book.crashes) same) (subst LastsIn same last))
+session_goes_on net sites begun start exchanges one blocks (step.Fault code) old new own so is (same, nothing) piece kept crashes_are last =
     subst (SessionDone net sites begun start (exchanges ++ one ∷ [])) (sym same)
-    (nothing_more net sites begun start exchanges one (step.Fault code) old own n so is number refl (nothing, refl) piece (shown_before net sites begun so.parts old new so.lines one.shown so.done same kept) (crashes_are ∙ ap (λ (h : Hand). h.book.crashes) same) (subst LastsIn same last))
-session_goes_on net sites begun start exchanges one (step.Tells asked) old new own n so is number (same, told) piece kept crashes_are last =
+    (nothing_more net sites begun start exchanges one blocks (step.Fault code) old own so is refl (nothing, refl) piece (shown_before net sites begun so.parts old new so.lines one.shown so.done same kept) (crashes_are ∙ ap (λ (h : Hand). h.book.crashes) same) (subst LastsIn same last))
+session_goes_on net sites begun start exchanges one blocks (step.Tells asked) old new own so is (same, told) piece kept crashes_are last =
     subst (SessionDone net sites begun start (exchanges ++ one ∷ [])) (sym same)
-    (nothing_more net sites begun start exchanges one (step.Tells asked) old own n so is number refl (told_at net sites begun so.parts old so.lines asked own so.done told, refl) piece
+    (nothing_more net sites begun start exchanges one blocks (step.Tells asked) old own so is refl (told_at net sites begun so.parts old so.lines asked own so.done told, refl) piece
     (shown_before net sites begun so.parts old new so.lines one.shown so.done same kept) (crashes_are ∙ ap (λ (h : Hand). h.book.crashes) same) (subst LastsIn same last))
 
 -- the first piece is that of a session that begins so
@@ -302,18 +311,18 @@ session_first net sites hand start begins before after t0 t1 wrote turn kept cra
 }
 
 -- a line more was answered
-pub session_more : (net : Net) (sites : Sites) (begun : Books) (exchanges : List Exchange) (came : Incoming) (stp : Step) (old new : Hand) (own piece : List ℕ) (start shown : Shown) (n : ℕ) (before between after : Option (List ℕ)) (t0 t1 t2 : Option (List Turn))
+pub session_more : (net : Net) (sites : Sites) (begun : Books) (exchanges : List Exchange) (came : Incoming) (blocks : Open) (stp : Step) (old new : Hand) (own piece : List ℕ) (start shown : Shown) (before between after : Option (List ℕ)) (t0 t1 t2 : Option (List Turn))
     → SessionDone net sites begun start exchanges old → ShowsChanges net (at_start net sites begun.state.changes) start → Took (session_turns net sites begun.state.changes start exchanges ++ Heard (said_by came) ∷ []) before between t0 t1
-    → stp ≡ (row_of net sites (open_behind net sites None (heard_in exchanges)) (said_by came)).1 → n ≡ 1 + length (heard_in exchanges)
-    → StepPlayed net stp old new own → piece ≡ own ++ answer_of n stp → after ≡ gained between piece → t2 ≡ took t1 (said piece shown)
+    → IsRow net sites exchanges (said_by came) blocks stp
+    → StepPlayed net stp old new own → piece ≡ own ++ answer_of (1 + length (heard_in exchanges)) (said_by came) (blocks, stp) → after ≡ gained between piece → t2 ≡ took t1 (said piece shown)
     → IsKept new.book.net shown.told new.book.state.changes (lost_of new.book.history) → shown.crashes ≡ new.book.crashes → LastsIn new
     → SessionSaid net sites begun (exchanges ++ record { line = said_by came; piece = piece; shown = shown } ∷ []) new before after t0 t2
-session_more net sites begun exchanges came stp old new own piece start shown n before between after t0 t1 t2 so shows taken is number played piece_is wrote turn kept crashes_are last =
+session_more net sites begun exchanges came blocks stp old new own piece start shown before between after t0 t1 t2 so shows taken is played piece_is wrote turn kept crashes_are last =
     let one : Exchange = record { line = said_by came; piece = piece; shown = shown } in
     let turns = session_turns net sites begun.state.changes start exchanges ++ Heard (said_by came) ∷ [] in
     record {
       start = start;
-      done = session_goes_on net sites begun start exchanges one stp old new own n so is number played piece_is kept crashes_are last;
+      done = session_goes_on net sites begun start exchanges one blocks stp old new own so is played piece_is kept crashes_are last;
       shows = shows;
       taken = subst (λ (l : List Turn). Took l before after t0 t2) (sym (session_turns_more net sites begun.state.changes start exchanges one)) (took_said turns piece shown before between after t0 t1 t2 taken wrote turn);
     }
@@ -349,7 +358,7 @@ gave_none sites None = tt
 -- a session at its start
 pub going_first : (net : Net) (sites : Sites) (hand : Hand) (start : Shown) → IsBegun net sites hand → (coming now before after : Option (List ℕ)) (t0 t1 : Option (List Turn)) → now ≡ coming → after ≡ gained before (start_of hand ++ ready_line 0)
     → t1 ≡ took t0 (said (start_of hand ++ ready_line 0) start) → IsKept hand.book.net start.told hand.book.state.changes (lost_of hand.book.history)
-    → start.crashes ≡ hand.book.crashes → LastsIn hand → SessionGoing net sites hand.book 1 None hand coming now before after t0 t1
+    → start.crashes ≡ hand.book.crashes → LastsIn hand → SessionGoing net sites hand.book 1 [] hand coming now before after t0 t1
 going_first net sites hand start begins coming now before after t0 t1 same wrote turn kept crashes_are last = record {
   exchanges = [];
   count = refl;
@@ -358,28 +367,35 @@ going_first net sites hand start begins coming now before after t0 t1 same wrote
   said = session_first net sites hand start begins before after t0 t1 wrote turn kept crashes_are last;
 }
 
--- the row of a line in the block that is open
-pub row_is : (net : Net) (sites : Sites) (block behind : Open) (lines : List Came) (one : Came) (stp : Step) → block ≡ open_behind net sites None lines → (let row : Open × Step = (behind, stp) in row ≡ row_of net sites block one)
-    → stp ≡ (row_of net sites (open_behind net sites None lines) one).1
-row_is net sites block behind lines one stp is row = ap (λ (r : Open × Step). r.1) (row ∙ ap (λ (o : Open). row_of net sites o one) is)
+-- the row of a line in a session that came so far
+pub row_is : (net : Net) (sites : Sites) (at : ℕ) (blocks behind : Open) (exchanges : List Exchange) (one : Came) (stp : Step) → blocks ≡ open_behind net sites 1 [] (heard_in exchanges) → at ≡ 1 + length (heard_in exchanges)
+    → (let row : Open × Step = (behind, stp) in row ≡ row_of net sites at blocks one) → IsRow net sites exchanges one behind stp
+row_is net sites at blocks behind exchanges one stp is number row =
+    row ∙ ap (λ (o : Open). row_of net sites at o one) is ∙ ap (λ (n : ℕ). row_of net sites n (open_behind net sites 1 [] (heard_in exchanges)) one) number
+
+-- so is its answer
+pub answer_is : (at : ℕ) (exchanges : List Exchange) (one : Came) (behind : Open) (stp : Step) (own piece : List ℕ) → at ≡ 1 + length (heard_in exchanges) → piece ≡ own ++ answer_of at one (behind, stp)
+    → piece ≡ own ++ answer_of (1 + length (heard_in exchanges)) one (behind, stp)
+answer_is at exchanges one behind stp own piece number is = is ∙ ap (λ (n : ℕ). own ++ answer_of n one (behind, stp)) number
 
 -- a session goes on
-pub going_more : (net : Net) (sites : Sites) (begun : Books) (at : ℕ) (block behind : Open) (came : Incoming) (stp : Step) (old new : Hand) (own piece : List ℕ) (shown : Shown) (coming now next rest before b1 b2 after : Option (List ℕ)) (t0 t1 t2 t3 : Option (List Turn))
-    → SessionGoing net sites begun at block old coming now before b1 t0 t1 → Comes (line_bytes sites) now (Some came) next → b2 ≡ b1 → t2 ≡ took t1 (heard (Some came))
-    → (let row : Open × Step = (behind, stp) in row ≡ row_of net sites block (said_by came)) → StepPlayed net stp old new own
-    → piece ≡ own ++ answer_of at stp → after ≡ gained b2 piece → t3 ≡ took t2 (said piece shown) → IsKept new.book.net shown.told new.book.state.changes (lost_of new.book.history) → rest ≡ next
+pub going_more : (net : Net) (sites : Sites) (begun : Books) (at : ℕ) (blocks behind : Open) (came : Incoming) (stp : Step) (old new : Hand) (own piece : List ℕ) (shown : Shown) (coming now next rest before b1 b2 after : Option (List ℕ)) (t0 t1 t2 t3 : Option (List Turn))
+    → SessionGoing net sites begun at blocks old coming now before b1 t0 t1 → Comes (line_bytes sites) now (Some came) next → b2 ≡ b1 → t2 ≡ took t1 (heard (Some came))
+    → (let row : Open × Step = (behind, stp) in row ≡ row_of net sites at blocks (said_by came)) → StepPlayed net stp old new own
+    → piece ≡ own ++ answer_of at (said_by came) (behind, stp) → after ≡ gained b2 piece → t3 ≡ took t2 (said piece shown) → IsKept new.book.net shown.told new.book.state.changes (lost_of new.book.history) → rest ≡ next
     → shown.crashes ≡ new.book.crashes → LastsIn new → SessionGoing net sites begun (at + 1) behind new coming rest before after t0 t3
-going_more net sites begun at block behind came stp old new own piece shown coming now next rest before b1 b2 after t0 t1 t2 t3 so comes same turn row played piece_is wrote answered kept input crashes_are last =
+going_more net sites begun at blocks behind came stp old new own piece shown coming now next rest before b1 b2 after t0 t1 t2 t3 so comes same turn row played piece_is wrote answered kept input crashes_are last =
     let one : Exchange = record { line = said_by came; piece = piece; shown = shown } in
     let lines = heard_in so.exchanges in
-    let here : row_of net sites block one.line ≡ row_of net sites (open_behind net sites None lines) one.line = ap (λ (o : Open). row_of net sites o one.line) so.open_is in
+    let number : at ≡ 1 + length lines = omega (arith, so.count) in
+    let is = row_is net sites at blocks behind so.exchanges one.line stp so.open_is number row in
     record {
       exchanges = so.exchanges ++ one ∷ [];
       count = omega (arith, so.count, length-append lines (one.line ∷ []), ap (λ (l : List Came). length l) (heard_more so.exchanges one));
-      open_is = ap (λ (r : Open × Step). r.0) (row ∙ here) ∙ sym (open_more net sites None lines one.line) ∙ ap (open_behind net sites None) (sym (heard_more so.exchanges one));
+      open_is = ap (λ (r : Open × Step). r.0) is ∙ sym (open_more net sites 1 [] lines one.line (1 + length lines) refl) ∙ ap (open_behind net sites 1 []) (sym (heard_more so.exchanges one));
       gave = subst (λ (c : Option (List ℕ)). GaveSince sites coming c (heard_in (so.exchanges ++ one ∷ []))) (sym input)
           (subst (GaveSince sites coming next) (sym (heard_more so.exchanges one)) (gave_more sites coming now next lines came so.gave comes));
-      said = session_more net sites begun so.exchanges came stp old new own piece so.said.start shown at before b2 after t0 t2 t3 so.said.done so.said.shows
+      said = session_more net sites begun so.exchanges came behind stp old new own piece so.said.start shown before b2 after t0 t2 t3 so.said.done so.said.shows
           (took_heard (session_turns net sites begun.state.changes so.said.start so.exchanges) came before b1 b2 t0 t1 t2 so.said.taken same turn)
-          (row_is net sites block behind lines one.line stp so.open_is row) (omega (arith, so.count)) played piece_is wrote answered kept crashes_are last;
+          is played (answer_is at so.exchanges one.line behind stp own piece number piece_is) wrote answered kept crashes_are last;
     }

@@ -14,7 +14,7 @@ use Rattle.bt_history.specs.declared.fault.RecoverFault.TheVariants.{OutOfMemory
 use Rattle.bt_talk.specs.declared.block.Step.{Step}
 use Rattle.bt_talk.specs.declared.block.Step.TheVariants as step
 use Rattle.bt_talk.specs.Asked.{open_behind, parts_of}
-use Rattle.bt_talk.specs.Block.{Open, line_bytes}
+use Rattle.bt_talk.specs.Blocks.{Open, line_bytes}
 use Rattle.bt_centre.specs.declared.session.InputEnd.{InputEnd}
 use Rattle.bt_round.specs.AirLines.{waiting_in}
 use Rattle.bt_centre.specs.Progress.{Hand, IsLeftOf, ItemFailed, ItemPlayed, ItemsDone, Left}
@@ -34,7 +34,7 @@ abbrev pub StepPlayed : Net → Step → Hand → Hand → List ℕ → Type 0
 StepPlayed net (step.Plays one) old new text = ItemPlayed net one old new text
 StepPlayed net step.Nothing old new text = (new ≡ old) × (text ≡ [])
 StepPlayed net (step.Fault code) old new text = (new ≡ old) × (text ≡ [])
-StepPlayed net (step.Tells one) old new text = (new ≡ old) × IsTold net old.book.state.changes (waiting_in old.air) one text
+StepPlayed net (step.Tells one) old new text = (new ≡ old) × IsTold net old.book.state (waiting_in old.air) one text
 
 -- it could not be played
 abbrev pub StepFailed : Net → Step → Hand → Left → RecoverFault → Type 0
@@ -51,10 +51,10 @@ pub record Took (turns : List Turn) (before after : Option (List ℕ)) (turns_be
 -- lines were played on the way, and the changes made up to there last from the last piece said
 pub record SessionDone (net : Net) (sites : Sites) (begun : Books) (start : Shown) (exchanges : List Exchange) (hand : Hand) : Type 0 where
   pub parts : List Item
-  pub parts_are : parts ≡ parts_of net sites None (heard_in exchanges)
+  pub parts_are : parts ≡ parts_of net sites 1 [] (heard_in exchanges)
   pub lines : List ℕ
   pub done : ItemsDone net sites begun parts hand lines
-  pub played : PlaysLines net sites (is_some begun.told) 1 None (at_start net sites begun.state.changes) start exchanges done.end
+  pub played : PlaysLines net sites (is_some begun.told) 1 [] (at_start net sites begun.state.changes) start exchanges done.end
   pub lasts : Last net (changes_at done.end) (shown_behind start exchanges).crashes hand.book.crashes
 
 -- the same, and the first piece was said, and each of them was answered
@@ -72,10 +72,10 @@ GaveSince sites None (Some rest) lines = ⊥
 GaveSince sites None None lines = Unit {0}
 
 -- a session before its line `at`
-pub record SessionGoing (net : Net) (sites : Sites) (begun : Books) (at : ℕ) (block : Open) (hand : Hand) (coming now before after : Option (List ℕ)) (turns_before turns_after : Option (List Turn)) : Type 0 where
+pub record SessionGoing (net : Net) (sites : Sites) (begun : Books) (at : ℕ) (blocks : Open) (hand : Hand) (coming now before after : Option (List ℕ)) (turns_before turns_after : Option (List Turn)) : Type 0 where
   pub exchanges : List Exchange
   pub count : length (heard_in exchanges) + 1 ≡ at
-  pub open_is : block ≡ open_behind net sites None (heard_in exchanges)
+  pub open_is : blocks ≡ open_behind net sites 1 [] (heard_in exchanges)
   pub gave : GaveSince sites coming now (heard_in exchanges)
   pub said : SessionSaid net sites begun exchanges hand before after turns_before turns_after
 

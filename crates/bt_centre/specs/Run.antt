@@ -21,7 +21,7 @@ use Rattle.bt_history.specs.declared.fault.RecoverFault.{RecoverFault}
 use Rattle.bt_history.specs.declared.fault.RecoverFault.TheVariants.{OutOfMemory, StoreFault}
 use Rattle.bt_history.specs.Causes.{Follows, IsGoodForItsEdition}
 use Rattle.bt_history.specs.Changes.{edition, installs, newest, orders, plans}
-use Rattle.bt_history.specs.Machine.{Legal, bytes_of}
+use Rattle.bt_history.specs.Machine.{Legal, State, bytes_of, state_after}
 use Rattle.bt_history.specs.Recovery.{IsReadable, IsRecoverFault, MaybeRecovered, Recovered}
 use Rattle.bt_history.specs.Store.{IsKept, IsNextOpening, RoseBy, is_lost, lost_of}
 use Rattle.bt_script.specs.declared.script.Item.{Item}
@@ -54,6 +54,10 @@ pub record Stand : Type 0 where
 -- the changes made so far
 abbrev pub changes_at : Stand → List Change
 changes_at stand = stand.opening ++ changes_of stand.history
+
+-- the state of the book: those changes, and whether a fault of the store has stopped it in this time
+abbrev pub state_at : Stand → State
+state_at stand = state_after stand.opening stand.history
 
 -- the history of the present time
 abbrev pub history_at : Stand → History

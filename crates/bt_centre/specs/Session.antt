@@ -19,8 +19,8 @@ use Rattle.bt_script.specs.declared.script.Item.TheVariants as item
 use Rattle.bt_talk.specs.declared.block.Step.{Step}
 use Rattle.bt_talk.specs.declared.block.Step.TheVariants as step
 use Rattle.bt_talk.specs.Answers.{answer_of, input_fault_line, ready_line}
-use Rattle.bt_talk.specs.Asked.{open_behind, parts_of}
-use Rattle.bt_talk.specs.Block.{Open, line_bytes, row_of}
+use Rattle.bt_talk.specs.Asked.{parts_of, row_behind}
+use Rattle.bt_talk.specs.Blocks.{Open, line_bytes, row_of}
 use Rattle.bt_timeline.specs.Timeline.{restart_line}
 use Rattle.bt_report.specs.declared.status.TheConstants.{DONE, READ_FAILED, STORE_FAILED, WRITE_FAILED}
 use Rattle.bt_report.specs.Stored.{Stored}
@@ -31,7 +31,7 @@ use Rattle.bt_frame.specs.declared.limits.TheConstants.{MOST_ANSWERS}
 use Rattle.bt_round.specs.AirLines.{waiting_in}
 use Rattle.bt_centre.specs.Lines.{total_of}
 use Rattle.bt_centre.specs.RecoverFaults.{recover_line, recover_status}
-use Rattle.bt_centre.specs.Run.{BreaksEarly, BreaksOff, FramesAreSafe, IsOpening, IsRun, LeavesStore, PlaysItem, RunsNone, Stand, at_start, changes_at, entries_of, first_line, has_lost, opening_on}
+use Rattle.bt_centre.specs.Run.{BreaksEarly, BreaksOff, FramesAreSafe, IsOpening, IsRun, LeavesStore, PlaysItem, RunsNone, Stand, at_start, changes_at, entries_of, first_line, has_lost, opening_on, state_at}
 use Rattle.bt_centre.specs.Talked.{Says, SaysPart, Talked, behind}
 use Rattle.bt_centre.specs.Told.{IsTold}
 use Rattle.bt_centre.specs.World.{IsSpelledWorld}
@@ -65,16 +65,16 @@ abbrev pub PlaysStep : Net → (tells : Bool) → Stand → Step → List ℕ �
 PlaysStep net tells before (step.Plays one) text after = PlaysItem net tells before one text after
 PlaysStep net tells before step.Nothing text after = (text ≡ []) × (after ≡ before)
 PlaysStep net tells before (step.Fault code) text after = (text ≡ []) × (after ≡ before)
-PlaysStep net tells before (step.Tells one) text after = IsTold net (changes_at before) (waiting_in before.air) one text × (after ≡ before)
+PlaysStep net tells before (step.Tells one) text after = IsTold net (state_at before) (waiting_in before.air) one text × (after ≡ before)
 
 -- lines one after the other, the first of them line `at`: each is played, and the piece said to it is the text of that with its answer
 -- behind, while the store told all changes that were made up to there. The changes that were made before a line last from the piece said
 -- before it, when the store told this, up to its own.
 abbrev pub PlaysLines : Net → Sites → (tells : Bool) → (at : ℕ) → Open → Stand → Shown → List Exchange → Stand → Type 0
-PlaysLines net sites tells at block before shown [] after = after ≡ before
-PlaysLines net sites tells at block before shown (first ∷ exchanges) after =
-    (between : Stand) × (own : List ℕ) × PlaysStep net tells before (row_of net sites block first.line).1 own between
-    × PlaysLines net sites tells (at + 1) (row_of net sites block first.line).0 between first.shown exchanges after × (first.piece ≡ own ++ answer_of at (row_of net sites block first.line).1)
+PlaysLines net sites tells at blocks before shown [] after = after ≡ before
+PlaysLines net sites tells at blocks before shown (first ∷ exchanges) after =
+    (between : Stand) × (own : List ℕ) × PlaysStep net tells before (row_of net sites at blocks first.line).1 own between
+    × PlaysLines net sites tells (at + 1) (row_of net sites at blocks first.line).0 between first.shown exchanges after × (first.piece ≡ own ++ answer_of at first.line (row_of net sites at blocks first.line))
     × ShowsChanges net between first.shown × Last net (changes_at before) shown.crashes first.shown.crashes
 
 -- the changes made up to there last from the last piece said, or that over which the sink or memory failed, to the end of the talk
@@ -86,10 +86,10 @@ LastToEnd net talk stand start exchanges = Last net (changes_at stand) (shown_be
 pub record IsSession (net : Net) (sites : Sites) (tells : Bool) (opening : List Change) (start : Shown) (exchanges : List Exchange) (histories : List History) (events : List Event) : Type 0 where
   pub shows : ShowsChanges net (at_start net sites opening) start
   pub parts : List Item
-  pub parts_are : parts ≡ parts_of net sites None (heard_in exchanges)
+  pub parts_are : parts ≡ parts_of net sites 1 [] (heard_in exchanges)
   pub lines : List ℕ
   pub run : IsRun net sites tells opening parts histories events lines
-  pub played : PlaysLines net sites tells 1 None (at_start net sites opening) start exchanges run.end
+  pub played : PlaysLines net sites tells 1 [] (at_start net sites opening) start exchanges run.end
 
 -- the first line of a session, and that the first line may come
 abbrev pub opening_text : Net → Sites → List Change → List ℕ
@@ -165,7 +165,7 @@ pub record SessionToRestart (net : Net) (sites : Sites) (talk : Talked) (stored 
   pub last : Option (List ℕ)
   pub start : Shown
   pub session : IsSession net sites (is_some stored.before) opening start exchanges histories events
-  pub asked : (row_of net sites (open_behind net sites None (heard_in exchanges)) last).1 ≡ step.Plays item.Restart
+  pub asked : (row_behind net sites (heard_in exchanges) last).1 ≡ step.Plays item.Restart
   pub given : WereGiven sites talk (heard_in exchanges ++ last ∷ [])
   pub told : Option (List ℕ)
   pub faults : ℕ
@@ -197,7 +197,7 @@ pub record SessionBreaksOff (net : Net) (sites : Sites) (talk : Talked) (stored 
   pub start : Shown
   pub shows : ShowsChanges net (at_start net sites opening) start
   pub stand : Stand
-  pub played : PlaysLines net sites (is_some stored.before) 1 None (at_start net sites opening) start exchanges stand
+  pub played : PlaysLines net sites (is_some stored.before) 1 [] (at_start net sites opening) start exchanges stand
   pub lasts : LastToEnd net talk stand start exchanges
   pub goes : GoesOnFrom stand histories
   pub turns : List Turn

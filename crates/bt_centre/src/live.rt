@@ -122,7 +122,7 @@ impl<K: Keeper> Live<K> {
         requires air_network { (opening_in self.now.air).net ≡ net.now }
         requires terminals { IsQueryFor net.now query }
         requires follow { Follows net.now self.now.book.state.changes }
-        ensures told { IfOk result (λ text. IsTold net.now self.now.book.state.changes (waiting_in self.now.air) query text.items) }
+        ensures told { IfOk result (λ text. IsTold net.now self.now.book.state (waiting_in self.now.air) query text.items) }
     {
         let station = &self.run.station;
         tell(alloc, net, &station.book, &station.centre, query)

@@ -1,5 +1,5 @@
 // A session: lines come one by one, and each is played and answered before the next is heard.
-ghost use Rattle.std.specs.Prelude.{◌≡◌, ◌≤◌, ◌<◌, ◌++◌, [], IfErr, IfOk, IsErrOf, OnErr, OnOk, Some};
+ghost use Rattle.std.specs.Prelude.{◌≡◌, ◌≤◌, ◌<◌, ◌++◌, [], IfErr, IfOk, IfSome, IsErrOf, OnErr, OnOk, Some, length, option_map};
 ghost use Rattle.bt_outside.specs.Told.{GainsPrefix, Rose, gained};
 ghost use Rattle.bt_outside.specs.Input.{IsShort, said_by};
 ghost use Rattle.bt_outside.specs.Talk.{said, took};
@@ -7,7 +7,8 @@ ghost use Rattle.bt_history.specs.Crash.{Last};
 ghost use Rattle.bt_history.specs.Store.{IsKept, lost_of};
 ghost use Rattle.bt_timeline.specs.Timeline.{restart_line};
 ghost use Rattle.bt_talk.specs.Answers.{answer_of, ready_line};
-ghost use Rattle.bt_talk.specs.Block.{IsOpenFor, IsStepFor, line_bytes, row_of};
+ghost use Rattle.bt_talk.specs.Block.{IsStepFor};
+ghost use Rattle.bt_talk.specs.Blocks.{IsOpenFor, line_bytes, row_of};
 ghost use Rattle.bt_centre.specs.Answering.{SaysNamed, SessionEnded, SessionHeard};
 ghost use Rattle.bt_centre.specs.Progress.{IsBegun, start_of};
 ghost use Rattle.bt_centre.specs.Session.{SessionTo, closing_text, input_status, input_text, status_behind};
@@ -26,7 +27,7 @@ use bt_outside::{Incoming, Keeper, SinkFault, SourceFault, Talk};
 use bt_report::{DONE, OUT_OF_MEMORY, READ_FAILED, STORE_FAILED, unwritten};
 use bt_round::Gate;
 use bt_script::Sites;
-use bt_talk::{Block, Step, add_input_fault, add_ready, answer_text, line_bytes};
+use bt_talk::{Blocks, Step, add_input_fault, add_ready, answer_text, line_bytes};
 use bt_world::{Events, TracedEvents, frames_are_safe};
 use std::alloc::Global;
 use std::sync::Wait;
@@ -185,7 +186,7 @@ fn play_lines<R: Threads + Wait + Sync, G: Gate + Sync, T: Talk<K>, K: Keeper + 
     if let Err(fault) = say_opening(alloc, &playing, talk) {
         return Err(playing.stop(rt, alloc).end(unwritten(fault)));
     }
-    let mut block = Block::closed();
+    let mut blocks = Blocks::none(alloc);
     for at in 1..MOST_ANSWERS {
         let came = match talk.hear(alloc, line_bytes(sites)) {
             Ok(Some(came)) => came,
@@ -193,14 +194,14 @@ fn play_lines<R: Threads + Wait + Sync, G: Gate + Sync, T: Talk<K>, K: Keeper + 
             Err(SourceFault::Failed) => return Ok((playing, InputEnd::Failed)),
             Err(SourceFault::OutOfMemory) => return Err(playing.stop(rt, alloc).end(OUT_OF_MEMORY)),
         };
-        let (behind, step, answer) = match take(alloc, net, sites, at, &came, block) {
+        let (behind, step, answer) = match take(alloc, net, sites, at, &came, blocks) {
             Ok(taken) => taken,
             Err(OutOfMemory) => return Err(playing.stop(rt, alloc).end(OUT_OF_MEMORY)),
         };
         match play_step(rt, alloc, net, gate, step, playing) {
             Ok((next, text)) => {
                 playing = next;
-                block = behind;
+                blocks = behind;
                 if let Err(fault) = say_both(alloc, text, answer.as_slice(), &playing, talk) {
                     return Err(playing.stop(rt, alloc).end(unwritten(fault)));
                 }
@@ -214,27 +215,46 @@ fn play_lines<R: Threads + Wait + Sync, G: Gate + Sync, T: Talk<K>, K: Keeper + 
     Ok((playing, InputEnd::Over))
 }
 
-/// What line `at` comes to, with the block behind it, and its answer.
+/// What line `at` comes to, with the blocks that are open behind it, and its answer.
 fn take(
     alloc: Global,
     net: &Network,
     sites: Sites,
     at: u64,
     came: &Incoming,
-    block: Block,
-) -> Result<(Block, Step, Vec<u8>), OutOfMemory>
-    requires terminals { IsOpenFor net.now block }
+    blocks: Blocks,
+) -> Result<(Blocks, Step, Vec<u8>), OutOfMemory>
+    requires terminals { IsOpenFor net.now blocks }
     requires short { IsShort (line_bytes sites) (Some came.now) }
-    ensures row { IfOk result (λ on. (on.0, on.1) ≡ row_of net.now sites block (said_by came.now)) }
-    ensures answer { IfOk result (λ on. on.2.items ≡ answer_of at on.1) }
+    ensures row { IfOk result (λ on. (on.0, on.1) ≡ row_of net.now sites at blocks (said_by came.now)) }
+    ensures answer { IfOk result (λ on. on.2.items ≡ answer_of at (said_by came.now) (on.0, on.1)) }
     ensures terminals { IfOk result (λ on. IsOpenFor net.now on.0) }
     ensures part { IfOk result (λ on. IsStepFor net.now on.1) }
 {
-    let (behind, step) = match came {
-        Incoming::Line(line) => block.take(alloc, net, sites, Some(line.as_slice()))?,
-        Incoming::NoLine => block.take(alloc, net, sites, None)?,
-    };
-    let answer = answer_text(alloc, at, &step)?;
+    match came {
+        Incoming::Line(line) => take_text(alloc, net, sites, at, Some(line.as_slice()), blocks),
+        Incoming::NoLine => take_text(alloc, net, sites, at, None, blocks),
+    }
+}
+
+/// The same of a line, or None where what came is none.
+fn take_text(
+    alloc: Global,
+    net: &Network,
+    sites: Sites,
+    at: u64,
+    came: Option<&[u8]>,
+    blocks: Blocks,
+) -> Result<(Blocks, Step, Vec<u8>), OutOfMemory>
+    requires terminals { IsOpenFor net.now blocks }
+    requires short { IfSome came (λ text. length text.now ≤ line_bytes sites) }
+    ensures row { IfOk result (λ on. (on.0, on.1) ≡ row_of net.now sites at blocks (option_map (λ text. text.now) came.entry)) }
+    ensures answer { IfOk result (λ on. on.2.items ≡ answer_of at (option_map (λ text. text.now) came.entry) (on.0, on.1)) }
+    ensures terminals { IfOk result (λ on. IsOpenFor net.now on.0) }
+    ensures part { IfOk result (λ on. IsStepFor net.now on.1) }
+{
+    let (behind, step) = blocks.take(alloc, net, sites, at, came)?;
+    let answer = answer_text(alloc, at, came, &behind, &step)?;
     Ok((behind, step, answer))
 }
 

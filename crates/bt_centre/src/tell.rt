@@ -7,7 +7,9 @@ ghost use Rattle.bt_centre.specs.Told.{IsAnswer, IsTold};
 
 use bt_book::Book;
 use bt_frame::OutOfMemory;
-use bt_look::{capacity_of_book, demand_of_book, newest_of_book, room_of_book, state_of_book};
+use bt_look::{
+    capacity_of_book, demand_of_book, newest_of_book, plans_of_book, room_of_book, state_of_book,
+};
 use bt_net::Network;
 use bt_outside::Keeper;
 use bt_round::CentreWorker;
@@ -27,7 +29,7 @@ pub(crate) fn tell<K: Keeper, E: Events>(
     requires air_network { (opening_in centre.now).net ≡ net.now }
     requires terminals { IsQueryFor net.now query }
     requires follow { Follows net.now book.now.state.changes }
-    ensures told { IfOk result (λ text. IsTold net.now book.now.state.changes (waiting_in centre.now) query text.items) }
+    ensures told { IfOk result (λ text. IsTold net.now book.now.state (waiting_in centre.now) query text.items) }
 {
     let own = answer(alloc, net, book, centre, query)?;
     counted_text(alloc, own.as_slice())
@@ -45,7 +47,7 @@ fn answer<K: Keeper, E: Events>(
     requires air_network { (opening_in centre.now).net ≡ net.now }
     requires terminals { IsQueryFor net.now query }
     requires follow { Follows net.now book.now.state.changes }
-    ensures { IfOk result (λ text. IsAnswer net.now book.now.state.changes (waiting_in centre.now) query text.items) }
+    ensures { IfOk result (λ text. IsAnswer net.now book.now.state (waiting_in centre.now) query text.items) }
 {
     match query {
         Query::State => state_of_book(alloc, net, book),
@@ -53,7 +55,9 @@ fn answer<K: Keeper, E: Events>(
         Query::Room { from, to } => room_of_book(alloc, net, book, from, to),
         Query::Demand => demand_of_book(alloc, net, book),
         Query::Installed => newest_of_book(alloc, net, book),
+        Query::Plans => plans_of_book(alloc, book),
         Query::Waiting => centre.waiting_text(alloc, net),
         Query::Help(sites) => help_text(alloc, sites),
+        Query::Blocks(lines) => Ok(lines.into_text()),
     }
 }

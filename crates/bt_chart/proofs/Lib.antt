@@ -1,3 +1,4 @@
+pub mod OnePage
 pub mod OneChart
 pub mod Naming
 pub mod Newest

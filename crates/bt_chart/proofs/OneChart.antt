@@ -7,11 +7,12 @@ use Rattle.bt_load.specs.Kinds.{network_file, output_file, plan_file}
 use Rattle.bt_load.specs.Loaders.{Loader, file}
 use Rattle.bt_load.proofs.OneLoad.{IsLawful, Loads-same, done_alike, file_lawful, nothing_lawful, tested_lawful, then_lawful}
 use Rattle.bt_report.specs.Outcome.{Outcome}
-use Rattle.bt_chart.specs.Request.{Request, Faulty, ChartPlan, ChartRun, ChartLadder}
+use Rattle.bt_chart.specs.Request.{Request, Faulty, ChartPlan, ChartRun, ChartLadder, ChartPage}
 use Rattle.bt_chart.specs.Plans.{ChooseAPart, ChooseNone, part_file}
 use Rattle.bt_chart.specs.Runs.{AreTerminals, DrawsRun, FindsStranger, chosen_file, output_files}
 use Rattle.bt_chart.specs.declared.run.Drawing.{Drawing}
 use Rattle.bt_chart.specs.declared.run.Drawing.TheVariants as drawing
+use Rattle.bt_chart.proofs.OnePage.{Journals, page_lawful, page_same}
 use Rattle.bt_chart.specs.Top.{AreTold, Charts, ChartsBy, Command, Draws, IsOneBy, IsOneChart, NeedsBy, command_of}
 
 -- names are all of terminals, or not
@@ -49,17 +50,18 @@ run_lawful so net output names = record {
 abbrev LawsBy : Command → Type 1
 LawsBy (Draws Value loads after choice) = IsLawfulCommand loads after choice
 
-laws_of : (request : Request) → LawsBy (command_of request)
-laws_of Faulty = record { lawful = nothing_lawful; same = λ none a b one other. one ∙ sym other }
-laws_of (ChartPlan net plan words) = record {
+laws_of : Journals → (request : Request) → LawsBy (command_of request)
+laws_of journals Faulty = record { lawful = nothing_lawful; same = λ none a b one other. one ∙ sym other }
+laws_of journals (ChartPlan net plan words) = record {
   lawful = then_lawful (part_file net words) (λ network. file (plan_file network) plan) (part_lawful net words) (λ network. file_lawful (plan_file network) plan);
   same = λ both a b one other. one ∙ sym other;
 }
-laws_of (ChartRun net output view names) = run_lawful drawing.Rows net output names
-laws_of (ChartLadder net output view names) = run_lawful drawing.Ladder net output names
+laws_of journals (ChartRun net output view names) = run_lawful drawing.Rows net output names
+laws_of journals (ChartLadder net output view names) = run_lawful drawing.Ladder net output names
+laws_of journals (ChartPage net journal seconds) = record { lawful = page_lawful net journal; same = λ both. page_same journals seconds both.0 both.1 }
 
 same_by : (asked : Command) → LawsBy asked → (told : List ℕ → Option (List ℕ)) → NeedsBy asked told → (a b : Outcome) → ChartsBy asked told ⊥ a → ChartsBy asked told ⊥ b → IsOneBy asked a b
 same_by (Draws Value loads after choice) laws told of_files = Loads-same choice loads laws.lawful told of_files after after laws.same
 
-pub Charts-same : (told : List ℕ → Option (List ℕ)) (request : Request) → AreTold told request → (a b : Outcome) → Charts told ⊥ request a → Charts told ⊥ request b → IsOneChart request a b
-Charts-same told request of_files = same_by (command_of request) (laws_of request) told of_files
+pub Charts-same : Journals → (told : List ℕ → Option (List ℕ)) (request : Request) → AreTold told request → (a b : Outcome) → Charts told ⊥ request a → Charts told ⊥ request b → IsOneChart request a b
+Charts-same journals told request of_files = same_by (command_of request) (laws_of journals request) told of_files

@@ -4,6 +4,7 @@ pub mod CommandLine
 pub mod Choosing
 pub mod Plans
 pub mod Runs
+pub mod Pages
 pub mod Top
 pub mod Fixed
 pub mod Pieces

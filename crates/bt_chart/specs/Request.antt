@@ -1,8 +1,10 @@
 -- What the words after the program's name ask for.
-use Rattle.std.specs.Prelude.{ℕ, ◌&&◌, if◌then◌else◌, nat_lt, length, codes, List, [], ◌∷◌, Option, Some, None, Bool, true, false}
+use Rattle.std.specs.Prelude.{ℕ, ◌&&◌, if◌then◌else◌, nat_lt, nat_le, length, codes, List, [], ◌∷◌, Option, Some, None, option_and_then, Bool, true, false}
 use Rattle.std.specs.Str.{bytes_eq}
+use Rattle.bt_text.specs.Text.{number_of}
 use Rattle.bt_run_chart.specs.declared.view.Superframes.{Superframes}
 use Rattle.bt_run_chart.specs.declared.view.View.{View}
+use Rattle.bt_chart.specs.declared.command_line.TheConstants.{MOST_SECONDS}
 use Rattle.bt_chart.specs.Range.{superframes_in}
 
 -- a command with its words, or words of no command
@@ -11,6 +13,7 @@ pub data Request : Type 0 where
   ChartPlan : List ℕ → List ℕ → List (List ℕ) → Request
   ChartRun : List ℕ → List ℕ → View → List (List ℕ) → Request
   ChartLadder : List ℕ → List ℕ → View → List (List ℕ) → Request
+  ChartPage : List ℕ → List ℕ → Option ℕ → Request
 
 -- `plan NET PLAN [BEAM ..] [FIRST-LAST]`; a word that names a file is not empty
 abbrev pub plan_request : List ℕ → List ℕ → List (List ℕ) → Request
@@ -44,12 +47,36 @@ run_request net output words = if nat_lt 0 (length net) && nat_lt 0 (length outp
 abbrev pub ladder_request : List ℕ → List ℕ → List (List ℕ) → Request
 ladder_request net output words = if nat_lt 0 (length net) && nat_lt 0 (length output) then ChartLadder net output (chosen_of words).view (chosen_of words).names else Faulty
 
+-- the number, where it is one of seconds after which a page is loaded again
+abbrev pub seconds_within : ℕ → Option ℕ
+seconds_within number = if nat_lt 0 number && nat_le number MOST_SECONDS then Some number else None
+
+-- the seconds that a word is
+abbrev pub seconds_in : List ℕ → Option ℕ
+seconds_in word = option_and_then seconds_within (number_of word)
+
+-- a page that is loaded again after so many seconds, where these are some
+abbrev pub page_every : List ℕ → List ℕ → Option ℕ → Request
+page_every net journal None = Faulty
+page_every net journal (Some seconds) = ChartPage net journal (Some seconds)
+
+-- `[every SECONDS]`
+abbrev pub page_with : List ℕ → List ℕ → List (List ℕ) → Request
+page_with net journal [] = ChartPage net journal None
+page_with net journal (word ∷ seconds ∷ []) = if bytes_eq word (codes "every") then page_every net journal (seconds_in seconds) else Faulty
+page_with net journal _ = Faulty
+
+-- `page NET JOURNAL [every SECONDS]`
+abbrev pub page_request : List ℕ → List ℕ → List (List ℕ) → Request
+page_request net journal words = if nat_lt 0 (length net) && nat_lt 0 (length journal) then page_with net journal words else Faulty
+
 -- what a command asks for with two files, and these words behind them
 abbrev pub asked_with : List ℕ → List ℕ → List ℕ → List (List ℕ) → Request
 asked_with command net file words =
     if bytes_eq command (codes "plan") then plan_request net file words
     else (if bytes_eq command (codes "run") then run_request net file words
-    else (if bytes_eq command (codes "ladder") then ladder_request net file words else Faulty))
+    else (if bytes_eq command (codes "ladder") then ladder_request net file words
+    else (if bytes_eq command (codes "page") then page_request net file words else Faulty)))
 
 -- what the words ask for
 abbrev pub chart_request_of : List (List ℕ) → Request

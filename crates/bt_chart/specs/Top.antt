@@ -6,8 +6,9 @@ use Rattle.bt_report.specs.Outcome.{Outcome, PrintsOneOf}
 use Rattle.bt_report.specs.Output.{Output}
 use Rattle.bt_load.specs.Choice.{AnyGood, AreAlike, Choice, Exactly}
 use Rattle.bt_load.specs.Loaders.{Loader, Loads, nothing}
+use Rattle.bt_chart.specs.Pages.{DrawsPage, page_files}
 use Rattle.bt_chart.specs.Plans.{DrawsPlan, plan_files}
-use Rattle.bt_chart.specs.Request.{Request, Faulty, ChartPlan, ChartRun, ChartLadder}
+use Rattle.bt_chart.specs.Request.{Request, Faulty, ChartPlan, ChartRun, ChartLadder, ChartPage}
 use Rattle.bt_chart.specs.Runs.{DrawsRun, output_files}
 use Rattle.bt_chart.specs.declared.run.Drawing.TheVariants as drawing
 
@@ -24,6 +25,7 @@ command_of Faulty = command nothing (λ none. SaysFaultyWords) Exactly
 command_of (ChartPlan net plan words) = command (plan_files net plan words) (λ both. DrawsPlan words both.0 both.1) Exactly
 command_of (ChartRun net output view names) = command (output_files net output names) (λ both. DrawsRun drawing.Rows) AnyGood
 command_of (ChartLadder net output view names) = command (output_files net output names) (λ both. DrawsRun drawing.Ladder) AnyGood
+command_of (ChartPage net journal seconds) = command (page_files net journal) (λ both. DrawsPage seconds both.0 both.1) AnyGood
 
 -- the outcomes of a command: its loads stop with them, or it has them with the value that they give
 abbrev pub ChartsBy : Command → (List ℕ → Option (List ℕ)) → Type 0 → Outcome → Type 0
@@ -49,6 +51,7 @@ AreTold told request = NeedsBy (command_of request) told
 abbrev pub IsOneBy : Command → Outcome → Outcome → Type 0
 IsOneBy (Draws Value loads after choice) a b = AreAlike choice a b
 
--- the same outcome; of a run any picture of its kind may stand in another's place
+-- the same outcome; of a run any picture of its kind may stand in another's place, and of a journal any page, as links of one size
+-- stand in any order
 abbrev pub IsOneChart : Request → Outcome → Outcome → Type 0
 IsOneChart request a b = IsOneBy (command_of request) a b

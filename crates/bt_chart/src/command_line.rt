@@ -2,10 +2,14 @@
 ghost use Rattle.std.specs.Prelude.{◌≡◌, map};
 ghost use Rattle.std.specs.String.{string_bytes};
 ghost use Rattle.bt_chart.specs.CommandLine.{asked, chosen};
-ghost use Rattle.bt_chart.specs.Request.{asked_with, chart_request_of, chosen_of, ladder_request, plan_request, range_and_names, run_request};
+ghost use Rattle.bt_chart.specs.Request.{asked_with, chart_request_of, chosen_of, ladder_request, page_every, page_request, page_with, plan_request, range_and_names, run_request, seconds_in};
 
 use crate::range::superframes_in;
 use bt_run_chart::View;
+use bt_text::number;
+
+/// The most seconds after which a page is loaded again: a day.
+pub const MOST_SECONDS: u64 = 86_400;
 
 /// A command line: a command with its words.
 #[derive(Clone, Copy)]
@@ -31,6 +35,12 @@ pub enum CommandLine<'a> {
         output: &'a str,
         view: View,
         names: &'a [String],
+    },
+    /// `page NET JOURNAL [every SECONDS]`.
+    ChartPage {
+        net: &'a str,
+        journal: &'a str,
+        seconds: Option<u32>,
     },
 }
 
@@ -66,6 +76,8 @@ fn with_files<'a>(
         run_of(net, file, words)
     } else if command == "ladder" {
         ladder_of(net, file, words)
+    } else if command == "page" {
+        page_of(net, file, words)
     } else {
         CommandLine::Faulty
     }
@@ -108,6 +120,57 @@ fn ladder_of<'a>(net: &'a str, output: &'a str, words: &'a [String]) -> CommandL
         output,
         view,
         names,
+    }
+}
+
+fn page_of<'a>(net: &'a str, journal: &'a str, words: &[String]) -> CommandLine<'a>
+    ensures { asked result ≡ page_request net.now journal.now (map string_bytes words.now) }
+{
+    if net.is_empty() || journal.is_empty() {
+        CommandLine::Faulty
+    } else {
+        page_with(net, journal, words)
+    }
+}
+
+/// The page with these words behind the journal.
+fn page_with<'a>(net: &'a str, journal: &'a str, words: &[String]) -> CommandLine<'a>
+    ensures { asked result ≡ page_with net.now journal.now (map string_bytes words.now) }
+{
+    match words {
+        [] => CommandLine::ChartPage {
+            net,
+            journal,
+            seconds: None,
+        },
+        [word, seconds] if word.as_str() == "every" => page_every(net, journal, seconds),
+        _ => CommandLine::Faulty,
+    }
+}
+
+/// The page that is loaded again after the seconds that a word is.
+fn page_every<'a>(net: &'a str, journal: &'a str, word: &str) -> CommandLine<'a>
+    ensures { asked result ≡ page_every net.now journal.now (seconds_in word.now) }
+{
+    match seconds_in(word.as_bytes()) {
+        Some(seconds) => CommandLine::ChartPage {
+            net,
+            journal,
+            seconds: Some(seconds),
+        },
+        None => CommandLine::Faulty,
+    }
+}
+
+/// The seconds that a word is.
+fn seconds_in(word: &[u8]) -> Option<u32>
+    ensures { result ≡ seconds_in word.now }
+{
+    let seconds = number(word)?;
+    if seconds > 0 && seconds <= MOST_SECONDS {
+        Some(seconds as u32)
+    } else {
+        None
     }
 }
 

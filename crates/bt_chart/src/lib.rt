@@ -4,7 +4,7 @@
 //! (`bt_plan_chart`) and of a run (`bt_run_chart`).
 //! Promises: `specs/Top.antt` has the table of the commands, and says what is drawn and how the program ends; `specs/Request.antt`
 //! says which words are a command, `specs/Choosing.antt` what the words behind a plan choose of it, `specs/Range.antt` which superframes a
-//! word names, `specs/Plans.antt` and `specs/Runs.antt` what is loaded for a plan and for a run, in the words
+//! word names, `specs/Plans.antt`, `specs/Runs.antt` and `specs/Pages.antt` what is loaded for a plan, for a run and for a page, in the words
 //! of `bt_load`'s `specs/Loaders.antt`, and what is drawn. For bodies alone: `CommandLine`.
 //!
 //! The page of a journal: one file in HTML for a browser, with how far the journal has come and how full it is, the use of each
@@ -31,6 +31,7 @@ mod fixed;
 mod journal_page;
 mod laws;
 mod links;
+mod page;
 mod pieces;
 mod plan;
 mod plan_part;

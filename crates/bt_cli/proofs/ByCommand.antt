@@ -16,6 +16,7 @@ use Rattle.bt_load.proofs.OneLoad.{done_alike, file_lawful, nothing_lawful}
 use Rattle.bt_cli.specs.declared.command_line.CommandLine.{CommandLine}
 use Rattle.bt_cli.specs.declared.command_line.CommandLine.TheVariants as command
 use Rattle.bt_cli.specs.Complete.{NothingFails}
+use Rattle.bt_cli.specs.Json.{json_file}
 use Rattle.bt_cli.specs.Make.{PrintsSummary}
 use Rattle.bt_cli.specs.Modes.{PrintsSchedule}
 use Rattle.bt_cli.specs.Plans.{PrintsPlan}
@@ -25,15 +26,15 @@ use Rattle.bt_report.specs.declared.report.Stop.{Stop}
 use Rattle.bt_report.specs.Printing.{CameTo}
 use Rattle.bt_cli.specs.Command.{EndsBy, no_store}
 use Rattle.bt_cli.specs.Replay.{EndsReplay, HasReplayed, without_run}
-use Rattle.bt_cli.specs.Request.{Request, Faulty, CheckModes, CheckPlan, PlanModes, PlanDemand, RunScript, ReplayJournal, PlanDrawn, TimeSends, PlanPart, TellCapacity, TellState, TellDemand, TellInstalled, TellCompact, TellEdits, TellMetrics, asked, name_of}
+use Rattle.bt_cli.specs.Request.{Request, Faulty, CheckModes, CheckPlan, PlanModes, PlanDemand, RunScript, ReplayJournal, PlanDrawn, TimeSends, PlanPart, TellCapacity, TellState, TellDemand, TellInstalled, TellCompact, TellEdits, TellMetrics, TellCarry, TellTraffic, TellJson, asked, name_of}
 use Rattle.bt_cli.specs.Run.{BeginsNoRun, End}
 use Rattle.bt_cli.specs.Top.{AreOneStore, AreTold, AsksNoStore, Ends, IsOneReport, Reported, Reports, Serves, command_of}
 use Rattle.bt_cli.specs.Trans.{PrintsPart}
 use Rattle.bt_cli.proofs.Finished.{FinishReports, FinishServes, LawsAs, ended_as, none_reports, none_serves, reported_as, same_as, served_as}
 use Rattle.bt_cli.proofs.Complete.{recovery_done, run_done}
 use Rattle.bt_cli.proofs.LoadsAsked.{Lines, asked_lawful}
-use Rattle.bt_cli.proofs.OneLook.{compact_same, demand_same, edits_lawful, edits_same, installed_same, journal_lawful, metrics_same, state_same}
-use Rattle.bt_cli.proofs.Lawful.{delay_lawful, modes_lawful, plan_lawful, script_lawful}
+use Rattle.bt_cli.proofs.OneLook.{carry_lawful, carry_same, compact_same, demand_same, edits_lawful, edits_same, installed_same, journal_lawful, metrics_same, state_same}
+use Rattle.bt_cli.proofs.Lawful.{delay_lawful, modes_lawful, plan_lawful, script_lawful, table_lawful}
 use Rattle.bt_cli.proofs.OneJournal as journal
 use Rattle.bt_cli.proofs.OneReplay.{one_replay}
 use Rattle.bt_cli.proofs.OneReport.{OneVerdict, Judges-same, JudgesPlan-same, TellsTimes-same, suited_lawful}
@@ -69,6 +70,9 @@ laws_of laws (TellInstalled net journal edition) = record { lawful = journal_law
 laws_of laws (TellCompact net journal) = record { lawful = journal_lawful net journal; same = λ one other kept both. compact_same laws.journals both.0 both.1 }
 laws_of laws (TellEdits net journal traffic desk) = record { lawful = edits_lawful laws.lines net journal traffic; same = λ one other kept all. edits_same laws.journals desk all.0.0 all.0.1 all.1 }
 laws_of laws (TellMetrics net journal) = record { lawful = journal_lawful net journal; same = λ one other kept both. metrics_same laws.journals both.0 both.1 }
+laws_of laws (TellCarry net journal new) = record { lawful = carry_lawful net journal new; same = λ one other kept all. carry_same laws.journals laws.lines all.0.0 all.0.1 all.1 }
+laws_of laws (TellTraffic net table) = record { lawful = table_lawful net table; same = λ one other kept both a b first second. first ∙ sym second }
+laws_of laws (TellJson text) = record { lawful = file_lawful json_file text; same = λ one other kept json a b first second. first ∙ sym second }
 laws_of laws (RunScript net script _) = record { lawful = script_lawful net script; same = λ one other kept both. one_run laws.journals both.0 both.1 one other kept }
 laws_of laws (ReplayJournal net _) = record { lawful = file_lawful network_file net; same = λ one other kept network. one_replay laws.journals network one other kept }
 

@@ -7,6 +7,7 @@ use Rattle.bt_cli.specs.Check.{schedule_files}
 use Rattle.bt_cli.specs.CheckPlan.{plan_files}
 use Rattle.bt_cli.specs.Fitting.{asked_files}
 use Rattle.bt_cli.specs.Run.{script_files}
+use Rattle.bt_cli.specs.Table.{table_file, table_files}
 use Rattle.bt_cli.specs.Timing.{delay_files, timed_plan}
 use Rattle.bt_cli.proofs.LoadsAsked.{Lines, asked_lawful}
 use Rattle.bt_cli.proofs.Timed.{timed_lawful}
@@ -23,3 +24,6 @@ delay_lawful lines net traffic plan delays =
 
 pub script_lawful : (net script : List ℕ) → IsLawful (script_files net script)
 script_lawful net script = then_lawful (file network_file net) (λ network. file (script_file network) script) (file_lawful network_file net) (λ network. file_lawful (script_file network) script)
+
+pub table_lawful : (net table : List ℕ) → IsLawful (table_files net table)
+table_lawful net table = then_lawful (file network_file net) (λ network. file (table_file network) table) (file_lawful network_file net) (λ network. file_lawful (table_file network) table)

@@ -10,6 +10,8 @@ pub mod OneReplay
 pub mod OneDemand
 pub mod Looked
 pub mod OneLook
+pub mod CarriedPrinted
+pub mod Misread
 pub mod OneRun
 pub mod Printed
 pub mod Named

@@ -44,7 +44,7 @@ pub record Lines : Type 0 where
   pub sum : (rows : List (List ℕ)) (a b : Critical) (m n : ℕ) → IsHeaviest rows a m → IsHeaviest rows b n → m ≡ n
 
 -- a demand does not fit in one way
-overload_same : Lines → (net : Net) (links : List Link) (a b : Outcome) → NamesOverload net links a → NamesOverload net links b → a ≡ b
+pub overload_same : Lines → (net : Net) (links : List Link) (a b : Outcome) → NamesOverload net links a → NamesOverload net links b → a ≡ b
 overload_same lines net links a b (line, sum, is, over, says) (line', sum', is', over', says') =
     let rows = matrix_of net links in
     let same_line : line ≡ line' = lines.line rows line line' sum sum' is is' in
@@ -52,7 +52,7 @@ overload_same lines net links a b (line, sum, is, over, says) (line', sum', is',
     says ∙ ap (λ (l : Critical). text_alone (line_of (overload_words l sum)) FAULTY_TEXT) same_line ∙ ap (λ (n : ℕ). text_alone (line_of (overload_words line' n)) FAULTY_TEXT) same_sum ∙ sym says'
 
 -- and one that does not fit does not fit
-never_both : (net : Net) (links : List Link) (a : Outcome) → NamesOverload net links a → Fits net links → ⊥
+pub never_both : (net : Net) (links : List Link) (a : Outcome) → NamesOverload net links a → Fits net links → ⊥
 never_both net links a (line, sum, is, over, says) fits =
     let most = fits line is.on_matrix in
     absurd (omega (arith, most, over, is.reached))

@@ -1,9 +1,9 @@
 -- A look at one journal has one outcome.
-use Rattle.std.proofs.Common.{◌≡◌, ◌⊎◌, ℕ, ◌≤◌, inl, inr, List, length, Option, Some, None, option_map, sym, ap, ◌∙◌, arith}
+use Rattle.std.proofs.Common.{◌≡◌, ◌⊎◌, ℕ, ◌≤◌, inl, inr, List, length, Option, Some, None, option_map, sym, subst, ap, ◌∙◌, arith}
 use Rattle.std.proofs.lemmas.Option.{same_Some}
 use Rattle.bt_frame.specs.declared.limits.TheConstants.{MOST_JOURNAL_BYTES}
 use Rattle.bt_frame.specs.declared.numbers.EditionNo.{EditionNo}
-use Rattle.bt_net.specs.Network.{Net}
+use Rattle.bt_net.specs.Network.{Net, IsSound}
 use Rattle.bt_demand.specs.declared.demand.Link.{Link}
 use Rattle.bt_journal.specs.declared.call.Change.{Change}
 use Rattle.bt_history.specs.declared.fault.RecoverFault.{RecoverFault}
@@ -11,8 +11,12 @@ use Rattle.bt_history.specs.declared.fault.RecoverFault.TheVariants.{J1, J2, Sto
 use Rattle.bt_history.specs.Changes.{IsDemandAfter}
 use Rattle.bt_plan.specs.PlanSpelling.{plan_spelling}
 use Rattle.bt_timeline.specs.Replayed.{link_lines}
+use Rattle.bt_export.specs.declared.carry.Carried.{Carried}
+use Rattle.bt_export.specs.declared.carry.Carried.TheVariants as carried
+use Rattle.bt_export.specs.Carry.{ComesTo}
 use Rattle.bt_export.specs.Edits.{TellsEdits, block_lines, surplus}
 use Rattle.bt_export.specs.Metrics.{TellsMetrics, metrics_lines}
+use Rattle.bt_export.proofs.CarriedBack.{one_coming as one_carried}
 use Rattle.bt_look.specs.Compact.{compact_lines}
 use Rattle.bt_look.specs.Installed.{TellsInstalled, plan_asked}
 use Rattle.bt_look.specs.State.{TellsState, state_lines}
@@ -22,11 +26,12 @@ use Rattle.bt_report.specs.Outcome.{Outcome, text_alone}
 use Rattle.bt_load.specs.Kinds.{journal_file, network_file}
 use Rattle.bt_load.specs.Loaders.{file}
 use Rattle.bt_load.proofs.OneLoad.{IsLawful, file_lawful, then_lawful}
+use Rattle.bt_cli.specs.Carry.{PrintsCarried, PrintsCarry, TellsCarry, carry_files}
 use Rattle.bt_cli.specs.Edits.{PrintsEdits, edits_files}
 use Rattle.bt_cli.specs.Fitting.{fitting_file}
 use Rattle.bt_cli.specs.Looks.{NamesLine, PrintsCompact, PrintsDemand, PrintsInstalled, PrintsJournalState, PrintsMetrics, PrintsOrNone, PrintsText, journal_files}
 use Rattle.bt_cli.specs.Replay.{NamesRecoverFault}
-use Rattle.bt_cli.proofs.LoadsAsked.{Lines, fitting_lawful}
+use Rattle.bt_cli.proofs.LoadsAsked.{Lines, fitting_lawful, never_both, overload_same}
 use Rattle.bt_cli.proofs.OneDemand.{none_behind, one_demand}
 use Rattle.bt_cli.proofs.OneJournal.{Comes, HasChanges, Laws, one_coming}
 
@@ -188,3 +193,45 @@ edits_same laws desk net bytes want a b first second =
     one_coming laws (λ x y. x ≡ y) (λ x y same. same) (EditsOf net desk want) (edits_printed net desk want) net first.sound bytes a b
     (look_comes (EditsOf net desk want) Prints net bytes a first.short (edits_changes net bytes desk want a first.short) first.comes)
     (look_comes (EditsOf net desk want) Prints net bytes b second.short (edits_changes net bytes desk want b second.short) second.comes)
+
+-- ---- `carry`
+
+pub carry_lawful : (net journal new : List ℕ) → IsLawful (carry_files net journal new)
+carry_lawful net journal new = then_lawful (journal_files net journal) (λ both. file network_file new) (journal_lawful net journal) (λ both. file_lawful network_file new)
+
+pub record CarryOf (net new : Net) (changes : List Change) (outcome : Outcome) : Type 0 where
+  links : List Link
+  demand : IsDemandAfter changes links
+  carried : Carried
+  comes : ComesTo net links new carried
+  prints : PrintsCarried new carried outcome
+
+carry_changes : (net : Net) (bytes : List ℕ) (new : Net) (outcome : Outcome) → length bytes ≤ MOST_JOURNAL_BYTES → TellsCarry net bytes new outcome → HasChanges (CarryOf net new) net bytes outcome
+carry_changes net bytes new outcome short (carried, tells, prints) = record {
+  changes = tells.changes;
+  told = tells.told;
+  short = short;
+  done = record { links = tells.links; demand = tells.demand; carried = carried; comes = tells.comes; prints = prints };
+}
+
+-- what it comes to is printed in one way
+carried_printed : Lines → (new : Net) (carried : Carried) (a b : Outcome) → PrintsCarried new carried a → PrintsCarried new carried b → a ≡ b
+carried_printed lines new (carried.Demand links) a b (inl (fits, is)) (inl (fits', is')) = is ∙ sym is'
+carried_printed lines new (carried.Demand links) a b (inl (fits, is)) (inr over) = absurd (never_both new links b over fits)
+carried_printed lines new (carried.Demand links) a b (inr over) (inl (fits, is)) = absurd (never_both new links a over fits)
+carried_printed lines new (carried.Demand links) a b (inr over) (inr over') = overload_same lines new links a b over over'
+carried_printed lines new (carried.Gone number) a b says says' = says ∙ sym says'
+
+carry_printed : Lines → (net new : Net) (changes : List Change) → IsSound new → (a b : Outcome) → CarryOf net new changes a → CarryOf net new changes b → a ≡ b
+carry_printed lines net new changes sound a b one other =
+    let links : other.links ≡ one.links = one_demand changes None other.links one.links other.demand one.demand in
+    let comes = subst (λ (l : List Link). ComesTo net l new other.carried) links other.comes in
+    let carried : other.carried ≡ one.carried = one_carried net one.links new other.carried one.carried sound one.demand.demand comes one.comes in
+    carried_printed lines new one.carried a b one.prints (subst (λ (c : Carried). PrintsCarried new c b) carried other.prints)
+
+pub carry_same : Laws → Lines → (net : Net) (bytes : List ℕ) (new : Net) (a b : Outcome) → PrintsCarry net bytes new a → PrintsCarry net bytes new b → a ≡ b
+carry_same laws lines net bytes new a b first second =
+    let Prints : Outcome → Type 0 = TellsCarry net bytes new in
+    one_coming laws (λ x y. x ≡ y) (λ x y same. same) (CarryOf net new) (λ changes. carry_printed lines net new changes first.sound) net first.looks.sound bytes a b
+    (look_comes (CarryOf net new) Prints net bytes a first.looks.short (carry_changes net bytes new a first.looks.short) first.looks.comes)
+    (look_comes (CarryOf net new) Prints net bytes b second.looks.short (carry_changes net bytes new b second.looks.short) second.looks.comes)

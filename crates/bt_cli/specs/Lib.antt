@@ -16,4 +16,7 @@ pub mod Command
 pub mod Replay
 pub mod Looks
 pub mod Edits
+pub mod Carry
+pub mod Table
+pub mod Json
 pub mod Top

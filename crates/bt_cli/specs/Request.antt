@@ -25,6 +25,9 @@ pub data Request : Type 0 where
   TellCompact : List ℕ → List ℕ → Request
   TellEdits : List ℕ → List ℕ → List ℕ → ℕ → Request
   TellMetrics : List ℕ → List ℕ → Request
+  TellCarry : List ℕ → List ℕ → List ℕ → Request
+  TellTraffic : List ℕ → List ℕ → Request
+  TellJson : List ℕ → Request
 
 -- `check MATRIX MODES`; a word that names a file is not empty
 abbrev pub check_request : List ℕ → List ℕ → Request
@@ -119,6 +122,18 @@ abbrev pub edits_by_request : List ℕ → List ℕ → List ℕ → Option ℕ 
 edits_by_request net journal traffic (Some desk) = edits_request net journal traffic desk
 edits_by_request net journal traffic None = Faulty
 
+-- `carry NET JOURNAL NEWNET`
+abbrev pub carry_request : List ℕ → List ℕ → List ℕ → Request
+carry_request net journal new = if are_words net journal new then TellCarry net journal new else Faulty
+
+-- `traffic NET CSV`
+abbrev pub traffic_request : List ℕ → List ℕ → Request
+traffic_request net table = if nat_lt 0 (length net) && nat_lt 0 (length table) then TellTraffic net table else Faulty
+
+-- `json FILE`
+abbrev pub json_request : List ℕ → Request
+json_request text = if nat_lt 0 (length text) then TellJson text else Faulty
+
 -- what a look at a journal with two words asks for
 abbrev pub look_with_two : List ℕ → List ℕ → List ℕ → Request
 look_with_two command net journal =
@@ -128,16 +143,19 @@ look_with_two command net journal =
     else (if bytes_eq command (codes "compact") then compact_request net journal
     else (if bytes_eq command (codes "metrics") then metrics_request net journal else Faulty))))
 
--- and with three, of which the last is an edition, or a traffic that desk 1 is to bring about
+-- and with three, of which the last is an edition, a traffic that desk 1 is to bring about, or another network
 abbrev pub look_with_three : List ℕ → List ℕ → List ℕ → List ℕ → Request
 look_with_three command net journal last =
     if bytes_eq command (codes "demand") then demand_at_request net journal (edition_of 0 last)
     else (if bytes_eq command (codes "installed") then installed_at_request net journal (edition_of 1 last)
-    else (if bytes_eq command (codes "edits") then edits_request net journal last 1 else Faulty))
+    else (if bytes_eq command (codes "edits") then edits_request net journal last 1
+    else (if bytes_eq command (codes "carry") then carry_request net journal last else Faulty)))
 
 -- what a command with one word asks for
 abbrev pub asked_with_one : List ℕ → List ℕ → Request
-asked_with_one command first = if bytes_eq command (codes "modes") then modes_request first else Faulty
+asked_with_one command first =
+    if bytes_eq command (codes "modes") then modes_request first
+    else (if bytes_eq command (codes "json") then json_request first else Faulty)
 
 -- what a command with two words asks for
 abbrev pub asked_with_two : List ℕ → List ℕ → List ℕ → Request
@@ -147,7 +165,8 @@ asked_with_two command first second =
     else (if bytes_eq command (codes "replay") then replay_request first second
     else (if bytes_eq command (codes "make") then make_request first second
     else (if bytes_eq command (codes "trans") then trans_request first second
-    else (if bytes_eq command (codes "capacity") then capacity_request first second else look_with_two command first second)))))
+    else (if bytes_eq command (codes "capacity") then capacity_request first second
+    else (if bytes_eq command (codes "traffic") then traffic_request first second else look_with_two command first second))))))
 
 -- what a command with three words asks for
 abbrev pub asked_with_three : List ℕ → List ℕ → List ℕ → List ℕ → Request
@@ -195,6 +214,9 @@ asked (command_line.TellInstalled net journal edition) = TellInstalled net.now j
 asked (command_line.TellCompact net journal) = TellCompact net.now journal.now
 asked (command_line.TellEdits net journal traffic desk) = TellEdits net.now journal.now traffic.now desk.number
 asked (command_line.TellMetrics net journal) = TellMetrics net.now journal.now
+asked (command_line.TellCarry net journal new) = TellCarry net.now journal.now new.now
+asked (command_line.TellTraffic net table) = TellTraffic net.now table.now
+asked (command_line.TellJson text) = TellJson text.now
 
 -- the name of its command
 abbrev pub name_of : CommandLine → Option (List ℕ)
@@ -215,6 +237,9 @@ name_of (command_line.TellInstalled _ _ _) = Some (codes "installed")
 name_of (command_line.TellCompact _ _) = Some (codes "compact")
 name_of (command_line.TellEdits _ _ _ _) = Some (codes "edits")
 name_of (command_line.TellMetrics _ _) = Some (codes "metrics")
+name_of (command_line.TellCarry _ _ _) = Some (codes "carry")
+name_of (command_line.TellTraffic _ _) = Some (codes "traffic")
+name_of (command_line.TellJson _) = Some (codes "json")
 
 -- the journal that is asked for, where one is
 abbrev pub journal_of : Request → Option (List ℕ)

@@ -9,18 +9,21 @@ use Rattle.bt_load.specs.Choice.{AnyGood, Exactly}
 use Rattle.bt_load.specs.Kinds.{matrix_file, network_file}
 use Rattle.bt_load.specs.Loaders.{file, nothing}
 use Rattle.bt_cli.specs.Capacity.{TellsCapacity}
+use Rattle.bt_cli.specs.Carry.{PrintsCarry, carry_files}
 use Rattle.bt_cli.specs.Check.{Judges, schedule_files}
 use Rattle.bt_cli.specs.CheckPlan.{JudgesPlan, plan_files}
 use Rattle.bt_cli.specs.Command.{Answer, AsksNone, Command, EndsAs, IsOneAs, NeedsAs, OneStoreAs, OverStore, ReportsAs, ServesAs, command, no_store}
 use Rattle.bt_cli.specs.Edits.{PrintsEdits, edits_files}
 use Rattle.bt_cli.specs.Fitting.{asked_files}
+use Rattle.bt_cli.specs.Json.{PrintsJson, json_file}
 use Rattle.bt_cli.specs.Looks.{PrintsCompact, PrintsDemand, PrintsInstalled, PrintsJournalState, PrintsMetrics, journal_files}
 use Rattle.bt_cli.specs.Make.{PrintsSummary}
 use Rattle.bt_cli.specs.Modes.{PrintsSchedule}
 use Rattle.bt_cli.specs.Plans.{PrintsPlan}
 use Rattle.bt_cli.specs.Replay.{HasReplayed, PrintsJournal}
-use Rattle.bt_cli.specs.Request.{Request, Faulty, CheckModes, CheckPlan, PlanModes, PlanDemand, RunScript, ReplayJournal, PlanDrawn, TimeSends, PlanPart, TellCapacity, TellState, TellDemand, TellInstalled, TellCompact, TellEdits, TellMetrics}
+use Rattle.bt_cli.specs.Request.{Request, Faulty, CheckModes, CheckPlan, PlanModes, PlanDemand, RunScript, ReplayJournal, PlanDrawn, TimeSends, PlanPart, TellCapacity, TellState, TellDemand, TellInstalled, TellCompact, TellEdits, TellMetrics, TellCarry, TellTraffic, TellJson}
 use Rattle.bt_cli.specs.Run.{End, HasRun, PrintsRun, script_files}
+use Rattle.bt_cli.specs.Table.{PrintsTraffic, table_files}
 use Rattle.bt_cli.specs.Timing.{TellsTimes, delay_files}
 use Rattle.bt_cli.specs.Trans.{PrintsPart, suited_file}
 
@@ -42,6 +45,9 @@ command_of (TellInstalled net journal edition) = command (journal_files net jour
 command_of (TellCompact net journal) = command (journal_files net journal) (Answer (λ both. PrintsCompact both.0 both.1)) Exactly
 command_of (TellEdits net journal traffic desk) = command (edits_files net journal traffic) (Answer (λ all. PrintsEdits desk all.0.0 all.0.1 all.1)) Exactly
 command_of (TellMetrics net journal) = command (journal_files net journal) (Answer (λ both. PrintsMetrics both.0 both.1)) Exactly
+command_of (TellCarry net journal new) = command (carry_files net journal new) (Answer (λ all. PrintsCarry all.0.0 all.0.1 all.1)) Exactly
+command_of (TellTraffic net table) = command (table_files net table) (Answer (λ both. PrintsTraffic both.0 both.1)) Exactly
+command_of (TellJson text) = command (file json_file text) (Answer PrintsJson) Exactly
 command_of (RunScript net script _) = command (script_files net script) (OverStore (λ both. both.0) (λ both. HasRun both.0 both.1) (λ stored both. PrintsRun both.0 both.1 stored)) AnyGood
 command_of (ReplayJournal net _) = command (file network_file net) (OverStore (λ network. network) HasReplayed PrintsJournal) Exactly
 

@@ -1,7 +1,7 @@
 // What the words after the program's name ask for.
 ghost use Rattle.std.specs.Prelude.{◌≡◌, Some, map, codes, IfSome, option_map};
 ghost use Rattle.std.specs.String.{string_bytes};
-ghost use Rattle.bt_cli.specs.Request.{asked, asked_with_four, asked_with_one, asked_with_three, asked_with_two, capacity_request, check_plan_request, check_request, compact_request, demand_at_request, demand_request, edits_by_request, edits_request, first_word, installed_at_request, installed_request, look_with_three, look_with_two, make_request, metrics_request, modes_request, name_of, part_request, plan_request, replay_request, request_of, run_request, state_request, timing_request, trans_request};
+ghost use Rattle.bt_cli.specs.Request.{asked, asked_with_four, asked_with_one, asked_with_three, asked_with_two, capacity_request, carry_request, check_plan_request, check_request, compact_request, demand_at_request, demand_request, edits_by_request, edits_request, first_word, installed_at_request, installed_request, json_request, look_with_three, look_with_two, make_request, metrics_request, modes_request, name_of, part_request, plan_request, replay_request, request_of, run_request, state_request, timing_request, traffic_request, trans_request};
 
 use crate::number_word::{AskingDesk, BeamCount, Transponders, edition_of, seed_of};
 use bt_frame::EditionNo;
@@ -98,6 +98,21 @@ pub enum CommandLine<'a> {
         net: &'a str,
         journal: &'a str,
     },
+    /// `carry NET JOURNAL NEWNET`.
+    TellCarry {
+        net: &'a str,
+        journal: &'a str,
+        new: &'a str,
+    },
+    /// `traffic NET CSV`.
+    TellTraffic {
+        net: &'a str,
+        table: &'a str,
+    },
+    /// `json FILE`.
+    TellJson {
+        text: &'a str,
+    },
 }
 
 /// The command line that the words are.
@@ -123,6 +138,8 @@ fn with_one<'a>(command: &str, first: &'a str) -> CommandLine<'a>
 {
     if command == "modes" {
         modes_of(first)
+    } else if command == "json" {
+        json_of(first)
     } else {
         CommandLine::Faulty
     }
@@ -145,6 +162,8 @@ fn with_two<'a>(command: &str, first: &'a str, second: &'a str) -> CommandLine<'
         trans_of(first, second)
     } else if command == "capacity" {
         capacity_of(first, second)
+    } else if command == "traffic" {
+        traffic_of(first, second)
     } else {
         look_with_two(command, first, second)
     }
@@ -184,7 +203,8 @@ fn with_three<'a>(command: &str, first: &'a str, second: &'a str, third: &'a str
     }
 }
 
-/// The command line of that look at a journal with three words, of which the last is an edition, or a traffic.
+/// The command line of that look at a journal with three words, of which the last is an edition, a traffic or another
+/// network.
 fn look_with_three<'a>(
     command: &str,
     net: &'a str,
@@ -200,6 +220,8 @@ fn look_with_three<'a>(
         installed_at(net, journal, edition_of(1, last))
     } else if command == "edits" {
         edits_of(net, journal, last, Some(AskingDesk::first()))
+    } else if command == "carry" {
+        carry_of(net, journal, last)
     } else {
         CommandLine::Faulty
     }
@@ -295,6 +317,28 @@ fn capacity_of<'a>(net: &'a str, traffic: &'a str) -> CommandLine<'a>
     }
 }
 
+fn traffic_of<'a>(net: &'a str, table: &'a str) -> CommandLine<'a>
+    ensures asked { asked result ≡ traffic_request net.now table.now }
+    ensures named { IfSome (name_of result) (λ name. name ≡ codes "traffic") }
+{
+    if net.is_empty() || table.is_empty() {
+        CommandLine::Faulty
+    } else {
+        CommandLine::TellTraffic { net, table }
+    }
+}
+
+fn json_of(text: &str) -> CommandLine<'_>
+    ensures asked { asked result ≡ json_request text.now }
+    ensures named { IfSome (name_of result) (λ name. name ≡ codes "json") }
+{
+    if text.is_empty() {
+        CommandLine::Faulty
+    } else {
+        CommandLine::TellJson { text }
+    }
+}
+
 fn state_of<'a>(net: &'a str, journal: &'a str) -> CommandLine<'a>
     ensures asked { asked result ≡ state_request net.now journal.now }
     ensures named { IfSome (name_of result) (λ name. name ≡ codes "state") }
@@ -377,6 +421,17 @@ fn metrics_of<'a>(net: &'a str, journal: &'a str) -> CommandLine<'a>
         CommandLine::Faulty
     } else {
         CommandLine::TellMetrics { net, journal }
+    }
+}
+
+fn carry_of<'a>(net: &'a str, journal: &'a str, new: &'a str) -> CommandLine<'a>
+    ensures asked { asked result ≡ carry_request net.now journal.now new.now }
+    ensures named { IfSome (name_of result) (λ name. name ≡ codes "carry") }
+{
+    if net.is_empty() || journal.is_empty() || new.is_empty() {
+        CommandLine::Faulty
+    } else {
+        CommandLine::TellCarry { net, journal, new }
     }
 }
 

@@ -8,14 +8,17 @@ ghost use Rattle.bt_cli.specs.Command.{no_store};
 ghost use Rattle.bt_cli.specs.Top.{AsksNoStore, Reported, Reports};
 
 use crate::capacity::tell_capacity;
+use crate::carry::tell_carry;
 use crate::check::check_files;
 use crate::check_plan::check_plan_files;
 use crate::command_line::{CommandLine, command_line_of};
 use crate::edits::tell_edits;
+use crate::json::tell_json;
 use crate::look::{tell_compact, tell_demand, tell_installed, tell_metrics, tell_state};
 use crate::make::drawn_report;
 use crate::modes::plan_modes;
 use crate::plan::plan_files;
+use crate::table::tell_traffic;
 use crate::timing::time_files;
 use crate::trans::plan_part;
 use bt_outside::{Files, Sink};
@@ -81,6 +84,11 @@ fn answer<F: Files>(alloc: Global, line: CommandLine<'_>, files: &mut F) -> Resu
             desk,
         } => tell_edits(alloc, files, net, journal, traffic, desk.as_desk_no()),
         CommandLine::TellMetrics { net, journal } => tell_metrics(alloc, files, net, journal),
+        CommandLine::TellCarry { net, journal, new } => {
+            tell_carry(alloc, files, net, journal, new)
+        }
+        CommandLine::TellTraffic { net, table } => tell_traffic(alloc, files, net, table),
+        CommandLine::TellJson { text } => tell_json(alloc, files, text),
         CommandLine::PlanDrawn { beams, seed } => drawn_report(alloc, beams, seed),
         CommandLine::RunScript { .. } | CommandLine::ReplayJournal { .. } => unreachable!(),
     }

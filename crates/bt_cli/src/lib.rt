@@ -11,12 +11,14 @@
 
 mod asked;
 mod capacity;
+mod carry;
 mod check;
 mod check_plan;
 mod command_line;
 mod commands;
 mod edits;
 mod fit;
+mod json;
 mod laws;
 mod live;
 mod look;
@@ -28,6 +30,7 @@ mod plan;
 mod replay;
 mod run;
 mod summary;
+mod table;
 mod timing;
 mod top;
 mod trans;

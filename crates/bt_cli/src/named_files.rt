@@ -61,5 +61,8 @@ fn files_of(line: CommandLine<'_>) -> NamedFiles<'_>
         CommandLine::TellCompact { .. }            => NamedFiles { first: 2, end: 3, journal: None },
         CommandLine::TellEdits { .. }              => NamedFiles { first: 2, end: 4, journal: None },
         CommandLine::TellMetrics { .. }            => NamedFiles { first: 2, end: 3, journal: None },
+        CommandLine::TellCarry { .. }              => NamedFiles { first: 2, end: 3, journal: None },
+        CommandLine::TellTraffic { .. }            => NamedFiles { first: 2, end: 3, journal: None },
+        CommandLine::TellJson { .. }               => NamedFiles { first: 1, end: 2, journal: None },
     }
 }

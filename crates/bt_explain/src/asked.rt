@@ -10,12 +10,15 @@ fn called(letter: u8) -> &'static str {
         b'X' => "MATRIX",
         b'M' => "MODES",
         b'N' => "NET",
+        b'C' => "NEWNET",
+        b'V' => "CSV",
         b'T' => "TRAFFIC",
         b'P' => "PLAN",
         b'G' => "DELAYS",
         b'S' => "SCRIPT",
         b'J' => "JOURNAL",
         b'O' => "OUTPUT",
+        b'F' => "FILE",
         _ => "",
     }
 }

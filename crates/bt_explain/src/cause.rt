@@ -15,7 +15,7 @@ const MOST_SHOWN: usize = 120;
 const SHOWN_IN_FRONT: usize = 60;
 
 /// What stands in front of each line below the first.
-const INDENT: &str = "    ";
+pub const INDENT: &str = "    ";
 
 /// What stands where a line is cut.
 const CUT: &str = "..";

@@ -8,6 +8,10 @@ use bt_net::Network;
 use bt_text::is_word;
 use std::alloc::Global;
 
+/// What is to be done with a journal of another network.
+const CARRIED: &str =
+    "'carry NET JOURNAL NEWNET' prints a journal's demand as one of another network, by the names of terminals";
+
 /// Finds out why a line of a journal is at fault that has a form.
 pub fn find_journal(alloc: Global, fault: &Fault<'_>, cause: &mut Cause) {
     if fault.digit == b'1' {
@@ -50,6 +54,7 @@ fn find_stranger_of(alloc: Global, net: &Network, line: &[u8], cause: &mut Cause
         let name = word_of(line, index);
         if net.terminal_named(name).is_none() {
             cause.say_of_word(line, index, "no terminal has this name");
+            cause.note.add(CARRIED);
             return ask_terminal(alloc, net, name, &mut cause.hint);
         }
     }
@@ -69,6 +74,7 @@ fn find_mark(fault: &Fault<'_>, cause: &mut Cause) {
         cause.say(" beams and ");
         cause.why.add_number(u64::from(terminals));
         cause.say(" terminals");
+        cause.hint.add(CARRIED);
     }
 }
 

@@ -36,20 +36,28 @@ impl<'a> Iterator for Lines<'a> {
     }
 }
 
-/// The words of a line, each with the place of its first byte.
+/// The words of a line, or the parts between other bytes of one kind, each with the place of its first byte.
 #[derive(Drop)]
 pub struct Words<'a> {
     rest: &'a [u8],
     begin: usize,
     is_done: bool,
+    /// What parts them.
+    between: u8,
 }
 
 impl<'a> Words<'a> {
     pub fn of(line: &'a [u8]) -> Words<'a> {
+        Words::parted(line, b' ')
+    }
+
+    /// The parts between such bytes.
+    pub fn parted(line: &'a [u8], between: u8) -> Words<'a> {
         Words {
             rest: line,
             begin: 0,
             is_done: false,
+            between,
         }
     }
 }
@@ -65,7 +73,7 @@ impl<'a> Iterator for Words<'a> {
         }
         let begin = self.begin;
         let line = self.rest;
-        match memchr(b' ', line) {
+        match memchr(self.between, line) {
             Some(at) => {
                 self.rest = &line[at + 1..];
                 self.begin = begin.saturating_add(at).saturating_add(1);

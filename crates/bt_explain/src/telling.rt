@@ -1,13 +1,18 @@
 // What a program says on standard error when it ends.
 use crate::asked::file_of;
 use crate::bytes::{number_at, word_of};
+use crate::carry::tell_carried;
 use crate::fault::{Named, tell_line};
 use crate::fit::{tell_fit, tell_size};
 use crate::kept_files::KeptFiles;
 use crate::network::tell_network;
 use crate::page::Page;
 use crate::plan::beams_of;
-use crate::unread::{tell_input, tell_journal, tell_too_long, tell_unread};
+use crate::row::tell_row;
+use crate::unread::{
+    JOURNAL, LONG_TEXT, TEXT, tell_input, tell_journal, tell_too_long, tell_unread,
+};
+use crate::utf8::tell_no_text;
 use crate::verdict::tell_verdict;
 use crate::words::tell_words;
 use bt_frame::MOST_JOURNAL_BYTES;
@@ -102,11 +107,12 @@ fn explain_too_long(done: &Done<'_>, page: &mut Page) -> bool {
     let name = rest_behind(done.line, "fault too long ");
     match file_of(done, b'J') {
         // a file of this name is read where another word names it
-        Some(journal) if name == "store" => tell_too_long(done, journal, true, page),
+        Some(journal) if name == "store" => tell_too_long(done, journal, JOURNAL, page),
         Some(journal) if name == journal && !is_read_before(done, name) => {
-            tell_too_long(done, journal, true, page)
+            tell_too_long(done, journal, JOURNAL, page)
         }
-        _ => tell_too_long(done, name, false, page),
+        _ if is_named(done, b'F', name) => tell_too_long(done, name, LONG_TEXT, page),
+        _ => tell_too_long(done, name, TEXT, page),
     }
 }
 
@@ -141,7 +147,7 @@ fn explain_kept<F>(alloc: Global, done: &Done<'_>, files: &KeptFiles<F>, page: &
     let code = word_of(done.line, 1);
     match done.status {
         FAULTY_WORDS => tell_words(alloc, done, net.as_ref(), page),
-        NO_NETWORK => match kept.named(files, b'N') {
+        NO_NETWORK => match kept.named(files, network_at_fault(kept.net)) {
             Some(named) => tell_network(alloc, done, named, code, word_of(done.line, 2), page),
             None => false,
         },
@@ -149,6 +155,11 @@ fn explain_kept<F>(alloc: Global, done: &Done<'_>, files: &KeptFiles<F>, page: &
         NOT_GOOD => explain_verdict(alloc, &kept, files, page),
         _ => false,
     }
+}
+
+/// The letter of the network that is at fault: where the first is one, it is the other.
+fn network_at_fault(net: Option<&Network>) -> u8 {
+    if net.is_some() { b'C' } else { b'N' }
 }
 
 /// What is known beside the files.
@@ -182,16 +193,67 @@ fn explain_text<F>(
     page: &mut Page,
 ) -> bool {
     let letter = code.first().copied().unwrap_or(b'?');
-    let Some(named) = kept.named(files, letter) else {
-        return false;
-    };
+    if letter == b'T' && file_of(&kept.done, b'C').is_some() {
+        return explain_carried(alloc, kept, files, code, page);
+    }
+    match (kept.named(files, letter), number_at(kept.done.line, 2)) {
+        (Some(named), at) => explain_named(alloc, kept, named, code, at, page),
+        (None, Some(at)) => explain_other(alloc, kept, files, code, at, page),
+        _ => false,
+    }
+}
+
+/// Appends what is known of the fault of the file of its letter, at a line where one is named.
+fn explain_named(
+    alloc: Global,
+    kept: &Kept<'_>,
+    named: Named<'_>,
+    code: &[u8],
+    at: Option<u32>,
+    page: &mut Page,
+) -> bool {
     match *code {
         [b'T', b'6'] => tell_fit(alloc, &kept.done, named, page),
         [b'X', b'3'] => tell_size(alloc, &kept.done, named, page),
-        _ => match number_at(kept.done.line, 2) {
+        _ => match at {
             Some(at) => tell_line(alloc, &kept.done, named, code, at, page),
             None => false,
         },
+    }
+}
+
+/// Appends what is known of a line of a table of links, or of a text that is no output.
+fn explain_other<F>(
+    alloc: Global,
+    kept: &Kept<'_>,
+    files: &KeptFiles<F>,
+    code: &[u8],
+    at: u32,
+    page: &mut Page,
+) -> bool {
+    if let Some(table) = kept.named(files, b'V') {
+        return tell_row(alloc, &kept.done, table, code, at, page);
+    }
+    match kept.named(files, b'F') {
+        Some(text) => tell_no_text(alloc, &kept.done, text, at, page),
+        None => false,
+    }
+}
+
+/// Appends what is known of a demand that has no place on another network.
+fn explain_carried<F>(
+    alloc: Global,
+    kept: &Kept<'_>,
+    files: &KeptFiles<F>,
+    code: &[u8],
+    page: &mut Page,
+) -> bool {
+    let Some(named) = kept.named(files, b'C') else {
+        return false;
+    };
+    match Network::read(alloc, named.text) {
+        Ok(new) => tell_carried(alloc, &kept.done, kept.net, named.file, &new, code, page),
+        Err(_) => false,
     }
 }
 

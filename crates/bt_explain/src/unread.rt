@@ -77,20 +77,22 @@ pub fn tell_journal<R: Files>(
     true
 }
 
+/// What a file is called that is too long, and how many bytes it may have.
+pub type Long = (&'static str, u64);
+
+pub const JOURNAL: Long = (": the journal has more than ", MOST_JOURNAL_BYTES);
+
+pub const TEXT: Long = (": the file has more than ", MOST_FILE_BYTES);
+
+/// A text of any lines, which may be as long as a journal.
+pub const LONG_TEXT: Long = (": the file has more than ", MOST_JOURNAL_BYTES);
+
 /// Tells that a file is longer than any that is read.
-pub fn tell_too_long(done: &Done<'_>, name: &str, is_journal: bool, page: &mut Page) -> bool {
+pub fn tell_too_long(done: &Done<'_>, name: &str, long: Long, page: &mut Page) -> bool {
     add_program(done, page);
     page.add_name(name);
-    page.add(if is_journal {
-        ": the journal has more than "
-    } else {
-        ": the file has more than "
-    });
-    page.add_number(if is_journal {
-        MOST_JOURNAL_BYTES
-    } else {
-        MOST_FILE_BYTES
-    });
+    page.add(long.0);
+    page.add_number(long.1);
     page.add(" bytes, the most that are read\n");
     true
 }

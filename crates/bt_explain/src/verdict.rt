@@ -59,7 +59,7 @@ fn find_plan<'a>(
     match digit_of(code) {
         b'1' => {
             let mode = nth_line(plan.text, b"mode", first)?;
-            find_no_permutation(mode.line, plan.beams, cause);
+            find_no_permutation(mode.line, plan.beams, plan.net, cause);
             Some(mode)
         }
         b'2' => {
@@ -89,7 +89,7 @@ fn nth_line<'a>(text: &'a [u8], word: &[u8], number: u32) -> Option<At<'a>> {
 }
 
 /// Says why a mode is no permutation of the beams.
-fn find_no_permutation(mode: &[u8], beams: u32, cause: &mut Cause) {
+fn find_no_permutation(mode: &[u8], beams: u32, net: Option<&Network>, cause: &mut Cause) {
     for up in 0..beams {
         let index = (up as usize).saturating_add(2);
         if number_at(mode, index).unwrap_or(beams) >= beams {
@@ -100,24 +100,49 @@ fn find_no_permutation(mode: &[u8], beams: u32, cause: &mut Cause) {
             );
             return cause.why.add_number(u64::from(beams));
         }
-        if stands_before(mode, index, word_of(mode, index)) {
-            return cause.say_of_word(
+        if let Some(other) = stands_before(mode, index, word_of(mode, index)) {
+            cause.say_of_word(
                 mode,
                 index,
                 "this downlink beam stands in the mode already: two uplink beams would come down in it",
             );
+            return say_both(net, other, up, number_at(mode, index).unwrap_or(0), cause);
         }
     }
 }
 
-/// Whether a word stands in a mode before the word of that number.
-fn stands_before(mode: &[u8], index: usize, word: &[u8]) -> bool {
+/// The uplink beam whose downlink beam in a mode, before the word of that number, is this word.
+fn stands_before(mode: &[u8], index: usize, word: &[u8]) -> Option<u32> {
+    let mut up: u32 = 0;
     for other in 2..index {
         if word_of(mode, other) == word {
-            return true;
+            return Some(up);
         }
+        up = up.saturating_add(1);
     }
-    false
+    None
+}
+
+/// Names two uplink beams and the downlink beam in which both would come down, where there is a network.
+fn say_both(net: Option<&Network>, one: u32, other: u32, down: u32, cause: &mut Cause) {
+    let Some(net) = net else {
+        return;
+    };
+    cause.say(", ");
+    cause.say(name_of_beam(net, one));
+    cause.say(" and ");
+    cause.say(name_of_beam(net, other));
+    cause.say(" in ");
+    cause.say(name_of_beam(net, down));
+}
+
+/// The name of the beam of a number, nothing where the network has none of it.
+fn name_of_beam(net: &Network, beam: u32) -> &str {
+    if beam < net.beam_count() {
+        net.beam_name(BeamNo(beam as u8))
+    } else {
+        ""
+    }
 }
 
 /// Says that the modes do not fill the length.
@@ -166,7 +191,7 @@ pub fn say_line_of(side: &[u8], beam: u32, net: Option<&Network>, cause: &mut Ca
         && beam < net.beam_count()
     {
         cause.say(", what beam ");
-        cause.say(net.beam_name(BeamNo(beam as u8)));
+        cause.say(name_of_beam(net, beam));
         cause.say(if is_word(side, b"row") {
             " sends"
         } else {

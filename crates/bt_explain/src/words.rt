@@ -107,6 +107,9 @@ fn say_behind(
         say_site(command, behind, page);
     } else if done.program == Program::Chart && command == "plan" {
         say_part(alloc, behind, net, page);
+    } else if done.program == Program::Chart && command == "page" {
+        page.add("the words behind JOURNAL are to be ANSWERS, or every SECONDS, or both, ");
+        page.add("SECONDS 1 to 86400, in digits without a 0 in front");
     } else if done.program == Program::Chart {
         say_stranger(alloc, behind, net, page);
     } else if command == "demand" {
@@ -144,8 +147,8 @@ pub fn has_count(usage: &[u8], count: usize) -> bool {
     least <= count && count <= most
 }
 
-/// The fewest and the most words of a form behind its command; those that begin with a `[` may be wanting, and where `..` stands
-/// there may be any number of them.
+/// The fewest and the most words of a form behind its command; those that begin with a `[` or end with a `]` may be wanting, and
+/// where `..` stands there may be any number of them.
 fn counts_of(usage: &[u8]) -> (usize, usize) {
     // the command itself is none of them
     let (mut least, mut most): (usize, usize) = (0, 0);
@@ -153,7 +156,7 @@ fn counts_of(usage: &[u8]) -> (usize, usize) {
         match word {
             _ if at == 0 => {}
             [b'.', ..] => return (least, usize::MAX),
-            [b'[', ..] => most = most.saturating_add(1),
+            [b'[', ..] | [.., b']'] => most = most.saturating_add(1),
             _ => {
                 least = least.saturating_add(1);
                 most = most.saturating_add(1);
@@ -194,7 +197,11 @@ fn add_counts(usage: &str, page: &mut Page) {
     if most == usize::MAX {
         page.add(" or more");
     } else if most > least {
-        page.add(" or ");
+        page.add(if most.saturating_sub(least) == 1 {
+            " or "
+        } else {
+            " to "
+        });
         page.add_number(most as u64);
     }
     page.add(if most == 1 { " word" } else { " words" });

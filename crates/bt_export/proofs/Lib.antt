@@ -5,6 +5,10 @@ pub mod NoEdits
 pub mod Done
 pub mod Pieces
 pub mod Gauges
+pub mod Total
+pub mod Names
+pub mod Carrying
+pub mod CarriedBack
 pub mod Fields
 pub mod Values
 pub mod Back

@@ -1,5 +1,7 @@
+pub mod Carry
 pub mod Edits
 pub mod Metrics
+pub mod Named
 pub mod Object
 pub mod Said
 pub mod Forms

@@ -12,7 +12,7 @@ use crate::object::{form_object, text_object};
 use bt_frame::OutOfMemory;
 use bt_net::is_name;
 use bt_text::{LineFault, WordReader, fault_at, first_line, is_word, number_of_digits};
-use bt_words::{Form, Token, forms_from, names_of, tokens_of};
+use bt_words::{Form, Token, forms_from, is_tag, names_of, tokens_of};
 use serde_json::Value;
 use std::alloc::Global;
 
@@ -150,6 +150,7 @@ fn is_at(token: Token, word: &[u8]) -> bool
         Token::Frame => true,
         Token::Beam | Token::Terminal => is_name(word),
         Token::Taken | Token::Heard => is_answer(word),
+        Token::Tag => is_tag(word),
     }
 }
 

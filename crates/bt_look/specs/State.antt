@@ -1,12 +1,14 @@
 -- The state that a journal tells, as lines: how far its changes have come, the newest plan, how full the journal is, and what is
 -- asked of each beam.
-use Rattle.std.specs.Prelude.{◌≡◌, ℕ, ◌++◌, if◌then◌else◌, nat_lt, List, [], ◌∷◌, codes, decimal, length}
+use Rattle.std.specs.Prelude.{◌≡◌, ℕ, ◌++◌, if◌then◌else◌, nat_lt, Bool, List, [], ◌∷◌, codes, decimal, length, flat_map}
 use Rattle.bt_net.specs.Network.{Net}
 use Rattle.bt_demand.specs.declared.plan.Plan.{Plan}
 use Rattle.bt_journal.specs.declared.call.Change.{Change}
-use Rattle.bt_history.specs.Changes.{edition, matrix_after, newest, orders}
-use Rattle.bt_history.specs.Machine.{bytes_of}
+use Rattle.bt_history.specs.Changes.{edition, matrix_after, newest, orders, plans}
+use Rattle.bt_history.specs.Machine.{State, bytes_of}
 use Rattle.bt_history.specs.Recovery.{Recovered, tail_of}
+use Rattle.bt_words.specs.declared.form.Form.TheVariants as form
+use Rattle.bt_words.specs.Filled.{form_line}
 use Rattle.bt_words.specs.Lines.{line_of}
 use Rattle.bt_look.specs.Room.{load_lines}
 
@@ -44,6 +46,18 @@ size_lines net bytes torn = journal_line bytes net.journal ++ torn_line torn
 -- the lines of a state, with a journal of these sizes
 abbrev pub lines_with : Net → List Change → ℕ → ℕ → List ℕ
 lines_with net changes bytes torn = made_lines changes ++ size_lines net bytes torn ++ load_lines net (matrix_after net changes) ++ line_of (codes "end" ∷ [])
+
+-- `stopped`, where a fault of the store has stopped the book
+abbrev pub stopped_line : Bool → List ℕ
+stopped_line stopped = if stopped then form_line form.Stopped [] else []
+
+-- the state of a book: whether it stopped, and the lines of a journal that has those of its changes, and no byte behind the last newline
+abbrev pub book_lines : Net → State → List ℕ
+book_lines net state = stopped_line state.stopped ++ lines_with net state.changes (bytes_of net state.changes) 0
+
+-- the line of each plan that the changes have, the empty one of edition 0 among them, in the order of the editions
+abbrev pub plans_lines : List Change → List ℕ
+plans_lines changes = flat_map plan_line (plans changes)
 
 -- the state after these changes, which the bytes of a journal tell: the two lines of each beam stand last, and then `end`
 abbrev pub state_lines : Net → List ℕ → List Change → List ℕ

@@ -4,7 +4,7 @@
 //! nothing is written where they came from; on matrices, demands, plans and their texts; on the lines of a journal; and on printed
 //! lines. These are promises: `specs/Room.antt`, what is asked of each beam and free there, and how much one add may have;
 //! `specs/Look.antt`, which demand of a journal is told, and why none is; `specs/Compact.antt`, the journal with the fewest edits
-//! that comes to a demand; `specs/State.antt`, the state of a journal; `specs/Installed.antt`, which of its plans is told.
+//! that comes to a demand; `specs/State.antt`, the state of a journal or a book, and the plans of a book; `specs/Installed.antt`, which of its plans is told.
 //! `specs/Measure.antt` is for bodies alone. `laws.rt` says that the desk machine takes an add exactly where there is room for it,
 //! what the journal with the fewest edits comes to, and that a plan that is told is read back, and good for the demand that is told
 //! of its edition.
@@ -28,4 +28,4 @@ pub use laws::{
     told_plans_are_read_back,
 };
 pub use measure::{JournalSize, size_of_journal};
-pub use state::{state_of_book, state_text};
+pub use state::{plans_of_book, state_of_book, state_text};

@@ -2,9 +2,8 @@
 ghost use Rattle.std.specs.Prelude.{◌≡◌, ◌++◌, IfErr, IfOk, OnOk, length};
 ghost use Rattle.bt_history.specs.Causes.{Follows};
 ghost use Rattle.bt_history.specs.Changes.{matrix_after};
-ghost use Rattle.bt_history.specs.Machine.{bytes_of};
 ghost use Rattle.bt_look.specs.Look.{IsLookFault};
-ghost use Rattle.bt_look.specs.State.{TellsState, lines_with, made_lines, plan_line, size_lines, torn_line};
+ghost use Rattle.bt_look.specs.State.{TellsState, book_lines, lines_with, made_lines, plan_line, plans_lines, size_lines, stopped_line, torn_line};
 
 use crate::capacity::add_loads;
 use crate::look::look;
@@ -15,7 +14,7 @@ use bt_frame::{MOST_JOURNAL_BYTES, OutOfMemory};
 use bt_matrix::Dense;
 use bt_net::Network;
 use bt_outside::Keeper;
-use bt_words::{Word, add_line};
+use bt_words::{Form, Word, add_line, print};
 use std::alloc::Global;
 
 /// The state that a journal's bytes tell, a line each: the last edition; the newest plan, with its length in slots, its modes and
@@ -34,7 +33,7 @@ pub fn state_text(alloc: Global, net: &Network, bytes: Vec<u8>) -> Result<Vec<u8
 }
 
 /// The state that a book tells, in the same lines: of its journal the bytes of the lines of its changes, and none that stand
-/// behind the last newline.
+/// behind the last newline. Where a fault of the store has stopped the book, a line in front of them says so.
 pub fn state_of_book<K: Keeper>(
     alloc: Global,
     net: &Network,
@@ -42,13 +41,27 @@ pub fn state_of_book<K: Keeper>(
 ) -> Result<Vec<u8>, OutOfMemory>
     requires network { book.now.net ≡ net.now }
     requires follows { Follows net.now book.now.state.changes }
-    ensures text { IfOk result (λ text. text.items ≡ lines_with net.now book.now.state.changes (bytes_of net.now book.now.state.changes) 0) }
+    ensures text { IfOk result (λ text. text.items ≡ book_lines net.now book.now.state) }
 {
     let size = JournalSize {
         bytes: book.line_bytes(),
         torn: 0,
     };
-    text_of(alloc, net, book, size)
+    let mut text = Vec::new(alloc);
+    add_stopped(alloc, book.is_stopped(), &mut text)?;
+    add_state(alloc, net, book, size, &mut text)?;
+    Ok(text)
+}
+
+/// The plans of a book, a line each, in the order of their editions: the empty one of edition 0, and those that were installed.
+pub fn plans_of_book<K: Keeper>(alloc: Global, book: &Book<K>) -> Result<Vec<u8>, OutOfMemory>
+    ensures text { IfOk result (λ text. text.items ≡ plans_lines book.now.state.changes) }
+{
+    let mut text = Vec::new(alloc);
+    for place in 0..book.plan_count() {
+        add_plan(alloc, book.plan(place), &mut text)?;
+    }
+    Ok(text)
 }
 
 /// The state that a book tells, with a journal of these sizes.
@@ -61,13 +74,38 @@ fn text_of<K: Keeper>(
     requires follows { Follows net.now book.now.state.changes }
     ensures { IfOk result (λ text. text.items ≡ lines_with net.now book.now.state.changes size.bytes size.torn) }
 {
-    let matrix = matrix_in(alloc, net, book)?;
     let mut text = Vec::new(alloc);
-    add_made(alloc, book, &mut text)?;
-    add_size(alloc, net, size, &mut text)?;
-    add_loads(alloc, net, &matrix, &mut text)?;
-    add_line(alloc, &[Word::Text("end")], &mut text)?;
+    add_state(alloc, net, book, size, &mut text)?;
     Ok(text)
+}
+
+/// Appends the same.
+fn add_state<K: Keeper>(
+    alloc: Global,
+    net: &Network,
+    book: &Book<K>,
+    size: JournalSize,
+    out: &mut Vec<u8>,
+) -> Result<(), OutOfMemory>
+    requires follows { Follows net.now book.now.state.changes }
+    ensures { OnOk result (out.new.items ≡ out.old.items ++ lines_with net.now book.now.state.changes size.bytes size.torn) }
+{
+    let matrix = matrix_in(alloc, net, book)?;
+    add_made(alloc, book, out)?;
+    add_size(alloc, net, size, out)?;
+    add_loads(alloc, net, &matrix, out)?;
+    add_line(alloc, &[Word::Text("end")], out)
+}
+
+/// Appends that a fault of the store has stopped a book, where it has.
+fn add_stopped(alloc: Global, stopped: bool, out: &mut Vec<u8>) -> Result<(), OutOfMemory>
+    ensures { OnOk result (out.new.items ≡ out.old.items ++ stopped_line stopped) }
+{
+    if stopped {
+        print(alloc, Form::Stopped, &[], out)
+    } else {
+        Ok(())
+    }
 }
 
 /// The traffic matrix of a book's demand.

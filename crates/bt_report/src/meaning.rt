@@ -52,14 +52,15 @@ const STATION: Whose = Whose::Only(Program::Station);
 
 /// The table: a row for each status and each of its causes.
 #[rattlefmt::skip]
-const MEANINGS: [Meaning; 22] = [
+const MEANINGS: [Meaning; 24] = [
     Meaning { status: DONE,           of: NOZGURT, when: "done",                                 line: "" },
-    Meaning { status: DONE,           of: CHART,   when: "the picture was drawn",                line: "" },
+    Meaning { status: DONE,           of: CHART,   when: "the picture or the page was made",     line: "" },
     Meaning { status: DONE,           of: STATION, when: "the input came to its end",            line: "" },
     Meaning { status: OUT_OF_MEMORY,  of: EACH,    when: "memory ran out",                       line: "" },
     Meaning { status: FAULTY_WORDS,   of: EACH,    when: "the words are none of a command",      line: "fault words" },
     Meaning { status: FAULTY_WORDS,   of: NOZGURT, when: "a journal lacks the edition or plan",  line: "fault words" },
     Meaning { status: FAULTY_WORDS,   of: CHART,   when: "a NAME is that of no terminal",        line: "fault words" },
+    Meaning { status: FAULTY_WORDS,   of: CHART,   when: "SECONDS are none",                     line: "fault words" },
     Meaning { status: FAULTY_WORDS,   of: STATION, when: "MARK or NAME stands for nothing",      line: "fault words" },
     Meaning { status: NO_NETWORK,     of: NOZGURT, when: "a network file is no network",         line: "fault CODE PLACE" },
     Meaning { status: NO_NETWORK,     of: CHART,   when: "the network file is no network",       line: "fault CODE PLACE" },
@@ -71,10 +72,11 @@ const MEANINGS: [Meaning; 22] = [
     Meaning { status: READ_FAILED,    of: STATION, when: "the input failed",                     line: "fault input" },
     Meaning { status: WRITE_FAILED,   of: EACH,    when: "the output could not be written",      line: "" },
     Meaning { status: STORE_FAILED,   of: NOZGURT, when: "the journal failed",                   line: "fault store, or the whole run" },
-    Meaning { status: FAULTY_JOURNAL, of: NOZGURT, when: "a line of the journal is wrong",       line: "fault CODE LINE" },
+    Meaning { status: FAULTY_JOURNAL, of: READERS, when: "a line of the journal is wrong",       line: "fault CODE LINE" },
     Meaning { status: NOT_GOOD,       of: NOZGURT, when: "check, timing: it is not good",        line: "the verdict's line" },
     Meaning { status: TOO_LONG,       of: EACH,    when: "a file is over 4,194,304 bytes long",  line: "fault too long NAME" },
     Meaning { status: TOO_LONG,       of: NOZGURT, when: "the journal is over 67,108,864",       line: "fault too long store, or NAME" },
+    Meaning { status: TOO_LONG,       of: CHART,   when: "the journal is over 67,108,864",       line: "fault too long NAME" },
 ];
 
 /// Where to look, by the status; nothing where the work was done, or the verdict says all.

@@ -1,4 +1,8 @@
 // The steps of a run, from its printed lines.
+//
+// A centre of which the other sites are processes of their own prints its messages in `radio` lines too. It does not say who hears
+// them, and its deliveries have the numbers of lines that it heard: these are passed over, and a turn begins its superframe, since
+// no tick does.
 use crate::numbering::Numbering;
 use crate::step::{
     ArmedChange, Delivery, Frame, Happening, Note, OnAir, Said, SentMessage, ShownStatus, Station,
@@ -8,7 +12,7 @@ use bt_air::{Heard, Taken};
 use bt_frame::{OutOfMemory, TermNo};
 use bt_net::Network;
 use bt_run_lines::{Form, Printed, Value, read_line, told_behind};
-use bt_text::first_line;
+use bt_text::{WordReader, first_line};
 use bt_timeline::{heard_text, taken_text};
 use std::alloc::Global;
 
@@ -19,6 +23,8 @@ pub fn read_steps(alloc: Global, net: &Network, text: &[u8]) -> Result<Vec<Step>
     let mut context = Context {
         before: None,
         numbering: Numbering::none(),
+        is_apart: is_apart(text),
+        mark: None,
     };
     let mut rest = text;
     let mut told = 0;
@@ -30,11 +36,25 @@ pub fn read_steps(alloc: Global, net: &Network, text: &[u8]) -> Result<Vec<Step>
     Ok(steps)
 }
 
-// What a line is read by: the form of the line before it, and the messages so far.
+/// Whether the text is of a centre of which the other sites are processes of their own.
+pub fn is_apart(text: &[u8]) -> bool {
+    let mut rest = text;
+    while let Some((line, behind)) = first_line(rest) {
+        if WordReader::of(line).next_is(b"radio") {
+            return true;
+        }
+        rest = behind;
+    }
+    false
+}
+
+// What a line is read by: the form of the line before it, and the messages so far; and of a centre apart its superframe.
 #[derive(Clone, Copy)]
 struct Context {
     before: Option<Form>,
     numbering: Numbering,
+    is_apart: bool,
+    mark: Option<u64>,
 }
 
 impl Context {
@@ -61,7 +81,7 @@ impl Context {
     }
 
     // The step that a line tells of.
-    fn step_of(&mut self, line: &Printed) -> Option<Step> {
+    fn step_of(&mut self, line: &Printed<'_>) -> Option<Step> {
         if let Some(message) = self.message_of(line) {
             return Some(Step::Sent(message));
         }
@@ -72,11 +92,25 @@ impl Context {
         if line.form == Form::Start && self.before == Some(Form::Restart) {
             return None;
         }
+        if self.is_apart {
+            return self.superframe_of(line).or(happening_of(line));
+        }
         happening_of(line)
     }
 
+    // The superframe that begins with the turn of a centre apart.
+    fn superframe_of(&mut self, line: &Printed<'_>) -> Option<Step> {
+        match (line.form, line.values()) {
+            (Form::Turn | Form::BackTurn, [Value::Number(mark), _]) if self.mark != Some(*mark) => {
+                self.mark = Some(*mark);
+                Some(Step::Begin(*mark))
+            }
+            _ => None,
+        }
+    }
+
     // The message that was sent.
-    fn message_of(&mut self, line: &Printed) -> Option<SentMessage> {
+    fn message_of(&mut self, line: &Printed<'_>) -> Option<SentMessage> {
         let [Value::Number(number), rest @ ..] = line.values() else {
             return None;
         };
@@ -97,7 +131,10 @@ impl Context {
     }
 
     // The delivery that was made, of a message that the text has.
-    fn delivery_of(&self, line: &Printed) -> Option<Delivery> {
+    fn delivery_of(&self, line: &Printed<'_>) -> Option<Delivery> {
+        if self.is_apart {
+            return None;
+        }
         let [Value::Number(number), rest @ ..] = line.values() else {
             return None;
         };
@@ -147,7 +184,7 @@ fn joins_edits(note: &mut Note, newest: u64) -> bool {
 
 // What a message says, from the values behind its number.
 #[rattlefmt::skip]
-fn said_of(form: Form, values: &[Value]) -> Option<Said> {
+fn said_of(form: Form, values: &[Value<'_>]) -> Option<Said> {
     match (form, values) {
         (Form::SentLoad, [Value::Number(command), Value::Number(edition)]) => Some(Said::Load { command: *command, edition: *edition }),
         (Form::SentArm, [_, Value::Number(edition), Value::Number(due)]) => Some(Said::Arm(ArmedChange { edition: *edition, due: *due })),
@@ -162,7 +199,7 @@ fn said_of(form: Form, values: &[Value]) -> Option<Said> {
 }
 
 // What a status says, from the values behind its number.
-fn status_of(values: &[Value]) -> Option<Said> {
+fn status_of(values: &[Value<'_>]) -> Option<Said> {
     let [
         Value::Number(mark),
         Value::Number(fore),
@@ -197,7 +234,7 @@ fn status_of(values: &[Value]) -> Option<Said> {
 }
 
 // Who heard a message, what that did with it, and whether it refused, from the values behind the number.
-fn answer_of(form: Form, values: &[Value]) -> Option<(Station, &'static str, bool)> {
+fn answer_of(form: Form, values: &[Value<'_>]) -> Option<(Station, &'static str, bool)> {
     Some(match (form, values) {
         (Form::GotSatellite, [Value::Taken(taken)]) => satellite_answer(*taken),
         (Form::GotCentre, []) => (Station::Centre, "noted", false),
@@ -228,7 +265,7 @@ fn terminal_answer(terminal: TermNo, heard: Heard) -> (Station, &'static str, bo
 
 // A step that is no message.
 #[rattlefmt::skip]
-fn happening_of(line: &Printed) -> Option<Step> {
+fn happening_of(line: &Printed<'_>) -> Option<Step> {
     match (line.form, line.values()) {
         (Form::Start, [_, _, Value::Number(mark)]) => Some(Step::Begin(*mark)),
         (Form::Tick, [Value::Number(mark)]) => Some(Step::Begin(*mark)),

@@ -42,7 +42,7 @@ pub struct Rung {
     pub beside: u64,
 }
 
-/// A message in its row, where its sender has a lane.
+/// A message in its row, where its sender has a lane; heard too where it is not told who hears it.
 #[derive(Clone, Copy)]
 pub struct Departure {
     pub message: SentMessage,
@@ -72,6 +72,8 @@ pub struct Ladder<'a> {
     pub lanes: Lanes,
     pub rungs: Vec<Rung>,
     pub rows: u64,
+    // It is not told who heard a message.
+    is_apart: bool,
     departures: Vec<Departure>,
     latest: Vec<Latest>,
     // The last row that all lanes have in common, and the message that came late into the last row.
@@ -88,6 +90,7 @@ impl<'a> Ladder<'a> {
         alloc: Global,
         net: &'a Network,
         lanes: Lanes,
+        is_apart: bool,
         steps: &[Step],
     ) -> Result<Ladder<'a>, OutOfMemory> {
         let mut latest = Vec::new(alloc);
@@ -102,6 +105,7 @@ impl<'a> Ladder<'a> {
             lanes,
             rungs: Vec::new(alloc),
             rows: 0,
+            is_apart,
             departures: Vec::new(alloc),
             latest,
             common: None,
@@ -301,7 +305,7 @@ impl<'a> Ladder<'a> {
             message,
             lane,
             row,
-            is_heard: false,
+            is_heard: self.is_apart,
         })?;
         Ok(())
     }

@@ -3,6 +3,7 @@ pub mod Places
 pub mod Outputs
 pub mod Spelling
 pub mod Printing
+pub mod Tags
 pub mod WordsRead
 pub mod FormsApart
 pub mod ReadBack

@@ -5,8 +5,6 @@ use Rattle.bt_text.specs.Text.{is_word}
 use Rattle.bt_text.specs.WordReader.{first_word}
 use Rattle.bt_text.proofs.Fronts.{front_word}
 use Rattle.bt_net.specs.Network.{Net}
-use Rattle.bt_words.specs.declared.form.Form.{Form}
-use Rattle.bt_words.specs.declared.form.Form.TheVariants as form
 use Rattle.bt_run_lines.specs.declared.printed.Value.{Value}
 use Rattle.bt_words.specs.declared.token.Token.{Token}
 use Rattle.bt_words.specs.declared.token.Token.TheVariants as token

@@ -15,6 +15,7 @@ use Rattle.bt_run_lines.specs.declared.printed.Value.{Value}
 use Rattle.bt_run_lines.specs.declared.printed.Value.TheVariants as value
 use Rattle.bt_words.specs.Forms as part
 use Rattle.bt_words.specs.Forms.{Part}
+use Rattle.bt_words.specs.Tags.{is_tag}
 
 -- the number of a u32 that a word is
 abbrev pub small_number : List ℕ → Option ℕ
@@ -58,6 +59,10 @@ heard_of word =
     if is_word (codes "inuse") word then Some heard.InUse else
     None
 
+-- the tag that a word is
+abbrev pub tag_of : List ℕ → Option (List ℕ)
+tag_of word = if is_tag word then Some word else None
+
 -- what a word says at a place that has no fixed word
 abbrev pub value_of : Net → Part → List ℕ → Option Value
 value_of net (part.Text _) word = None
@@ -69,6 +74,7 @@ value_of net part.Beam word = option_map (λ beam. value.Beam beam) (beam_of net
 value_of net part.Terminal word = option_map (λ terminal. value.Terminal terminal) (terminal_of net word)
 value_of net part.Taken word = option_map (λ taken. value.Taken taken) (taken_of word)
 value_of net part.Heard word = option_map (λ heard. value.Heard heard) (heard_of word)
+value_of net part.Tag word = option_map (λ tag. value.Tag tag) (tag_of word)
 
 -- what a word says at a place, where it may stand there: a fixed word says nothing
 abbrev pub said_by : Net → Part → List ℕ → Option (List Value)

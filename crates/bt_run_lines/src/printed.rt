@@ -2,14 +2,45 @@
 ghost use Rattle.std.specs.Prelude.{◌≡◌, ◌<◌, [], ◌∷◌, ◌++◌, length};
 ghost use Rattle.bt_words.specs.declared.token.TheConstants.{MOST_VALUES};
 
+use arrayvec::ArrayVec;
 use bt_air::{Heard, Taken};
 use bt_frame::{BeamNo, Mark, TermNo};
 use bt_words::{Form, MOST_VALUES};
 use std::marker::Model;
 
+/// The tag of those who speak, its `@` included, where it stands in its line.
+#[derive(Drop)]
+pub struct Tag<'a> {
+    bytes: &'a [u8],
+}
+
+impl<'a> Model for Tag<'a> {
+    ghost use Rattle.std.specs.Prelude.{ℕ, List};
+
+    ghost Value = { List ℕ };
+
+    ghost view = { λ a. a.bytes.now };
+}
+
+impl<'a> Tag<'a> {
+    // The tag of these bytes.
+    pub(crate) fn of(bytes: &'a [u8]) -> Tag<'a>
+        ensures { result ≡ bytes.now }
+    {
+        Tag { bytes }
+    }
+
+    /// Its bytes.
+    pub fn as_bytes(&self) -> &'a [u8]
+        ensures bytes { result.now ≡ self.now }
+    {
+        self.bytes
+    }
+}
+
 /// What a word of a printed line says that is no fixed one.
-#[derive(Clone, Copy)]
-pub enum Value {
+#[derive(Drop)]
+pub enum Value<'a> {
     /// A number, a count, or the number of a desk.
     Number(u64),
     /// A superframe and the number of a frame of it, from 0.
@@ -22,67 +53,69 @@ pub enum Value {
     Taken(Taken),
     /// What a terminal did with a message.
     Heard(Heard),
+    /// The tag of those who speak.
+    Tag(Tag<'a>),
 }
 
 /// A printed line: its form, and what its words say that are not fixed, in the order of the line.
 #[derive(Drop)]
-pub struct Printed {
+pub struct Printed<'a> {
     pub form: Form,
-    pub(crate) said: Values,
+    pub(crate) said: Values<'a>,
 }
 
-impl Printed {
+impl<'a> Printed<'a> {
     /// What the words of the line say that are not fixed, in order.
-    pub fn values(&self) -> &[Value]
+    pub fn values(&self) -> &[Value<'a>]
         ensures same { result.now ≡ self.now.said }
     {
         self.said.as_slice()
     }
 }
 
-/// The values of a line, in place.
-#[derive(Drop)]
-pub(crate) struct Values {
-    places: [Value; MOST_VALUES],
-    count: usize,
+impl Default for Value<'_> {
+    fn default() -> Self {
+        Value::Number(0)
+    }
 }
 
-impl Model for Values {
-    ghost use Rattle.std.specs.Prelude.{List, take, ◌≤◌};
+/// The values of a line, in place.
+#[derive(Drop)]
+pub(crate) struct Values<'a> {
+    places: ArrayVec<Value<'a>, MOST_VALUES>,
+}
+
+impl<'a> Model for Values<'a> {
+    ghost use Rattle.std.specs.Prelude.{List};
     ghost use Rattle.bt_run_lines.specs.declared.printed.Value.{Value as OneValue};
-    ghost use Rattle.bt_words.specs.declared.token.TheConstants.{MOST_VALUES};
 
     ghost Value = { List OneValue };
 
-    ghost view = { λ a. take a.count a.places };
-
-    ghost invariant = { λ a. a.count ≤ MOST_VALUES };
+    ghost view = { λ a. a.places.items };
 }
 
-impl Values {
+impl<'a> Values<'a> {
     // No values.
-    pub(crate) fn none() -> Values
+    pub(crate) fn none() -> Values<'a>
         ensures { result ≡ [] }
     {
         Values {
-            places: [Value::Number(0); MOST_VALUES],
-            count: 0,
+            places: ArrayVec::new(),
         }
     }
 
     // Adds a value behind the others.
-    pub(crate) fn add(&mut self, value: Value)
+    pub(crate) fn add(&mut self, value: Value<'a>)
         requires { length self.old < MOST_VALUES }
-        ensures { self.new ≡ self.old ++ value ∷ [] }
+        ensures { self.new ≡ self.old ++ value.entry ∷ [] }
     {
-        self.places[self.count] = value;
-        self.count += 1;
+        self.places.push(value);
     }
 
     // The values in order.
-    pub(crate) fn as_slice(&self) -> &[Value]
+    pub(crate) fn as_slice(&self) -> &[Value<'a>]
         ensures { result.now ≡ self.now }
     {
-        &self.places[..self.count]
+        self.places.as_slice()
     }
 }

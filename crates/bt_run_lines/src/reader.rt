@@ -12,7 +12,7 @@ use bt_text::WordReader;
 use bt_words::{Form, Token, forms_from, tokens_of};
 
 /// The printed line that the bytes spell, its newline left out; None where no run prints such a line.
-pub fn read_line(net: &Network, line: &[u8]) -> Option<Printed>
+pub fn read_line<'a>(net: &Network, line: &'a [u8]) -> Option<Printed<'a>>
     ensures line { result ≡ line_in net.now line.now }
     ensures range { IfSome result (λ printed. All (IsOf net.now) printed.said) }
 {
@@ -34,7 +34,7 @@ pub fn told_behind(line: &[u8]) -> u64
 }
 
 // A printed line; `read_line` says too what follows for its values.
-fn line_in(net: &Network, line: &[u8]) -> Option<Printed>
+fn line_in<'a>(net: &Network, line: &'a [u8]) -> Option<Printed<'a>>
     ensures { result ≡ line_in net.now line.now }
 {
     let Some(head) = WordReader::of(line).next() else {
@@ -44,7 +44,7 @@ fn line_in(net: &Network, line: &[u8]) -> Option<Printed>
 }
 
 // The line as one of the first of these forms that it has.
-fn first_of_forms(net: &Network, forms: &[Form], line: &[u8]) -> Option<Printed>
+fn first_of_forms<'a>(net: &Network, forms: &[Form], line: &'a [u8]) -> Option<Printed<'a>>
     ensures { result ≡ first_of_forms net.now forms.now (words line.now) }
 {
     for form in forms {
@@ -56,7 +56,7 @@ fn first_of_forms(net: &Network, forms: &[Form], line: &[u8]) -> Option<Printed>
 }
 
 // The line as one of this form.
-fn printed_as(net: &Network, form: Form, line: &[u8]) -> Option<Printed>
+fn printed_as<'a>(net: &Network, form: Form, line: &'a [u8]) -> Option<Printed<'a>>
     ensures { result ≡ printed_as net.now form (words line.now) }
 {
     let said = values_in(net, tokens_of(form), line)?;
@@ -64,7 +64,7 @@ fn printed_as(net: &Network, form: Form, line: &[u8]) -> Option<Printed>
 }
 
 // What the words of a line say at these places.
-fn values_in(net: &Network, tokens: &[Token], line: &[u8]) -> Option<Values>
+fn values_in<'a>(net: &Network, tokens: &[Token], line: &'a [u8]) -> Option<Values<'a>>
     requires few { open_places (map part_of tokens.now) ≤ MOST_VALUES }
     ensures values { result ≡ values_in net.now (map part_of tokens.now) (words line.now) }
 {

@@ -3,17 +3,22 @@ ghost use Rattle.std.specs.Prelude.{◌≡◌, ◌<◌, ◌==◌, ◌++◌, Some
 ghost use Rattle.bt_text.specs.WordReader.{number_to};
 ghost use Rattle.bt_words.specs.declared.token.TheConstants.{MOST_VALUES};
 ghost use Rattle.bt_words.specs.Forms.{part_of, is_fixed};
-ghost use Rattle.bt_run_lines.specs.Words.{desk_number, frame_in, beam_of, taken_of, heard_of, value_of, said_by};
+ghost use Rattle.bt_run_lines.specs.Words.{desk_number, frame_in, beam_of, taken_of, heard_of, tag_of, value_of, said_by};
 
-use crate::printed::{Value, Values};
+use crate::printed::{Tag, Value, Values};
 use bt_air::{Heard, Taken};
 use bt_frame::{BeamNo, MOST_DESKS, Mark};
 use bt_net::Network;
 use bt_text::{is_word, number, number_of_digits};
-use bt_words::Token;
+use bt_words::{Token, is_tag};
 
 /// Adds what the word says at this place, and answers whether it may stand there.
-pub(crate) fn add_said(net: &Network, token: Token, word: &[u8], said: &mut Values) -> bool
+pub(crate) fn add_said<'a>(
+    net: &Network,
+    token: Token,
+    word: &'a [u8],
+    said: &mut Values<'a>,
+) -> bool
     requires room { IsTrue (not (is_fixed (part_of token))) → length said.old < MOST_VALUES }
     ensures said { (if result then Some said.new else None)
         ≡ option_map (λ more. said.old ++ more) (said_by net.now (part_of token) word.now) }
@@ -31,7 +36,7 @@ pub(crate) fn add_said(net: &Network, token: Token, word: &[u8], said: &mut Valu
 }
 
 // What the word says at a place that has no fixed word.
-fn value_of(net: &Network, token: Token, word: &[u8]) -> Option<Value>
+fn value_of<'a>(net: &Network, token: Token, word: &'a [u8]) -> Option<Value<'a>>
     ensures { result ≡ value_of net.now (part_of token) word.now }
 {
     match token {
@@ -44,6 +49,7 @@ fn value_of(net: &Network, token: Token, word: &[u8]) -> Option<Value>
         Token::Terminal => Some(Value::Terminal(net.terminal_named(word)?)),
         Token::Taken => Some(Value::Taken(taken_of(word)?)),
         Token::Heard => Some(Value::Heard(heard_of(word)?)),
+        Token::Tag => Some(Value::Tag(tag_of(word)?)),
     }
 }
 
@@ -68,7 +74,7 @@ fn desk_number(word: &[u8]) -> Option<u64>
 }
 
 // The frame that a word names.
-fn frame_in(word: &[u8]) -> Option<Value>
+fn frame_in(word: &[u8]) -> Option<Value<'static>>
     ensures { result ≡ frame_in word.now }
 {
     let point = point_in(word)?;
@@ -142,6 +148,17 @@ fn heard_of(word: &[u8]) -> Option<Heard>
         Some(Heard::Older)
     } else if is_word(word, b"inuse") {
         Some(Heard::InUse)
+    } else {
+        None
+    }
+}
+
+// The tag that a word is.
+fn tag_of<'a>(word: &'a [u8]) -> Option<Tag<'a>>
+    ensures { result ≡ tag_of word.now }
+{
+    if is_tag(word) {
+        Some(Tag::of(word))
     } else {
         None
     }

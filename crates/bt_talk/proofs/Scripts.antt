@@ -1,12 +1,12 @@
 -- The lines of a script, heard one by one.
 use Rattle.std.proofs.Common.{◌≡◌, ℕ, zero, suc, ◌+◌, ◌<◌, ◌≤◌, ◌&&◌, Bool, true, false, cond, List, [], ◌∷◌, ◌++◌, length, length-append, Option, Some, None, Ok, Err, refl, sym, ap, ◌∙◌, subst, append_assoc, arith}
-use Rattle.std.specs.Prelude.{codes, count_by, flat_map, map, nat_le}
-use Rattle.std.specs.List.{fold}
-use Rattle.std.proofs.lemmas.Bool.{and_parts}
+use Rattle.std.specs.Prelude.{codes, count_by, flat_map, map, nat_le, nat_lt, ◌==◌}
+use Rattle.std.specs.List.{fold, list_all}
+use Rattle.std.proofs.lemmas.Bool.{and_parts, eqb-true}
 use Rattle.std.proofs.lemmas.Grind.{flat_map-append}
 use Rattle.std.proofs.lemmas.List.{append-nil}
 use Rattle.std.proofs.lemmas.Slice.Eq.{bytes_eq-Decides}
-use Rattle.bt_frame.specs.declared.limits.TheConstants.{MOST_LINES}
+use Rattle.bt_frame.specs.declared.limits.TheConstants.{MOST_LINES, MOST_NAME_BYTES}
 use Rattle.bt_frame.specs.declared.numbers.TermNo.{TermNo}
 use Rattle.bt_text.specs.Text.{is_word, lines, spaced, words}
 use Rattle.bt_text.specs.Reading.{◌>>=◌, or_fault}
@@ -32,7 +32,11 @@ use Rattle.bt_talk.specs.declared.block.Query.TheVariants as query
 use Rattle.bt_talk.specs.declared.block.Step.{Step}
 use Rattle.bt_talk.specs.declared.block.Step.TheVariants as step
 use Rattle.bt_talk.specs.Asked.{part_in, parts_of}
-use Rattle.bt_talk.specs.Block.{Open, asked_row, block_row, forget_row, go_row, joined, named_row, plays, read_row, room_names, row_of, said_row, word_asked}
+use Rattle.bt_talk.specs.Block.{Own, asked_row, block_row, forget_row, go_row, joined, line_row, named_row, plays, read_row, room_names, said_row, word_asked}
+use Rattle.bt_talk.specs.Blocks.{kept_row, own_of, own_row, row_of, tagged_row}
+use Rattle.bt_talk.specs.Opened.{Open, block_lines}
+use Rattle.bt_talk.specs.Tags.{behind_tag, forgotten, tag_in, tag_of, untagged}
+use Rattle.bt_words.specs.Tags.{is_tag, is_tag_byte}
 use Rattle.bt_talk.specs.Scripts.{AskItems, came, session_of}
 
 -- what was read in two steps
@@ -102,15 +106,11 @@ no_go = refl
 no_forget : shape_of (codes "forget") ≡ None
 no_forget = refl
 
--- a line that asks is none
-no_room : (from to : List ℕ) → words_shape (codes "room" ∷ from ∷ to ∷ []) ≡ None
-no_room from to = refl
-
--- a text of these words has no shape
-roomless : (text : List ℕ) (from to : List ℕ) → words text ≡ codes "room" ∷ from ∷ to ∷ [] → shape_of text ≡ None
-roomless text from to cut =
-    let parts : text ≡ spaced (codes "room" ∷ from ∷ to ∷ []) = sym (spaced-words text) ∙ ap spaced cut in
-    ap shape_of parts ∙ (ap words_shape (ap words (sym parts) ∙ cut) ∙ no_room from to)
+-- a text of words that have no shape has none
+shapeless : (text : List ℕ) (ws : List (List ℕ)) → words text ≡ ws → shape_of (spaced ws) ≡ words_shape (words (spaced ws)) → words_shape ws ≡ None → shape_of text ≡ None
+shapeless text ws cut computes none =
+    let parts : text ≡ spaced ws = sym (spaced-words text) ∙ ap spaced cut in
+    ap shape_of parts ∙ computes ∙ ap words_shape (ap words (sym parts) ∙ cut) ∙ none
 
 -- the first of its words is `room`
 passes : {A : Type 0} (test : Bool) (one found : A) → cond test (Some one) None ≡ Some found → test ≡ true
@@ -133,7 +133,7 @@ no_names : (net : Net) (at : ℕ) (is_open : Bool) (text : List ℕ) (one : Scri
 no_names net at is_open text one None is asked = refl
 no_names net at is_open text one (Some names) is asked =
     let named = named_room (words text) names asked in
-    absurd (no_shape net at is_open (shape_of text) one (roomless text named.0 named.1 named.2) is)
+    absurd (no_shape net at is_open (shape_of text) one (shapeless text (codes "room" ∷ named.0 ∷ named.1 ∷ []) named.2 refl refl) is)
 
 -- it is none of one word
 no_word : (net : Net) (at : ℕ) (is_open : Bool) (text : List ℕ) (one : ScriptLine) → line_in net at is_open text ≡ Ok one → word_asked Together text ≡ None
@@ -142,40 +142,102 @@ no_word net at is_open text one is =
     let last : Option Query = None in
     let helps : Option Query = cond (is_word (codes "help") text) (Some (query.Help Together)) last in
     let waits : Option Query = cond (is_word (codes "waiting") text) (Some query.Waiting) helps in
-    let plans : Option Query = cond (is_word (codes "installed") text) (Some query.Installed) waits in
-    let links : Option Query = cond (is_word (codes "demand") text) (Some query.Demand) plans in
+    let plans : Option Query = cond (is_word (codes "plans") text) (Some query.Plans) waits in
+    let newest : Option Query = cond (is_word (codes "installed") text) (Some query.Installed) plans in
+    let links : Option Query = cond (is_word (codes "demand") text) (Some query.Demand) newest in
     let frees : Option Query = cond (is_word (codes "capacity") text) (Some query.Capacity) links in
     ap (λ (b : Bool). cond b (Some query.State) frees) (none (codes "state") refl)
     ∙ ap (λ (b : Bool). cond b (Some query.Capacity) links) (none (codes "capacity") refl)
-    ∙ ap (λ (b : Bool). cond b (Some query.Demand) plans) (none (codes "demand") refl)
-    ∙ ap (λ (b : Bool). cond b (Some query.Installed) waits) (none (codes "installed") refl)
+    ∙ ap (λ (b : Bool). cond b (Some query.Demand) newest) (none (codes "demand") refl)
+    ∙ ap (λ (b : Bool). cond b (Some query.Installed) plans) (none (codes "installed") refl)
+    ∙ ap (λ (b : Bool). cond b (Some query.Plans) waits) (none (codes "plans") refl)
     ∙ ap (λ (b : Bool). cond b (Some query.Waiting) helps) (none (codes "waiting") refl)
     ∙ ap (λ (b : Bool). cond b (Some (query.Help Together)) last) (none (codes "help") refl)
 
 -- so it asks nothing
-asks_nothing : (net : Net) (at : ℕ) (is_open : Bool) (block : Open) (text : List ℕ) (one : ScriptLine) → line_in net at is_open text ≡ Ok one
+asks_nothing : (net : Net) (at : ℕ) (is_open : Bool) (block : Own) (text : List ℕ) (one : ScriptLine) → line_in net at is_open text ≡ Ok one
     → asked_row net Together block text (word_asked Together text) ≡ read_row Together block (line_in net 1 true text)
 asks_nothing net at is_open block text one is =
     ap (asked_row net Together block text) (no_word net at is_open text one is)
     ∙ ap (named_row net Together block text) (no_names net at is_open text one (room_names (words text)) is refl)
 
--- what a line of a script comes to
-says : (net : Net) (at : ℕ) (is_open : Bool) (block : Open) (text : List ℕ) (one : ScriptLine) → line_in net at is_open text ≡ Ok one → row_of net Together block (came text) ≡ said_row block one
-says net at is_open block text one is =
-    let rest : Open × Step = asked_row net Together block text (word_asked Together text) in
-    let forgets : Open × Step = cond (is_word (codes "forget") text) (forget_row block) rest in
+-- what a line of a script comes to in the block of its tag
+says_own : (net : Net) (at : ℕ) (is_open : Bool) (block : Own) (text : List ℕ) (one : ScriptLine) → line_in net at is_open text ≡ Ok one → line_row net Together block text ≡ said_row block one
+says_own net at is_open block text one is =
+    let rest : Own × Step = asked_row net Together block text (word_asked Together text) in
+    let forgets : Own × Step = cond (is_word (codes "forget") text) (forget_row block) rest in
     ap (λ (b : Bool). cond b (go_row block) forgets) (unlike net at is_open (codes "go") text one (is_word (codes "go") text) no_go is refl)
     ∙ ap (λ (b : Bool). cond b (forget_row block) rest) (unlike net at is_open (codes "forget") text one (is_word (codes "forget") text) no_forget is refl)
     ∙ asks_nothing net at is_open block text one is
     ∙ ap (read_row Together block) (same_line net at is_open text one is)
 
--- the parts that it and the lines behind it ask
-asks : (net : Net) (block behind : Open) (stp : Step) (text : List ℕ) (texts : List (List ℕ)) → row_of net Together block (came text) ≡ (behind, stp) → parts_of net Together block (map came (text ∷ texts)) ≡ part_in stp ++ parts_of net Together behind (map came texts)
-asks net block behind stp text texts row = ap (λ (r : Open × Step). part_in r.1 ++ parts_of net Together r.0 (map came texts)) row
+-- none on both ways
+either_none : (test : Bool) → (let none : Option Shape = None in cond test none none) ≡ None
+either_none true = refl
+either_none false = refl
 
--- `go` plays the block
-goes : (net : Net) (acc : List ScriptLine) (texts : List (List ℕ)) → parts_of net Together (Some acc) (map came (codes "go" ∷ texts)) ≡ item.Round (round_of (round_lines acc)) ∷ parts_of net Together None (map came texts)
-goes net acc texts = asks net (Some acc) None (plays acc) (codes "go") texts refl
+-- a line with a tag is none
+tagged_shape : (text tag second : List ℕ) (rest : List (List ℕ)) → is_tag tag ≡ true → words text ≡ tag ∷ second ∷ rest → shape_of text ≡ None
+tagged_shape text [] second rest is cut = absurd cc
+tagged_shape text (byte ∷ []) second rest is cut = absurd cc
+tagged_shape text (byte ∷ letter ∷ letters) second rest is cut =
+    let first : byte ≡ 64 = eqb-true byte 64 (and_parts (byte == 64) (nat_lt (length letters) MOST_NAME_BYTES) (and_parts (byte == 64 && nat_lt (length letters) MOST_NAME_BYTES) (list_all is_tag_byte (letter ∷ letters)) is).0).0 in
+    shapeless text ((64 ∷ letter ∷ letters) ∷ second ∷ rest) (cut ∙ ap (λ (b : ℕ). (b ∷ letter ∷ letters) ∷ second ∷ rest) first) refl (either_none (length (second ∷ rest) == 0))
+
+-- so a line of a script has none, and is the whole of its text
+plain_first : (net : Net) (at : ℕ) (is_open : Bool) (text : List ℕ) (one : ScriptLine) (first second : List ℕ) (rest : List (List ℕ)) (test : Bool) → line_in net at is_open text ≡ Ok one → words text ≡ first ∷ second ∷ rest
+    → is_tag first ≡ test → (cond test first [] ≡ []) × (cond test (spaced (second ∷ rest)) text ≡ text)
+plain_first net at is_open text one first second rest false is cut tag = (refl, refl)
+plain_first net at is_open text one first second rest true is cut tag = absurd (no_shape net at is_open (shape_of text) one (tagged_shape text first second rest tag cut) is)
+
+plain_words : (net : Net) (at : ℕ) (is_open : Bool) (text : List ℕ) (one : ScriptLine) (ws : List (List ℕ)) → line_in net at is_open text ≡ Ok one → words text ≡ ws → (tag_of ws ≡ []) × (behind_tag ws text ≡ text)
+plain_words net at is_open text one [] is cut = (refl, refl)
+plain_words net at is_open text one (first ∷ []) is cut = (refl, refl)
+plain_words net at is_open text one (first ∷ second ∷ rest) is cut = plain_first net at is_open text one first second rest (is_tag first) is cut refl
+
+plain : (net : Net) (at : ℕ) (is_open : Bool) (text : List ℕ) (one : ScriptLine) → line_in net at is_open text ≡ Ok one → (tag_in text ≡ []) × (untagged text ≡ text)
+plain net at is_open text one is = plain_words net at is_open text one (words text) is refl
+
+-- it gives up no other's block
+named_forget : (ws : List (List ℕ)) (other : List ℕ) → forgotten ws ≡ Some other → (tag : List ℕ) × (ws ≡ codes "forget" ∷ tag ∷ [])
+named_forget [] other is = absurd cc
+named_forget (head ∷ []) other is = absurd cc
+named_forget (head ∷ tag ∷ []) other is =
+    let both = passes (is_word (codes "forget") head && is_tag tag) tag other is in
+    (tag, ap (λ (w : List ℕ). w ∷ tag ∷ []) ((bytes_eq-Decides head (codes "forget")).0 (and_parts (is_word (codes "forget") head) (is_tag tag) both).0))
+named_forget (head ∷ tag ∷ more ∷ rest) other is = absurd cc
+
+no_other : (net : Net) (at : ℕ) (is_open : Bool) (text : List ℕ) (one : ScriptLine) (found : Option (List ℕ)) → line_in net at is_open text ≡ Ok one → forgotten (words text) ≡ found → found ≡ None
+no_other net at is_open text one None is asked = refl
+no_other net at is_open text one (Some other) is asked =
+    let named = named_forget (words text) other asked in
+    absurd (no_shape net at is_open (shape_of text) one (shapeless text (codes "forget" ∷ named.0 ∷ []) named.1 refl refl) is)
+
+-- what a line of a script comes to
+says : (net : Net) (at : ℕ) (is_open : Bool) (n : ℕ) (blocks : Open) (text : List ℕ) (one : ScriptLine) → line_in net at is_open text ≡ Ok one
+    → row_of net Together n blocks (came text) ≡ kept_row n [] blocks (said_row (own_of [] blocks) one)
+says net at is_open n blocks text one is =
+    let alone = plain net at is_open text one is in
+    let rest : Open × Step = own_row net Together n blocks [] text (forgotten (words text)) in
+    ap (λ (t : List ℕ). tagged_row net Together n blocks t (untagged text)) alone.0
+    ∙ ap (tagged_row net Together n blocks []) alone.1
+    ∙ ap (λ (b : Bool). cond b (blocks, step.Tells (query.Blocks (block_lines blocks))) rest) (unlike net at is_open (codes "blocks") text one (is_word (codes "blocks") text) refl is refl)
+    ∙ ap (own_row net Together n blocks [] text) (no_other net at is_open text one (forgotten (words text)) is refl)
+    ∙ ap (kept_row n [] blocks) (says_own net at is_open (own_of [] blocks) text one is)
+
+-- the parts that it and the lines behind it ask
+asks : (net : Net) (n : ℕ) (blocks behind : Open) (stp : Step) (text : List ℕ) (texts : List (List ℕ)) → row_of net Together n blocks (came text) ≡ (behind, stp)
+    → parts_of net Together n blocks (map came (text ∷ texts)) ≡ part_in stp ++ parts_of net Together (n + 1) behind (map came texts)
+asks net n blocks behind stp text texts row = ap (λ (r : Open × Step). part_in r.1 ++ parts_of net Together (n + 1) r.0 (map came texts)) row
+
+-- the block of the lines without a tag
+abbrev block_at : ℕ → List ScriptLine → Open
+block_at since acc = record { tag = []; since = since; said = acc } ∷ []
+
+-- `go` plays it
+goes : (net : Net) (n since : ℕ) (acc : List ScriptLine) (texts : List (List ℕ))
+    → parts_of net Together n (block_at since acc) (map came (codes "go" ∷ texts)) ≡ item.Round (round_of (round_lines acc)) ∷ parts_of net Together (n + 1) [] (map came texts)
+goes net n since acc texts = asks net n (block_at since acc) [] (plays acc) (codes "go") texts refl
 
 -- a remark is no line of a desk, of the planner or of the air
 skipped : {A : Type 0} (f : ScriptLine → List A) (front rest : List ScriptLine) → f line.Remark ≡ [] → flat_map f (front ++ line.Remark ∷ rest) ≡ flat_map f (front ++ rest)
@@ -273,55 +335,57 @@ none_last net at is_open (byte ∷ last) said is = absurd (no_last at said (nat_
 
 -- what a session is behind lines that end a round, and behind others
 abbrev Closed : Net → List (List ℕ) → List ScriptLine → Type 0
-Closed net texts said = parts_of net Together None (map came (session_of false texts said)) ≡ items_of said
+Closed net texts said = (n : ℕ) → parts_of net Together n [] (map came (session_of false texts said)) ≡ items_of said
 
 abbrev Opened : Net → List ScriptLine → List (List ℕ) → List ScriptLine → Type 0
-Opened net acc texts said = parts_of net Together (Some acc) (map came (session_of true texts said)) ≡ item.Round (round_of (acc ++ round_lines said)) ∷ items_of said
+Opened net acc texts said = (n since : ℕ) → parts_of net Together n (block_at since acc) (map came (session_of true texts said)) ≡ item.Round (round_of (acc ++ round_lines said)) ∷ items_of said
 
 -- no line more: the block is played
 opened_none : (net : Net) (acc : List ScriptLine) (texts : List (List ℕ)) → NoneEnds acc → Opened net acc texts []
-opened_none net acc [] none = goes net acc [] ∙ ap (λ (l : List ScriptLine). item.Round (round_of l) ∷ []) (none ∙ sym (append-nil acc))
-opened_none net acc (text ∷ texts) none = goes net acc [] ∙ ap (λ (l : List ScriptLine). item.Round (round_of l) ∷ []) (none ∙ sym (append-nil acc))
+opened_none net acc [] none n since = goes net n since acc [] ∙ ap (λ (l : List ScriptLine). item.Round (round_of l) ∷ []) (none ∙ sym (append-nil acc))
+opened_none net acc (text ∷ texts) none n since = goes net n since acc [] ∙ ap (λ (l : List ScriptLine). item.Round (round_of l) ∷ []) (none ∙ sym (append-nil acc))
 
 closed_none : (net : Net) (texts : List (List ℕ)) → Closed net texts []
-closed_none net [] = refl
-closed_none net (text ∷ texts) = refl
+closed_none net [] n = refl
+closed_none net (text ∷ texts) n = refl
 
 -- a line that waits in the block
-opened_joins : (net : Net) (at : ℕ) (acc : List ScriptLine) (text : List ℕ) (texts : List (List ℕ)) (one : ScriptLine) (more : List ScriptLine) → line_in net at true text ≡ Ok one → block_row acc one ≡ joined acc one
+opened_joins : (net : Net) (at n since : ℕ) (acc : List ScriptLine) (text : List ℕ) (texts : List (List ℕ)) (one : ScriptLine) (more : List ScriptLine) → line_in net at true text ≡ Ok one → block_row acc one ≡ joined acc one
     → length acc < MOST_LINES → Opened net (acc ++ one ∷ []) texts more
-    → parts_of net Together (Some acc) (map came (text ∷ session_of true texts more)) ≡ item.Round (round_of (acc ++ one ∷ round_lines more)) ∷ items_of more
-opened_joins net at acc text texts one more is row few next =
-    asks net (Some acc) (Some (acc ++ one ∷ [])) step.Nothing text (session_of true texts more) (says net at true (Some acc) text one is ∙ row ∙ joins acc one few)
-    ∙ next
+    → parts_of net Together n (block_at since acc) (map came (text ∷ session_of true texts more)) ≡ item.Round (round_of (acc ++ one ∷ round_lines more)) ∷ items_of more
+opened_joins net at n since acc text texts one more is row few next =
+    asks net n (block_at since acc) (block_at since (acc ++ one ∷ [])) step.Nothing text (session_of true texts more)
+    (says net at true n (block_at since acc) text one is ∙ ap (kept_row n [] (block_at since acc)) (row ∙ joins acc one few))
+    ∙ next (n + 1) since
     ∙ ap (λ (l : List ScriptLine). item.Round (round_of l) ∷ items_of more) (append_assoc acc (one ∷ []) (round_lines more))
 
 -- one line more, in an open block
 opened_line : (net : Net) (at : ℕ) (acc : List ScriptLine) (text : List ℕ) (texts : List (List ℕ)) (one : ScriptLine) (more : List ScriptLine) → line_in net at true text ≡ Ok one → length acc < MOST_LINES → NoneEnds acc
     → ((front : List ScriptLine) → NoneEnds front → length front ≤ length acc + 1 → is_open_behind true one ≡ true → Opened net front texts more) → (is_open_behind true one ≡ false → Closed net texts more)
     → Opened net acc (text ∷ texts) (one ∷ more)
-opened_line net at acc text texts line.Remark more is few none opened closed =
-    asks net (Some acc) (Some acc) step.Nothing text (session_of true texts more) (says net at true (Some acc) text line.Remark is)
-    ∙ opened acc none (omega arith) refl
+opened_line net at acc text texts line.Remark more is few none opened closed n since =
+    asks net n (block_at since acc) (block_at since acc) step.Nothing text (session_of true texts more) (says net at true n (block_at since acc) text line.Remark is)
+    ∙ opened acc none (omega arith) refl (n + 1) since
     ∙ ap (λ (r : Round). item.Round r ∷ items_of more) (sym (round_skips acc (round_lines more)))
-opened_line net at acc text texts line.Round more is few none opened closed =
-    goes net acc (text ∷ session_of true texts more)
-    ∙ ap (λ (l : List Item). item.Round (round_of (round_lines acc)) ∷ l) (asks net None (Some []) step.Nothing text (session_of true texts more) (says net at true None text line.Round is) ∙ opened [] refl (omega arith) refl)
-    ∙ ap (λ (l : List ScriptLine). item.Round (round_of l) ∷ item.Round (round_of (round_lines more)) ∷ items_of more) (none ∙ sym (append-nil acc))
-opened_line net at acc text texts line.Restart more is few none opened closed =
-    goes net acc (text ∷ session_of false texts more)
+opened_line net at acc text texts line.Round more is few none opened closed n since =
+    goes net n since acc (text ∷ session_of true texts more)
     ∙ ap (λ (l : List Item). item.Round (round_of (round_lines acc)) ∷ l)
-    (asks net None None (step.Plays item.Restart) text (session_of false texts more) (says net at true None text line.Restart is) ∙ ap (λ (l : List Item). item.Restart ∷ l) (closed refl))
+    (asks net (n + 1) [] (block_at (n + 1) []) step.Nothing text (session_of true texts more) (says net at true (n + 1) [] text line.Round is) ∙ opened [] refl (omega arith) refl (n + 1 + 1) (n + 1))
+    ∙ ap (λ (l : List ScriptLine). item.Round (round_of l) ∷ item.Round (round_of (round_lines more)) ∷ items_of more) (none ∙ sym (append-nil acc))
+opened_line net at acc text texts line.Restart more is few none opened closed n since =
+    goes net n since acc (text ∷ session_of false texts more)
+    ∙ ap (λ (l : List Item). item.Round (round_of (round_lines acc)) ∷ l)
+    (asks net (n + 1) [] [] (step.Plays item.Restart) text (session_of false texts more) (says net at true (n + 1) [] text line.Restart is) ∙ ap (λ (l : List Item). item.Restart ∷ l) (closed refl (n + 1 + 1)))
     ∙ ap (λ (l : List ScriptLine). item.Round (round_of l) ∷ item.Restart ∷ items_of more) (none ∙ sym (append-nil acc))
-opened_line net at acc text texts (line.Desk desk own) more is few none opened closed =
+opened_line net at acc text texts (line.Desk desk own) more is few none opened closed n since =
     let one = line.Desk desk own in
-    opened_joins net at acc text texts one more is refl few (opened (acc ++ one ∷ []) (none_more acc one none refl) (omega (arith, length-append acc (one ∷ []))) refl)
-opened_line net at acc text texts line.Plan more is few none opened closed =
+    opened_joins net at n since acc text texts one more is refl few (opened (acc ++ one ∷ []) (none_more acc one none refl) (omega (arith, length-append acc (one ∷ []))) refl)
+opened_line net at acc text texts line.Plan more is few none opened closed n since =
     let one = line.Plan in
-    opened_joins net at acc text texts one more is refl few (opened (acc ++ one ∷ []) (none_more acc one none refl) (omega (arith, length-append acc (one ∷ []))) refl)
-opened_line net at acc text texts (line.Air own) more is few none opened closed =
+    opened_joins net at n since acc text texts one more is refl few (opened (acc ++ one ∷ []) (none_more acc one none refl) (omega (arith, length-append acc (one ∷ []))) refl)
+opened_line net at acc text texts (line.Air own) more is few none opened closed n since =
     let one = line.Air own in
-    opened_joins net at acc text texts one more is refl few (opened (acc ++ one ∷ []) (none_more acc one none refl) (omega (arith, length-append acc (one ∷ []))) refl)
+    opened_joins net at n since acc text texts one more is refl few (opened (acc ++ one ∷ []) (none_more acc one none refl) (omega (arith, length-append acc (one ∷ []))) refl)
 
 -- no line but a round, a restart or a remark stands where no round is open
 outside_said : (at : ℕ) (said one : ScriptLine) → place_at at false said ≡ Ok one → may_stand false one ≡ true
@@ -353,15 +417,15 @@ no_line is = cc
 -- one line more, where no round is open
 closed_line : (net : Net) (at : ℕ) (text : List ℕ) (texts : List (List ℕ)) (one : ScriptLine) (more : List ScriptLine) → line_in net at false text ≡ Ok one
     → (is_open_behind false one ≡ true → Opened net [] texts more) → (is_open_behind false one ≡ false → Closed net texts more) → Closed net (text ∷ texts) (one ∷ more)
-closed_line net at text texts line.Remark more is opened closed =
-    asks net None None step.Nothing text (session_of false texts more) (says net at false None text line.Remark is) ∙ closed refl
-closed_line net at text texts line.Round more is opened closed =
-    asks net None (Some []) step.Nothing text (session_of true texts more) (says net at false None text line.Round is) ∙ opened refl
-closed_line net at text texts line.Restart more is opened closed =
-    asks net None None (step.Plays item.Restart) text (session_of false texts more) (says net at false None text line.Restart is) ∙ ap (λ (l : List Item). item.Restart ∷ l) (closed refl)
-closed_line net at text texts (line.Desk desk own) more is opened closed = absurd (no_line (outside net at text (line.Desk desk own) is))
-closed_line net at text texts line.Plan more is opened closed = absurd (no_line (outside net at text line.Plan is))
-closed_line net at text texts (line.Air own) more is opened closed = absurd (no_line (outside net at text (line.Air own) is))
+closed_line net at text texts line.Remark more is opened closed n =
+    asks net n [] [] step.Nothing text (session_of false texts more) (says net at false n [] text line.Remark is) ∙ closed refl (n + 1)
+closed_line net at text texts line.Round more is opened closed n =
+    asks net n [] (block_at n []) step.Nothing text (session_of true texts more) (says net at false n [] text line.Round is) ∙ opened refl (n + 1) n
+closed_line net at text texts line.Restart more is opened closed n =
+    asks net n [] [] (step.Plays item.Restart) text (session_of false texts more) (says net at false n [] text line.Restart is) ∙ ap (λ (l : List Item). item.Restart ∷ l) (closed refl (n + 1))
+closed_line net at text texts (line.Desk desk own) more is opened closed n = absurd (no_line (outside net at text (line.Desk desk own) is))
+closed_line net at text texts line.Plan more is opened closed n = absurd (no_line (outside net at text line.Plan is))
+closed_line net at text texts (line.Air own) more is opened closed n = absurd (no_line (outside net at text (line.Air own) is))
 
 none_said : (said : List ScriptLine) → (let x : Reading (List ScriptLine) = Ok [] in x) ≡ Ok said → said ≡ []
 none_said said is = ok_is [] said is
@@ -396,4 +460,4 @@ asks_all net at false (text ∷ next ∷ rest) said acc is none few =
 
 -- a script that reads well
 pub asks_items : AskItems
-asks_items net text said is = asks_all net 1 false (lines text) said [] is refl (omega arith)
+asks_items net text said is = asks_all net 1 false (lines text) said [] is refl (omega arith) 1

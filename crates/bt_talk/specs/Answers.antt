@@ -1,5 +1,5 @@
 -- The lines of a session that no script has.
-use Rattle.std.specs.Prelude.{ℕ, ◌-◌, ◌++◌, List, [], ◌∷◌, decimal, length}
+use Rattle.std.specs.Prelude.{ℕ, ◌-◌, ◌++◌, List, [], ◌∷◌, decimal, length, Option, Some, None, option_map}
 use Rattle.bt_script.specs.declared.fault.ScriptCode.{ScriptCode}
 use Rattle.bt_script.specs.declared.fault.ScriptCode.TheVariants.{S1, S2, S3, S4, S5}
 use Rattle.bt_text.specs.Text.{lines}
@@ -8,6 +8,8 @@ use Rattle.bt_words.specs.declared.form.Form.TheVariants as form
 use Rattle.bt_words.specs.Filled.{form_line}
 use Rattle.bt_talk.specs.declared.block.Step.{Step}
 use Rattle.bt_talk.specs.declared.block.Step.TheVariants as step
+use Rattle.bt_talk.specs.Blocks.{Open, own_of}
+use Rattle.bt_talk.specs.Tags.{tag_from}
 
 -- so many lines were heard, and the next may come
 abbrev pub ready_line : ℕ → List ℕ
@@ -37,9 +39,25 @@ lines_line count = form_line form.Lines (decimal count ∷ [])
 abbrev pub counted : List ℕ → List ℕ
 counted text = lines_line (length (lines text) - 1) ++ text
 
--- what stands behind the text of what line `at` plays or is told: its fault, where it has one, and that the next may come
-abbrev pub answer_of : ℕ → Step → List ℕ
-answer_of at (step.Fault code) = fault_line code at ++ ready_line at
-answer_of at step.Nothing = ready_line at
-answer_of at (step.Plays one) = ready_line at
-answer_of at (step.Tells one) = ready_line at
+-- the same of a line with this tag, behind which the block of the tag is open with so many lines, or closed
+abbrev pub ready_of : ℕ → List ℕ → Option ℕ → List ℕ
+ready_of at [] None = ready_line at
+ready_of at [] (Some count) = form_line form.ReadyOpen (decimal at ∷ decimal count ∷ [])
+ready_of at tag None = form_line form.ReadyTag (decimal at ∷ tag ∷ [])
+ready_of at tag (Some count) = form_line form.ReadyOpenTag (decimal at ∷ decimal count ∷ tag ∷ [])
+
+-- how many lines wait in the block of this tag, where it is open
+abbrev pub count_in : List ℕ → Open → Option ℕ
+count_in tag blocks = option_map (λ said. length said) (own_of tag blocks)
+
+-- that line `at` is at fault, where it is
+abbrev pub fault_in : ℕ → Step → List ℕ
+fault_in at (step.Fault code) = fault_line code at
+fault_in at step.Nothing = []
+fault_in at (step.Plays one) = []
+fault_in at (step.Tells one) = []
+
+-- what stands behind the text of what line `at` plays or is told, where it comes to this: its fault, where it has one, and that the next
+-- may come
+abbrev pub answer_of : ℕ → Option (List ℕ) → Open × Step → List ℕ
+answer_of at came row = fault_in at row.1 ++ ready_of at (tag_from came) (count_in (tag_from came) row.0)

@@ -1,16 +1,15 @@
--- What a line of a session comes to: a table with a row for each kind of line, where no block is open and where one is.
+-- What a line of a session comes to in the block of its tag: a table with a row for each kind of line, where that is closed and where it
+-- is open.
 use Rattle.std.specs.Prelude.{ℕ, ◌&&◌, if◌then◌else◌, nat_lt, Bool, true, false, List, [], ◌∷◌, ◌++◌, length, codes, Option, Some, None, Ok, Err, All}
-use Rattle.bt_frame.specs.declared.limits.TheConstants.{MOST_LINES, MOST_SESSION_LINE_BYTES, MOST_STATION_LINE_BYTES}
+use Rattle.bt_frame.specs.declared.limits.TheConstants.{MOST_LINES}
 use Rattle.bt_frame.specs.declared.numbers.TermNo.{TermNo}
 use Rattle.bt_text.specs.Text.{is_word, words}
 use Rattle.bt_net.specs.Name.{are_names}
 use Rattle.bt_net.specs.Network.{Net}
 use Rattle.bt_net.specs.Terminals.{IsBetweenTerminals, terminal_of}
 use Rattle.bt_script.specs.declared.fault.ScriptCode.TheVariants.{S1, S2, S4, S5}
-use Rattle.bt_script.specs.declared.heard.BusLine.{BusLine}
 use Rattle.bt_script.specs.declared.sites.Sites.{Sites}
 use Rattle.bt_script.specs.declared.sites.Sites.TheVariants.{Together, Apart}
-use Rattle.bt_script.specs.Heard.{bus_line_of}
 use Rattle.bt_script.specs.declared.line.ScriptLine.{ScriptLine}
 use Rattle.bt_script.specs.declared.line.ScriptLine.TheVariants as line
 use Rattle.bt_script.specs.declared.script.AirLine.{AirLine}
@@ -26,16 +25,16 @@ use Rattle.bt_talk.specs.declared.block.Query.TheVariants as query
 use Rattle.bt_talk.specs.declared.block.Step.{Step}
 use Rattle.bt_talk.specs.declared.block.Step.TheVariants as step
 
--- the block that is open, with its lines; None where none is open
-abbrev pub Open : Type 0
-Open = Option (List ScriptLine)
+-- the lines that wait in the block of a tag; None where that is closed
+abbrev pub Own : Type 0
+Own = Option (List ScriptLine)
 
 -- the round of these lines is played
 abbrev pub plays : List ScriptLine → Step
 plays said = step.Plays (item.Round (round_of (round_lines said)))
 
--- a line where no block is open: what a desk, the planner or the air does is a round by itself
-abbrev pub lone_row : ScriptLine → Open × Step
+-- a line where the block is closed: what a desk, the planner or the air does is a round by itself
+abbrev pub lone_row : ScriptLine → Own × Step
 lone_row line.Remark = (None, step.Nothing)
 lone_row line.Round = (Some [], step.Nothing)
 lone_row line.Restart = (None, step.Plays item.Restart)
@@ -44,11 +43,11 @@ lone_row line.Plan = (None, plays (line.Plan ∷ []))
 lone_row (line.Air own) = (None, plays (line.Air own ∷ []))
 
 -- the line joins the block, where that has room
-abbrev pub joined : List ScriptLine → ScriptLine → Open × Step
+abbrev pub joined : List ScriptLine → ScriptLine → Own × Step
 joined said one = if nat_lt (length said) MOST_LINES then (Some (said ++ one ∷ []), step.Nothing) else (Some said, step.Fault S5)
 
--- a line where a block is open: what a desk, the planner or the air does waits there
-abbrev pub block_row : List ScriptLine → ScriptLine → Open × Step
+-- a line where the block is open: what a desk, the planner or the air does waits there
+abbrev pub block_row : List ScriptLine → ScriptLine → Own × Step
 block_row said line.Remark = (Some said, step.Nothing)
 block_row said line.Round = (Some said, step.Fault S4)
 block_row said line.Restart = (Some said, step.Fault S4)
@@ -56,8 +55,8 @@ block_row said (line.Desk desk own) = joined said (line.Desk desk own)
 block_row said line.Plan = joined said line.Plan
 block_row said (line.Air own) = joined said (line.Air own)
 
--- what a line says, in the block that is open or in none
-abbrev pub said_row : Open → ScriptLine → Open × Step
+-- what a line says, in the block where that is open
+abbrev pub said_row : Own → ScriptLine → Own × Step
 said_row None one = lone_row one
 said_row (Some said) one = block_row said one
 
@@ -86,24 +85,23 @@ has_line Apart line.Plan = true
 has_line Apart (line.Air own) = is_of_centre own
 
 -- what was read, or its fault
-abbrev pub read_row : Sites → Open → Reading ScriptLine → Open × Step
+abbrev pub read_row : Sites → Own → Reading ScriptLine → Own × Step
 read_row sites block (Ok one) = if has_line sites one then said_row block one else (block, step.Fault S1)
 read_row sites block (Err fault) = (block, step.Fault fault.0)
 
 -- `go`: the block is played
-abbrev pub go_row : Open → Open × Step
+abbrev pub go_row : Own → Own × Step
 go_row None = (None, step.Fault S4)
 go_row (Some said) = (None, plays said)
 
 -- `forget`: the block is given up
-abbrev pub forget_row : Open → Open × Step
+abbrev pub forget_row : Own → Own × Step
 forget_row None = (None, step.Fault S4)
 forget_row (Some said) = (None, step.Nothing)
 
--- a line that asks and changes nothing: it is told where no block is open
-abbrev pub tell_row : Open → Query → Open × Step
-tell_row None one = (None, step.Tells one)
-tell_row (Some said) one = (Some said, step.Fault S4)
+-- a line that asks and changes nothing is told in an open block too, which stays as it is
+abbrev pub tell_row : Own → Query → Own × Step
+tell_row block one = (block, step.Tells one)
 
 -- what `waiting` asks: where the sites are apart, nobody knows what is on its way
 abbrev pub waiting_asked : Sites → Option Query
@@ -117,9 +115,10 @@ word_asked sites text =
     else (if is_word (codes "capacity") text then Some query.Capacity
     else (if is_word (codes "demand") text then Some query.Demand
     else (if is_word (codes "installed") text then Some query.Installed
+    else (if is_word (codes "plans") text then Some query.Plans
     else (if is_word (codes "waiting") text then waiting_asked sites
     else (if is_word (codes "help") text then Some (query.Help sites)
-    else None)))))
+    else None))))))
 
 -- the names behind `room`
 abbrev pub room_names : List (List ℕ) → Option (List ℕ × List ℕ)
@@ -127,51 +126,31 @@ room_names (head ∷ from ∷ to ∷ []) = if is_word (codes "room") head && are
 room_names _ = None
 
 -- `room`, with the terminals of its names
-abbrev pub room_row : Open → Option TermNo → Option TermNo → Open × Step
+abbrev pub room_row : Own → Option TermNo → Option TermNo → Own × Step
 room_row block (Some from) (Some to) = tell_row block (query.Room from to)
 room_row block _ _ = (block, step.Fault S2)
 
 -- a line that is none of one word of sessions: `room`, or a line of a script
-abbrev pub named_row : Net → Sites → Open → List ℕ → Option (List ℕ × List ℕ) → Open × Step
+abbrev pub named_row : Net → Sites → Own → List ℕ → Option (List ℕ × List ℕ) → Own × Step
 named_row net sites block text (Some names) = room_row block (terminal_of net names.0) (terminal_of net names.1)
 named_row net sites block text None = read_row sites block (line_in net 1 true text)
 
 -- a line that plays or gives up no block: what is asked, or a line of a script
-abbrev pub asked_row : Net → Sites → Open → List ℕ → Option Query → Open × Step
+abbrev pub asked_row : Net → Sites → Own → List ℕ → Option Query → Own × Step
 asked_row net sites block text (Some one) = tell_row block one
 asked_row net sites block text None = named_row net sites block text (room_names (words text))
 
 -- a line: a word of sessions, what is asked, or a line of a script
-abbrev pub line_row : Net → Sites → Open → List ℕ → Open × Step
+abbrev pub line_row : Net → Sites → Own → List ℕ → Own × Step
 line_row net sites block text =
     if is_word (codes "go") text then go_row block
     else (if is_word (codes "forget") text then forget_row block
     else asked_row net sites block text (word_asked sites text))
 
--- the line of the bus that a session hears, if it is one: where the sites are apart
-abbrev pub heard_by : Sites → List ℕ → Option BusLine
-heard_by Together text = None
-heard_by Apart text = bus_line_of text
-
--- a line of the bus is heard at once, and the block stays as it is; another line is one of the session
-abbrev pub heard_row : Net → Sites → Open → List ℕ → Option BusLine → Open × Step
-heard_row net sites block text (Some one) = (block, step.Plays (item.Heard one))
-heard_row net sites block text None = line_row net sites block text
-
--- what came: a line, or what is none
-abbrev pub row_of : Net → Sites → Open → Option (List ℕ) → Open × Step
-row_of net sites block (Some text) = heard_row net sites block text (heard_by sites text)
-row_of net sites block None = (block, step.Fault S1)
-
--- the most bytes of a line: where the sites are apart, a line of the bus finds room
-abbrev pub line_bytes : Sites → ℕ
-line_bytes Together = MOST_SESSION_LINE_BYTES
-line_bytes Apart = MOST_STATION_LINE_BYTES
-
 -- the lines of the block name terminals of the network alone
-abbrev pub IsOpenFor : Net → Open → Type 0
-IsOpenFor net None = Unit {0}
-IsOpenFor net (Some said) = All (IsSaidFor net) said
+abbrev pub IsOwnFor : Net → Own → Type 0
+IsOwnFor net None = Unit {0}
+IsOwnFor net (Some said) = All (IsSaidFor net) said
 
 -- so does what is asked
 abbrev pub IsQueryFor : Net → Query → Type 0

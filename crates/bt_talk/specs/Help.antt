@@ -10,6 +10,9 @@ help_lines =
     codes "round: a block of lines begins" ∷
     codes "go: the block is played as one round" ∷
     codes "forget: the block is given up" ∷
+    codes "forget @WORD: the block of that tag is given up" ∷
+    codes "blocks: the blocks that are open" ∷
+    codes "@WORD LINE: the line, for the block of that tag" ∷
     codes "desk D add FROM TO UNITS: desk D wants so many slots more for the link" ∷
     codes "desk D drop FROM TO UNITS: desk D wants so many fewer" ∷
     codes "desk D move FROM TO NEWFROM NEWTO UNITS: so many fewer for the one, and more for the other" ∷
@@ -33,6 +36,7 @@ help_lines =
     codes "room FROM TO: the most units that one add may have" ∷
     codes "demand: the links of the demand" ∷
     codes "installed: the newest plan" ∷
+    codes "plans: the editions that have a plan" ∷
     codes "waiting: the messages on their way" ∷
     codes "help: these lines" ∷
     []
@@ -43,6 +47,9 @@ apart_lines =
     codes "round: a block of lines begins" ∷
     codes "go: the block is played as one round" ∷
     codes "forget: the block is given up" ∷
+    codes "forget @WORD: the block of that tag is given up" ∷
+    codes "blocks: the blocks that are open" ∷
+    codes "@WORD LINE: the line, for the block of that tag" ∷
     codes "desk D add FROM TO UNITS: desk D wants so many slots more for the link" ∷
     codes "desk D drop FROM TO UNITS: desk D wants so many fewer" ∷
     codes "desk D move FROM TO NEWFROM NEWTO UNITS: so many fewer for the one, and more for the other" ∷
@@ -59,6 +66,7 @@ apart_lines =
     codes "room FROM TO: the most units that one add may have" ∷
     codes "demand: the links of the demand" ∷
     codes "installed: the newest plan" ∷
+    codes "plans: the editions that have a plan" ∷
     codes "help: these lines" ∷
     []
 

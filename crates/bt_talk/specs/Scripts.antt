@@ -1,5 +1,5 @@
 -- The session that asks what a script asks.
-use Rattle.std.specs.Prelude.{◌≡◌, ℕ, ◌&&◌, if◌then◌else◌, Bool, false, List, [], ◌∷◌, ◌++◌, codes, map, Option, Some, None, Ok}
+use Rattle.std.specs.Prelude.{◌≡◌, ℕ, ◌&&◌, if◌then◌else◌, Bool, false, List, [], ◌∷◌, ◌++◌, codes, map, Option, Some, Ok}
 use Rattle.bt_text.specs.Text.{lines}
 use Rattle.bt_net.specs.Network.{Net}
 use Rattle.bt_script.specs.declared.sites.Sites.TheVariants.{Together}
@@ -24,4 +24,4 @@ came text = Some text
 
 -- such lines ask, in a session, the rounds and restarts of the script
 abbrev pub AskItems : Type 0
-AskItems = (net : Net) (text : List ℕ) (said : List ScriptLine) → lines_in net 1 false (lines text) ≡ Ok said → parts_of net Together None (map came (session_of false (lines text) said)) ≡ items_of said
+AskItems = (net : Net) (text : List ℕ) (said : List ScriptLine) → lines_in net 1 false (lines text) ≡ Ok said → parts_of net Together 1 [] (map came (session_of false (lines text) said)) ≡ items_of said

@@ -1,25 +1,67 @@
 // The lines of a session that no script has.
-ghost use Rattle.std.specs.Prelude.{◌≡◌, ◌-◌, ◌++◌, OnOk, OnErr, IfOk, length};
+ghost use Rattle.std.specs.Prelude.{◌≡◌, ◌-◌, ◌++◌, OnOk, OnErr, IfOk, length, option_map};
 ghost use Rattle.bt_text.specs.Text.{lines};
-ghost use Rattle.bt_talk.specs.Answers.{answer_of, counted, fault_line, form_of_fault, input_fault_line, lines_line, ready_line};
+ghost use Rattle.bt_talk.specs.Answers.{answer_of, counted, fault_line, form_of_fault, input_fault_line, lines_line, ready_line, ready_of};
 
 use crate::block::Step;
+use crate::blocks::Blocks;
+use crate::tag::cut_tag;
 use bt_frame::OutOfMemory;
 use bt_script::ScriptCode;
 use bt_text::first_line;
 use bt_words::{Form, Word, print};
 use std::alloc::Global;
 
-/// The answer to line `at`: its fault, where it has one, and that the next may come.
-pub fn answer_text(alloc: Global, at: u64, step: &Step) -> Result<Vec<u8>, OutOfMemory>
-    ensures answer { IfOk result (λ text. text.items ≡ answer_of at step.now) }
+/// The answer to what came as line `at`, which comes to this, with these blocks open behind it: its fault, where it has one, and that
+/// the next may come.
+pub fn answer_text(
+    alloc: Global,
+    at: u64,
+    came: Option<&[u8]>,
+    blocks: &Blocks,
+    step: &Step,
+) -> Result<Vec<u8>, OutOfMemory>
+    ensures answer { IfOk result (λ text. text.items ≡ answer_of at (option_map (λ text. text.now) came.entry) (blocks.now, step.now)) }
 {
     let mut text = Vec::new(alloc);
     if let Step::Fault(code) = step {
         add_fault(alloc, *code, at, &mut text)?;
     }
-    add_ready(alloc, at, &mut text)?;
+    match came {
+        Some(line) => {
+            let (tag, _) = cut_tag(line);
+            add_ready_of(alloc, at, tag, blocks.count(tag), &mut text)?;
+        }
+        None => add_ready_of(alloc, at, &[], blocks.count(&[]), &mut text)?,
+    }
     Ok(text)
+}
+
+/// Appends that line `at` was heard, and the next may come: with its tag, and how many lines the block of that has, where it is open.
+fn add_ready_of(
+    alloc: Global,
+    at: u64,
+    tag: &[u8],
+    lines: Option<u64>,
+    text: &mut Vec<u8>,
+) -> Result<(), OutOfMemory>
+    ensures line { OnOk result (text.new.items ≡ text.old.items ++ ready_of at tag.now lines) }
+{
+    match (lines, tag.is_empty()) {
+        (None, true) => add_ready(alloc, at, text),
+        (None, false) => {
+            let words = [Word::Number(at), Word::Tag(tag)];
+            print(alloc, Form::ReadyTag, &words, text)
+        }
+        (Some(count), true) => {
+            let words = [Word::Number(at), Word::Number(count)];
+            print(alloc, Form::ReadyOpen, &words, text)
+        }
+        (Some(count), false) => {
+            let words = [Word::Number(at), Word::Number(count), Word::Tag(tag)];
+            print(alloc, Form::ReadyOpenTag, &words, text)
+        }
+    }
 }
 
 /// Appends that so many lines were heard, and the next may come. Where memory runs out the text is as it was.

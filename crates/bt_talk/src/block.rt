@@ -1,38 +1,65 @@
-// The block of a session, and what a line comes to.
+// The block of a tag, and what a line comes to in it.
 //
-//     line                  where no block is open      where one is open
-//     of the bus            is heard                    is heard
+//     line                  where the block is closed   where it is open
 //     empty, or with `#`    nothing                     nothing
-//     `round`               opens a block               fault S4
-//     `go`                  fault S4                    plays the block, and closes it
-//     `forget`              fault S4                    closes the block
+//     `round`               opens it                    fault S4
+//     `go`                  fault S4                    plays it, and closes it
+//     `forget`              fault S4                    closes it
 //     `restart`             the centre restarts         fault S4
-//     what asks             is told                     fault S4
-//     another of a script   a round by itself           joins the block; fault S5 where that is full
-//     at fault, or none     its fault                   its fault
+//     what asks             is told                     is told
+//     another of a script   a round by itself           joins it; fault S5 where it is full
+//     at fault              its fault                   its fault
 //
-// Where the sites are together no line is one of the bus. Where they are apart the lines of a simulated air, and `waiting`, are fault S1.
+// Where the sites are apart the lines of a simulated air, and `waiting`, are fault S1.
 ghost use Rattle.std.specs.Prelude.{◌≡◌, ◌≤◌, ◌++◌, ◌∷◌, [], None, Some, IfOk, IfSome, All, length, option_map};
 ghost use Rattle.bt_frame.specs.declared.limits.TheConstants.{MOST_LINES};
 ghost use Rattle.bt_text.specs.Text.{words};
 ghost use Rattle.bt_net.specs.Network.{Net};
 ghost use Rattle.bt_net.specs.Terminals.{IsTerminal};
 ghost use Rattle.bt_script.specs.Said.{IsSaidFor};
-ghost use Rattle.bt_script.specs.Heard.{IsOnBus};
-ghost use Rattle.bt_talk.specs.Block.{IsOpenFor, IsQueryFor, IsStepFor, block_row, forget_row, go_row, has_line, heard_by, is_of_centre, joined, line_bytes, line_row, lone_row, named_row, plays, room_names, room_row, row_of, said_row, tell_row, waiting_asked, word_asked};
+ghost use Rattle.bt_talk.specs.Block.{IsOwnFor, IsQueryFor, IsStepFor, block_row, forget_row, go_row, has_line, is_of_centre, joined, line_row, lone_row, named_row, plays, room_names, room_row, said_row, waiting_asked, word_asked};
 
-use bt_frame::{MOST_LINES, MOST_SESSION_LINE_BYTES, MOST_STATION_LINE_BYTES, OutOfMemory, TermNo};
+use bt_frame::{MOST_LINES, OutOfMemory, TermNo};
 use bt_net::{Network, are_names};
 use bt_script::{
-    AirLine, BusLine, Item, ScriptCode, ScriptFault, ScriptLine, Sites, read_bus_line, read_line,
-    round_in_front,
+    AirLine, Item, ScriptCode, ScriptFault, ScriptLine, Sites, read_line, round_in_front,
 };
 use bt_text::{WordReader, is_word};
 use std::alloc::Global;
 use std::marker::Model;
 
+/// The lines of the blocks that are open, as text.
+#[derive(Drop)]
+pub struct BlockLines {
+    text: Vec<u8>,
+}
+
+impl Model for BlockLines {
+    ghost use Rattle.std.specs.Prelude.{ℕ, List};
+
+    ghost Value = { List ℕ };
+
+    ghost view = { λ a. a.text.items };
+}
+
+impl BlockLines {
+    /// These lines.
+    pub(crate) fn of(text: Vec<u8>) -> BlockLines
+        ensures same { result ≡ text.items }
+    {
+        BlockLines { text }
+    }
+
+    /// The text.
+    pub fn into_text(self) -> Vec<u8>
+        ensures same { result.items ≡ self }
+    {
+        self.text
+    }
+}
+
 /// What a line asks that changes nothing.
-#[derive(Clone, Copy)]
+#[derive(Drop)]
 pub enum Query {
     /// How far the book has come.
     State,
@@ -44,10 +71,14 @@ pub enum Query {
     Demand,
     /// The newest plan.
     Installed,
+    /// The editions that have a plan.
+    Plans,
     /// The messages that are on their way.
     Waiting,
     /// The lines that a session has, by where its sites are.
     Help(Sites),
+    /// The blocks that are open: these.
+    Blocks(BlockLines),
 }
 
 /// What a line of a session comes to.
@@ -63,9 +94,9 @@ pub enum Step {
     Tells(Query),
 }
 
-/// The block of a session: its lines where it is open.
+/// The block of a tag: the lines that wait in it, where it is open.
 #[derive(Drop)]
-pub struct Block {
+pub(crate) struct Block {
     said: Option<Vec<ScriptLine>>,
 }
 
@@ -82,47 +113,40 @@ impl Model for Block {
 }
 
 impl Block {
-    /// No block is open.
-    pub fn closed() -> Block
+    /// It is closed.
+    pub(crate) fn closed() -> Block
         ensures closed { result ≡ None }
     {
         Block { said: None }
     }
 
-    /// What comes is a line, or None where it is none: what it comes to, and the block behind it.
-    pub fn take(
-        self,
-        alloc: Global,
-        net: &Network,
-        sites: Sites,
-        came: Option<&[u8]>,
-    ) -> Result<(Block, Step), OutOfMemory>
-        requires terminals { IsOpenFor net.now self }
-        requires short { IfSome came (λ text. length text.now ≤ line_bytes sites) }
-        ensures row { IfOk result (λ on. (on.0, on.1) ≡ row_of net.now sites self (option_map (λ text. text.now) came.entry)) }
-        ensures terminals { IfOk result (λ on. IsOpenFor net.now on.0) }
-        ensures part { IfOk result (λ on. IsStepFor net.now on.1) }
+    /// It is open, with these lines.
+    pub(crate) fn open(said: Vec<ScriptLine>) -> Block
+        requires few { length said.items ≤ MOST_LINES }
+        ensures open { result ≡ Some said.items }
     {
-        let Some(text) = came else {
-            return Ok((self, Step::Fault(ScriptCode::S1)));
-        };
-        match heard_by(alloc, sites, text)? {
-            Some(one) => Ok((self, Step::Plays(Item::Heard(one)))),
-            None => self.line(alloc, net, sites, text),
-        }
+        Block { said: Some(said) }
     }
 
-    /// What a line comes to.
-    fn line(
+    /// The lines that wait in it, where it is open.
+    pub(crate) fn into_said(self) -> Option<Vec<ScriptLine>>
+        ensures same { option_map (λ said. said.items) result ≡ self }
+        ensures few { IfSome result (λ said. length said.items ≤ MOST_LINES) }
+    {
+        self.said
+    }
+
+    /// What a line comes to, and the block behind it.
+    pub(crate) fn line(
         self,
         alloc: Global,
         net: &Network,
         sites: Sites,
         text: &[u8],
     ) -> Result<(Block, Step), OutOfMemory>
-        requires terminals { IsOpenFor net.now self }
+        requires terminals { IsOwnFor net.now self }
         ensures row { IfOk result (λ on. (on.0, on.1) ≡ line_row net.now sites self text.now) }
-        ensures terminals { IfOk result (λ on. IsOpenFor net.now on.0) }
+        ensures terminals { IfOk result (λ on. IsOwnFor net.now on.0) }
         ensures part { IfOk result (λ on. IsStepFor net.now on.1) }
     {
         if is_word(text, b"go") {
@@ -132,7 +156,7 @@ impl Block {
             return Ok(self.forget());
         }
         match word_asked(sites, text) {
-            Some(query) => Ok(self.tell(net, query)),
+            Some(query) => Ok((self, Step::Tells(query))),
             None => self.named(alloc, net, sites, text),
         }
     }
@@ -145,9 +169,9 @@ impl Block {
         sites: Sites,
         text: &[u8],
     ) -> Result<(Block, Step), OutOfMemory>
-        requires terminals { IsOpenFor net.now self }
+        requires terminals { IsOwnFor net.now self }
         ensures row { IfOk result (λ on. (on.0, on.1) ≡ named_row net.now sites self text.now (room_names (words text.now))) }
-        ensures terminals { IfOk result (λ on. IsOpenFor net.now on.0) }
+        ensures terminals { IfOk result (λ on. IsOwnFor net.now on.0) }
         ensures part { IfOk result (λ on. IsStepFor net.now on.1) }
     {
         if let Some((from, to)) = room_names(text) {
@@ -163,38 +187,24 @@ impl Block {
 
     /// `room`, with the terminals of its names.
     fn room(self, net: &Network, from: Option<TermNo>, to: Option<TermNo>) -> (Block, Step)
-        requires terminals { IsOpenFor net.now self }
+        requires terminals { IsOwnFor net.now self }
         requires from { IfSome from (IsTerminal net.now) }
         requires to { IfSome to (IsTerminal net.now) }
         ensures row { (result.0, result.1) ≡ room_row self from to }
-        ensures terminals { IsOpenFor net.now result.0 }
+        ensures terminals { IsOwnFor net.now result.0 }
         ensures part { IsStepFor net.now result.1 }
     {
         match (from, to) {
-            (Some(from), Some(to)) => self.tell(net, Query::Room { from, to }),
+            (Some(from), Some(to)) => (self, Step::Tells(Query::Room { from, to })),
             _ => (self, Step::Fault(ScriptCode::S2)),
-        }
-    }
-
-    /// A line that asks.
-    fn tell(self, net: &Network, query: Query) -> (Block, Step)
-        requires terminals { IsOpenFor net.now self }
-        requires query { IsQueryFor net.now query }
-        ensures row { (result.0, result.1) ≡ tell_row self query }
-        ensures terminals { IsOpenFor net.now result.0 }
-        ensures part { IsStepFor net.now result.1 }
-    {
-        match self.said {
-            None => (Block::closed(), Step::Tells(query)),
-            Some(said) => (Block { said: Some(said) }, Step::Fault(ScriptCode::S4)),
         }
     }
 
     /// `go`.
     fn go(self, alloc: Global, net: &Network) -> Result<(Block, Step), OutOfMemory>
-        requires terminals { IsOpenFor net.now self }
+        requires terminals { IsOwnFor net.now self }
         ensures row { IfOk result (λ on. (on.0, on.1) ≡ go_row self) }
-        ensures terminals { IfOk result (λ on. IsOpenFor net.now on.0) }
+        ensures terminals { IfOk result (λ on. IsOwnFor net.now on.0) }
         ensures part { IfOk result (λ on. IsStepFor net.now on.1) }
     {
         match self.said {
@@ -220,38 +230,16 @@ impl Block {
         net: &Network,
         one: ScriptLine,
     ) -> Result<(Block, Step), OutOfMemory>
-        requires terminals { IsOpenFor net.now self }
+        requires terminals { IsOwnFor net.now self }
         requires line { IsSaidFor net.now one }
         ensures row { IfOk result (λ on. (on.0, on.1) ≡ said_row self one) }
-        ensures terminals { IfOk result (λ on. IsOpenFor net.now on.0) }
+        ensures terminals { IfOk result (λ on. IsOwnFor net.now on.0) }
         ensures part { IfOk result (λ on. IsStepFor net.now on.1) }
     {
         match self.said {
             None => lone(alloc, net, one),
             Some(said) => waits(net, said, &one),
         }
-    }
-}
-
-/// The most bytes of a line.
-pub fn line_bytes(sites: Sites) -> usize
-    ensures { result ≡ line_bytes sites }
-{
-    match sites {
-        Sites::Together => MOST_SESSION_LINE_BYTES,
-        Sites::Apart => MOST_STATION_LINE_BYTES,
-    }
-}
-
-/// The line of the bus that a session hears, if it is one.
-fn heard_by(alloc: Global, sites: Sites, text: &[u8]) -> Result<Option<BusLine>, OutOfMemory>
-    requires short { length text.now ≤ line_bytes sites }
-    ensures line { IfOk result (λ line. line ≡ heard_by sites text.now) }
-    ensures in_range { IfOk result (λ line. IfSome line IsOnBus) }
-{
-    match sites {
-        Sites::Together => Ok(None),
-        Sites::Apart => read_bus_line(alloc, text),
     }
 }
 
@@ -285,6 +273,8 @@ fn word_asked(sites: Sites, text: &[u8]) -> Option<Query>
         Some(Query::Demand)
     } else if is_word(text, b"installed") {
         Some(Query::Installed)
+    } else if is_word(text, b"plans") {
+        Some(Query::Plans)
     } else if is_word(text, b"waiting") {
         waiting_asked(sites)
     } else if is_word(text, b"help") {
@@ -325,11 +315,11 @@ fn room_names(text: &[u8]) -> Option<(&[u8], &[u8])>
     Some((from, to))
 }
 
-/// A line of a script where no block is open.
+/// A line of a script where the block is closed.
 fn lone(alloc: Global, net: &Network, one: ScriptLine) -> Result<(Block, Step), OutOfMemory>
     requires line { IsSaidFor net.now one }
     ensures row { IfOk result (λ on. (on.0, on.1) ≡ lone_row one) }
-    ensures terminals { IfOk result (λ on. IsOpenFor net.now on.0) }
+    ensures terminals { IfOk result (λ on. IsOwnFor net.now on.0) }
     ensures part { IfOk result (λ on. IsStepFor net.now on.1) }
 {
     match one {
@@ -347,7 +337,7 @@ fn lone(alloc: Global, net: &Network, one: ScriptLine) -> Result<(Block, Step), 
     }
 }
 
-/// A line of a script where a block with these lines is open.
+/// A line of a script where the block is open, with these lines.
 fn waits(
     net: &Network,
     said: Vec<ScriptLine>,
@@ -357,7 +347,7 @@ fn waits(
     requires terminals { All (IsSaidFor net.now) said.items }
     requires line { IsSaidFor net.now one.now }
     ensures row { IfOk result (λ on. (on.0, on.1) ≡ block_row said.items one.now) }
-    ensures terminals { IfOk result (λ on. IsOpenFor net.now on.0) }
+    ensures terminals { IfOk result (λ on. IsOwnFor net.now on.0) }
     ensures part { IfOk result (λ on. IsStepFor net.now on.1) }
 {
     match one {
@@ -379,7 +369,7 @@ fn join(
     requires terminals { All (IsSaidFor net.now) said.items }
     requires line { IsSaidFor net.now one.now }
     ensures row { IfOk result (λ on. (on.0, on.1) ≡ joined said.items one.now) }
-    ensures terminals { IfOk result (λ on. IsOpenFor net.now on.0) }
+    ensures terminals { IfOk result (λ on. IsOwnFor net.now on.0) }
     ensures part { IfOk result (λ on. IsStepFor net.now on.1) }
 {
     if said.len() < MOST_LINES as usize {

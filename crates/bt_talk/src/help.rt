@@ -11,6 +11,9 @@ const HELP: &str = "\
 round: a block of lines begins\n\
 go: the block is played as one round\n\
 forget: the block is given up\n\
+forget @WORD: the block of that tag is given up\n\
+blocks: the blocks that are open\n\
+@WORD LINE: the line, for the block of that tag\n\
 desk D add FROM TO UNITS: desk D wants so many slots more for the link\n\
 desk D drop FROM TO UNITS: desk D wants so many fewer\n\
 desk D move FROM TO NEWFROM NEWTO UNITS: so many fewer for the one, and more for the other\n\
@@ -34,6 +37,7 @@ capacity: what the demand leaves free\n\
 room FROM TO: the most units that one add may have\n\
 demand: the links of the demand\n\
 installed: the newest plan\n\
+plans: the editions that have a plan\n\
 waiting: the messages on their way\n\
 help: these lines\n";
 
@@ -42,6 +46,9 @@ const APART_HELP: &str = "\
 round: a block of lines begins\n\
 go: the block is played as one round\n\
 forget: the block is given up\n\
+forget @WORD: the block of that tag is given up\n\
+blocks: the blocks that are open\n\
+@WORD LINE: the line, for the block of that tag\n\
 desk D add FROM TO UNITS: desk D wants so many slots more for the link\n\
 desk D drop FROM TO UNITS: desk D wants so many fewer\n\
 desk D move FROM TO NEWFROM NEWTO UNITS: so many fewer for the one, and more for the other\n\
@@ -58,6 +65,7 @@ capacity: what the demand leaves free\n\
 room FROM TO: the most units that one add may have\n\
 demand: the links of the demand\n\
 installed: the newest plan\n\
+plans: the editions that have a plan\n\
 help: these lines\n";
 
 /// The lines that a session has, a short line each.

@@ -17,8 +17,10 @@ use std::alloc::{AllocError, Global};
 use std::env::Env;
 use std::process::ExitCode;
 
-/// The place of the file that may be standard input, among the words.
+/// The place of the file that may be standard input, among the words, and that of the answers behind a journal.
 const FILE: usize = 2;
+
+const ANSWERS: usize = 3;
 
 fn main(rt: HostRuntime) -> ExitCode {
     // before any file is opened
@@ -54,8 +56,8 @@ fn main(rt: HostRuntime) -> ExitCode {
     ExitCode::from(status)
 }
 
-/// The words after the program's name, with standard input in the place of a `-` as the second file; none where they are
-/// refused.
+/// The words after the program's name, with standard input in the place of a `-` as the second file, or as the answers of a page;
+/// none where they are refused.
 fn asked<R: Env + Alloc<A = Global>>(
     rt: &R,
     alloc: Global,
@@ -63,8 +65,16 @@ fn asked<R: Env + Alloc<A = Global>>(
     match words_after_name(rt, alloc)? {
         Ok(mut words) => {
             put_standard_input(alloc, &mut words, FILE)?;
+            if is_of_a_page(&words) {
+                put_standard_input(alloc, &mut words, ANSWERS)?;
+            }
             Ok((words, None))
         }
         Err(refusal) => Ok((Vec::new(alloc), Some(refusal))),
     }
+}
+
+/// The words ask for a page.
+fn is_of_a_page(words: &[String]) -> bool {
+    matches!(words, [command, ..] if command.as_str() == "page")
 }

@@ -18,6 +18,20 @@ commands
       example: nozgurt run examples/four-terminals.net examples/lossy-day.script
                lossy.journal | chart ladder examples/four-terminals.net -
 
+  page NET JOURNAL [ANSWERS] [every SECONDS]
+      Makes a page, one file in HTML that a browser shows, of the journal in the
+      file JOURNAL for the network in the file NET: its last edition, its newest
+      plan and how full it is; what is asked of each beam, as bars with their
+      numbers; the picture of the newest plan, as `chart plan` draws it, and its
+      modes; and the links, the largest first.
+      With ANSWERS, what `nozgurt live` or `nozgurt centre` printed, it also shows the
+      edition in front, what the satellite is armed for, the terminals that are
+      missing, the last refusals and faults, and the last superframes as a ladder.
+      It reads and writes nothing else. With `every` a browser loads it again each
+      time that SECONDS have passed.
+      example: chart page examples/two-beams.net examples/calm-change.journal
+               every 60
+
   plan NET PLAN [BEAM ..] [FIRST-LAST]
       Draws the burst time plan in the file PLAN for the network in the file NET.
       The frame goes from left to right, with the modes of the switch above. Each
@@ -42,21 +56,23 @@ commands
   --help      prints this page
   --version   prints the version
 
-The picture is printed as SVG 1.1, which browsers show. The word `-` in the
-place of PLAN or OUTPUT is standard input; a file of that name is `./-`.
+Pictures are printed as SVG 1.1, and pages as HTML; browsers show both. The word
+`-` in the place of PLAN, OUTPUT, JOURNAL or ANSWERS is standard input; a file of
+that name is `./-`.
 
 exit status
 ";
 
 /// What it prints behind them.
 const LETTERS: &str = "  The letter of a CODE names the file that is at fault: N the network, P the
-  plan, O the output of a run. docs/formats.md has the texts of all files and
-  explains each code, and docs/pictures.md explains the pictures.
+  plan, O the output of a run, J the journal. docs/formats.md has the texts of
+  all files and explains each code, and docs/pictures.md explains the pictures.
 ";
 
 /// The forms of the commands: of each its word, and the names of the words behind it.
-pub const FORMS: [&str; 3] = [
+pub const FORMS: [&str; 4] = [
     "ladder NET OUTPUT [all] [FIRST-LAST] [NAME ..]",
+    "page NET JOURNAL [ANSWERS] [every SECONDS]",
     "plan NET PLAN [BEAM ..] [FIRST-LAST]",
     "run NET OUTPUT [all] [FIRST-LAST] [NAME ..]",
 ];

@@ -70,6 +70,14 @@ commands that plan and check
       example: nozgurt timing examples/six-beams.net examples/six-beams.traffic
                examples/six-beams.plan examples/six-beams.delays
 
+  traffic NET CSV
+      Prints the traffic that a table of links says, as `plan` reads it, on the
+      network in the file NET. The file CSV has a row a line, `FROM,TO,UNITS`, and a
+      first row `from,to,units` is the names of the columns. The links are printed in
+      the order of the network's terminals. Whether they fit the frame is not asked:
+      `nozgurt traffic NET CSV | nozgurt capacity NET -` says so.
+      example: nozgurt traffic examples/two-beams.net examples/two-beams.csv
+
   trans K MATRIX
       Prints a switching schedule in the least length for a satellite with K
       transponders, 1 to 16, which makes K connections at once at most. The length
@@ -87,12 +95,14 @@ commands of the centre
       simulated air and without `waiting`, and with two of the bus. `mark N` says
       that superframe N begins; `radio N HEX` is a message, in two digits a byte,
       behind the superframe that its sayer takes for the present one. Both are heard
-      at once, also where a block is open, and answered with `ready N` alone. `turn`
+      at once, also where a block is open, and answered by a `ready` line alone. `turn`
       prints what a run prints of it, and behind each line `sent` the line `radio N
       HEX` by which the message goes out. Before the first mark a turn is
       `turn nomark`, and says nothing. What begins with `radio` is for the other
       sites, all else is for whoever sent the line.
-      An order is a line of the file JOURNAL before its message is said.
+      An order is a line of the file JOURNAL before its message is said. Where the
+      last is of an older edition than one before it, the centre goes back to that
+      edition as it starts and at `restart`, with the line `back E` behind `start`.
       example: nozgurt centre examples/two-beams.net centre.journal < examples/centre.lines
 
   live NET JOURNAL
@@ -101,12 +111,15 @@ commands of the centre
       are the lines of a script, of which each alone is a round by itself, and
       a few more. `round` opens a block, whose lines wait; `go` plays them as one
       round; `forget` gives them up. `state`, `capacity`, `room FROM TO`,
-      `demand`, `installed` and `waiting` ask, and change nothing: `lines K`
-      stands in front of the K lines that are told. `help` tells all the lines
-      that there are. Behind each answer stands `ready N`, which says that line N
-      was answered and the next may come. A line that is at fault has no effect;
-      `fault CODE N` names it, and the session goes on. The end of the input
-      plays no block that is open, and prints the total.
+      `demand`, `installed`, `plans`, `waiting` and `blocks` ask, and change
+      nothing: `lines K` stands in front of the K lines that are told. `help`
+      tells all the lines that there are. Behind each answer stands `ready N`,
+      which says that line N was answered and the next may come. A line may have
+      a tag in front, `@WORD` and a space: its `ready` ends with the tag, and its
+      block is that of the tag alone; `open K` says that this is open and has K
+      lines. A line that is at fault has no effect; `fault CODE N` names it, and
+      the session goes on. The end of the input plays no block that is open, and
+      prints the total.
       It begins with what the file JOURNAL comes to, and each change that is
       accepted is one line more of it before it is answered.
       example: nozgurt live examples/two-beams.net live.journal < examples/live.lines
@@ -148,6 +161,18 @@ commands of the centre
                examples/calm-change.script calm.journal
 
 commands that look at a journal
+  carry NET JOURNAL NEWNET
+      Prints a journal on the network in the file NEWNET with the demand of that in
+      the file JOURNAL, on the network in the file NET, by the names of terminals:
+      the mark of NEWNET, and an edit for each link. NEWNET may have more terminals
+      and beams, another frame and another order. A link whose terminals it does not
+      have both is refused, and so is a demand that does not fit its frame. Given up
+      is what `compact` gives up: the next plan has to be made anew, and until each
+      terminal has it no burst of the old one is to be sent. The file JOURNAL stays
+      as it is.
+      example: nozgurt carry examples/two-beams.net
+               examples/calm-change.journal examples/four-terminals.net
+
   compact NET JOURNAL
       Prints a journal that comes to the same demand as that in the file JOURNAL,
       on the network in the file NET, with the fewest edits: its mark, and an edit
@@ -187,6 +212,15 @@ commands that look at a journal
       example: nozgurt installed examples/two-beams.net
                examples/calm-change.journal
 
+  json FILE
+      Prints each line of a text as an object of JSON, a line each: under `form` the
+      form of the line, as docs/formats.md has it, and under the name of each open
+      place the word that stands there, a number where it is one; a line of no form
+      has its text under `text`. So what a run, a session or a journal says, and any
+      other text, goes to a program that reads JSON.
+      example: nozgurt run examples/two-beams.net examples/calm-change.script told.journal |
+               nozgurt json -
+
   metrics NET JOURNAL
       Prints the state of the journal in the file JOURNAL on the network in the
       file NET as gauges in the text format of Prometheus: the last edition; the
@@ -221,7 +255,7 @@ exit status
 /// What it prints behind them.
 const LETTERS: &str = "  The letter of a CODE names the file that is at fault: N the network, X the
   matrix, M the modes, T the traffic, P the plan, G the delays, S the script, J
-  the journal.
+  the journal, O the text of `json`.
   With status 125 the program was not started: it is not built, or another has
   the journal.
   docs/formats.md, the man page nozgurt-formats(5), has the texts of all files
@@ -229,7 +263,7 @@ const LETTERS: &str = "  The letter of a CODE names the file that is at fault: N
 ";
 
 /// The forms of the commands: of each its word, and the names of the words behind it.
-pub const FORMS: [&str; 18] = [
+pub const FORMS: [&str; 21] = [
     "capacity NET TRAFFIC",
     "check MATRIX MODES",
     "check NET TRAFFIC PLAN",
@@ -237,15 +271,18 @@ pub const FORMS: [&str; 18] = [
     "modes MATRIX",
     "plan NET TRAFFIC",
     "timing NET TRAFFIC PLAN DELAYS",
+    "traffic NET CSV",
     "trans K MATRIX",
     "centre NET JOURNAL",
     "live NET JOURNAL",
     "replay NET JOURNAL",
     "run NET SCRIPT JOURNAL",
+    "carry NET JOURNAL NEWNET",
     "compact NET JOURNAL",
     "demand NET JOURNAL [EDITION]",
     "edits NET JOURNAL TRAFFIC [DESK]",
     "installed NET JOURNAL [EDITION]",
+    "json FILE",
     "metrics NET JOURNAL",
     "state NET JOURNAL",
 ];

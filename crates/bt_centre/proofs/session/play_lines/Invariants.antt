@@ -1,5 +1,5 @@
 use Rattle.std.proofs.Common.{◌+◌, ◌≤◌}
-use Rattle.bt_talk.specs.Block.{IsOpenFor}
+use Rattle.bt_talk.specs.Blocks.{IsOpenFor}
 use Rattle.bt_centre.specs.Answering.{SessionGoing}
 use Rattle.bt_centre.proofs.session.play_lines.Given as goal
 
@@ -10,7 +10,7 @@ invariant-loop-at g l = record {
   heard : g.T.Talk.unheard l.fn.talk ≤ g.T.Talk.unheard l.talk;
   few : l.playing.rounds + 1 ≤ l.at;
   last : l.at ≤ 9223372036854775808;
-  names : IsOpenFor l.net l.block;
-  going : SessionGoing l.net l.sites l.fn.playing.book l.at l.block l.playing (g.T.Talk.coming l.fn.talk) (g.T.Talk.coming l.talk) (g.T.Sink.told l.fn.talk) (g.T.Sink.told l.talk)
+  names : IsOpenFor l.net l.blocks;
+  going : SessionGoing l.net l.sites l.fn.playing.book l.at l.blocks l.playing (g.T.Talk.coming l.fn.talk) (g.T.Talk.coming l.talk) (g.T.Sink.told l.fn.talk) (g.T.Sink.told l.talk)
       (g.T.Talk.turns l.fn.talk) (g.T.Talk.turns l.talk);
 }

@@ -50,6 +50,14 @@ pub returns-in-TellMetrics : goal.returns-in-TellMetrics
 returns-in-TellMetrics g c =
     came_at (g.F.Files.told c.args.files.now) (Rose (g.F.Files.fault_count c.args.files.now) (g.F.Files.fault_count c.tell_metrics.new.files)) c.args.line _ c.in-TellMetrics.is c.tell_metrics.result c.tell_metrics.ensures
 
+pub returns-in-TellCarry : goal.returns-in-TellCarry
+returns-in-TellCarry g c =
+    came_at (g.F.Files.told c.args.files.now) (Rose (g.F.Files.fault_count c.args.files.now) (g.F.Files.fault_count c.tell_carry.new.files)) c.args.line _ c.in-TellCarry.is c.tell_carry.result c.tell_carry.ensures
+
+pub returns-in-TellTraffic : goal.returns-in-TellTraffic
+returns-in-TellTraffic g c =
+    came_at (g.F.Files.told c.args.files.now) (Rose (g.F.Files.fault_count c.args.files.now) (g.F.Files.fault_count c.tell_traffic.new.files)) c.args.line _ c.in-TellTraffic.is c.tell_traffic.result c.tell_traffic.ensures
+
 pub returns-in-TellState : goal.returns-in-TellState
 returns-in-TellState g c =
     came_at (g.F.Files.told c.args.files.now) (Rose (g.F.Files.fault_count c.args.files.now) (g.F.Files.fault_count c.tell_state.new.files)) c.args.line _ c.in-TellState.is c.tell_state.result c.tell_state.ensures
