@@ -111,17 +111,16 @@ pub lines_more : (net : Net) (sites : Sites) (tells : Bool) (at : ℕ) (blocks :
     → PlaysStep net tells between row.1 own after → one.piece ≡ own ++ answer_of n one.line row → ShowsChanges net after one.shown
     → Last net (changes_at between) (shown_behind shown exchanges).crashes one.shown.crashes → PlaysLines net sites tells at blocks before shown (exchanges ++ one ∷ []) after
 lines_more net sites tells at blocks before between after shown [] one row own n same is number played piece shows last =
-  let here : n ≡ at = omega (arith, number) in
-  let row_is : row ≡ row_of net sites at blocks one.line = is ∙ ap (λ (m : ℕ). row_of net sites m blocks one.line) here in
-  (
-  after,
-  own,
-  subst (λ (s : Stand). PlaysStep net tells s (row_of net sites at blocks one.line).1 own after) same (subst (λ (r : Open × Step). PlaysStep net tells between r.1 own after) row_is played),
-  refl,
-  piece ∙ ap (λ (m : ℕ). own ++ answer_of m one.line row) here ∙ ap (λ (r : Open × Step). own ++ answer_of at one.line r) row_is,
-  shows,
-  subst (λ (s : Stand). Last net (changes_at s) shown.crashes one.shown.crashes) same last,
-  )
+    let here : n ≡ at = omega (arith, number) in
+    let row_is : row ≡ row_of net sites at blocks one.line = is ∙ ap (λ (m : ℕ). row_of net sites m blocks one.line) here in (
+      after,
+      own,
+      subst (λ (s : Stand). PlaysStep net tells s (row_of net sites at blocks one.line).1 own after) same (subst (λ (r : Open × Step). PlaysStep net tells between r.1 own after) row_is played),
+      refl,
+      piece ∙ ap (λ (m : ℕ). own ++ answer_of m one.line row) here ∙ ap (λ (r : Open × Step). own ++ answer_of at one.line r) row_is,
+      shows,
+      subst (λ (s : Stand). Last net (changes_at s) shown.crashes one.shown.crashes) same last,
+    )
 lines_more net sites tells at blocks before between after shown (first ∷ exchanges) one row own n (next, begun, started, going, text_is, shown_is, lasts) is number played piece shows last = (
   next,
   begun,

@@ -143,7 +143,7 @@ fn find_byte(fault: &Fault<'_>, cause: &mut Cause) {
             return cause.say_at(
                 at,
                 1,
-                if fault.letter == b'S' {
+                if matches!(fault.letter, b'S' | b'L' | b'B') {
                     "a remark may not stand behind the words of a line"
                 } else {
                     NO_REMARKS

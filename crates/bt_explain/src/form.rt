@@ -21,6 +21,8 @@ pub enum Place {
     EachNumber(u32, u32),
     /// As many numbers as there are beams, in this range.
     EachWithin(u32, u32),
+    /// The bytes of a message, in two digits each.
+    Bytes,
 }
 
 impl Place {
@@ -44,7 +46,8 @@ const BEAMS: u32 = MOST_BEAMS as u32;
 
 const TERMINALS: u32 = MOST_TERMINALS as u32;
 
-/// The forms that line `at` of a text may have; the letter is that of the text's codes.
+/// The forms that line `at` of a text may have; the letter is that of the text's codes, L a session's of a simulated air, and B
+/// one's whose sites are apart.
 #[rattlefmt::skip]
 pub fn forms_of(letter: u8, at: u32) -> Forms {
     match (letter, at) {
@@ -59,7 +62,9 @@ pub fn forms_of(letter: u8, at: u32) -> Forms {
         (b'G', 1)             => SLOT,
         (b'G', 2)             => HALF,
         (b'G', _)             => DELAYS,
-        (b'S', _)             => SCRIPT,
+        (b'S', _)             => SESSION.get(..SCRIPT_FORMS).unwrap_or(&[]),
+        (b'L', _)             => SESSION.get(..LIVE_FORMS).unwrap_or(&[]),
+        (b'B', _)             => SESSION,
         (b'J', _)             => JOURNAL,
         _                     => &[],
     }
@@ -109,8 +114,13 @@ const DELAYS: Forms = &[
     &[Word("early"), Name, Number(LEAST_CHANGE, MOST_DELAY)],
 ];
 
+/// How many of the forms of a session's lines are a script's, and how many are of a session of a simulated air.
+const SCRIPT_FORMS: usize = 23;
+
+const LIVE_FORMS: usize = 32;
+
 #[rattlefmt::skip]
-const SCRIPT: Forms = &[
+const SESSION: Forms = &[
     &[Word("round")],
     &[Word("restart")],
     &[Word("desk"), Number(1, DESKS), Word("add"),  Name, Name, Number(1, MOST_UNITS)],
@@ -134,6 +144,17 @@ const SCRIPT: Forms = &[
     &[Word("reset"), Name],
     &[Word("standby"), Word("hears"), Number(0, LAST_MESSAGE)],
     &[Word("standby"), Word("burst")],
+    &[Word("go")],
+    &[Word("forget")],
+    &[Word("state")],
+    &[Word("capacity")],
+    &[Word("room"), Name, Name],
+    &[Word("demand")],
+    &[Word("installed")],
+    &[Word("waiting")],
+    &[Word("help")],
+    &[Word("mark"), Within(1, LAST_MARK)],
+    &[Word("radio"), Within(1, LAST_MARK), Bytes],
 ];
 
 #[rattlefmt::skip]

@@ -5,13 +5,15 @@
 //! stands on the words of texts (`bt_text`), on networks (`bt_net`), on the outside (`bt_outside`), on statuses (`bt_report`), on
 //! the forms of printed lines (`bt_words`) and on what a session tells of its own (`bt_talk`).
 //! No function here promises anything but that it is safe and returns: what standard error says is claimed nowhere. The outside
-//! that is remembered here, an output (`last_line.rt`) and files (`kept_files.rt`), keeps what the outside promises.
+//! that is remembered here, an output (`last_line.rt`) and files (`kept_files.rt`), and that of which it is told at once, a store
+//! (`alarm.rt`) and the talk of a session (`reasons.rt`), keep what the outside promises.
 //!
 //! `telling.rt` is where a program asks; `fault.rt` goes by the code. `cause.rt` is what is said, `page.rt` the text of it.
 #![tactic(auto)]
 
 mod alarm;
 mod asked;
+mod blocks;
 mod bytes;
 mod carry;
 mod cause;
@@ -29,8 +31,11 @@ mod network;
 mod output;
 mod page;
 mod plan;
+mod reasons;
+mod refusal;
 mod row;
 mod script;
+mod session;
 mod telling;
 mod traffic;
 mod unread;
@@ -42,4 +47,6 @@ mod words;
 pub use alarm::Alarming;
 pub use kept_files::KeptFiles;
 pub use last_line::LastLine;
+pub use reasons::Reasons;
+pub use session::Session;
 pub use telling::{Done, tell, tell_status};

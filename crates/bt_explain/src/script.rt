@@ -21,7 +21,7 @@ pub fn find_script(fault: &Fault<'_>, cause: &mut Cause) {
 }
 
 /// Looks for a number of too many digits.
-fn find_long_number(line: &[u8], cause: &mut Cause) {
+pub fn find_long_number(line: &[u8], cause: &mut Cause) {
     for (at, word) in Words::of(line) {
         if word.len() > MOST_DIGITS && number(word).is_some() {
             return cause.say_at(at, word.len(), "a number of a script has 10 digits at most");
@@ -58,11 +58,22 @@ fn stands_above(fault: &Fault<'_>, wanted: &[u8]) -> bool {
     false
 }
 
+/// Helps where a line of a session begins with a word that stands behind the number of a desk.
+pub fn ask_desk(word: &[u8], letter: u8, cause: &mut Cause) {
+    if matches!(letter, b'L' | b'B') && is_of_desk(word) {
+        say_desk(cause);
+    }
+}
+
+fn say_desk(cause: &mut Cause) {
+    cause.hint.clear();
+    cause.hint.add("put 'desk D' in front");
+}
+
 /// Helps where a line of a script begins with a word of another place.
 pub fn ask_slip(alloc: Global, word: &[u8], cause: &mut Cause) {
     if is_of_desk(word) {
-        cause.hint.clear();
-        cause.hint.add("put 'desk D' in front");
+        say_desk(cause);
     } else if begins_session_line(alloc, word) {
         cause.hint.clear();
         cause.hint.add("only a session has this line");

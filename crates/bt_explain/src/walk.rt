@@ -5,7 +5,7 @@ use crate::fault::Fault;
 use crate::form::{Forms, Place, forms_of};
 use crate::near::{Near, name_terminals};
 use crate::page::Page;
-use crate::script::ask_slip;
+use crate::script::{ask_desk, ask_slip};
 use bt_net::{Network, is_name};
 use bt_text::{WordReader, is_word, number};
 use std::alloc::Global;
@@ -147,7 +147,14 @@ fn takes(place: Place, word: &[u8], look: &Look<'_>) -> bool {
         Place::Within(least, most) | Place::EachWithin(least, most) => {
             is_within(word, least, most, true)
         }
+        Place::Bytes => is_of_bytes(word),
     }
+}
+
+fn is_of_bytes(word: &[u8]) -> bool {
+    !word.is_empty()
+        && word.len().is_multiple_of(2)
+        && word.iter().all(|digit| digit.is_ascii_hexdigit())
 }
 
 fn is_known(word: &[u8], net: Option<&Network>) -> bool {
@@ -203,6 +210,7 @@ pub fn find_misfit(alloc: Global, fault: &Fault<'_>, cause: &mut Cause) {
             Misfit::Wrong(_) if fault.letter == b'S' && walk.fit == 0 => {
                 ask_slip(alloc, walk.word, cause)
             }
+            Misfit::Wrong(_) if walk.fit == 0 => ask_desk(walk.word, fault.letter, cause),
             Misfit::Behind if is_word(word_of(fault.line, 0), b"mode") => {
                 cause.hint.add("a mode has ");
                 add_place(Place::EachWithin(0, 0), fault.beams, &mut cause.hint);
@@ -315,6 +323,7 @@ fn add_place(place: Place, beams: u32, page: &mut Page) {
             page.add_number(u64::from(beams));
             page.add(" beams");
         }
+        Place::Bytes => page.add("a message, two digits of base 16 a byte,"),
     }
 }
 
@@ -342,6 +351,7 @@ fn say_wrong(place: Place, word: &[u8], choices: &[Place], look: &Look<'_>, caus
         | Place::Within(least, most)
         | Place::EachNumber(least, most)
         | Place::EachWithin(least, most) => say_number(word, least, most, cause),
+        Place::Bytes => cause.say("a message has two digits of base 16 a byte"),
     }
 }
 

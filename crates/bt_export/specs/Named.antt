@@ -1,5 +1,5 @@
 -- For bodies alone: the terminals of another network that have the names of a link's ends.
-use Rattle.std.specs.Prelude.{◌≡◌, ℕ, List, take, All, true, ◌≤◌}
+use Rattle.std.specs.Prelude.{◌≡◌}
 use Rattle.bt_net.specs.Network.{Net}
 use Rattle.bt_net.specs.Terminals.{IsTerminal, name_at}
 use Rattle.bt_demand.specs.declared.demand.Link.{Link}

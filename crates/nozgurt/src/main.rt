@@ -11,7 +11,7 @@ mod pages;
 
 use bt_base::{FileDisk, LineKeeper};
 use bt_cli::{centre_main, journal_of, live_main, live_words};
-use bt_explain::{Alarming, Done, KeptFiles, LastLine, tell, tell_status};
+use bt_explain::{Alarming, Done, KeptFiles, LastLine, Reasons, Session, tell, tell_status};
 use bt_outside::{
     Console, DirFiles, Files, Keeper, Sink, StdSink, StdSource, Waiting, take_closed_streams,
 };
@@ -21,7 +21,7 @@ use bt_report::{
 };
 use std::alloc::{AllocError, Global};
 use std::env::Env;
-use std::io::{BufRead, BufReader};
+use std::io::{BufRead, BufReader, IsTerminal};
 use std::process::ExitCode;
 use std::rt;
 use std::sync::Wait;
@@ -58,10 +58,11 @@ fn main(rt: HostRuntime) -> ExitCode {
                                 &rt,
                                 alloc,
                                 &words,
+                                rt.stderr().is_terminal(),
                                 &mut files,
                                 reader,
                                 out,
-                                Alarming::new(&rt, Program::Nozgurt, store),
+                                store,
                             );
                             begun = came;
                             out = said;
@@ -102,9 +103,10 @@ struct Talked<O> {
     out: O,
 }
 
-/// Holds the session that the words ask for, over a reader and an output.
+/// Holds the session that the words ask for, over a reader and an output. Where it is asked, standard error says why a line is at
+/// fault, and why something is refused.
 fn hold_session<
-    R: Threads + Wait + Sync,
+    R: Threads + Wait + Sync + Eprint + rt::Files,
     F: Files,
     B: BufRead + Drop,
     O: Sink + Drop,
@@ -113,14 +115,18 @@ fn hold_session<
     rt: &R,
     alloc: Global,
     words: &[String],
+    is_asked: bool,
     files: &mut F,
     reader: B,
     out: O,
     store: K,
 ) -> Talked<O> {
-    let mut talk = Console::new(StdSource::new(reader), out);
+    let session = Session::of(rt, alloc, words, is_asked);
+    let store = Alarming::new(rt, Program::Nozgurt, session.journal(), store);
+    let console = Console::new(StdSource::new(reader), out);
+    let mut talk = Reasons::new(rt, alloc, Program::Nozgurt, session, console);
     let status = live_main(rt, alloc, words, files, &mut talk, store).status;
-    let (heard, out) = talk.into_parts();
+    let (heard, out) = talk.into_talk().into_parts();
     let begun = heard.begun();
     Talked { status, begun, out }
 }

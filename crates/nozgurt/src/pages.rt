@@ -122,6 +122,8 @@ commands of the centre
       prints the total.
       It begins with what the file JOURNAL comes to, and each change that is
       accepted is one line more of it before it is answered.
+      Standard error, where it is a terminal, says why a line is at fault or an
+      edit is refused; alarms it says at once in any case.
       example: nozgurt live examples/two-beams.net live.journal < examples/live.lines
 
   replay NET JOURNAL
