@@ -1,7 +1,8 @@
 -- What must hold of each deed of processes, and what is then claimed. Lists of deeds have the latest first.
-use Rattle.std.specs.Prelude.{◌≡◌, ◌⊎◌, ℕ, ◌<◌, ◌≤◌, true, List, [], ◌∷◌, ◌++◌, length, reverse, All, Option, Some, None, IsSome}
+use Rattle.std.specs.Prelude.{◌≡◌, ◌⊎◌, ℕ, ◌<◌, ◌≤◌, true, false, codes, flat_map, List, [], ◌∷◌, ◌++◌, length, reverse, All, Option, Some, None, IsSome}
 use Rattle.bt_frame.specs.declared.limits.TheConstants.{LAST_MARK}
 use Rattle.bt_frame.specs.declared.numbers.TermNo.{TermNo}
+use Rattle.bt_text.specs.Text.{is_word}
 use Rattle.bt_net.specs.Network.{Net}
 use Rattle.bt_net.specs.Terminals.{IsTerminal}
 use Rattle.bt_demand.specs.declared.burst.Burst.{Burst}
@@ -10,6 +11,7 @@ use Rattle.bt_demand.specs.Plan.{empty_plan}
 use Rattle.bt_air.specs.Range.{IsWord}
 use Rattle.bt_machines.specs.Plans.{IsStored, newest_of, plan_of}
 use Rattle.bt_machines.specs.Satellite.{State as Satellite}
+use Rattle.bt_words.specs.Lines.{line_of}
 use Rattle.bt_journal.specs.declared.call.Change.{Change}
 use Rattle.bt_journal.specs.declared.call.Change.TheVariants as change
 use Rattle.bt_history.specs.Causes.{Follows, IsGoodForItsEdition}
@@ -160,7 +162,18 @@ pub record IsSafeInGood (net : Net) (changes : List Change) (onboard : Satellite
   pub front : IsGoodInFront net changes onboard
   pub safe : IsSafe net front.plan.schedule.modes bursts
 
--- a piece is some text, and these lines behind it
+-- a line of a log by its words: it has neither `mark` nor `radio` in front
+abbrev pub IsOfLog : List (List ℕ) → Type 0
+IsOfLog [] = Unit {0}
+IsOfLog (first ∷ rest) = (is_word (codes "mark") first ≡ false) × (is_word (codes "radio") first ≡ false)
+
+-- each of these
+abbrev pub AreOfLog : List (List (List ℕ)) → Type 0
+AreOfLog [] = Unit {0}
+AreOfLog (line ∷ lines) = IsOfLog line × AreOfLog lines
+
+-- a piece is the lines of a log, and these lines behind it
 pub record SaysBehind (said : List ℕ) (lines : List Line) : Type 0 where
-  pub log : List ℕ
-  pub is : said ≡ log ++ texts_of lines
+  pub log : List (List (List ℕ))
+  pub of_log : AreOfLog log
+  pub is : said ≡ flat_map line_of log ++ texts_of lines
