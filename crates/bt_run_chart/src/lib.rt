@@ -27,6 +27,7 @@ mod lanes;
 mod layout;
 mod messages;
 mod numbering;
+mod plain;
 mod range;
 mod reading;
 mod routine;

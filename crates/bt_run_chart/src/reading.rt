@@ -4,6 +4,7 @@
 // them, and its deliveries have the numbers of lines that it heard: these are passed over, and a turn begins its superframe, since
 // no tick does.
 use crate::numbering::Numbering;
+use crate::plain::{Plain, PlainLine};
 use crate::step::{
     ArmedChange, Delivery, Frame, Happening, Note, OnAir, Said, SentMessage, ShownStatus, Station,
     Step,
@@ -11,7 +12,7 @@ use crate::step::{
 use bt_air::{Heard, Taken};
 use bt_frame::{OutOfMemory, TermNo};
 use bt_net::Network;
-use bt_run_lines::{Form, Printed, Value, read_line, told_behind};
+use bt_run_lines::{Form, read_line, told_behind};
 use bt_text::{WordReader, first_line};
 use bt_timeline::{heard_text, taken_text};
 use std::alloc::Global;
@@ -73,7 +74,7 @@ impl Context {
             self.before = None;
             return Ok(0);
         };
-        if let Some(step) = self.step_of(&printed) {
+        if let Some(step) = self.step_of(&PlainLine::of(&printed)) {
             add_step(step, steps)?;
         }
         self.before = Some(printed.form);
@@ -81,7 +82,7 @@ impl Context {
     }
 
     // The step that a line tells of.
-    fn step_of(&mut self, line: &Printed<'_>) -> Option<Step> {
+    fn step_of(&mut self, line: &PlainLine) -> Option<Step> {
         if let Some(message) = self.message_of(line) {
             return Some(Step::Sent(message));
         }
@@ -99,9 +100,9 @@ impl Context {
     }
 
     // The superframe that begins with the turn of a centre apart.
-    fn superframe_of(&mut self, line: &Printed<'_>) -> Option<Step> {
+    fn superframe_of(&mut self, line: &PlainLine) -> Option<Step> {
         match (line.form, line.values()) {
-            (Form::Turn | Form::BackTurn, [Value::Number(mark), _]) if self.mark != Some(*mark) => {
+            (Form::Turn | Form::BackTurn, [Plain::Number(mark), _]) if self.mark != Some(*mark) => {
                 self.mark = Some(*mark);
                 Some(Step::Begin(*mark))
             }
@@ -110,8 +111,8 @@ impl Context {
     }
 
     // The message that was sent.
-    fn message_of(&mut self, line: &Printed<'_>) -> Option<SentMessage> {
-        let [Value::Number(number), rest @ ..] = line.values() else {
+    fn message_of(&mut self, line: &PlainLine) -> Option<SentMessage> {
+        let [Plain::Number(number), rest @ ..] = line.values() else {
             return None;
         };
         let said = said_of(line.form, rest)?;
@@ -131,11 +132,11 @@ impl Context {
     }
 
     // The delivery that was made, of a message that the text has.
-    fn delivery_of(&self, line: &Printed<'_>) -> Option<Delivery> {
+    fn delivery_of(&self, line: &PlainLine) -> Option<Delivery> {
         if self.is_apart {
             return None;
         }
-        let [Value::Number(number), rest @ ..] = line.values() else {
+        let [Plain::Number(number), rest @ ..] = line.values() else {
             return None;
         };
         let (hearer, answer, refused) = answer_of(line.form, rest)?;
@@ -184,37 +185,37 @@ fn joins_edits(note: &mut Note, newest: u64) -> bool {
 
 // What a message says, from the values behind its number.
 #[rattlefmt::skip]
-fn said_of(form: Form, values: &[Value<'_>]) -> Option<Said> {
+fn said_of(form: Form, values: &[Plain]) -> Option<Said> {
     match (form, values) {
-        (Form::SentLoad, [Value::Number(command), Value::Number(edition)]) => Some(Said::Load { command: *command, edition: *edition }),
-        (Form::SentArm, [_, Value::Number(edition), Value::Number(due)]) => Some(Said::Arm(ArmedChange { edition: *edition, due: *due })),
+        (Form::SentLoad, [Plain::Number(command), Plain::Number(edition)]) => Some(Said::Load { command: *command, edition: *edition }),
+        (Form::SentArm, [_, Plain::Number(edition), Plain::Number(due)]) => Some(Said::Arm(ArmedChange { edition: *edition, due: *due })),
         (Form::SentStatus | Form::SentArmedStatus, _) => status_of(values),
-        (Form::SentPlan, [Value::Number(edition), Value::Terminal(to)]) => Some(Said::Bursts { edition: *edition, to: *to }),
-        (Form::SentConfirm, [Value::Number(edition), Value::Terminal(from)]) => Some(Said::Confirm { edition: *edition, from: *from }),
-        (Form::SentReference, [Value::Number(mark), Value::Number(edition)]) => Some(Said::Reference { mark: *mark, edition: Some(*edition) }),
-        (Form::SentNoReference, [Value::Number(mark)]) => Some(Said::Reference { mark: *mark, edition: None }),
-        (Form::SentLost, [Value::Terminal(from)]) => Some(Said::Lost { from: *from }),
+        (Form::SentPlan, [Plain::Number(edition), Plain::Terminal(to)]) => Some(Said::Bursts { edition: *edition, to: *to }),
+        (Form::SentConfirm, [Plain::Number(edition), Plain::Terminal(from)]) => Some(Said::Confirm { edition: *edition, from: *from }),
+        (Form::SentReference, [Plain::Number(mark), Plain::Number(edition)]) => Some(Said::Reference { mark: *mark, edition: Some(*edition) }),
+        (Form::SentNoReference, [Plain::Number(mark)]) => Some(Said::Reference { mark: *mark, edition: None }),
+        (Form::SentLost, [Plain::Terminal(from)]) => Some(Said::Lost { from: *from }),
         _ => None,
     }
 }
 
 // What a status says, from the values behind its number.
-fn status_of(values: &[Value<'_>]) -> Option<Said> {
+fn status_of(values: &[Plain]) -> Option<Said> {
     let [
-        Value::Number(mark),
-        Value::Number(fore),
-        Value::Number(back),
+        Plain::Number(mark),
+        Plain::Number(fore),
+        Plain::Number(back),
         rest @ ..,
     ] = values
     else {
         return None;
     };
     let (armed, last) = match rest {
-        [Value::Number(last)] => (None, *last),
+        [Plain::Number(last)] => (None, *last),
         [
-            Value::Number(edition),
-            Value::Number(due),
-            Value::Number(last),
+            Plain::Number(edition),
+            Plain::Number(due),
+            Plain::Number(last),
         ] => {
             let change = ArmedChange {
                 edition: *edition,
@@ -234,16 +235,16 @@ fn status_of(values: &[Value<'_>]) -> Option<Said> {
 }
 
 // Who heard a message, what that did with it, and whether it refused, from the values behind the number.
-fn answer_of(form: Form, values: &[Value<'_>]) -> Option<(Station, &'static str, bool)> {
+fn answer_of(form: Form, values: &[Plain]) -> Option<(Station, &'static str, bool)> {
     Some(match (form, values) {
-        (Form::GotSatellite, [Value::Taken(taken)]) => satellite_answer(*taken),
+        (Form::GotSatellite, [Plain::Taken(taken)]) => satellite_answer(*taken),
         (Form::GotCentre, []) => (Station::Centre, "noted", false),
-        (Form::GotTerminal, [Value::Terminal(terminal), Value::Heard(heard)]) => {
+        (Form::GotTerminal, [Plain::Terminal(terminal), Plain::Heard(heard)]) => {
             terminal_answer(*terminal, *heard)
         }
         (Form::NotForSatellite, []) => (Station::Satellite, "notforme", true),
         (Form::NotForCentre, []) => (Station::Centre, "notforme", true),
-        (Form::NotForTerminal, [Value::Terminal(terminal)]) => {
+        (Form::NotForTerminal, [Plain::Terminal(terminal)]) => {
             (Station::Terminal(*terminal), "notforme", true)
         }
         (Form::StandbyNoted, []) => (Station::Standby, "noted", false),
@@ -265,19 +266,19 @@ fn terminal_answer(terminal: TermNo, heard: Heard) -> (Station, &'static str, bo
 
 // A step that is no message.
 #[rattlefmt::skip]
-fn happening_of(line: &Printed<'_>) -> Option<Step> {
+fn happening_of(line: &PlainLine) -> Option<Step> {
     match (line.form, line.values()) {
-        (Form::Start, [_, _, Value::Number(mark)]) => Some(Step::Begin(*mark)),
-        (Form::Tick, [Value::Number(mark)]) => Some(Step::Begin(*mark)),
+        (Form::Start, [_, _, Plain::Number(mark)]) => Some(Step::Begin(*mark)),
+        (Form::Tick, [Plain::Number(mark)]) => Some(Step::Begin(*mark)),
         (Form::Restart, []) => Some(Step::Happened(Station::Centre, Happening::Restart)),
-        (Form::Reset, [Value::Terminal(terminal)]) => Some(Step::Happened(Station::Terminal(*terminal), Happening::Reset)),
-        (Form::Back, [Value::Number(edition)]) => Some(Step::Happened(Station::Centre, Happening::Back(*edition))),
+        (Form::Reset, [Plain::Terminal(terminal)]) => Some(Step::Happened(Station::Terminal(*terminal), Happening::Reset)),
+        (Form::Back, [Plain::Number(edition)]) => Some(Step::Happened(Station::Centre, Happening::Back(*edition))),
         (Form::Ahead, []) => Some(Step::Happened(Station::Centre, Happening::Ahead)),
-        (Form::Frame, [Value::Frame(mark, number), Value::Number(fore)]) => Some(Step::Shown(Frame { mark: *mark, number: *number, fore: *fore })),
-        (Form::Lost, [Value::Number(count)]) if *count > 0 => Some(Step::Noted(Note::Lost(*count))),
-        (Form::Planned, [Value::Number(edition), ..]) => Some(Step::Noted(Note::Planned(*edition))),
-        (Form::DeskDone, [_, Value::Number(edition), _]) => Some(Step::Noted(Note::Edited { count: 1, edition: *edition })),
-        (Form::Air, [Value::Number(start), Value::Number(length), Value::Terminal(from), Value::Terminal(to)]) => Some(Step::Burst(OnAir { start: *start, length: *length, from: *from, to: *to })),
+        (Form::Frame, [Plain::Frame(mark, number), Plain::Number(fore)]) => Some(Step::Shown(Frame { mark: *mark, number: *number, fore: *fore })),
+        (Form::Lost, [Plain::Number(count)]) if *count > 0 => Some(Step::Noted(Note::Lost(*count))),
+        (Form::Planned, [Plain::Number(edition), ..]) => Some(Step::Noted(Note::Planned(*edition))),
+        (Form::DeskDone, [_, Plain::Number(edition), _]) => Some(Step::Noted(Note::Edited { count: 1, edition: *edition })),
+        (Form::Air, [Plain::Number(start), Plain::Number(length), Plain::Terminal(from), Plain::Terminal(to)]) => Some(Step::Burst(OnAir { start: *start, length: *length, from: *from, to: *to })),
         _ => Some(Step::Noted(Note::Refused(refused_text(line.form)?))),
     }
 }
