@@ -13,3 +13,4 @@ mod Running
 mod Claims
 mod Printed
 mod Started
+mod Worker

@@ -33,7 +33,7 @@ use Rattle.bt_station.specs.Terminal.{terminal_of}
 use Rattle.bt_station.proofs.Acts.{satellite-heard, satellite-ticks, standby-heard, standby-passed_over, standby-seconds, terminal-heard, terminal-modem, terminal-passed_over, terminal-starts}
 use Rattle.bt_apart_laws.specs.Acts.{takes_up}
 use Rattle.bt_apart_laws.specs.Premises.{GoesOnBy, IsStart, MayAsk, MayHear}
-use Rattle.bt_apart_laws.specs.Processes.{Asks, Deed, Goes, Hears, Learns, Makes, Opens, Places, Restarts, StandbyStarts, Start, Starts, Turns, asked_lines, begun_lines, centre_by, is_started, journal_by, known_by, lines_said, opening_over, present_in, radios, reached_by, satellite_by, standby_by, terminal_by}
+use Rattle.bt_apart_laws.specs.Processes.{Asks, Deed, Goes, Hears, Learns, Makes, Opens, Places, Restarts, StandbyStarts, Start, Starts, Turns, asked_lines, begun_lines, centre_by, is_order, is_started, journal_by, known_by, lines_said, opening_over, present_in, radios, reached_by, satellite_by, standby_by, terminal_by}
 use Rattle.bt_apart_laws.proofs.Begins.{begin, begun-near, begun-reached, begun-satellite, begun-stamped, begun-standby, begun-started, begun-terminal}
 use Rattle.bt_apart_laws.proofs.Journals.{orders_over, plans_over}
 use Rattle.bt_apart_laws.proofs.Near.{IsNear, near-idle, near-other}
@@ -64,11 +64,7 @@ abbrev pub if_second : Option Asked → List Act
 if_second (Some asked.Second) = act.Seconds ∷ []
 if_second _ = []
 
--- the order that a restart keeps, and the plan that is in the journal by then
-abbrev pub kept_by : Option Change → Bool
-kept_by (Some (change.Order one)) = true
-kept_by _ = false
-
+-- the plan that is in the journal by a restart
 abbrev pub installs_by : Option Change → List Act
 installs_by (Some (change.Install plan)) = act.Installs plan ∷ []
 installs_by _ = []
@@ -77,7 +73,7 @@ installs_by _ = []
 abbrev pub acts_with : Start → List Deed → Deed → List Act
 acts_with s before (Starts number) = act.Starts number ∷ []
 acts_with s before StandbyStarts = act.StandbyStarts ∷ []
-acts_with s before (Opens one) = act.Restarts (kept_by one) ∷ installs_by one
+acts_with s before (Opens one) = act.Restarts (is_order one) ∷ installs_by one
 acts_with s before (Hears site.Satellite line text) = act.Hears site.Satellite line ∷ []
 acts_with s before (Hears site.Centre line text) = if takes_up (centre_by s before) line then act.Hears site.Centre line ∷ [] else []
 acts_with s before (Hears (site.Terminal number) line text) = if_taken (present_in (terminal_by s number before)) (site.Terminal number) line
@@ -90,7 +86,7 @@ acts_with s before (Turns target) = act.Turns target ∷ []
 acts_with s before (Places one) = act.Places ∷ []
 acts_with s before (Learns plan) = []
 acts_with s before (Goes back) = []
-acts_with s before (Restarts one) = act.Restarts (kept_by one) ∷ installs_by one
+acts_with s before (Restarts one) = act.Restarts (is_order one) ∷ installs_by one
 acts_with s before (Makes one) = installs_by (Some one)
 
 abbrev pub acts_of : Start → List Deed → List Act

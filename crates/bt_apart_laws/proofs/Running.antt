@@ -17,23 +17,24 @@ use Rattle.bt_history.specs.Causes.{Follows}
 use Rattle.bt_history.specs.Changes.{newest}
 use Rattle.bt_history.proofs.Flying.{install_flies}
 use Rattle.bt_history.proofs.Redone.{FollowFrom-at}
-use Rattle.bt_site.specs.Event.{Opening, Ordered, Turn}
+use Rattle.bt_site.specs.Event.{Opening, Ordered, Turn, RestartCentre}
 use Rattle.bt_sites.specs.Stamps.{Act, AreStamped, Begun, HasLine, Line, MayAct, Radio, has_started, known, lines as act_lines, lines_by}
 use Rattle.bt_sites.specs.Stamps as act
 use Rattle.bt_sites.specs.Step as site
 use Rattle.bt_script.specs.Heard.{bus_line_of}
 use Rattle.bt_script.specs.declared.heard.BusLine.{BusLine}
+use Rattle.bt_apart.specs.Back.{back_lasting}
 use Rattle.bt_apart.specs.Apart.{ApartAir, apart_at_start, going_apart, having_apart, says_apart}
 use Rattle.bt_station.specs.Asked.{asked_of}
 use Rattle.bt_station.specs.Acts.{IsTakenUp}
 use Rattle.bt_apart_laws.specs.Acts.{BeginsSome, IsCentreAt, heard_as, known_in, takes_up}
 use Rattle.bt_apart_laws.specs.Premises.{AreProcesses, GoesOnBy, IsUnderWay, MayDo, MayHear}
-use Rattle.bt_apart_laws.specs.Processes.{Asks, Deed, Goes, Hears, Learns, Makes, Opens, Places, Restarts, StandbyStarts, Start, Starts, Turns, centre_by, having_heard, is_started, journal_by, lines_said, present_in, radios, reached_by, satellite_by, standby_by, terminal_by, with_one}
+use Rattle.bt_apart_laws.specs.Processes.{Asks, Deed, Goes, Hears, Learns, Makes, Opens, Places, Restarts, StandbyStarts, Start, Starts, Turns, centre_by, having_heard, is_order, is_started, journal_by, lines_said, present_in, radios, reached_by, satellite_by, standby_by, terminal_by, with_one}
 use Rattle.bt_apart_laws.proofs.Acts.{known-some, order-lines, passes-over, turn-lines}
 use Rattle.bt_apart_laws.proofs.Journals.{newest-first, newest-over, orders-edit, orders-install, orders-order, orders_over, plans-edit, plans-install, plans-order, plans_over, starts-more}
 use Rattle.bt_apart_laws.proofs.May.{may-install, may-order, may-restart, may-turn}
 use Rattle.bt_apart_laws.proofs.Near.{IsNear, has-all, near-goes, near-heard, near-idle, near-installed, near-learns, near-opens, near-placed, near-restarts, near-turn, newest-own, with_plans}
-use Rattle.bt_apart_laws.proofs.Processes.{Stands, acts_of, goes-on, installs_by, kept_by, over, stands-satellite_asks, stands-satellite_hears, stands-standby_asks, stands-standby_hears, stands-standby_starts, stands-start, stands-starts, stands-terminal_asks, stands-terminal_hears}
+use Rattle.bt_apart_laws.proofs.Processes.{Stands, acts_of, goes-on, installs_by, over, stands-satellite_asks, stands-satellite_hears, stands-standby_asks, stands-standby_hears, stands-standby_starts, stands-start, stands-starts, stands-terminal_asks, stands-terminal_hears}
 use Rattle.bt_apart_laws.proofs.Stations.{IsSatelliteAt, IsStandbyAt, IsTerminalAt, satellite-kept, standby-idle, standby-kept, standby-lower, terminal-idle, terminal-kept, terminal-lower}
 use Rattle.bt_apart_laws.proofs.Within.{AreWithin, begun-past, order-within, turn-within, within-both, within-none}
 
@@ -320,14 +321,20 @@ readied-installed s before acts plan may st =
       said = within-both [] (lines_said s before) (lines_by o acts one) (act_lines o acts) (within-none (lines_by o acts one)) st.said;
     }
 
+-- the centre behind a restart, but for where it goes back
+abbrev restarted : ApartAir → Bool → ApartAir
+restarted air kept = going_apart (having_apart air (RestartCentre kept)) None
+
 -- it restarts within its process
-stands-restarts_by : (s : Start) (before : List Deed) (acts : List Act) (one : Option Change) (kept : Bool) → MayAct (over s) acts (act.Restarts kept) → Readied s before acts
+stands-restarts_by : (s : Start) (before : List Deed) (acts : List Act) (one : Option Change) → MayAct (over s) acts (act.Restarts (is_order one)) → Readied s before acts
     → ((number : TermNo) → is_started number before ≡ true → IsTerminal s.net number)
-    → IsNear (over s) (act.Restarts kept ∷ acts) (centre_by s (Restarts one ∷ before)) (plans_over (with_one (journal_by s before) one)) (orders_over (with_one (journal_by s before) one)) (reached_by s site.Centre (Restarts one ∷ before))
-    → Follows s.net (with_one (journal_by s before) one) → StartsEmpty (plans_over (with_one (journal_by s before) one)) → Stands s (Restarts one ∷ before) (act.Restarts kept ∷ acts)
-stands-restarts_by s before acts one kept may r named near follows starts =
+    → IsNear (over s) (act.Restarts (is_order one) ∷ acts) (restarted (centre_by s before) (is_order one)) (plans_over (with_one (journal_by s before) one)) (orders_over (with_one (journal_by s before) one))
+    (reached_by s site.Centre (Restarts one ∷ before))
+    → Follows s.net (with_one (journal_by s before) one) → StartsEmpty (plans_over (with_one (journal_by s before) one)) → Stands s (Restarts one ∷ before) (act.Restarts (is_order one) ∷ acts)
+stands-restarts_by s before acts one may r named near follows starts =
     let o = over s in
-    let does = act.Restarts kept in
+    let does = act.Restarts (is_order one) in
+    let journal = with_one (journal_by s before) one in
     record {
       stamped = (may, r.stamped);
       satellite = satellite-kept o acts does (satellite_by s before) refl r.satellite;
@@ -343,22 +350,23 @@ stands-restarts_by s before acts one kept may r named near follows starts =
           let reach = reached_by s site.Standby before in
           standby-lower o (does ∷ acts) x (max (max reach (present_in x)) (present_in x)) (max reach (present_in x)) (max-le (omega arith) (le-max_right reach (present_in x)))
           (standby-kept o acts does x (max reach (present_in x)) refl r.standby);
-      centre = near;
+      centre = near-goes o (does ∷ acts) (restarted (centre_by s before) (is_order one)) (plans_over journal) (orders_over journal) (reached_by s site.Centre (Restarts one ∷ before))
+          (back_lasting (centre_by s before).plans (orders_over journal)) near;
       said = within-both [] (lines_said s before) (lines_by o acts does) (act_lines o acts) (within-none (lines_by o acts does)) r.said;
       follows = follows;
       starts = starts;
     }
 
 stands-restarts : (s : Start) (before : List Deed) (acts : List Act) (one : Option Change) → IsSound s.net → IsUnderWay s before one → Stands s before acts
-    → Stands s (Restarts one ∷ before) (act.Restarts (kept_by one) ∷ (installs_by one ++ acts))
+    → Stands s (Restarts one ∷ before) (act.Restarts (is_order one) ∷ (installs_by one ++ acts))
 stands-restarts s before acts None sound way st =
-    stands-restarts_by s before acts None false tt (readied s before acts st) st.named
+    stands-restarts_by s before acts None tt (readied s before acts st) st.named
     (near-restarts (over s) acts (centre_by s before) (all_by s before) (placed_by s before) (reached_by s site.Centre before) None tt st.centre) way.follows st.starts
 stands-restarts s before acts (Some (change.Edit edit)) sound way st =
     let journal = journal_by s before in
     let more = journal ++ change.Edit edit ∷ [] in
-    stands-restarts_by s before acts (Some (change.Edit edit)) false tt (readied s before acts st) st.named
-    (near-as (over s) (act.Restarts false ∷ acts) (centre_by s (Restarts None ∷ before)) (plans_over journal) (plans_over more) (orders_over journal) (orders_over more)
+    stands-restarts_by s before acts (Some (change.Edit edit)) tt (readied s before acts st) st.named
+    (near-as (over s) (act.Restarts false ∷ acts) (restarted (centre_by s before) false) (plans_over journal) (plans_over more) (orders_over journal) (orders_over more)
     (reached_by s site.Centre (Restarts None ∷ before)) (plans-edit journal edit) (orders-edit journal edit)
     (near-restarts (over s) acts (centre_by s before) (all_by s before) (placed_by s before) (reached_by s site.Centre before) None tt st.centre))
     way.follows (subst (λ (list : List Plan). StartsEmpty list) (plans-edit journal edit) st.starts)
@@ -366,8 +374,8 @@ stands-restarts s before acts (Some (change.Install plan)) sound way st =
     let o = over s in
     let journal = journal_by s before in
     let more = journal ++ change.Install plan ∷ [] in
-    stands-restarts_by s before (act.Installs plan ∷ acts) (Some (change.Install plan)) false tt (readied-installed s before acts plan (may-installed s before acts plan sound way.follows st) st) st.named
-    (near-as o (act.Restarts false ∷ act.Installs plan ∷ acts) (centre_by s (Restarts None ∷ before)) (plan ∷ plans_over journal) (plans_over more) (orders_over journal) (orders_over more)
+    stands-restarts_by s before (act.Installs plan ∷ acts) (Some (change.Install plan)) tt (readied-installed s before acts plan (may-installed s before acts plan sound way.follows st) st) st.named
+    (near-as o (act.Restarts false ∷ act.Installs plan ∷ acts) (restarted (centre_by s before) false) (plan ∷ plans_over journal) (plans_over more) (orders_over journal) (orders_over more)
     (reached_by s site.Centre (Restarts None ∷ before)) (plans-install journal plan) (orders-install journal plan)
     (near-restarts o (act.Installs plan ∷ acts) (centre_by s before) (plan ∷ plans_over journal) (placed_by s before) (reached_by s site.Centre before) None tt
     (near-installed o acts (centre_by s before) (all_by s before) (placed_by s before) (reached_by s site.Centre before) plan st.centre)))
@@ -376,9 +384,9 @@ stands-restarts s before acts (Some (change.Order order)) sound way st =
     let o = over s in
     let journal = journal_by s before in
     let more = journal ++ change.Order order ∷ [] in
-    stands-restarts_by s before acts (Some (change.Order order)) true
+    stands-restarts_by s before acts (Some (change.Order order))
     (may-restart o acts (with_plans (centre_by s before) (all_by s before)) true st.centre.at (λ is. subst (λ (w : Option Order). IsSome w) (sym way.wanted) refl)) (readied s before acts st) st.named
-    (near-as o (act.Restarts true ∷ acts) (centre_by s (Restarts (Some (change.Order order)) ∷ before)) (plans_over journal) (plans_over more) (order ∷ orders_over journal) (orders_over more)
+    (near-as o (act.Restarts true ∷ acts) (restarted (centre_by s before) true) (plans_over journal) (plans_over more) (order ∷ orders_over journal) (orders_over more)
     (reached_by s site.Centre (Restarts (Some (change.Order order)) ∷ before)) (plans-order journal order) (orders-order journal order)
     (near-restarts o acts (centre_by s before) (all_by s before) (placed_by s before) (reached_by s site.Centre before) (Some order) way.wanted st.centre))
     way.follows (subst (λ (list : List Plan). StartsEmpty list) (plans-order journal order) st.starts)
@@ -410,7 +418,7 @@ opens-as s before acts one st near = record {
 }
 
 stands-opens : (s : Start) (before : List Deed) (acts : List Act) (one : Option Change) → IsSound s.net → IsUnderWay s before one → Stands s before acts
-    → Stands s (Opens one ∷ before) (act.Restarts (kept_by one) ∷ (installs_by one ++ acts))
+    → Stands s (Opens one ∷ before) (act.Restarts (is_order one) ∷ (installs_by one ++ acts))
 stands-opens s before acts None sound way st =
     opens-as s before (act.Restarts false ∷ acts) None (stands-restarts s before acts None sound way st)
     (near-opens (over s) acts (centre_by s before) (all_by s before) (placed_by s before) (reached_by s site.Centre before) None tt st.centre)

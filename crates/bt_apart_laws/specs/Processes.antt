@@ -25,6 +25,7 @@ use Rattle.bt_sites.specs.Step.{Site}
 use Rattle.bt_sites.specs.Step as site
 use Rattle.bt_script.specs.Heard.{bus_line_of}
 use Rattle.bt_script.specs.declared.heard.BusLine.{BusLine}
+use Rattle.bt_apart.specs.Back.{back_lasting}
 use Rattle.bt_apart.specs.Apart.{ApartAir, apart_at_start, going_apart, having_apart, heard_apart, says_apart}
 use Rattle.bt_station.specs.declared.asked.Asked.{Asked}
 use Rattle.bt_station.specs.declared.asked.Asked.TheVariants as asked
@@ -128,7 +129,8 @@ centre_by s (Turns target ∷ before) = having_apart (centre_by s before) (Turn 
 centre_by s (Places order ∷ before) = having_apart (centre_by s before) Ordered
 centre_by s (Learns plan ∷ before) = having_apart (centre_by s before) (Install plan)
 centre_by s (Goes back ∷ before) = going_apart (centre_by s before) back
-centre_by s (Restarts one ∷ before) = going_apart (having_apart (centre_by s before) (RestartCentre (is_order one))) None
+centre_by s (Restarts one ∷ before) =
+    going_apart (having_apart (centre_by s before) (RestartCentre (is_order one))) (back_lasting (centre_by s before).plans (opening_over s.net (with_one (journal_by s before) one)).orders)
 centre_by s (_ ∷ before) = centre_by s before
 
 -- the lines of messages in a superframe, with what these plans have for them

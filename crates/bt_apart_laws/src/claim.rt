@@ -1,5 +1,5 @@
 // What holds of processes that share nothing but lines, whoever is killed and started again.
-ghost use Rattle.std.specs.Prelude.{◌≡◌, ℕ, ◌∷◌, [], List, Some};
+ghost use Rattle.std.specs.Prelude.{◌≡◌, ℕ, ◌∷◌, [], IfSome, List, Option, Some};
 ghost use Rattle.std.specs.List.{flat_map};
 ghost use Rattle.std.specs.List.Sorted.{IsPermutation};
 ghost use Rattle.bt_frame.specs.declared.numbers.TermNo.{TermNo};
@@ -9,7 +9,7 @@ ghost use Rattle.bt_demand.specs.declared.burst.Burst.{Burst};
 ghost use Rattle.bt_air.specs.declared.sent.Aired.TheVariants as sends;
 ghost use Rattle.bt_site.specs.Event.{Event};
 ghost use Rattle.bt_site.specs.World.{terminals};
-ghost use Rattle.bt_apart.specs.Apart.{ApartAir, lines_apart, says_apart};
+ghost use Rattle.bt_apart.specs.Apart.{ApartAir, IsInstalled, lines_apart, says_apart};
 ghost use Rattle.bt_station.specs.declared.station.Station.{Station};
 ghost use Rattle.bt_station.specs.Asked.{asked_of};
 ghost use Rattle.bt_station.specs.Satellite.{SatelliteAt};
@@ -18,7 +18,20 @@ ghost use Rattle.bt_station.specs.Terminal.{start_lines};
 ghost use Rattle.bt_apart_laws.specs.Acts.{printed_with, texts_of};
 ghost use Rattle.bt_apart_laws.specs.Example.{empty_start, first_superframe};
 ghost use Rattle.bt_apart_laws.specs.Premises.{ActAsSites, AreProcesses, AreTransmitted, IsGoodInFront, IsOnBoard, IsSafeInGood, IsSmall, SaysBehind};
-ghost use Rattle.bt_apart_laws.specs.Processes.{Deed, Start, asked_lines, journal_by, opening_over, radios};
+ghost use Rattle.bt_apart_laws.specs.Processes.{Deed, Goes, Hears, Opens, Restarts, Start, asked_lines, centre_by, is_order, journal_by, opening_over, radios, with_one};
+ghost use Rattle.bt_journal.specs.declared.entry.Entry.{Entry};
+ghost use Rattle.bt_history.specs.Machine.{AreSteps, running};
+ghost use Rattle.bt_machines.specs.Plans.{newest_of};
+ghost use Rattle.bt_frame.specs.declared.numbers.EditionNo.{EditionNo};
+ghost use Rattle.bt_journal.specs.declared.call.Change.{Change};
+ghost use Rattle.bt_sites.specs.Stamps.{Line};
+ghost use Rattle.bt_sites.specs.Step as site;
+ghost use Rattle.bt_script.specs.Heard.{bus_line_of};
+ghost use Rattle.bt_script.specs.declared.heard.BusLine.{BusLine};
+ghost use Rattle.bt_script.specs.declared.sites.Sites.TheVariants as sites;
+ghost use Rattle.bt_round.specs.AirLines.{AirState, PlaysTurn, going, hearing, restarting, start_air};
+ghost use Rattle.bt_round.specs.declared.worker.CentreOver.TheVariants.{Apart};
+ghost use Rattle.bt_apart_laws.specs.Worker.{ComesByDeeds};
 
 use crate::superframes_are_of_installed_plans;
 use bt_history::{installed_plans_are_good, installed_plans_can_be_flown};
@@ -57,3 +70,18 @@ pub fn some_processes_go()
     bt_station::lines_are_heard_as_said();
     installed_plans_can_be_flown();
 }
+
+/// What the centre's worker does, in a run or a session with sites apart, are deeds of its process: it opens, hears a line,
+/// goes back or ahead, and restarts. A turn that is alone in its round, over a book that answers from the changes of the
+/// journal, is deeds too: the centre learns of the newest plan, has its turn, and places the order that it wants, or does a
+/// part of this.
+pub fn worker_lines_are_deeds()
+    ensures opens { (s : Start) (before : List Deed) (one : Option Change) → Apart (centre_by s (Opens one ∷ before)) ≡ start_air sites.Apart (opening_over s.net (with_one (journal_by s before) one)) }
+    ensures heard { (s : Start) (before : List Deed) (line : Line) (text : List ℕ) (one : BusLine) → bus_line_of text ≡ Some one
+        → Apart (centre_by s (Hears site.Centre line text ∷ before)) ≡ hearing (Apart (centre_by s before)) one }
+    ensures goes { (s : Start) (before : List Deed) (back : Option EditionNo) → Apart (centre_by s (Goes back ∷ before)) ≡ going (Apart (centre_by s before)) back }
+    ensures restarts { (s : Start) (before : List Deed) (one : Option Change) → Apart (centre_by s (Restarts one ∷ before)) ≡ restarting (Apart (centre_by s before)) (is_order one) (opening_over s.net (with_one (journal_by s before) one)).orders }
+    ensures turn { (s : Start) (before : List Deed) (entries : List Entry) (text : List ℕ) (after : AirState) → IsSound s.net → AreProcesses s before
+        → IsInstalled (centre_by s before).plans (newest_of (centre_by s before).plans) → IfSome (centre_by s before).back (IsInstalled (centre_by s before).plans)
+        → AreSteps s.net (running (journal_by s before)) entries → PlaysTurn s.net (Apart (centre_by s before)) entries text after → ComesByDeeds s before after }
+{}
