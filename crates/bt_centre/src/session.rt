@@ -186,7 +186,7 @@ fn play_lines<R: Threads + Wait + Sync, G: Gate + Sync, T: Talk<K>, K: Keeper + 
     if let Err(fault) = say_opening(alloc, &playing, talk) {
         return Err(playing.stop(rt, alloc).end(unwritten(fault)));
     }
-    let mut blocks = Blocks::none(alloc);
+    let mut opened = Blocks::none(alloc);
     for at in 1..MOST_ANSWERS {
         let came = match talk.hear(alloc, line_bytes(sites)) {
             Ok(Some(came)) => came,
@@ -194,14 +194,14 @@ fn play_lines<R: Threads + Wait + Sync, G: Gate + Sync, T: Talk<K>, K: Keeper + 
             Err(SourceFault::Failed) => return Ok((playing, InputEnd::Failed)),
             Err(SourceFault::OutOfMemory) => return Err(playing.stop(rt, alloc).end(OUT_OF_MEMORY)),
         };
-        let (behind, step, answer) = match take(alloc, net, sites, at, &came, blocks) {
+        let (behind, step, answer) = match take(alloc, net, sites, at, &came, opened) {
             Ok(taken) => taken,
             Err(OutOfMemory) => return Err(playing.stop(rt, alloc).end(OUT_OF_MEMORY)),
         };
         match play_step(rt, alloc, net, gate, step, playing) {
             Ok((next, text)) => {
                 playing = next;
-                blocks = behind;
+                opened = behind;
                 if let Err(fault) = say_both(alloc, text, answer.as_slice(), &playing, talk) {
                     return Err(playing.stop(rt, alloc).end(unwritten(fault)));
                 }

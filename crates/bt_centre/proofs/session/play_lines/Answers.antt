@@ -20,7 +20,7 @@ returns-in-Err-clause-ended g c =
 
 pub loop-at-init : goal.loop-at-init
 loop-at-init g c =
-    let closed = sym c.none-blocks.ensures.none in
+    let closed = sym c.none-opened.ensures.none in
     record {
       later = c.say_opening.ensures.later;
       heard = omega (arith, c.say_opening.ensures.input_faults);
@@ -38,25 +38,25 @@ returns-in-Ok-None-clause-heard g c =
     let at = c.loop-at.invariant in
     let comes = comes_of c.args.sites c.line_bytes.result (g.T.Talk.coming c.loop-at.talk) (g.T.Talk.coming c.hear.new.self) _ _ c.line_bytes.ensures c.in-Ok-None.field-0-is c.in-Ok-None.ensures.next in
     let turn = subst (λ (o : Option Incoming). g.T.Talk.turns c.hear.new.self ≡ took (g.T.Talk.turns c.loop-at.talk) (heard o)) c.in-Ok-None.field-0-is c.in-Ok-None.ensures.turn in
-    heard_over c.args.net.now c.args.sites c.args.playing.book c.loop-at.at c.loop-at.blocks c.loop-at.playing _ _ _ _ _ _ _ _ _ _ _ _ _ _ at.going comes c.hear.ensures.output turn
+    heard_over c.args.net.now c.args.sites c.args.playing.book c.loop-at.at c.loop-at.opened c.loop-at.playing _ _ _ _ _ _ _ _ _ _ _ _ _ _ at.going comes c.hear.ensures.output turn
 
 pub returns-in-Err-Failed-clause-heard : goal.returns-in-Err-Failed-clause-heard
 returns-in-Err-Failed-clause-heard g c =
     let at = c.loop-at.invariant in
-    heard_fault c.args.net.now c.args.sites c.args.playing.book c.loop-at.at c.loop-at.blocks c.loop-at.playing _ _ _ _ _ _ _ _ _ _ _ _ _ at.going
+    heard_fault c.args.net.now c.args.sites c.args.playing.book c.loop-at.at c.loop-at.opened c.loop-at.playing _ _ _ _ _ _ _ _ _ _ _ _ _ at.going
     (rose_from _ _ _ at.heard (source_failed _ _ c.in-Err-Failed.field-0 c.in-Err-Failed.ensures.cause c.in-Err-Failed.field-0-is)) c.hear.ensures.output c.in-Err-Failed.ensures.no_turn
 
 pub returns-in-Err-OutOfMemory-clause-ended : goal.returns-in-Err-OutOfMemory-clause-ended
 returns-in-Err-OutOfMemory-clause-ended g c =
     let end = c.end-in-Err-OutOfMemory.ensures in
     same_session_end c.args.net.now c.args.sites _ _ _ _ _ _ _ _ _ c.args.playing.book c.stop-in-Err-OutOfMemory.result _ _ _ _ _ _ 1 end.told end.faults end.crashes end.histories end.events end.status
-    (going_stopped c.args.net.now c.args.sites _ c.args.playing.book c.loop-at.at c.loop-at.blocks c.loop-at.playing c.stop-in-Err-OutOfMemory.result _ _ _ _ _ 1 c.loop-at.invariant.going c.in-Err-OutOfMemory.ensures.no_turn c.stop-in-Err-OutOfMemory.ensures refl refl)
+    (going_stopped c.args.net.now c.args.sites _ c.args.playing.book c.loop-at.at c.loop-at.opened c.loop-at.playing c.stop-in-Err-OutOfMemory.result _ _ _ _ _ 1 c.loop-at.invariant.going c.in-Err-OutOfMemory.ensures.no_turn c.stop-in-Err-OutOfMemory.ensures refl refl)
 
 pub returns-in-Err-take-clause-ended : goal.returns-in-Err-take-clause-ended
 returns-in-Err-take-clause-ended g c =
     let end = c.end-in-Err-take.ensures in
     same_session_end c.args.net.now c.args.sites _ _ _ _ _ _ _ _ _ c.args.playing.book c.stop-in-Err-take.result _ _ _ _ _ _ 1 end.told end.faults end.crashes end.histories end.events end.status
-    (going_not_taken c.args.net.now c.args.sites _ c.args.playing.book c.loop-at.at c.loop-at.blocks c.in-Ok-Some.came c.loop-at.playing c.stop-in-Err-take.result _ _ _ _ _ 1 c.loop-at.invariant.going
+    (going_not_taken c.args.net.now c.args.sites _ c.args.playing.book c.loop-at.at c.loop-at.opened c.in-Ok-Some.came c.loop-at.playing c.stop-in-Err-take.result _ _ _ _ _ 1 c.loop-at.invariant.going
     (subst (λ (o : Option Incoming). g.T.Talk.turns c.hear.new.self ≡ took (g.T.Talk.turns c.loop-at.talk) (heard o)) c.in-Ok-Some.field-0-is c.in-Ok-Some.ensures.turn) c.stop-in-Err-take.ensures refl refl)
 
 pub returns-in-Err-say_both-clause-ended : goal.returns-in-Err-say_both-clause-ended
@@ -68,7 +68,7 @@ returns-in-Err-say_both-clause-ended g c =
     let comes = comes_of c.args.sites c.line_bytes.result (g.T.Talk.coming c.loop-at.talk) (g.T.Talk.coming c.hear.new.self) _ _ c.line_bytes.ensures c.in-Ok-Some.field-0-is c.in-Ok-Some.ensures.next in
     let turn = subst (λ (o : Option Incoming). g.T.Talk.turns c.hear.new.self ≡ took (g.T.Talk.turns c.loop-at.talk) (heard o)) c.in-Ok-Some.field-0-is c.in-Ok-Some.ensures.turn in
     same_session_end c.args.net.now c.args.sites _ _ _ _ _ _ _ _ _ c.args.playing.book c.stop-in-Err-say_both.result _ _ _ _ _ _ c.unwritten-in-Err-say_both.result end.told end.faults end.crashes end.histories end.events end.status
-    (going_not_said c.args.net.now c.args.sites c.args.playing.book c.loop-at.at c.loop-at.blocks c.in-Ok.taken.0 c.in-Ok-Some.came c.in-Ok.taken.1 c.loop-at.playing c.in-Ok-play_step.next text
+    (going_not_said c.args.net.now c.args.sites c.args.playing.book c.loop-at.at c.loop-at.opened c.in-Ok.taken.0 c.in-Ok-Some.came c.in-Ok.taken.1 c.loop-at.playing c.in-Ok-play_step.next text
     (text ++ c.as_slice.result.now) (record { told = c.in-Ok-play_step.next.book.told; faults = c.in-Ok-play_step.next.book.faults; crashes = c.in-Ok-play_step.next.book.crashes }) c.stop-in-Err-say_both.result why _ _ _ _ _ _ _ _ _ _ _ _ _ _ _ _ _ c.unwritten-in-Err-say_both.result (c.installed_plans_are_good.ensures.good c.args.net.now)
     at.going comes c.hear.ensures.output turn c.in-Ok.ensures.row c.in-Ok-play_step.ensures.played c.stop-in-Err-say_both.ensures refl
     (ap (λ (a : List ℕ). text ++ a) (c.as_slice.ensures.value ∙ c.in-Ok.ensures.answer))
@@ -82,7 +82,7 @@ returns-in-Err-play_step-clause-ended g c =
     let comes = comes_of c.args.sites c.line_bytes.result (g.T.Talk.coming c.loop-at.talk) (g.T.Talk.coming c.hear.new.self) _ _ c.line_bytes.ensures c.in-Ok-Some.field-0-is c.in-Ok-Some.ensures.next in
     let turn = subst (λ (o : Option Incoming). g.T.Talk.turns c.hear.new.self ≡ took (g.T.Talk.turns c.loop-at.talk) (heard o)) c.in-Ok-Some.field-0-is c.in-Ok-Some.ensures.turn in
     same_session_end c.args.net.now c.args.sites _ _ _ _ _ _ _ _ _ c.args.playing.book c.in-Err-play_step.remains _ _ _ _ _ _ c.say_no_restart-status.result end.told end.faults end.crashes end.histories end.events end.status
-    (going_not_played c.args.net.now c.args.sites c.args.playing.book c.loop-at.at c.loop-at.blocks c.in-Ok.taken.0 c.in-Ok-Some.came c.in-Ok.taken.1 c.loop-at.playing c.in-Err-play_step.remains
+    (going_not_played c.args.net.now c.args.sites c.args.playing.book c.loop-at.at c.loop-at.opened c.in-Ok.taken.0 c.in-Ok-Some.came c.in-Ok.taken.1 c.loop-at.playing c.in-Err-play_step.remains
     c.in-Err-play_step.fault _ _ _ _ _ _ _ _ _ _ _ _ _ _ _ _ _ _ c.say_no_restart-status.result (c.installed_plans_are_good.ensures.good c.args.net.now)
     at.going comes c.hear.ensures.output turn c.in-Ok.ensures.row c.in-Err-play_step.ensures.failed (omega (arith, at.later, c.hear.ensures.output_faults)) c.say_no_restart-status.ensures.said refl)
 
@@ -98,7 +98,7 @@ loop-at-preserved g c =
       few = rounds_behind c.args.net.now c.in-Ok.taken.1 c.loop-at.playing c.in-Ok-play_step.next text c.loop-at.at c.in-Ok-play_step.ensures.played at.few;
       last = omega (arith, c.loop-at-test.true);
       names = c.in-Ok.ensures.terminals;
-      going = going_more c.args.net.now c.args.sites c.args.playing.book c.loop-at.at c.loop-at.blocks c.in-Ok.taken.0 c.in-Ok-Some.came c.in-Ok.taken.1 c.loop-at.playing c.in-Ok-play_step.next text
+      going = going_more c.args.net.now c.args.sites c.args.playing.book c.loop-at.at c.loop-at.opened c.in-Ok.taken.0 c.in-Ok-Some.came c.in-Ok.taken.1 c.loop-at.playing c.in-Ok-play_step.next text
           (text ++ c.as_slice.result.now) (record { told = c.in-Ok-play_step.next.book.told; faults = c.in-Ok-play_step.next.book.faults; crashes = c.in-Ok-play_step.next.book.crashes }) _ _ _ _ _ _ _ _ _ _ _ _ at.going comes c.hear.ensures.output turn c.in-Ok.ensures.row c.in-Ok-play_step.ensures.played
           (ap (λ (a : List ℕ). text ++ a) (c.as_slice.ensures.value ∙ c.in-Ok.ensures.answer)) (search rules) (search rules) c.say_both.ensures.shows c.say_both.ensures.input refl c.say_both.ensures.last;
     }
@@ -106,4 +106,4 @@ loop-at-preserved g c =
 pub returns-clause-heard : goal.returns-clause-heard
 returns-clause-heard g c =
     let at = c.loop-at.invariant in
-    heard_all c.args.net.now c.args.sites c.args.playing.book c.loop-at.at c.loop-at.blocks c.loop-at.playing _ _ _ _ _ _ _ _ _ _ _ at.going (omega (arith, at.last, c.loop-at-test.false))
+    heard_all c.args.net.now c.args.sites c.args.playing.book c.loop-at.at c.loop-at.opened c.loop-at.playing _ _ _ _ _ _ _ _ _ _ _ at.going (omega (arith, at.last, c.loop-at-test.false))

@@ -10,7 +10,7 @@ invariant-loop-at g l = record {
   heard : g.T.Talk.unheard l.fn.talk ≤ g.T.Talk.unheard l.talk;
   few : l.playing.rounds + 1 ≤ l.at;
   last : l.at ≤ 9223372036854775808;
-  names : IsOpenFor l.net l.blocks;
-  going : SessionGoing l.net l.sites l.fn.playing.book l.at l.blocks l.playing (g.T.Talk.coming l.fn.talk) (g.T.Talk.coming l.talk) (g.T.Sink.told l.fn.talk) (g.T.Sink.told l.talk)
+  names : IsOpenFor l.net l.opened;
+  going : SessionGoing l.net l.sites l.fn.playing.book l.at l.opened l.playing (g.T.Talk.coming l.fn.talk) (g.T.Talk.coming l.talk) (g.T.Sink.told l.fn.talk) (g.T.Sink.told l.talk)
       (g.T.Talk.turns l.fn.talk) (g.T.Talk.turns l.talk);
 }
