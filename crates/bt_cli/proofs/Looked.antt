@@ -3,7 +3,6 @@ use Rattle.std.proofs.Common.{◌≡◌, ℕ, ◌≤◌, List, Option}
 use Rattle.bt_outside.specs.Told.{Rose}
 use Rattle.bt_net.specs.Network.{Net}
 use Rattle.bt_report.specs.declared.report.Stop.{Stop}
-use Rattle.bt_report.specs.declared.report.Stop.TheVariants as stop
 use Rattle.bt_report.specs.Report.{StopIs}
 use Rattle.bt_load.specs.Files.{IsLoaded}
 use Rattle.bt_load.specs.Kinds.{journal_file, network_file}

@@ -1,5 +1,5 @@
 -- A stop that names the first fault of a table of links, or of a text that is to be JSON, is one that its load may make.
-use Rattle.std.proofs.Common.{◌≡◌, ℕ, List, Option, inr}
+use Rattle.std.proofs.Common.{ℕ, List, Option, inr}
 use Rattle.bt_frame.specs.declared.limits.TheConstants.{MOST_FILE_BYTES, MOST_JOURNAL_BYTES}
 use Rattle.bt_net.specs.Network.{Net}
 use Rattle.bt_text.specs.Reading.{IsFaultOf}
