@@ -19,15 +19,17 @@ use Rattle.bt_site.specs.Sites.{centre_with, turn_says as says_in_turn}
 use Rattle.bt_timeline.specs.Air.{sent_line}
 use Rattle.bt_site.specs.Event.{Install, Opening, Ordered, RestartCentre, Turn}
 use Rattle.bt_site.specs.World.{terminals}
-use Rattle.bt_sites.specs.Late.{Late, now_of, site_of, steps_of}
+use Rattle.bt_sites.specs.Late.{now_of}
 use Rattle.bt_sites.specs.Sites.{bytes_of, centre_after, plans_after, said_with}
 use Rattle.bt_sites.specs.Sites as sites
-use Rattle.bt_sites.specs.Stamps.{Act, Begins, Begun, Hears, Installs, Line, Places, Radio, Restarts, Seconds, StandbyStarts, Starts, Turns, actor_of, is_same_site, joined, known, known_by, late_of, lines_by, made_in, said_if, steps_by, where_known}
+use Rattle.bt_sites.specs.Stamps.{Act, Begun, Hears, Installs, Line, Places, Radio, Restarts, Turns, actor_of, is_same_site, known, late_of, lines_by, made_in, said_if, steps_by, where_known}
 use Rattle.bt_sites.specs.Step.{Step}
 use Rattle.bt_sites.specs.Step as step
 use Rattle.bt_script.specs.Heard.{if_read, read_of}
 use Rattle.bt_apart.specs.Apart.{ApartAir, apart_at_start, heard_apart, later_mark, noting_apart, said_lines, says_apart}
 use Rattle.bt_apart_laws.specs.Acts.{BeginsSome, IsAct, IsCentreAt, heard_as, known_in, opening_again, printed_with, takes_up, text_of}
+use Rattle.bt_apart_laws.specs.Processes.{radios}
+use Rattle.bt_apart_laws.proofs.Others.{centre-still, if-false, if-true, known-other, plans-still, where-same, where-some}
 
 -- the superframe of that number
 abbrev pub mark_of : ℕ → Mark
@@ -36,15 +38,6 @@ mark_of number = record { 0 = number }
 -- an opening in this network
 abbrev in_net : Net → Opening
 in_net net = record { net = net; plans = []; orders = [] }
-
--- a test that holds, and one that does not
-pub if-true : {X : Type 0} (test : Bool) (a b : X) → test ≡ true → (if test then a else b) ≡ a
-if-true true a b is = refl
-if-true false a b is = absurd cc
-
-if-false : {X : Type 0} (test : Bool) (a b : X) → test ≡ false → (if test then a else b) ≡ b
-if-false true a b is = absurd cc
-if-false false a b is = refl
 
 -- the centre reads bytes as a site does
 same-read : (read : Result Message AirFault) → if_read read ≡ sites.if_read read
@@ -88,25 +81,11 @@ known-all f o before air at marked =
 pub known-some : (o : Opening) (before : List Act) (air : ApartAir) → IsCentreAt o before air → air.marked ≡ true → 0 < known step.Centre before
 known-some o before air at marked = omega (arith, at.some marked, known-marked o before air at marked)
 
--- the lines of messages that are said with these plans
-abbrev radios : ℕ → List Plan → List Aired → List Line
-radios stamp all said = map (λ (bytes : List ℕ). Radio stamp bytes) (map (λ (one : Aired). bytes_of all one) said)
-
 -- behind each message that is printed stands the line that is said
-printed : (net : Net) (all : List Plan) (mark : Mark) (first : ℕ) (said : List Aired) → said_lines net all mark first said ≡ printed_with net first said (radios mark.0 all said)
+pub printed : (net : Net) (all : List Plan) (mark : Mark) (first : ℕ) (said : List Aired) → said_lines net all mark first said ≡ printed_with net first said (radios mark.0 all said)
 printed net all mark first [] = refl
 printed net all mark first (one ∷ more) =
     ap (λ (text : List ℕ). (sent_line net first (sent_as one) ++ text_of (Radio mark.0 (bytes_of all one))) ++ text) (printed net all mark (first + 1) more)
-
--- a step of a site that knows a superframe, and one that leaves something as it was
-where-some : {X : Type 0} (f : List Step → X) (late : List Late) (made k : ℕ) (make : Mark → Step) → 0 < k → f (steps_of (joined made (where_known k make) late)) ≡ f (make (mark_of k) ∷ steps_of late)
-where-some f late made zero make some = absurd (omega (arith, some))
-where-some f late made (suc k) make some = refl
-
-where-same : {X : Type 0} (f : List Step → X) (late : List Late) (made k : ℕ) (make : Mark → Step) → ((mark : Mark) → f (make mark ∷ steps_of late) ≡ f (steps_of late))
-    → f (steps_of (joined made (where_known k make) late)) ≡ f (steps_of late)
-where-same f late made zero make same = refl
-where-same f late made (suc k) make same = same (mark_of (suc k))
 
 -- what it says with such a step
 where-said : (o : Opening) (steps : List Step) (k : ℕ) (make : Mark → Step) → 0 < k
@@ -117,6 +96,12 @@ where-said o steps (suc k) make some = refl
 -- its turn
 abbrev turning : EditionNo → Mark → Step
 turning target mark = step.Turns mark target
+
+pub turn-lines : (o : Opening) (before : List Act) (air : ApartAir) (target : EditionNo) → IsCentreAt o before air → air.marked ≡ true
+    → radios air.mark.0 air.plans (says_apart air (Turn target)) ≡ lines_by o before (Turns target)
+turn-lines o before air target at marked =
+    known-all (λ (n : Net) (s : Centre) (all : List Plan) (m : ℕ). radios m all (says_in_turn (terminals (in_net n)) s all (mark_of m) target n.lead n.patience)) o before air at marked
+    ∙ sym (where-said o (steps_by o before) (known step.Centre before) (turning target) (known-some o before air at marked))
 
 pub turns : (net : Net) (o : Opening) (before : List Act) (air : ApartAir) (target : EditionNo) → IsCentreAt o before air → air.marked ≡ true → IsAct net o before air (Turn target) (Turns target)
 turns net o before air target at marked =
@@ -135,13 +120,18 @@ turns net o before air target at marked =
       };
       says = printed net air.plans air.mark air.said (says_apart air (Turn target))
           ∙ ap (λ (said : List Line). printed_with net air.said (says_apart air (Turn target)) said)
-          (known-all (λ (n : Net) (s : Centre) (all : List Plan) (m : ℕ). radios m all (says_in_turn (terminals (in_net n)) s all (mark_of m) target n.lead n.patience)) o before air at marked
-          ∙ sym (where-said o (steps_by o before) k (turning target) some));
+          (turn-lines o before air target at marked);
     }
 
 -- an order that joins its orders
 abbrev placing : Mark → Step
 placing mark = step.Places
+
+pub order-lines : (o : Opening) (before : List Act) (air : ApartAir) → IsCentreAt o before air → air.marked ≡ true
+    → radios air.mark.0 air.plans (says_apart air Ordered) ≡ lines_by o before Places
+order-lines o before air at marked =
+    known-all (λ (n : Net) (s : Centre) (all : List Plan) (m : ℕ). radios m all (sent_by_order all (terminals (in_net n)) s.wanted)) o before air at marked
+    ∙ sym (where-said o (steps_by o before) (known step.Centre before) placing (known-some o before air at marked))
 
 pub orders : (net : Net) (o : Opening) (before : List Act) (air : ApartAir) → IsCentreAt o before air → air.marked ≡ true → IsAct net o before air Ordered Places
 orders net o before air at marked =
@@ -160,8 +150,7 @@ orders net o before air at marked =
       };
       says = printed net air.plans air.mark air.said (says_apart air Ordered)
           ∙ ap (λ (said : List Line). printed_with net air.said (says_apart air Ordered) said)
-          (known-all (λ (n : Net) (s : Centre) (all : List Plan) (m : ℕ). radios m all (sent_by_order all (terminals (in_net n)) s.wanted)) o before air at marked
-          ∙ sym (where-said o (steps_by o before) k placing some));
+          (order-lines o before air at marked);
     }
 
 -- a plan that joins its plans
@@ -267,50 +256,11 @@ passes-over air (Begun stamp) takes = if-false (nat_le air.mark.0 stamp) (record
 passes-over air (Radio stamp bytes) takes = if-false air.marked (noting_apart air (later_mark air.mark (mark_of stamp)) (read_of bytes)) air takes
 
 -- another site's act is none of its own
-other-plans : (o : Opening) (steps : List Step) (one : Step) → is_same_site (site_of one) step.Centre ≡ false → plans_after o (one ∷ steps) ≡ plans_after o steps
-other-plans o steps (step.CentreHears mark bytes) other = absurd cc
-other-plans o steps (step.Turns mark target) other = absurd cc
-other-plans o steps step.Places other = absurd cc
-other-plans o steps (step.Installs plan) other = absurd cc
-other-plans o steps (step.Restarts kept) other = absurd cc
-other-plans o steps _ other = refl
-
-other-centre : (o : Opening) (steps : List Step) (one : Step) → is_same_site (site_of one) step.Centre ≡ false → centre_after o (one ∷ steps) ≡ centre_after o steps
-other-centre o steps (step.CentreHears mark bytes) other = absurd cc
-other-centre o steps (step.Turns mark target) other = absurd cc
-other-centre o steps step.Places other = absurd cc
-other-centre o steps (step.Installs plan) other = absurd cc
-other-centre o steps (step.Restarts kept) other = absurd cc
-other-centre o steps _ other = refl
-
-other-same : {X : Type 0} (f : List Step → X) (o : Opening) (before : List Act) (act : Act) → is_same_site (actor_of act) step.Centre ≡ false
-    → ((one : Step) → is_same_site (site_of one) step.Centre ≡ false → f (one ∷ steps_by o before) ≡ f (steps_by o before)) → f (steps_by o (act ∷ before)) ≡ f (steps_by o before)
-other-same f o before (Hears step.Satellite (Begun stamp)) other same = refl
-other-same f o before (Hears step.Satellite (Radio stamp bytes)) other same = same (step.SatelliteHears bytes) refl
-other-same f o before (Hears step.Centre line) other same = absurd cc
-other-same f o before (Hears (step.Terminal number) (Begun stamp)) other same = refl
-other-same f o before (Hears (step.Terminal number) (Radio stamp bytes)) other same =
-    where-same f (late_of o before) (made_in o (now_of o (steps_by o before)) before (Hears (step.Terminal number) (Radio stamp bytes))) (max (known (step.Terminal number) before) stamp)
-    (λ (mark : Mark). step.TerminalHears number mark bytes) (λ mark. same (step.TerminalHears number mark bytes) refl)
-other-same f o before (Hears step.Standby (Begun stamp)) other same = refl
-other-same f o before (Hears step.Standby (Radio stamp bytes)) other same =
-    where-same f (late_of o before) (made_in o (now_of o (steps_by o before)) before (Hears step.Standby (Radio stamp bytes))) (max (known step.Standby before) stamp)
-    (λ (mark : Mark). step.StandbyHears mark bytes) (λ mark. same (step.StandbyHears mark bytes) refl)
-other-same f o before Begins other same = same step.Begins refl
-other-same f o before (Starts number) other same = same (step.Starts number) refl
-other-same f o before (Turns target) other same = absurd cc
-other-same f o before Places other same = absurd cc
-other-same f o before (Installs plan) other same = absurd cc
-other-same f o before (Restarts kept) other same = absurd cc
-other-same f o before StandbyStarts other same = same step.StandbyStarts refl
-other-same f o before Seconds other same =
-    where-same f (late_of o before) (made_in o (now_of o (steps_by o before)) before Seconds) (known step.Standby before) (λ (mark : Mark). step.Seconds mark) (λ mark. same (step.Seconds mark) refl)
-
 pub others : (o : Opening) (before : List Act) (air : ApartAir) (act : Act) → is_same_site (actor_of act) step.Centre ≡ false → IsCentreAt o before air → IsCentreAt o (act ∷ before) air
 others o before air act other at = record {
   net = at.net;
-  plans = at.plans ∙ sym (other-same (λ (list : List Step). plans_after o list) o before act other (λ one theirs. other-plans o (steps_by o before) one theirs));
-  centre = at.centre ∙ sym (other-same (λ (list : List Step). centre_after o list) o before act other (λ one theirs. other-centre o (steps_by o before) one theirs));
-  knows = if-false (is_same_site (actor_of act) step.Centre) (known_by (known step.Centre before) act) (known step.Centre before) other ∙ at.knows;
+  plans = at.plans ∙ sym (plans-still o before act other);
+  centre = at.centre ∙ sym (centre-still o before act other);
+  knows = known-other step.Centre before act other ∙ at.knows;
   some = at.some;
 }

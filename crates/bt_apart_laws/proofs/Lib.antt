@@ -1,4 +1,16 @@
+mod Others
 mod Acts
 mod Front
 mod May
 mod Said
+mod Journals
+mod Near
+mod Begins
+mod Stations
+mod Within
+mod Processes
+mod Running
+mod Claims
+mod Printed
+mod Started
+mod Worker

@@ -36,7 +36,7 @@ spaced-out : (first : List ℕ) (rest : List (List ℕ)) → first ++ spaced_out
 spaced-out first [] = append-nil first
 spaced-out first (next ∷ rest) = ap (λ (t : List ℕ). first ++ (32 ∷ t)) (spaced-out next rest)
 
-line-spaced : (first : List ℕ) (rest : List (List ℕ)) → line_of (first ∷ rest) ≡ spaced (first ∷ rest) ++ 10 ∷ []
+pub line-spaced : (first : List ℕ) (rest : List (List ℕ)) → line_of (first ∷ rest) ≡ spaced (first ∷ rest) ++ 10 ∷ []
 line-spaced first rest = ap (λ (t : List ℕ). t ++ 10 ∷ []) (spaced-out first rest)
 
 pub text-spaced : (line : Line) → text_of line ≡ spaced (words_of line) ++ 10 ∷ []

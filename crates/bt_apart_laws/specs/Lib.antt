@@ -1,1 +1,5 @@
 pub mod Acts
+pub mod Processes
+pub mod Premises
+pub mod Example
+pub mod Worker
