@@ -23,6 +23,8 @@ pub enum Place {
     EachWithin(u32, u32),
     /// The bytes of a message, in two digits each.
     Bytes,
+    /// A tag of lines.
+    Tag,
 }
 
 impl Place {
@@ -117,7 +119,7 @@ const DELAYS: Forms = &[
 /// How many of the forms of a session's lines are a script's, and how many are of a session of a simulated air.
 const SCRIPT_FORMS: usize = 23;
 
-const LIVE_FORMS: usize = 32;
+const LIVE_FORMS: usize = 35;
 
 #[rattlefmt::skip]
 const SESSION: Forms = &[
@@ -146,11 +148,14 @@ const SESSION: Forms = &[
     &[Word("standby"), Word("burst")],
     &[Word("go")],
     &[Word("forget")],
+    &[Word("forget"), Tag],
+    &[Word("blocks")],
     &[Word("state")],
     &[Word("capacity")],
     &[Word("room"), Name, Name],
     &[Word("demand")],
     &[Word("installed")],
+    &[Word("plans")],
     &[Word("waiting")],
     &[Word("help")],
     &[Word("mark"), Within(1, LAST_MARK)],

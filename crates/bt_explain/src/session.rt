@@ -5,12 +5,12 @@
 //                ^^
 //         hint: did you mean 'add'?
 use crate::blocks::{Blocks, closes};
-use crate::bytes::{Line, find_bytes, number_at, word_of};
+use crate::bytes::{Line, find_bytes, word_of};
 use crate::cause::Cause;
 use crate::fault::Fault;
 use crate::page::Page;
 use crate::script::find_long_number;
-use crate::walk::{find_in_form, find_misfit};
+use crate::walk::{BAD_TAG, find_in_form, find_misfit};
 use bt_frame::{MOST_FILE_BYTES, MOST_LINES};
 use bt_net::Network;
 use bt_outside::{DirFiles, Files, Incoming};
@@ -224,6 +224,9 @@ fn find_shape(alloc: Global, fault: &Fault<'_>, cause: &mut Cause) {
         is_ended: true,
     };
     find_bytes(fault, line, cause);
+    if !cause.is_found() && fault.line.first() == Some(&b'@') {
+        cause.say_of_word(fault.line, 0, BAD_TAG);
+    }
     if !cause.is_found() && fault.letter == b'B' && is_of_air(word_of(fault.line, 0)) {
         cause.say_of_word(
             fault.line,
@@ -255,6 +258,9 @@ fn find_block(fault: &Fault<'_>, since: Option<u64>, cause: &mut Cause) {
         cause.hint.add("'round' opens one");
         return;
     }
+    if is_word(word_of(fault.line, 0), b"forget") {
+        return cause.say_of_word(fault.line, 1, "no block of this tag is open");
+    }
     cause.say_of_word(fault.line, 0, "a block is open");
     if let Some(since) = since {
         cause.say(" since line ");
@@ -266,7 +272,7 @@ fn find_block(fault: &Fault<'_>, since: Option<u64>, cause: &mut Cause) {
 /// Says why there is no room for a line.
 fn find_full(line: &[u8], cause: &mut Cause) {
     if is_word(line, b"round") {
-        cause.say("no more blocks are open at once than there are");
+        cause.say("16 blocks are open, the most that there are at once");
     } else {
         cause.say("a block has ");
         cause.why.add_number(u64::from(MOST_LINES));

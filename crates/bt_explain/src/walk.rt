@@ -8,7 +8,11 @@ use crate::page::Page;
 use crate::script::{ask_desk, ask_slip};
 use bt_net::{Network, is_name};
 use bt_text::{WordReader, is_word, number};
+use bt_words::is_tag;
 use std::alloc::Global;
+
+/// Why a word is no tag.
+pub const BAD_TAG: &str = "a tag has 1 to 16 letters, digits or underscores behind its '@'";
 
 /// The most words of a place that are said one by one.
 const MOST_SAID: usize = 5;
@@ -148,6 +152,7 @@ fn takes(place: Place, word: &[u8], look: &Look<'_>) -> bool {
             is_within(word, least, most, true)
         }
         Place::Bytes => is_of_bytes(word),
+        Place::Tag => is_tag(word),
     }
 }
 
@@ -324,6 +329,7 @@ fn add_place(place: Place, beams: u32, page: &mut Page) {
             page.add(" beams");
         }
         Place::Bytes => page.add("a message, two digits of base 16 a byte,"),
+        Place::Tag => page.add("a tag"),
     }
 }
 
@@ -352,6 +358,7 @@ fn say_wrong(place: Place, word: &[u8], choices: &[Place], look: &Look<'_>, caus
         | Place::EachNumber(least, most)
         | Place::EachWithin(least, most) => say_number(word, least, most, cause),
         Place::Bytes => cause.say("a message has two digits of base 16 a byte"),
+        Place::Tag => cause.say(BAD_TAG),
     }
 }
 
