@@ -1,5 +1,5 @@
 -- A session: a run whose parts are asked by lines that come one by one. Each is played and answered before the next is heard.
-use Rattle.std.specs.Prelude.{◌≡◌, ◌≢◌, ◌⊎◌, ℕ, ◌+◌, ◌≤◌, ◌++◌, Bool, List, [], ◌∷◌, length, map, reverse, Option, IfSome, if◌then◌else◌}
+use Rattle.std.specs.Prelude.{◌≡◌, ◌≢◌, ◌⊎◌, ℕ, ◌+◌, ◌≤◌, ◌++◌, Bool, List, [], ◌∷◌, length, map, reverse, Option, None, IfSome, if◌then◌else◌}
 use Rattle.std.specs.Option.{is_some}
 use Rattle.bt_outside.specs.Told.{Rose}
 use Rattle.bt_outside.specs.Input.{given_by}
