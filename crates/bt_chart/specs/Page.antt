@@ -1,5 +1,5 @@
 -- The page of a journal: which pieces it has, and of which numbers.
-use Rattle.std.specs.Prelude.{◌≡◌, ℕ, ◌-◌, ◌++◌, List, [], codes, flat_map, length, Option}
+use Rattle.std.specs.Prelude.{◌≡◌, ℕ, ◌-◌, ◌++◌, List, codes, flat_map, length, Option}
 use Rattle.std.specs.List.Sorted.{IsNonDecreasingBy, IsPermutation}
 use Rattle.bt_frame.specs.declared.limits.TheConstants.{MOST_SUM}
 use Rattle.bt_frame.specs.declared.mode.Mode.{Mode}

@@ -1,4 +1,4 @@
-use Rattle.std.proofs.Common.{◌-◌, ◌∙◌, arith}
+use Rattle.std.proofs.Common.{◌-◌, arith}
 use Rattle.bt_chart.proofs.Rows.{same_row_ok}
 use Rattle.bt_chart.proofs.beams.add_way.Goals as goal
 

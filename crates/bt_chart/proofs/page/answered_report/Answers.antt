@@ -1,5 +1,4 @@
 -- whatever else is shown
-use Rattle.std.proofs.Common.{List, ℕ}
 use Rattle.bt_report.proofs.Reports.{CameTo-among}
 use Rattle.bt_chart.specs.Pages.{AreShown, DrawsPage, ShowsAnswers}
 use Rattle.bt_chart.proofs.OnePage.{draws_weaker}

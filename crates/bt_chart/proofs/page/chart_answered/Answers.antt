@@ -1,5 +1,4 @@
 -- the journal and the answers are loaded after the network
-use Rattle.std.proofs.Common.{rules}
 use Rattle.bt_load.specs.Kinds.{journal_file, network_file}
 use Rattle.bt_load.specs.Loaders.{file}
 use Rattle.bt_load.proofs.Loads.{came_then, file_sooner, then_sooner}
