@@ -1,3 +1,4 @@
+pub mod CommandWords
 pub mod OnePage
 pub mod OneChart
 pub mod Naming

@@ -7,12 +7,13 @@ use Rattle.bt_load.specs.Kinds.{network_file, output_file, plan_file}
 use Rattle.bt_load.specs.Loaders.{Loader, file}
 use Rattle.bt_load.proofs.OneLoad.{IsLawful, Loads-same, done_alike, file_lawful, nothing_lawful, tested_lawful, then_lawful}
 use Rattle.bt_report.specs.Outcome.{Outcome}
-use Rattle.bt_chart.specs.Request.{Request, Faulty, ChartPlan, ChartRun, ChartLadder, ChartPage}
+use Rattle.bt_chart.specs.Request.{Request, Faulty, ChartPlan, ChartRun, ChartLadder, ChartPage, ChartAnswered}
+use Rattle.bt_chart.specs.Pages.{ShowsAnswers, ShowsNothing}
 use Rattle.bt_chart.specs.Plans.{ChooseAPart, ChooseNone, part_file}
 use Rattle.bt_chart.specs.Runs.{AreTerminals, DrawsRun, FindsStranger, chosen_file, output_files}
 use Rattle.bt_chart.specs.declared.run.Drawing.{Drawing}
 use Rattle.bt_chart.specs.declared.run.Drawing.TheVariants as drawing
-use Rattle.bt_chart.proofs.OnePage.{Journals, page_lawful, page_same}
+use Rattle.bt_chart.proofs.OnePage.{Journals, answered_lawful, page_lawful, page_same}
 use Rattle.bt_chart.specs.Top.{AreTold, Charts, ChartsBy, Command, Draws, IsOneBy, IsOneChart, NeedsBy, command_of}
 
 -- names are all of terminals, or not
@@ -58,7 +59,8 @@ laws_of journals (ChartPlan net plan words) = record {
 }
 laws_of journals (ChartRun net output view names) = run_lawful drawing.Rows net output names
 laws_of journals (ChartLadder net output view names) = run_lawful drawing.Ladder net output names
-laws_of journals (ChartPage net journal seconds) = record { lawful = page_lawful net journal; same = λ both. page_same journals seconds both.0 both.1 }
+laws_of journals (ChartPage net journal seconds) = record { lawful = page_lawful net journal; same = λ both. page_same journals ShowsNothing seconds both.0 both.1 }
+laws_of journals (ChartAnswered net journal answers seconds) = record { lawful = answered_lawful net journal answers; same = λ all. page_same journals ShowsAnswers seconds all.0 all.1.0 }
 
 same_by : (asked : Command) → LawsBy asked → (told : List ℕ → Option (List ℕ)) → NeedsBy asked told → (a b : Outcome) → ChartsBy asked told ⊥ a → ChartsBy asked told ⊥ b → IsOneBy asked a b
 same_by (Draws Value loads after choice) laws told of_files = Loads-same choice loads laws.lawful told of_files after after laws.same

@@ -11,7 +11,7 @@ use Rattle.bt_load.specs.Choice.{AnyGood, AreAlike}
 use Rattle.bt_load.specs.Kinds.{journal_file, network_file}
 use Rattle.bt_load.specs.Loaders.{file}
 use Rattle.bt_load.proofs.OneLoad.{IsLawful, done_alike, file_lawful, same_alike, then_lawful}
-use Rattle.bt_chart.specs.Pages.{DrawsPage, NamesLine, NamesNoLine, NamesStray, ShowsPage, page_files}
+use Rattle.bt_chart.specs.Pages.{DrawsPage, NamesLine, NamesNoLine, NamesStray, ShowsPage, answered_files, both_files, page_files}
 
 -- the laws of journals
 pub record Journals : Type 0 where
@@ -24,23 +24,38 @@ pub record Journals : Type 0 where
 pub page_lawful : (net journal : List ℕ) → IsLawful (page_files net journal)
 page_lawful net journal = then_lawful (file network_file net) (λ network. file journal_file journal) (file_lawful network_file net) (λ network. file_lawful journal_file journal)
 
+pub answered_lawful : (net journal answers : List ℕ) → IsLawful (answered_files net journal answers)
+answered_lawful net journal answers =
+    then_lawful (file network_file net) (λ network. both_files journal answers) (file_lawful network_file net)
+    (λ network. then_lawful (file journal_file journal) (λ bytes. file journal_file answers) (file_lawful journal_file journal) (λ bytes. file_lawful journal_file answers))
+
 line_same : (code : List ℕ) (a b : Outcome) (number other : ℕ) → number ≡ other → NamesLine code number a → NamesLine code other b → AreAlike AnyGood a b
 line_same code a b number other same says also =
     same_alike AnyGood a b (says ∙ (ap (λ (n : ℕ). text_alone (line_of (line_fault_words code n)) FAULTY_JOURNAL) same ∙ sym also))
 
-comes_same : Journals → (seconds : Option ℕ) (net : Net) → IsSound net → (bytes : List ℕ) (a b : Outcome)
-    → ShowsPage seconds net bytes a ⊎ NamesNoLine net bytes a ⊎ NamesStray net bytes a → ShowsPage seconds net bytes b ⊎ NamesNoLine net bytes b ⊎ NamesStray net bytes b → AreAlike AnyGood a b
-comes_same laws seconds net sound bytes a b (inl (text, tells, is)) (inl (text', tells', is')) = done_alike a b (ap (λ (o : Outcome). o.status) is) (ap (λ (o : Outcome). o.status) is')
-comes_same laws seconds net sound bytes a b (inl (text, tells, is)) (inr (inl (number, first, says))) = absurd (laws.no_line net bytes tells.changes number sound tells.told first)
-comes_same laws seconds net sound bytes a b (inl (text, tells, is)) (inr (inr (number, first, says))) = absurd (laws.stray net bytes tells.changes number sound tells.told first)
-comes_same laws seconds net sound bytes a b (inr (inl (number, first, says))) (inl (text, tells, is)) = absurd (laws.no_line net bytes tells.changes number sound tells.told first)
-comes_same laws seconds net sound bytes a b (inr (inl (number, first, says))) (inr (inl (number', first', says'))) =
+comes_same : Journals → (Beside : List ℕ → List ℕ → Type 0) (seconds : Option ℕ) (net : Net) → IsSound net → (bytes : List ℕ) (a b : Outcome)
+    → ShowsPage Beside seconds net bytes a ⊎ NamesNoLine net bytes a ⊎ NamesStray net bytes a → ShowsPage Beside seconds net bytes b ⊎ NamesNoLine net bytes b ⊎ NamesStray net bytes b → AreAlike AnyGood a b
+comes_same laws Beside seconds net sound bytes a b (inl (air, ladder, text, beside, tells, is)) (inl (air', ladder', text', beside', tells', is')) = done_alike a b (ap (λ (o : Outcome). o.status) is) (ap (λ (o : Outcome). o.status) is')
+comes_same laws Beside seconds net sound bytes a b (inl (air, ladder, text, beside, tells, is)) (inr (inl (number, first, says))) = absurd (laws.no_line net bytes tells.changes number sound tells.told first)
+comes_same laws Beside seconds net sound bytes a b (inl (air, ladder, text, beside, tells, is)) (inr (inr (number, first, says))) = absurd (laws.stray net bytes tells.changes number sound tells.told first)
+comes_same laws Beside seconds net sound bytes a b (inr (inl (number, first, says))) (inl (air, ladder, text, beside, tells, is)) = absurd (laws.no_line net bytes tells.changes number sound tells.told first)
+comes_same laws Beside seconds net sound bytes a b (inr (inl (number, first, says))) (inr (inl (number', first', says'))) =
     line_same (codes "J1") a b number number' (laws.no_lines net bytes number number' sound first first') says says'
-comes_same laws seconds net sound bytes a b (inr (inl (number, first, says))) (inr (inr (number', first', says'))) = absurd (laws.either net bytes number number' sound first first')
-comes_same laws seconds net sound bytes a b (inr (inr (number, first, says))) (inl (text, tells, is)) = absurd (laws.stray net bytes tells.changes number sound tells.told first)
-comes_same laws seconds net sound bytes a b (inr (inr (number, first, says))) (inr (inl (number', first', says'))) = absurd (laws.either net bytes number' number sound first' first)
-comes_same laws seconds net sound bytes a b (inr (inr (number, first, says))) (inr (inr (number', first', says'))) =
+comes_same laws Beside seconds net sound bytes a b (inr (inl (number, first, says))) (inr (inr (number', first', says'))) = absurd (laws.either net bytes number number' sound first first')
+comes_same laws Beside seconds net sound bytes a b (inr (inr (number, first, says))) (inl (air, ladder, text, beside, tells, is)) = absurd (laws.stray net bytes tells.changes number sound tells.told first)
+comes_same laws Beside seconds net sound bytes a b (inr (inr (number, first, says))) (inr (inl (number', first', says'))) = absurd (laws.either net bytes number' number sound first' first)
+comes_same laws Beside seconds net sound bytes a b (inr (inr (number, first, says))) (inr (inr (number', first', says'))) =
     line_same (codes "J2") a b number number' (laws.strays net bytes number number' sound first first') says says'
 
-pub page_same : Journals → (seconds : Option ℕ) (net : Net) (bytes : List ℕ) (a b : Outcome) → DrawsPage seconds net bytes a → DrawsPage seconds net bytes b → AreAlike AnyGood a b
-page_same laws seconds net bytes a b one other = comes_same laws seconds net one.sound bytes a b one.comes other.comes
+comes_weaker : (Beside Other : List ℕ → List ℕ → Type 0) (seconds : Option ℕ) (net : Net) (bytes : List ℕ) → ((air ladder : List ℕ) → Beside air ladder → Other air ladder) → (outcome : Outcome)
+    → ShowsPage Beside seconds net bytes outcome ⊎ NamesNoLine net bytes outcome ⊎ NamesStray net bytes outcome → ShowsPage Other seconds net bytes outcome ⊎ NamesNoLine net bytes outcome ⊎ NamesStray net bytes outcome
+comes_weaker Beside Other seconds net bytes wider outcome (inl (air, ladder, text, beside, tells, is)) = inl (air, ladder, text, wider air ladder beside, tells, is)
+comes_weaker Beside Other seconds net bytes wider outcome (inr names) = inr names
+
+pub page_same : Journals → (Beside : List ℕ → List ℕ → Type 0) (seconds : Option ℕ) (net : Net) (bytes : List ℕ) (a b : Outcome) → DrawsPage Beside seconds net bytes a → DrawsPage Beside seconds net bytes b → AreAlike AnyGood a b
+page_same laws Beside seconds net bytes a b one other = comes_same laws Beside seconds net one.sound bytes a b one.comes other.comes
+
+-- a page with parts of one kind beside it is one with parts of a wider kind
+pub draws_weaker : (Beside Other : List ℕ → List ℕ → Type 0) (seconds : Option ℕ) (net : Net) (bytes : List ℕ) → ((air ladder : List ℕ) → Beside air ladder → Other air ladder) → (outcome : Outcome)
+    → DrawsPage Beside seconds net bytes outcome → DrawsPage Other seconds net bytes outcome
+draws_weaker Beside Other seconds net bytes wider outcome draws = record { sound = draws.sound; comes = comes_weaker Beside Other seconds net bytes wider outcome draws.comes }

@@ -69,22 +69,23 @@ link_item net link = link_text (name_at net link.from) (name_at net link.to) lin
 abbrev pub links_text : Net → List Link → List ℕ
 links_text net links = links_head ++ flat_map (link_item net) links ++ links_end
 
--- the page of these numbers, this matrix, this plan and these links
-abbrev pub page_with : Option ℕ → Net → State → List (List ℕ) → Plan → List Link → List ℕ
-page_with seconds net state rows plan links =
-    head_text state.edition state.plan seconds ++ state_text state ++ beams_text net rows ++ picture_section net plan ++ modes_text net plan.schedule.modes ++ links_text net links ++ foot_text
+-- the page of these numbers, this matrix, this plan and these links; what else is shown stands behind the numbers and behind the modes
+abbrev pub page_with : Option ℕ → Net → State → (air ladder : List ℕ) → List (List ℕ) → Plan → List Link → List ℕ
+page_with seconds net state air ladder rows plan links =
+    head_text state.edition state.plan seconds ++ state_text state ++ air ++ beams_text net rows ++ picture_section net plan ++ modes_text net plan.schedule.modes ++ ladder
+    ++ links_text net links ++ foot_text
 
 -- the text is the page of the state after these changes: its numbers are those of the journal's state, its picture that of the newest
--- plan, and its links those of the demand
-pub record IsPage (seconds : Option ℕ) (net : Net) (changes : List Change) (torn : ℕ) (text : List ℕ) : Type 0 where
+-- plan, and its links those of the demand; what else is shown is this
+pub record IsPage (seconds : Option ℕ) (net : Net) (changes : List Change) (torn : ℕ) (air ladder text : List ℕ) : Type 0 where
   pub links : List Link
   pub demand : IsDemandAfter changes links
   pub sorted : List Link
   pub by_size : IsBySize links sorted
-  pub spelled : text ≡ page_with seconds net (state_of net changes torn) (matrix_after net changes) (newest changes) sorted
+  pub spelled : text ≡ page_with seconds net (state_of net changes torn) air ladder (matrix_after net changes) (newest changes) sorted
 
 -- the same of the changes that the bytes of a journal tell
-pub record TellsPage (seconds : Option ℕ) (net : Net) (bytes text : List ℕ) : Type 0 where
+pub record TellsPage (seconds : Option ℕ) (net : Net) (bytes air ladder text : List ℕ) : Type 0 where
   pub changes : List Change
   pub told : Recovered net bytes changes
-  pub page : IsPage seconds net changes (length (tail_of bytes)) text
+  pub page : IsPage seconds net changes (length (tail_of bytes)) air ladder text

@@ -1,5 +1,5 @@
 -- What the words after the program's name ask for.
-use Rattle.std.specs.Prelude.{ℕ, ◌&&◌, if◌then◌else◌, nat_lt, nat_le, length, codes, List, [], ◌∷◌, Option, Some, None, option_and_then, Bool, true, false}
+use Rattle.std.specs.Prelude.{ℕ, ◌==◌, ◌&&◌, if◌then◌else◌, nat_lt, nat_le, length, codes, List, [], ◌∷◌, Option, Some, None, option_and_then, Bool, true, false}
 use Rattle.std.specs.Str.{bytes_eq}
 use Rattle.bt_text.specs.Text.{number_of}
 use Rattle.bt_run_chart.specs.declared.view.Superframes.{Superframes}
@@ -14,6 +14,7 @@ pub data Request : Type 0 where
   ChartRun : List ℕ → List ℕ → View → List (List ℕ) → Request
   ChartLadder : List ℕ → List ℕ → View → List (List ℕ) → Request
   ChartPage : List ℕ → List ℕ → Option ℕ → Request
+  ChartAnswered : List ℕ → List ℕ → List ℕ → Option ℕ → Request
 
 -- `plan NET PLAN [BEAM ..] [FIRST-LAST]`; a word that names a file is not empty
 abbrev pub plan_request : List ℕ → List ℕ → List (List ℕ) → Request
@@ -55,18 +56,34 @@ seconds_within number = if nat_lt 0 number && nat_le number MOST_SECONDS then So
 abbrev pub seconds_in : List ℕ → Option ℕ
 seconds_in word = option_and_then seconds_within (number_of word)
 
+-- a page of a journal, and of answers where there are some
+abbrev pub page_beside : List ℕ → List ℕ → Option (List ℕ) → Option ℕ → Request
+page_beside net journal None seconds = ChartPage net journal seconds
+page_beside net journal (Some answers) seconds = ChartAnswered net journal answers seconds
+
 -- a page that is loaded again after so many seconds, where these are some
-abbrev pub page_every : List ℕ → List ℕ → Option ℕ → Request
-page_every net journal None = Faulty
-page_every net journal (Some seconds) = ChartPage net journal (Some seconds)
+abbrev pub page_in : List ℕ → List ℕ → Option (List ℕ) → Option ℕ → Request
+page_in net journal answers None = Faulty
+page_in net journal answers (Some seconds) = page_beside net journal answers (Some seconds)
+
+-- `SECONDS`, behind `every`
+abbrev pub page_every : List ℕ → List ℕ → Option (List ℕ) → List (List ℕ) → Request
+page_every net journal answers [] = Faulty
+page_every net journal answers (word ∷ rest) = if length rest == 0 then page_in net journal answers (seconds_in word) else Faulty
 
 -- `[every SECONDS]`
-abbrev pub page_with : List ℕ → List ℕ → List (List ℕ) → Request
-page_with net journal [] = ChartPage net journal None
-page_with net journal (word ∷ seconds ∷ []) = if bytes_eq word (codes "every") then page_every net journal (seconds_in seconds) else Faulty
-page_with net journal _ = Faulty
+abbrev pub page_again : List ℕ → List ℕ → Option (List ℕ) → List (List ℕ) → Request
+page_again net journal answers [] = page_beside net journal answers None
+page_again net journal answers (word ∷ rest) = if bytes_eq word (codes "every") then page_every net journal answers rest else Faulty
 
--- `page NET JOURNAL [every SECONDS]`
+-- `[ANSWERS] [every SECONDS]`: the word `every` names no answers
+abbrev pub page_with : List ℕ → List ℕ → List (List ℕ) → Request
+page_with net journal [] = page_beside net journal None None
+page_with net journal (word ∷ rest) =
+    if bytes_eq word (codes "every") then page_every net journal None rest
+    else (if nat_lt 0 (length word) then page_again net journal (Some word) rest else Faulty)
+
+-- `page NET JOURNAL [ANSWERS] [every SECONDS]`
 abbrev pub page_request : List ℕ → List ℕ → List (List ℕ) → Request
 page_request net journal words = if nat_lt 0 (length net) && nat_lt 0 (length journal) then page_with net journal words else Faulty
 

@@ -6,9 +6,9 @@ use Rattle.bt_report.specs.Outcome.{Outcome, PrintsOneOf}
 use Rattle.bt_report.specs.Output.{Output}
 use Rattle.bt_load.specs.Choice.{AnyGood, AreAlike, Choice, Exactly}
 use Rattle.bt_load.specs.Loaders.{Loader, Loads, nothing}
-use Rattle.bt_chart.specs.Pages.{DrawsPage, page_files}
+use Rattle.bt_chart.specs.Pages.{DrawsPage, ShowsAnswers, ShowsNothing, answered_files, page_files}
 use Rattle.bt_chart.specs.Plans.{DrawsPlan, plan_files}
-use Rattle.bt_chart.specs.Request.{Request, Faulty, ChartPlan, ChartRun, ChartLadder, ChartPage}
+use Rattle.bt_chart.specs.Request.{Request, Faulty, ChartPlan, ChartRun, ChartLadder, ChartPage, ChartAnswered}
 use Rattle.bt_chart.specs.Runs.{DrawsRun, output_files}
 use Rattle.bt_chart.specs.declared.run.Drawing.TheVariants as drawing
 
@@ -25,7 +25,8 @@ command_of Faulty = command nothing (λ none. SaysFaultyWords) Exactly
 command_of (ChartPlan net plan words) = command (plan_files net plan words) (λ both. DrawsPlan words both.0 both.1) Exactly
 command_of (ChartRun net output view names) = command (output_files net output names) (λ both. DrawsRun drawing.Rows) AnyGood
 command_of (ChartLadder net output view names) = command (output_files net output names) (λ both. DrawsRun drawing.Ladder) AnyGood
-command_of (ChartPage net journal seconds) = command (page_files net journal) (λ both. DrawsPage seconds both.0 both.1) AnyGood
+command_of (ChartPage net journal seconds) = command (page_files net journal) (λ both. DrawsPage ShowsNothing seconds both.0 both.1) AnyGood
+command_of (ChartAnswered net journal answers seconds) = command (answered_files net journal answers) (λ all. DrawsPage ShowsAnswers seconds all.0 all.1.0) AnyGood
 
 -- the outcomes of a command: its loads stop with them, or it has them with the value that they give
 abbrev pub ChartsBy : Command → (List ℕ → Option (List ℕ)) → Type 0 → Outcome → Type 0

@@ -1,8 +1,8 @@
 // What the words after the program's name ask for.
-ghost use Rattle.std.specs.Prelude.{◌≡◌, map};
+ghost use Rattle.std.specs.Prelude.{◌≡◌, map, option_map};
 ghost use Rattle.std.specs.String.{string_bytes};
 ghost use Rattle.bt_chart.specs.CommandLine.{asked, chosen};
-ghost use Rattle.bt_chart.specs.Request.{asked_with, chart_request_of, chosen_of, ladder_request, page_every, page_request, page_with, plan_request, range_and_names, run_request, seconds_in};
+ghost use Rattle.bt_chart.specs.Request.{asked_with, chart_request_of, chosen_of, ladder_request, page_again, page_beside, page_every, page_in, page_request, page_with, plan_request, range_and_names, run_request, seconds_in};
 
 use crate::range::superframes_in;
 use bt_run_chart::View;
@@ -40,6 +40,13 @@ pub enum CommandLine<'a> {
     ChartPage {
         net: &'a str,
         journal: &'a str,
+        seconds: Option<u32>,
+    },
+    /// `page NET JOURNAL ANSWERS [every SECONDS]`.
+    ChartAnswered {
+        net: &'a str,
+        journal: &'a str,
+        answers: &'a str,
         seconds: Option<u32>,
     },
 }
@@ -123,7 +130,7 @@ fn ladder_of<'a>(net: &'a str, output: &'a str, words: &'a [String]) -> CommandL
     }
 }
 
-fn page_of<'a>(net: &'a str, journal: &'a str, words: &[String]) -> CommandLine<'a>
+fn page_of<'a>(net: &'a str, journal: &'a str, words: &'a [String]) -> CommandLine<'a>
     ensures { asked result ≡ page_request net.now journal.now (map string_bytes words.now) }
 {
     if net.is_empty() || journal.is_empty() {
@@ -134,31 +141,95 @@ fn page_of<'a>(net: &'a str, journal: &'a str, words: &[String]) -> CommandLine<
 }
 
 /// The page with these words behind the journal.
-fn page_with<'a>(net: &'a str, journal: &'a str, words: &[String]) -> CommandLine<'a>
+fn page_with<'a>(net: &'a str, journal: &'a str, words: &'a [String]) -> CommandLine<'a>
     ensures { asked result ≡ page_with net.now journal.now (map string_bytes words.now) }
 {
-    match words {
-        [] => CommandLine::ChartPage {
-            net,
-            journal,
-            seconds: None,
-        },
-        [word, seconds] if word.as_str() == "every" => page_every(net, journal, seconds),
-        _ => CommandLine::Faulty,
+    let Some((word, rest)) = words.split_first() else {
+        return page_beside(net, journal, None, None);
+    };
+    if word.as_str() == "every" {
+        page_every(net, journal, None, rest)
+    } else if word.is_empty() {
+        CommandLine::Faulty
+    } else {
+        page_again(net, journal, Some(word.as_str()), rest)
     }
 }
 
-/// The page that is loaded again after the seconds that a word is.
-fn page_every<'a>(net: &'a str, journal: &'a str, word: &str) -> CommandLine<'a>
-    ensures { asked result ≡ page_every net.now journal.now (seconds_in word.now) }
+/// The page with these words behind all its files.
+fn page_again<'a>(
+    net: &'a str,
+    journal: &'a str,
+    answers: Option<&'a str>,
+    words: &[String],
+) -> CommandLine<'a>
+    ensures { asked result ≡ page_again net.now journal.now (option_map (λ a. a.now) answers.entry) (map string_bytes words.now) }
 {
-    match seconds_in(word.as_bytes()) {
-        Some(seconds) => CommandLine::ChartPage {
+    let Some((word, rest)) = words.split_first() else {
+        return page_beside(net, journal, answers, None);
+    };
+    if word.as_str() == "every" {
+        page_every(net, journal, answers, rest)
+    } else {
+        CommandLine::Faulty
+    }
+}
+
+/// The page with these words behind `every`.
+fn page_every<'a>(
+    net: &'a str,
+    journal: &'a str,
+    answers: Option<&'a str>,
+    words: &[String],
+) -> CommandLine<'a>
+    ensures { asked result ≡ page_every net.now journal.now (option_map (λ a. a.now) answers.entry) (map string_bytes words.now) }
+{
+    let Some((word, rest)) = words.split_first() else {
+        return CommandLine::Faulty;
+    };
+    if rest.is_empty() {
+        page_in(net, journal, answers, seconds_in(word.as_bytes()))
+    } else {
+        CommandLine::Faulty
+    }
+}
+
+/// The page that is loaded again after so many seconds, where these are some.
+fn page_in<'a>(
+    net: &'a str,
+    journal: &'a str,
+    answers: Option<&'a str>,
+    seconds: Option<u32>,
+) -> CommandLine<'a>
+    ensures { asked result ≡ page_in net.now journal.now (option_map (λ a. a.now) answers.entry) seconds }
+{
+    if seconds.is_none() {
+        return CommandLine::Faulty;
+    }
+    page_beside(net, journal, answers, seconds)
+}
+
+/// The page of a journal, and of answers where there are some.
+fn page_beside<'a>(
+    net: &'a str,
+    journal: &'a str,
+    answers: Option<&'a str>,
+    seconds: Option<u32>,
+) -> CommandLine<'a>
+    ensures { asked result ≡ page_beside net.now journal.now (option_map (λ a. a.now) answers.entry) seconds }
+{
+    match answers {
+        None => CommandLine::ChartPage {
             net,
             journal,
-            seconds: Some(seconds),
+            seconds,
         },
-        None => CommandLine::Faulty,
+        Some(answers) => CommandLine::ChartAnswered {
+            net,
+            journal,
+            answers,
+            seconds,
+        },
     }
 }
 

@@ -21,6 +21,7 @@ body{margin:0;padding:.8rem}
 h1{font-size:clamp(1.8rem,6vw,5rem);line-height:1.1;margin:0 0 .4rem}
 h1 span{color:var(--quiet)}
 h2{font-size:1.2rem;margin:1.4rem 0 .4rem;border-bottom:1px solid var(--rule)}
+h3{font-size:1rem;margin:.8rem 0 .3rem}
 dl{display:grid;grid-template-columns:repeat(auto-fit,minmax(8.5rem,1fr));gap:.5rem 1rem;margin:0}
 dt{color:var(--quiet)}
 dd{margin:0;font-size:1.5rem;font-weight:bold;font-variant-numeric:tabular-nums}

@@ -8,6 +8,7 @@ ghost use Rattle.bt_history.specs.Recovery.{Recovered};
 ghost use Rattle.bt_look.specs.Look.{IsLookFault};
 ghost use Rattle.bt_chart.specs.Page.{IsPage, TellsPage, page_with, state_of};
 
+use crate::air_part::Shown;
 use crate::beams::add_beams;
 use crate::links::{add_links, by_size};
 use crate::pieces::{add_head, add_words};
@@ -25,15 +26,16 @@ use bt_words::Word;
 use std::alloc::Global;
 
 /// The page of a journal's bytes, in HTML: the last edition, the newest plan and how full the journal is; what is asked of each
-/// beam in slots per frame, and free there; the picture of the newest plan, its modes; and the links, the largest first. With a
-/// number of seconds a browser loads it again each time that so many have passed.
+/// beam in slots per frame, and free there; the picture of the newest plan, its modes; and the links, the largest first; and what
+/// else is shown. With a number of seconds a browser loads it again each time that so many have passed.
 pub fn page_of_journal(
     alloc: Global,
     net: &Network,
     bytes: Vec<u8>,
+    shown: &Shown,
     seconds: Option<u32>,
 ) -> Result<Vec<u8>, RecoverFault>
-    ensures text { IfOk result (λ text. TellsPage seconds net.now bytes.items text.items) }
+    ensures text { IfOk result (λ text. TellsPage seconds net.now bytes.items shown.now.air.items shown.now.ladder.items text.items) }
     ensures fault { IfErr result (IsLookFault net.now bytes.items) }
 {
     if bytes.len() as u64 > MOST_JOURNAL_BYTES {
@@ -41,7 +43,7 @@ pub fn page_of_journal(
     }
     let size = size_of_journal(alloc, net, bytes.as_slice())?;
     let book = look(alloc, net, bytes)?;
-    Ok(page_of_book(alloc, net, &book, size.torn, seconds)?)
+    Ok(page_of_book(alloc, net, &book, size.torn, shown, seconds)?)
 }
 
 /// The book that a recovery of a store with these bytes would make. The store is one in memory, so that the bytes stay as they
@@ -64,11 +66,12 @@ fn page_of_book<K: Keeper>(
     net: &Network,
     book: &Book<K>,
     torn: u32,
+    shown: &Shown,
     seconds: Option<u32>,
 ) -> Result<Vec<u8>, OutOfMemory>
     requires network { book.now.net ≡ net.now }
     requires follows { Follows net.now book.now.state.changes }
-    ensures { IfOk result (λ text. IsPage seconds net.now book.now.state.changes torn text.items) }
+    ensures { IfOk result (λ text. IsPage seconds net.now book.now.state.changes torn shown.now.air.items shown.now.ladder.items text.items) }
 {
     // This is there for what holds of each network: it is sound, and so its frame has at most `MOST_SLOTS` slots.
     let _beams = net.beam_count();
@@ -80,6 +83,7 @@ fn page_of_book<K: Keeper>(
         alloc,
         net,
         state,
+        shown,
         &matrix,
         book.newest(),
         links.as_slice(),
@@ -107,11 +111,12 @@ fn state_of<K: Keeper>(net: &Network, book: &Book<K>, torn: u32) -> State
     }
 }
 
-/// The page of these numbers, this matrix, this plan and these links.
+/// The page of these numbers, with what else is shown, of this matrix, this plan and these links.
 fn page_text(
     alloc: Global,
     net: &Network,
     state: State,
+    shown: &Shown,
     matrix: &Dense,
     plan: &Plan,
     links: &[Link],
@@ -121,14 +126,16 @@ fn page_text(
     requires terminals { AreBetweenTerminals net.now plan.now.bursts }
     requires critical { IsOfBeams (length net.now.beams) plan.now.schedule.critical }
     requires links { AreOfNetwork net.now links.now }
-    ensures { IfOk result (λ text. text.items ≡ page_with seconds net.now state matrix.now plan.now links.now) }
+    ensures { IfOk result (λ text. text.items ≡ page_with seconds net.now state shown.now.air.items shown.now.ladder.items matrix.now plan.now links.now) }
 {
     let mut text = Vec::new(alloc);
     add_head(alloc, state.edition, state.plan, seconds, &mut text)?;
     add_state(alloc, state, &mut text)?;
+    text.extend_from_slice(shown.air.as_slice())?;
     add_beams(alloc, net, matrix, &mut text)?;
     add_picture(alloc, net, plan, &mut text)?;
     add_modes(alloc, net, plan.schedule.modes.as_slice(), &mut text)?;
+    text.extend_from_slice(shown.ladder.as_slice())?;
     add_links(alloc, net, links, &mut text)?;
     add_words(
         alloc,

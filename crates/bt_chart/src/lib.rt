@@ -24,6 +24,8 @@
 //! what is the same in every page. The text is well-formed XML too.
 #![tactic(auto)]
 
+mod air_part;
+mod answers;
 mod beams;
 mod choosing;
 mod command_line;
@@ -40,6 +42,7 @@ mod run;
 mod state;
 mod top;
 
+pub use air_part::Shown;
 pub use journal_page::page_of_journal;
 pub use laws::{no_words_choose_the_whole, one_chart};
 pub use top::chart_main;

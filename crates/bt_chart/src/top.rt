@@ -7,7 +7,7 @@ ghost use Rattle.bt_chart.specs.Request.{chart_request_of};
 ghost use Rattle.bt_chart.specs.Top.{Charted, Charts};
 
 use crate::command_line::{CommandLine, command_line_of};
-use crate::page::chart_page;
+use crate::page::{chart_answered, chart_page};
 use crate::plan::chart_plan;
 use crate::run::{Drawing, chart_run};
 use bt_outside::{Files, Sink};
@@ -56,5 +56,11 @@ fn chart_words<F: Files>(alloc: Global, words: &[String], files: &mut F) -> Resu
             journal,
             seconds,
         } => chart_page(alloc, files, net, journal, seconds),
+        CommandLine::ChartAnswered {
+            net,
+            journal,
+            answers,
+            seconds,
+        } => chart_answered(alloc, files, net, journal, answers, seconds),
     }
 }

@@ -57,18 +57,20 @@ returns g c =
     let changes = c.args.book.now.state.changes in
     let torn = c.args.torn in
     let seconds = c.args.seconds in
+    let air = c.args.shown.now.air.items in
+    let ladder = c.args.shown.now.ladder.items in
     let keeps = keeps_any net changes c.demand.result.now c.beam_count-beams.ensures.sound c.requires.follows c.demand.ensures.demand in
     let state = c.state_of-state.result in
     let rows = c.in_ok-matrix.matrix in
     let plan = c.newest.result.now in
     let sorted = c.in_ok-links.links.items in
     let matrix : rows ≡ matrix_after net changes = c.in_ok-matrix.ensures.matrix ∙ sym (matrix_after-AddsUp net changes c.demand.result.now keeps.adds_up) in
-    let same : page_with seconds net state rows plan c.as_slice.result.now ≡ page_with seconds net (state_of net changes torn) (matrix_after net changes) (newest changes) sorted =
-    ap (λ (s : State). page_with seconds net s rows plan c.as_slice.result.now) c.state_of-state.ensures
-    ∙ (ap (λ (m : List (List ℕ)). page_with seconds net (state_of net changes torn) m plan c.as_slice.result.now) matrix
-    ∙ (ap (λ (p : Plan). page_with seconds net (state_of net changes torn) (matrix_after net changes) p c.as_slice.result.now) c.newest.ensures.newest
-    ∙ ap (λ (l : List Link). page_with seconds net (state_of net changes torn) (matrix_after net changes) (newest changes) l) c.as_slice.ensures.value)) in
-    IfOk-weaker c.page_text.result (λ text. text.items ≡ page_with seconds net state rows plan c.as_slice.result.now) (λ text. IsPage seconds net changes torn text.items)
+    let same : page_with seconds net state air ladder rows plan c.as_slice.result.now ≡ page_with seconds net (state_of net changes torn) air ladder (matrix_after net changes) (newest changes) sorted =
+    ap (λ (s : State). page_with seconds net s air ladder rows plan c.as_slice.result.now) c.state_of-state.ensures
+    ∙ (ap (λ (m : List (List ℕ)). page_with seconds net (state_of net changes torn) air ladder m plan c.as_slice.result.now) matrix
+    ∙ (ap (λ (p : Plan). page_with seconds net (state_of net changes torn) air ladder (matrix_after net changes) p c.as_slice.result.now) c.newest.ensures.newest
+    ∙ ap (λ (l : List Link). page_with seconds net (state_of net changes torn) air ladder (matrix_after net changes) (newest changes) l) c.as_slice.ensures.value)) in
+    IfOk-weaker c.page_text.result (λ text. text.items ≡ page_with seconds net state air ladder rows plan c.as_slice.result.now) (λ text. IsPage seconds net changes torn air ladder text.items)
     (λ text is. record {
       links = c.demand-2.result.now;
       demand = c.demand-2.ensures.demand;
