@@ -119,8 +119,17 @@ impl<'a> Told<'a> {
     fn send_bursts(&mut self, values: &[Value<'_>]) -> Result<(), OutOfMemory> {
         if let [_, _, terminal] = values {
             if let Value::Terminal(terminal) = terminal {
-                self.missing.push(*terminal)?;
+                return self.add_missing(*terminal);
             }
+        }
+        Ok(())
+    }
+
+    // A terminal is missing, whether one message was sent to it or more.
+    fn add_missing(&mut self, terminal: TermNo) -> Result<(), OutOfMemory> {
+        let is_there = self.missing.iter().any(|other| *other == terminal);
+        if !is_there {
+            self.missing.push(terminal)?;
         }
         Ok(())
     }
