@@ -17,4 +17,5 @@ pub mod EachForm
 pub mod Flat
 pub mod Shapes
 pub mod Added
+pub mod TextLines
 pub mod Lines

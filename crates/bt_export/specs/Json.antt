@@ -13,6 +13,8 @@ use Rattle.bt_words.specs.Tags.{is_tag}
 use Rattle.bt_export.specs.Object.{form_object, text_object}
 use Rattle.bt_export.specs.Said.{said_by}
 use Rattle.bt_export.specs.Table.{rows_of}
+use Rattle.bt_export.specs.TextForms.{text_forms, text_names, text_parts}
+use Rattle.bt_export.specs.declared.text_form.TextForm.{TextForm}
 use Rattle.bt_export.specs.declared.json.JsonCode.{JsonCode}
 use Rattle.bt_export.specs.declared.json.JsonCode.TheVariants.{O1}
 
@@ -50,10 +52,20 @@ abbrev pub form_of : List (List ℕ) → Option Form
 form_of [] = None
 form_of (head ∷ rest) = first_of (forms_from head) (head ∷ rest)
 
--- the object of a line by its form, or by its text where it has none
+-- the first of these forms of a traffic or a plan that the words have
+abbrev pub first_text : List TextForm → List (List ℕ) → Option TextForm
+first_text [] ws = None
+first_text (form ∷ forms) ws = if are_at (text_parts form) ws then Some form else first_text forms ws
+
+-- the object of a line that no run prints: by its form, or its text where it has none
+abbrev pub object_of_text : Option TextForm → List ℕ → Option Data
+object_of_text (Some form) line = form_object (text_parts form) (text_names form) line
+object_of_text None line = text_object line
+
+-- the object of a line by its form
 abbrev pub object_by : Option Form → List ℕ → Option Data
 object_by (Some form) line = form_object (parts_of form) (names_of form) line
-object_by None line = text_object line
+object_by None line = object_of_text (first_text text_forms (words line)) line
 
 abbrev pub line_object : List ℕ → Option Data
 line_object line = object_by (form_of (words line)) line

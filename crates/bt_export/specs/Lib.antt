@@ -7,6 +7,7 @@ pub mod Said
 pub mod Forms
 pub mod Table
 pub mod Row
+pub mod TextForms
 pub mod Json
 pub mod Flat
 pub mod Added

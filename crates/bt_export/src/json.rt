@@ -4,11 +4,13 @@ ghost use Rattle.serde_json.specs.View.{view};
 ghost use Rattle.bt_text.specs.Reading.{Gives};
 ghost use Rattle.bt_text.specs.Text.{lines, words};
 ghost use Rattle.bt_words.specs.Forms.{part_of};
-ghost use Rattle.bt_export.specs.Json.{AllSayBack, SaysBack, are_at, first_of, form_of, is_answer, is_at, json_from, json_line, json_of, line_object};
+ghost use Rattle.bt_export.specs.Json.{AllSayBack, SaysBack, are_at, first_of, first_text, form_of, is_answer, is_at, json_from, json_line, json_of, line_object, object_of_text};
 ghost use Rattle.bt_export.specs.Added.{behind, with_json};
 ghost use Rattle.bt_export.specs.Table.{rows_of};
+ghost use Rattle.bt_export.specs.TextForms.{text_forms};
 
 use crate::object::{form_object, text_object};
+use crate::text_form::{TextForm, text_forms, text_names, text_tokens};
 use bt_frame::OutOfMemory;
 use bt_net::is_name;
 use bt_text::{LineFault, WordReader, fault_at, first_line, is_word, number_of_digits};
@@ -97,8 +99,30 @@ fn line_object(alloc: Global, line: &[u8]) -> Result<Option<Value>, OutOfMemory>
 {
     match form_of(line) {
         Some(form) => form_object(alloc, tokens_of(form), names_of(form), line),
+        None => object_of_text(alloc, line),
+    }
+}
+
+/// The object of a line that no run prints: by its form, or its text where it has none. None where it is no text in UTF-8.
+fn object_of_text(alloc: Global, line: &[u8]) -> Result<Option<Value>, OutOfMemory>
+    ensures object { IfOk result (λ value. option_map view value ≡ object_of_text (first_text text_forms (words line.now)) line.now) }
+{
+    match first_text(text_forms(), line) {
+        Some(form) => form_object(alloc, text_tokens(form), text_names(form), line),
         None => text_object(alloc, line),
     }
+}
+
+/// The first of these forms of a traffic or a plan that a line has.
+fn first_text(forms: &[TextForm], line: &[u8]) -> Option<TextForm>
+    ensures { result ≡ first_text forms.now (words line.now) }
+{
+    for form in forms {
+        if are_at(text_tokens(*form), line) {
+            return Some(*form);
+        }
+    }
+    None
 }
 
 /// The form of a line, where it has one.

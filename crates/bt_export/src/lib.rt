@@ -11,7 +11,7 @@
 //! printed lines with the names of their open places (`bt_words`). Promises: `specs/Table.antt`, the traffic text that a table says, and its
 //! fault; `specs/Json.antt`, the form of a line, and the JSON of the lines of a text; `specs/Object.antt`, the object of a line;
 //! `specs/Said.antt`, the line that an object says. `specs/Forms.antt` says which lines fit the places of a form, and `object_laws.rt`
-//! that an object says its line. `specs/Row.antt` and `specs/Added.antt` are for bodies alone, and so is `specs/Flat.antt`.
+//! that an object says its line. `specs/TextForms.antt` has the forms of traffics and plans that no run prints. `specs/Row.antt` and `specs/Added.antt` are for bodies alone, and so is `specs/Flat.antt`.
 #![tactic(auto)]
 
 mod carry;
@@ -24,6 +24,7 @@ mod object;
 mod object_laws;
 mod surplus;
 mod table;
+mod text_form;
 
 pub use carry::{Carried, carried_of_journal, carry_demand};
 pub use edits::{edits_of_journal, edits_text};
