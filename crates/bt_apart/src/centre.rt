@@ -12,6 +12,7 @@ use crate::back::back_lasting;
 use bt_air::Order;
 use bt_demand::Plan;
 use bt_frame::{EditionNo, Mark, OutOfMemory};
+use bt_machines::Centre;
 use bt_net::Network;
 use bt_site::{CentreSite, greatest_due};
 use std::alloc::Global;
@@ -133,6 +134,13 @@ impl ApartCentre {
         ensures back { self.new ≡ going_apart self.old back }
     {
         self.back = back;
+    }
+
+    /// The centre itself.
+    pub fn centre(&self) -> &Centre
+        ensures centre { result.now ≡ self.now.centre }
+    {
+        self.centre.centre()
     }
 
     /// The order that its last turn wanted, where it was neither placed nor lost since. A message can name its superframe.

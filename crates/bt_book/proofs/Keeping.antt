@@ -17,7 +17,7 @@ use Rattle.bt_journal.specs.declared.entry.Entry.{Entry}
 use Rattle.bt_journal.specs.Journal.{NamesTerminals, is_made}
 use Rattle.bt_history.specs.Occupancy.{EditsLinks}
 use Rattle.bt_history.specs.Causes.{IsChangeOn}
-use Rattle.bt_history.specs.Changes.{edits_in, order_in, plan_in}
+use Rattle.bt_history.specs.Changes.{edits_among, edits_in, order_in, plan_in}
 use Rattle.bt_history.specs.Machine.{State, Tells, halted, line_behind, running}
 use Rattle.bt_history.specs.Records.{CanJoin, IsSpelled, Lists, Records, Stores}
 use Rattle.bt_history.specs.Store.{is_lost}
@@ -26,7 +26,6 @@ use Rattle.bt_history.proofs.Entries.{keeps_made, keeps_other, lists_more}
 use Rattle.bt_history.proofs.Histories.{same_state}
 use Rattle.bt_history.proofs.Start.{Counts-start, KeepsUp-start}
 use Rattle.bt_book.specs.Kept.{KeepsAll, reply_to}
-use Rattle.bt_book.specs.Past.{edits_among}
 use Rattle.bt_book.specs.declared.kept.Kept.{Kept}
 use Rattle.bt_book.proofs.Past.{more_edits}
 

@@ -1,4 +1,6 @@
 pub mod Causes
+mod Copied
 mod Keeping
+mod Named
 mod Opening
 mod Past

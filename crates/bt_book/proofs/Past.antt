@@ -11,10 +11,9 @@ use Rattle.bt_journal.specs.declared.call.Change.{Change}
 use Rattle.bt_journal.specs.declared.call.Change.TheVariants as change
 use Rattle.bt_history.specs.Occupancy.{EditsLinks}
 use Rattle.bt_history.specs.Causes.{Follows}
-use Rattle.bt_history.specs.Changes.{edition, edits_in}
+use Rattle.bt_history.specs.Changes.{edit_in, edition, edits_among, edits_in}
 use Rattle.bt_history.specs.Records.{CanRedo, Records, Redoes}
 use Rattle.bt_history.proofs.Redone.{can_redo, Redoes-made, Redoes-start, opening_past}
-use Rattle.bt_book.specs.Past.{edit_in, edits_among}
 
 -- one change more has its edit behind those before it, if it is one
 pub more_edits : (changes after : List Change) (one : Change) (past more : List Edit) → past ≡ edits_among changes → after ≡ changes ++ one ∷ []

@@ -5,9 +5,9 @@ use Rattle.bt_journal.specs.declared.call.Change.{Change}
 use Rattle.bt_journal.specs.declared.call.Change.TheVariants as change
 use Rattle.bt_journal.specs.declared.reply.Reply.{Reply}
 use Rattle.bt_journal.specs.declared.reply.Reply.TheVariants.{Done, Installed, Placed}
+use Rattle.bt_history.specs.Changes.{edits_among}
 use Rattle.bt_history.specs.Occupancy.{HasRoom}
 use Rattle.bt_history.specs.Records.{Counts, KeepsUp, Lists}
-use Rattle.bt_book.specs.Past.{edits_among}
 use Rattle.bt_book.specs.declared.kept.Kept.{Kept}
 
 -- what holds of all that is kept beside the changes

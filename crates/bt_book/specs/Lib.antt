@@ -1,3 +1,3 @@
 pub mod Kept
 pub mod Lines
-pub mod Past
+pub mod Noted

@@ -1,9 +1,9 @@
-// The demand of an earlier edition: the edits that were kept are made again, up to it.
+// The demand of an earlier edition, and the occupancy of the last: the edits that were kept are made again, up to it.
 ghost use Rattle.std.specs.Prelude.{◌≡◌, ◌≤◌, [], IfOk, OnOk};
 ghost use Rattle.bt_frame.specs.declared.limits.TheConstants.{MOST_SUM};
 ghost use Rattle.bt_demand.specs.Traffic.{matrix_of, AreOfNetwork, HasSumsTo};
 ghost use Rattle.bt_history.specs.Changes.{edition, IsDemandAt};
-ghost use Rattle.bt_history.specs.Records.{IsRedone};
+ghost use Rattle.bt_history.specs.Records.{IsRedone, KeepsUp};
 
 use crate::machine::Machine;
 use bt_demand::Demand;
@@ -29,12 +29,23 @@ impl Machine {
         Ok(demand)
     }
 
+    /// The occupancy after all changes, made again.
+    pub(crate) fn occupied_again(&self, alloc: Global) -> Result<Occupancy, OutOfMemory>
+        ensures net { IfOk result (λ made. made.net ≡ self.now.net) }
+        ensures keeps { IfOk result (λ made. KeepsUp self.now.net self.now.state.changes made.links) }
+    {
+        let mut occupancy = Occupancy::new(alloc, self.network())?;
+        self.redo(alloc, &mut occupancy, self.kept.edits)?;
+        Ok(occupancy)
+    }
+
     /// Makes the first edits, so many, again.
     fn redo(&self, alloc: Global, occupancy: &mut Occupancy, number: u32) -> Result<(), OutOfMemory>
         requires none { occupancy.old.links ≡ [] }
         requires network { occupancy.old.net ≡ self.now.net }
         requires made { number ≤ edition self.now.state.changes }
-        ensures { OnOk result (IsRedone self.now.net self.now.state.changes number occupancy.new.links) }
+        ensures redone { OnOk result (IsRedone self.now.net self.now.state.changes number occupancy.new.links) }
+        ensures net { OnOk result (occupancy.new.net ≡ self.now.net) }
     {
         // This is there for what holds of each network: its frame has at most `MOST_SLOTS` slots.
         let _slots = self.kept.occupancy.slots();

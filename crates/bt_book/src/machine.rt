@@ -1,21 +1,22 @@
 // The machine: the changes made so far with what is kept beside them, and the history of the calls.
-ghost use Rattle.std.specs.Prelude.{◌≡◌, ◌<◌, ◌≤◌, [], false, true, length, IfOk, slice_index_or};
+ghost use Rattle.std.specs.Prelude.{◌≡◌, ◌<◌, ◌≤◌, [], false, true, length, IfOk, IfSome, slice_index_or};
 ghost use Rattle.std.specs.List.{HoldsAt};
 ghost use Rattle.bt_frame.specs.declared.limits.TheConstants.{MOST_JOURNAL_BYTES};
 ghost use Rattle.bt_frame.specs.declared.limits.TheConstants.{MOST_SUM};
 ghost use Rattle.bt_net.specs.Network.{IsSound};
 ghost use Rattle.bt_demand.specs.Traffic.{matrix_of, AreOfNetwork, HasSumsTo};
 ghost use Rattle.bt_demand.specs.Plan.{empty_plan};
-ghost use Rattle.bt_history.specs.Changes.{edition, newest, orders, plans, IsDemandAfter};
+ghost use Rattle.bt_journal.specs.Journal.{NamesTerminals};
+ghost use Rattle.bt_history.specs.Changes.{edit_at, edition, held_after, newest, orders, plans, IsDemandAfter};
 ghost use Rattle.bt_history.specs.Machine.{bytes_of, running};
 
 use crate::changes::Changes;
 use crate::kept::Kept;
 use bt_air::Order;
 use bt_demand::{Demand, Plan, empty_plan};
-use bt_frame::{EditionNo, OutOfMemory};
+use bt_frame::{EditionNo, OutOfMemory, TermNo};
 use bt_history::Occupancy;
-use bt_journal::Entry;
+use bt_journal::{Edit, Entry};
 use bt_net::Network;
 use std::alloc::Global;
 use std::marker::Model;
@@ -112,6 +113,25 @@ impl Machine {
         // This is there for what holds of each network: its frame has at most `MOST_SLOTS` slots.
         let _slots = self.kept.occupancy.slots();
         self.kept.occupancy.demand()
+    }
+
+    /// The slots that a link holds after the changes.
+    pub(crate) fn held(&self, from: TermNo, to: TermNo) -> u32
+        ensures { result ≡ held_after self.now.state.changes from to }
+    {
+        self.kept.occupancy.units(from, to)
+    }
+
+    /// The edit that made an edition, if one did.
+    pub(crate) fn edit(&self, number: EditionNo) -> Option<Edit>
+        ensures edit { result ≡ edit_at self.now.state.changes number.0 }
+        ensures terminals { IfSome result (NamesTerminals self.now.net) }
+    {
+        let number = number.0 as usize;
+        if number == 0 || self.kept.past.len() < number {
+            return None;
+        }
+        Some(self.kept.past[number - 1])
     }
 
     /// The newest plan.

@@ -12,6 +12,7 @@ use bt_cli::{
 use bt_outside::{Console, MemSource};
 use bt_report::WRITE_FAILED;
 use bt_sheet::{CaseFault, Part, Result, Shelf, number_of, owned_words};
+use bt_talk::MemClock;
 use std::alloc::Global;
 use std::sync::Wait;
 use std::thread::Threads;
@@ -25,6 +26,8 @@ pub struct Meeting {
     /// The lines that a session hears, and how many of them it is given before its input fails.
     pub input: Vec<u8>,
     pub heard: u64,
+    /// The moments that the clock of a session tells.
+    pub moments: Vec<Vec<u8>>,
     /// The reads, the writes and the calls on the store that fail.
     pub reads: Vec<Fail>,
     pub writes: Vec<Fail>,
@@ -51,6 +54,7 @@ impl Meeting {
         Meeting {
             input: Vec::new(alloc),
             heard: u64::MAX,
+            moments: Vec::new(alloc),
             reads: Vec::new(alloc),
             writes: Vec::new(alloc),
             keeps: Vec::new(alloc),
@@ -128,6 +132,10 @@ fn set_name(alloc: Global, next: &mut Meeting, what: &str, name: &str) -> Result
     match what {
         "into" => set_to(alloc, &mut next.into, name),
         "beginnings" => set_to(alloc, &mut next.beginnings, name),
+        "clock" => {
+            next.moments.push(name.as_bytes().to_vec(alloc)?)?;
+            Ok(true)
+        }
         _ => Ok(false),
     }
 }
@@ -356,9 +364,10 @@ impl Outside {
         let source = MemSource::new(self.next.input.clone()?, self.next.heard);
         let sink = MemSink::new(alloc, self.next.writes.clone()?);
         let mut talk = Console::new(source, sink);
+        let mut clock = MemClock::new(self.next.moments.clone()?);
         let owned = owned_words(alloc, words)?;
         let store = self.met_store()?;
-        let ended = live_main(rt, alloc, &owned, &mut files, &mut talk, store);
+        let ended = live_main(rt, alloc, &owned, &mut files, &mut talk, &mut clock, store);
         // those of a session have no bytes
         self.histories.clear();
         let status = self.keep_store(alloc, ended.store.kept(), ended.status);

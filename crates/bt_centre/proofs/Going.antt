@@ -1,28 +1,33 @@
 -- A run goes on by legal times.
-use Rattle.std.proofs.Common.{◌≡◌, ℕ, List, [], ◌∷◌, ◌++◌, length, reverse, refl, sym, ap, ◌∙◌, subst, arith, inl}
+use Rattle.std.proofs.Common.{◌≡◌, ℕ, List, [], ◌∷◌, ◌++◌, length, length-append, append_assoc, reverse, refl, sym, ap, ◌∙◌, subst, arith, inl}
 use Rattle.std.specs.Option.{is_some}
+use Rattle.std.proofs.lemmas.List.{append-nil}
 use Rattle.bt_net.specs.Network.{Net}
 use Rattle.bt_script.specs.declared.heard.BusLine.{BusLine}
 use Rattle.bt_script.specs.declared.sites.Sites.{Sites}
 use Rattle.bt_journal.specs.declared.call.Change.{Change}
 use Rattle.bt_journal.specs.declared.entry.Entry.{Entry}
+use Rattle.bt_journal.specs.Journal.{changes_of}
+use Rattle.bt_script.specs.declared.script.Round.{Round}
 use Rattle.bt_history.specs.Book.{Books}
 use Rattle.bt_history.specs.Causes.{Follows}
 use Rattle.bt_history.specs.Changes.{orders}
 use Rattle.bt_history.specs.Crash.{Last}
-use Rattle.bt_history.specs.Machine.{Legal, State, running, state_after}
+use Rattle.bt_history.specs.Machine.{Legal, State, running, state_after, state_from}
 use Rattle.bt_history.specs.Recovery.{MaybeRecovered}
 use Rattle.bt_history.specs.Store.{IsKept, RoseBy, lost_of}
-use Rattle.bt_history.proofs.Histories.{state_from-none}
+use Rattle.bt_history.proofs.Histories.{state_from-append, state_from-none}
+use Rattle.bt_history.proofs.Lasting.{last_first, last_then}
 use Rattle.bt_centre.specs.declared.history.History.{History}
 use Rattle.bt_round.specs.AirLines.{hearing, opening_in}
 use Rattle.bt_round.specs.Rounds.{BookRan}
 use Rattle.bt_round.proofs.Closing.{ran_nothing}
 use Rattle.bt_site.specs.Event.{Opening}
-use Rattle.bt_centre.specs.Progress.{GoesOn, Hand, IsBegun, IsLeftEarly, IsLeftOf, IsLegalHand, Left, RestartPlayed, histories_in, history_in}
+use Rattle.bt_centre.specs.Answering.{LastsIn, RoundsPlayed}
+use Rattle.bt_centre.specs.Progress.{GoesOn, Hand, IsBegun, IsLeftEarly, IsLeftOf, IsLegalHand, Left, RestartPlayed, RoundPlayed, histories_in, history_in}
 use Rattle.bt_centre.specs.Run.{AreLegalTimes, AreTimes, BreaksOff, IsLegalHistory, lost_in, opening_on}
 use Rattle.bt_centre.proofs.Airs.{opening_hearing, opening_restarting, opening_start}
-use Rattle.bt_centre.proofs.Times.{lost_count, lost_more, next_time, rose_on, rose_still, times_more}
+use Rattle.bt_centre.proofs.Times.{lost_count, lost_more, lost_of-append, next_time, rose_on, rose_still, times_more}
 use Rattle.bt_centre.specs.World.{IsSpelledWorld}
 
 -- a book that was asked nothing
@@ -165,4 +170,85 @@ breaks_off net begun opening old left status so is status_is =
       later = is.later;
       bytes = subst (λ (n : Net). MaybeRecovered n told left.told is.hand.book.faults left.faults) now.network is.cut;
       status_is = status_is;
+    }
+
+-- a book that ran, and ran on
+ran_then : (a b c : Books) → BookRan a b → Last b.net b.state.changes b.crashes b.crashes → BookRan b c → BookRan a c
+ran_then a b c one lasts two =
+    let grown : b.state.changes ≡ a.state.changes ++ changes_of one.entries = ap (λ (s : State). s.changes) one.from in
+    record {
+      net = two.net ∙ one.net;
+      entries = one.entries ++ two.entries;
+      kept = two.kept ∙ ap (λ (h : List Entry). h ++ two.entries) one.kept ∙ append_assoc a.history one.entries two.entries;
+      from = two.from ∙ ap (λ (s : State). state_from s two.entries) one.from ∙ sym (state_from-append a.state one.entries two.entries);
+      legal = λ opening legal reached. subst (λ (n : Net). Legal n opening c.history) one.net
+          (two.legal opening (subst (λ (n : Net). Legal n opening b.history) (sym one.net) (one.legal opening legal reached)) (one.reached opening reached));
+      reached = λ opening reached. two.reached opening (one.reached opening reached);
+      follows = subst (λ (n : Net). Follows n c.state.changes) one.net two.follows;
+      rose = rose_on (length (lost_of one.entries)) (length (lost_of two.entries)) (length (lost_of (one.entries ++ two.entries))) a.faults b.faults c.faults
+          (ap length (lost_of-append one.entries two.entries) ∙ length-append (lost_of one.entries) (lost_of two.entries)) one.rose two.rose;
+      tells = two.tells ∙ one.tells;
+      last = λ now. last_then a.net a.state.changes a.crashes b.crashes c.crashes (one.last now)
+          (last_first a.net a.state.changes (changes_of one.entries) b.crashes c.crashes
+          (subst (λ (l : List Change). Last a.net l b.crashes c.crashes) grown (subst (λ (n : Net). Last n b.state.changes b.crashes c.crashes) one.net (two.last lasts))));
+    }
+
+-- a run that went on, and went on further
+pub goes_then : (a b c : Hand) → GoesOn a b → LastsIn b → GoesOn b c → GoesOn a c
+goes_then a b c one lasts two = record {
+  over = two.over ∙ one.over;
+  before = two.before ∙ one.before;
+  ran = ran_then a.book b.book c.book one.ran lasts two.ran;
+  world = two.world ∙ one.world;
+}
+
+-- over rounds
+pub rounds_go_on : (net : Net) (rounds : List Round) (old new : Hand) (text : List ℕ) → old.book.net ≡ net → Follows net old.book.state.changes → RoundsPlayed net rounds old new text → GoesOn old new
+rounds_go_on net [] old new text network follow (same, nothing) =
+    subst (GoesOn old) (sym same) (record { over = refl; before = refl; ran = ran_none net old.book network follow; world = refl })
+rounds_go_on net (round ∷ rounds) old new text network follow (between, own, rest, played, lasts, more, text_is) =
+    let goes = played.goes in
+    goes_then old between new goes lasts
+    (rounds_go_on net rounds between new rest (goes.ran.net ∙ network) (subst (λ (n : Net). Follows n between.book.state.changes) network goes.ran.follows) more)
+
+-- a round more behind others
+pub rounds_append : (net : Net) (rounds : List Round) (round : Round) (old between new : Hand) (text more : List ℕ) → RoundsPlayed net rounds old between text → RoundPlayed net round between new more → LastsIn new
+    → RoundsPlayed net (rounds ++ round ∷ []) old new (text ++ more)
+rounds_append net [] round old between new text more (same, nothing) played lasts = (
+  new,
+  more,
+  [],
+  subst (λ (h : Hand). RoundPlayed net round h new more) same played,
+  lasts,
+  (refl, refl),
+  ap (λ (t : List ℕ). t ++ more) nothing ∙ sym (append-nil more),
+)
+rounds_append net (first ∷ rounds) round old between new text more (next, own, rest, begun, lasts_next, going, text_is) played lasts = (
+  next,
+  own,
+  rest ++ more,
+  begun,
+  lasts_next,
+  rounds_append net rounds round next between new rest more going played lasts,
+  ap (λ (t : List ℕ). t ++ more) text_is ∙ append_assoc own rest more,
+)
+
+-- where memory ran out behind some rounds
+pub left_behind_rounds : (net : Net) (rounds : List Round) (old between : Hand) (left : Left) (text : List ℕ) → old.book.net ≡ net → Follows net old.book.state.changes → LastsIn between → RoundsPlayed net rounds old between text
+    → IsLeftEarly between left → IsLeftEarly old left
+left_behind_rounds net rounds old between left text network follow lasts played is =
+    let goes = rounds_go_on net rounds old between text network follow played in
+    let grown : between.book.state.changes ≡ old.book.state.changes ++ changes_of goes.ran.entries = ap (λ (s : State). s.changes) goes.ran.from in
+    record {
+      hand = is.hand;
+      goes = goes_then old between is.hand goes lasts is.goes;
+      histories = is.histories;
+      kept = is.kept;
+      cut = is.cut;
+      later = is.later;
+      last = λ now. last_then old.book.net old.book.state.changes old.book.crashes between.book.crashes left.crashes (goes.ran.last now)
+          (last_first old.book.net old.book.state.changes (changes_of goes.ran.entries) between.book.crashes left.crashes
+          (subst (λ (l : List Change). Last old.book.net l between.book.crashes left.crashes) grown
+          (subst (λ (n : Net). Last n between.book.state.changes between.book.crashes left.crashes) goes.ran.net (is.last lasts))));
+      world = subst (λ (o : Opening). IsSpelledWorld o (reverse left.events)) goes.world is.world;
     }

@@ -2,6 +2,7 @@ pub mod Times
 pub mod Airs
 pub mod Together
 pub mod Going
+pub mod InTurn
 pub mod Restarts
 pub mod Played
 pub mod Opens
@@ -16,6 +17,7 @@ pub mod TurnsPlayed
 pub mod TurnsKnow
 pub mod Lasting
 pub mod Sessions
+pub mod Saying
 pub mod SessionEnds
 pub mod Handed
 pub mod Whole

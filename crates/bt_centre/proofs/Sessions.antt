@@ -1,5 +1,5 @@
 -- Lines of a session, played and answered one after the other.
-use Rattle.std.proofs.Common.{◌≡◌, ℕ, ◌+◌, ◌≤◌, Bool, List, [], ◌∷◌, ◌++◌, length, length-append, Option, Some, None, refl, sym, ap, ◌∙◌, subst, append_assoc, arith}
+use Rattle.std.proofs.Common.{◌≡◌, ℕ, suc, ◌+◌, ◌*◌, ◌≤◌, Bool, false, inl, inr, List, [], ◌∷◌, ◌++◌, length, length-append, map, Option, Some, None, refl, sym, ap, ◌∙◌, subst, append_assoc, arith}
 use Rattle.std.specs.Option.{is_some}
 use Rattle.std.proofs.lemmas.List.{append-nil, map-append}
 use Rattle.bt_outside.specs.Crash.{Crashes}
@@ -17,27 +17,40 @@ use Rattle.bt_history.proofs.Lasting.{last_now, last_then}
 use Rattle.bt_journal.specs.declared.call.Change.{Change}
 use Rattle.bt_journal.specs.declared.entry.Entry.{Entry}
 use Rattle.bt_journal.specs.Journal.{changes_of}
+use Rattle.bt_script.specs.declared.line.ScriptLine.{ScriptLine}
 use Rattle.bt_script.specs.declared.script.Item.{Item}
+use Rattle.bt_script.specs.declared.script.Round.{Round}
 use Rattle.bt_script.specs.declared.script.Item.TheVariants as item
 use Rattle.bt_talk.specs.declared.block.Query.{Query}
 use Rattle.bt_talk.specs.declared.block.Step.{Step}
 use Rattle.bt_talk.specs.declared.block.Step.TheVariants as step
+use Rattle.bt_talk.proofs.InTurn.{turns_few}
 use Rattle.bt_talk.specs.Answers.{answer_of, ready_line}
-use Rattle.bt_talk.specs.Asked.{open_behind, part_in, parts_of, row_behind}
+use Rattle.bt_talk.specs.Asked.{Came, open_behind, rounds_in_turn, row_behind, timed_after, timed_behind}
+use Rattle.bt_talk.specs.Block.{IsStepFor}
 use Rattle.bt_talk.specs.Blocks.{Open, line_bytes, row_of}
-use Rattle.bt_centre.specs.Answering.{GaveSince, SessionDone, SessionGoing, SessionSaid, StepPlayed, Took}
+use Rattle.bt_talk.specs.Clock.{TicksAll, TicksIf}
+use Rattle.bt_centre.specs.Answering.{GaveSince, LastsIn, SessionDone, SessionGoing, RoundsPlayed, SessionSaid, StepPlayed, Took}
 use Rattle.bt_centre.specs.Progress.{Hand, IsBegun, ItemPlayed, ItemsDone, start_of}
-use Rattle.bt_centre.specs.Run.{Stand, at_start, changes_at, state_at}
-use Rattle.bt_centre.specs.Session.{Exchange, PlaysLines, PlaysStep, ShowsChanges, heard_in, opening_text, session_turns, shown_behind, turns_in}
+use Rattle.bt_centre.specs.Run.{PlaysItems, Stand, at_start, changes_at, state_at}
+use Rattle.bt_centre.specs.Session.{Exchange, PlaysLines, PlaysStep, ShowsChanges, came_in, heard_in, opening_text, row_in, session_turns, shown_behind, told_in, told_list, turns_in}
 use Rattle.bt_centre.specs.Talked.{spoken}
 use Rattle.bt_centre.specs.Told.{IsTold}
-use Rattle.bt_round.specs.AirLines.{AirState, waiting_in}
+use Rattle.bt_history.specs.Causes.{Follows}
+use Rattle.bt_round.specs.AirLines.{AirState}
+use Rattle.bt_round.specs.Trial.{AllTried}
 use Rattle.bt_round.specs.Rounds.{LastOn}
+use Rattle.bt_centre.proofs.Going.{rounds_go_on}
+use Rattle.bt_centre.proofs.InTurn.{rounds_count}
 use Rattle.bt_centre.proofs.Played.{changes_are, gained-append, item_goes_further, items_begin, rounds_more, start_is}
 
 -- what came of an input
-abbrev pub Came : Type 0
-Came = Option (List ℕ)
+abbrev pub Given : Type 0
+Given = Option (List ℕ)
+
+-- what a clock is to tell, where that is told
+abbrev pub Moments : Type 0
+Moments = Option (List (List ℕ))
 
 -- what is said in two lists of turns
 spoken-append : (a b : List Turn) → spoken (a ++ b) ≡ spoken a ++ spoken b
@@ -105,52 +118,84 @@ session_turns_more net sites opening start exchanges one =
     ap (λ (l : List Turn). Said (opening_text net sites opening) start ∷ l) (turns_more exchanges one)
     ∙ sym (append_assoc (session_turns net sites opening start exchanges) (Heard one.line ∷ []) (Said one.piece one.shown ∷ []))
 
+-- the same with the changes that were made
+came_more : (exchanges : List Exchange) (one : Exchange) → came_in (exchanges ++ one ∷ []) ≡ came_in exchanges ++ (one.known, one.line) ∷ []
+came_more exchanges one = map-append (λ (e : Exchange). (let c : Came = (e.known, e.line) in c)) exchanges (one ∷ [])
+
+-- they are as many
+pub came_count : (exchanges : List Exchange) → length (came_in exchanges) ≡ length (heard_in exchanges)
+came_count [] = refl
+came_count (first ∷ exchanges) = ap suc (came_count exchanges)
+
+-- what the clock told, with what it told to one more
+told_more : (exchanges : List Exchange) (one : Exchange) → told_in (exchanges ++ one ∷ []) ≡ told_in exchanges ++ told_list one.told
+told_more [] one = append-nil (told_list one.told)
+told_more (first ∷ exchanges) one = ap (λ (l : List (List ℕ)). told_list first.told ++ l) (told_more exchanges one) ∙ sym (append_assoc (told_list first.told) (told_in exchanges) (told_list one.told))
+
+-- a clock goes on
+pub ticks_append : (a b c : Moments) (first second : List (List ℕ)) → TicksAll a first b → TicksAll b second c → TicksAll a (first ++ second) c
+ticks_append a b c [] second same rest = subst (λ (m : Moments). TicksAll m second c) same rest
+ticks_append a b c (one ∷ first) second (between, tick, more) rest = (between, tick, ticks_append between b c first second more rest)
+
+pub ticks_if : (a b : Moments) (told : Option (List ℕ)) → TicksIf a told b → TicksAll a (told_list told) b
+ticks_if a b None same = same
+ticks_if a b (Some told) tick = (b, tick, refl)
+
+pub ticks_more : (a b c : Moments) (exchanges : List Exchange) (one : Exchange) → TicksAll a (told_in exchanges) b → TicksIf b one.told c → TicksAll a (told_in (exchanges ++ one ∷ [])) c
+ticks_more a b c exchanges one so tick =
+    subst (λ (l : List (List ℕ)). TicksAll a l c) (sym (told_more exchanges one)) (ticks_append a b c (told_in exchanges) (told_list one.told) so (ticks_if b c one.told tick))
+
 -- a line more is played
-pub lines_more : (net : Net) (sites : Sites) (tells : Bool) (at : ℕ) (blocks : Open) (before between after : Stand) (shown : Shown) (exchanges : List Exchange) (one : Exchange) (row : Open × Step) (own : List ℕ) (n : ℕ)
-    → PlaysLines net sites tells at blocks before shown exchanges between → row ≡ row_of net sites n (open_behind net sites at blocks (heard_in exchanges)) one.line → n ≡ at + length (heard_in exchanges)
-    → PlaysStep net tells between row.1 own after → one.piece ≡ own ++ answer_of n one.line row → ShowsChanges net after one.shown
-    → Last net (changes_at between) (shown_behind shown exchanges).crashes one.shown.crashes → PlaysLines net sites tells at blocks before shown (exchanges ++ one ∷ []) after
-lines_more net sites tells at blocks before between after shown [] one row own n same is number played piece shows last =
+pub lines_more : (net : Net) (sites : Sites) (tells : Bool) (at : ℕ) (blocks : Open) (timed : Bool) (before between after : Stand) (shown : Shown) (exchanges : List Exchange) (one : Exchange) (row : Open × Step) (own : List ℕ) (n : ℕ) (parts asked : List Item)
+    → PlaysLines net sites tells at blocks timed before shown exchanges parts between → row ≡ row_of net sites n (open_behind net sites at blocks (came_in exchanges)) one.known one.line → n ≡ at + length (came_in exchanges)
+    → PlaysStep net tells between row.1 asked own after → one.known ≡ changes_at between → is_some one.told ≡ timed_behind (timed_after net sites at blocks timed (came_in exchanges)) row.1
+    → one.piece ≡ own ++ answer_of n one.line row one.told → ShowsChanges net after one.shown
+    → Last net (changes_at between) (shown_behind shown exchanges).crashes one.shown.crashes → PlaysLines net sites tells at blocks timed before shown (exchanges ++ one ∷ []) (parts ++ asked) after
+lines_more net sites tells at blocks timed before between after shown [] one row own n parts asked (same, none) is number played known told piece shows last =
     let here : n ≡ at = omega (arith, number) in
-    let row_is : row ≡ row_of net sites at blocks one.line = is ∙ ap (λ (m : ℕ). row_of net sites m blocks one.line) here in (
+    let row_is : row ≡ row_in net sites at blocks one = is ∙ ap (λ (m : ℕ). row_of net sites m blocks one.known one.line) here in (
       after,
       own,
-      subst (λ (s : Stand). PlaysStep net tells s (row_of net sites at blocks one.line).1 own after) same (subst (λ (r : Open × Step). PlaysStep net tells between r.1 own after) row_is played),
-      refl,
-      piece ∙ ap (λ (m : ℕ). own ++ answer_of m one.line row) here ∙ ap (λ (r : Open × Step). own ++ answer_of at one.line r) row_is,
+      asked,
+      [],
+      subst (λ (s : Stand). PlaysStep net tells s (row_in net sites at blocks one).1 asked own after) same (subst (λ (r : Open × Step). PlaysStep net tells between r.1 asked own after) row_is played),
+      (refl, refl),
+      ap (λ (l : List Item). l ++ asked) none ∙ sym (append-nil asked),
+      known ∙ ap changes_at same,
+      told ∙ ap (λ (r : Open × Step). timed_behind timed r.1) row_is,
+      piece ∙ ap (λ (m : ℕ). own ++ answer_of m one.line row one.told) here ∙ ap (λ (r : Open × Step). own ++ answer_of at one.line r one.told) row_is,
       shows,
       subst (λ (s : Stand). Last net (changes_at s) shown.crashes one.shown.crashes) same last,
     )
-lines_more net sites tells at blocks before between after shown (first ∷ exchanges) one row own n (next, begun, started, going, text_is, shown_is, lasts) is number played piece shows last = (
-  next,
-  begun,
-  started,
-  lines_more net sites tells (at + 1) (row_of net sites at blocks first.line).0 next between after first.shown exchanges one row own n going is (omega (arith, number)) played piece shows last,
-  text_is,
-  shown_is,
-  lasts,
-)
-
--- the parts that they ask
-pub parts_more : (net : Net) (sites : Sites) (at : ℕ) (blocks : Open) (lines : List Came) (one : Came) (n : ℕ) → n ≡ at + length lines
-    → parts_of net sites at blocks (lines ++ one ∷ []) ≡ parts_of net sites at blocks lines ++ part_in (row_of net sites n (open_behind net sites at blocks lines) one).1
-parts_more net sites at blocks [] one n number =
-    append-nil (part_in (row_of net sites at blocks one).1) ∙ ap (λ (m : ℕ). part_in (row_of net sites m blocks one).1) (let here : at ≡ n = omega (arith, number) in here)
-parts_more net sites at blocks (first ∷ lines) one n number =
-    let own = part_in (row_of net sites at blocks first).1 in
-    let next = (row_of net sites at blocks first).0 in
-    ap (λ (l : List Item). own ++ l) (parts_more net sites (at + 1) next lines one n (omega (arith, number)))
-    ∙ sym (append_assoc own (parts_of net sites (at + 1) next lines) (part_in (row_of net sites n (open_behind net sites (at + 1) next lines) one).1))
+lines_more net sites tells at blocks timed before between after shown (first ∷ exchanges) one row own n parts asked (next, begun, own_parts, others, started, going, parts_are, known_is, told_is, text_is, shown_is, lasts) is number played known told piece shows last =
+    let behind = (row_in net sites at blocks first).0 in
+    let on = timed_behind timed (row_in net sites at blocks first).1 in (
+      next,
+      begun,
+      own_parts,
+      others ++ asked,
+      started,
+      lines_more net sites tells (at + 1) behind on next between after first.shown exchanges one row own n others asked going is (omega (arith, number)) played known told piece shows last,
+      ap (λ (l : List Item). l ++ asked) parts_are ∙ append_assoc own_parts others asked,
+      known_is,
+      told_is,
+      text_is,
+      shown_is,
+      lasts,
+    )
 
 -- the blocks behind them
 pub open_more : (net : Net) (sites : Sites) (at : ℕ) (blocks : Open) (lines : List Came) (one : Came) (n : ℕ) → n ≡ at + length lines
-    → open_behind net sites at blocks (lines ++ one ∷ []) ≡ (row_of net sites n (open_behind net sites at blocks lines) one).0
-open_more net sites at blocks [] one n number = ap (λ (m : ℕ). (row_of net sites m blocks one).0) (let here : at ≡ n = omega (arith, number) in here)
-open_more net sites at blocks (first ∷ lines) one n number = open_more net sites (at + 1) (row_of net sites at blocks first).0 lines one n (omega (arith, number))
+    → open_behind net sites at blocks (lines ++ one ∷ []) ≡ (row_of net sites n (open_behind net sites at blocks lines) one.0 one.1).0
+open_more net sites at blocks [] one n number = ap (λ (m : ℕ). (row_of net sites m blocks one.0 one.1).0) (let here : at ≡ n = omega (arith, number) in here)
+open_more net sites at blocks (first ∷ lines) one n number = open_more net sites (at + 1) (row_of net sites at blocks first.0 first.1).0 lines one n (omega (arith, number))
 
--- a crash now leaves the changes of the book in hand
-abbrev pub LastsIn : Hand → Type 0
-LastsIn hand = Last hand.book.net hand.book.state.changes hand.book.crashes hand.book.crashes
+-- whether answers behind them say when they are given
+timed_more : (net : Net) (sites : Sites) (at : ℕ) (blocks : Open) (timed : Bool) (lines : List Came) (one : Came) (n : ℕ) → n ≡ at + length lines
+    → timed_after net sites at blocks timed (lines ++ one ∷ []) ≡ timed_behind (timed_after net sites at blocks timed lines) (row_of net sites n (open_behind net sites at blocks lines) one.0 one.1).1
+timed_more net sites at blocks timed [] one n number = ap (λ (m : ℕ). timed_behind timed (row_of net sites m blocks one.0 one.1).1) (let here : at ≡ n = omega (arith, number) in here)
+timed_more net sites at blocks timed (first ∷ lines) one n number =
+    timed_more net sites (at + 1) (row_of net sites at blocks first.0 first.1).0 (timed_behind timed (row_of net sites at blocks first.0 first.1).1) lines one n (omega (arith, number))
 
 -- what lasts of a book in hand are the changes made up to there
 last_at : (net : Net) (sites : Sites) (begun : Books) (parts : List Item) (hand : Hand) (lines : List ℕ) (was now : Option Crashes) → (so : ItemsDone net sites begun parts hand lines)
@@ -201,47 +246,93 @@ pub session_begins : (net : Net) (sites : Sites) (hand : Hand) (start : Shown) �
 unfolding items_begin
 session_begins net sites hand start begun crashes_are last = record {
   parts = [];
-  parts_are = refl;
   lines = [];
   done = items_begin net sites hand begun;
-  played = refl;
+  played = (refl, refl);
   lasts = last_shown net sites hand.book [] hand [] start (items_begin net sites hand begun) crashes_are last;
 }
 
 -- the line that is heard behind these comes to this, and these blocks are open behind it
 abbrev pub IsRow : Net → Sites → List Exchange → Came → Open → Step → Type 0
-IsRow net sites exchanges one blocks stp = (let row : Open × Step = (blocks, stp) in row ≡ row_behind net sites (heard_in exchanges) one)
+IsRow net sites exchanges one blocks stp = (let row : Open × Step = (blocks, stp) in row ≡ row_behind net sites (came_in exchanges) one)
 
--- the part of a line more
-asked_more : (net : Net) (sites : Sites) (exchanges : List Exchange) (one : Exchange) (stp : Step) (parts : List Item) → parts ≡ parts_of net sites 1 [] (heard_in exchanges)
-    → stp ≡ (row_behind net sites (heard_in exchanges) one.line).1 → parts ++ part_in stp ≡ parts_of net sites 1 [] (heard_in (exchanges ++ one ∷ []))
-asked_more net sites exchanges one stp parts parts_are is =
-    let lines = heard_in exchanges in
-    ap (λ (l : List Item). l ++ part_in stp) parts_are ∙ ap (λ (s : Step). parts_of net sites 1 [] lines ++ part_in s) is ∙ sym (parts_more net sites 1 [] lines one.line (1 + length lines) refl)
-    ∙ ap (parts_of net sites 1 []) (sym (heard_more exchanges one))
+-- rounds more, one after the other, and the way from where the parts before them led
+record FurtherAll (net : Net) (sites : Sites) (begun : Books) (before : Stand) (rounds : List Round) (all : List Item) (new : Hand) (text own : List ℕ) : Type 0 where
+  done : ItemsDone net sites begun all new text
+  way : PlaysItems net (is_some begun.told) before (map item.Round rounds) own done.end
 
--- a line more, which plays nothing
-nothing_more : (net : Net) (sites : Sites) (begun : Books) (start : Shown) (exchanges : List Exchange) (one : Exchange) (blocks : Open) (stp : Step) (hand : Hand) (own : List ℕ) → (so : SessionDone net sites begun start exchanges hand)
-    → IsRow net sites exchanges one.line blocks stp → part_in stp ≡ []
-    → PlaysStep net (is_some begun.told) so.done.end stp own so.done.end → one.piece ≡ own ++ answer_of (1 + length (heard_in exchanges)) one.line (blocks, stp) → ShowsChanges net so.done.end one.shown
-    → one.shown.crashes ≡ hand.book.crashes → LastsIn hand → SessionDone net sites begun start (exchanges ++ one ∷ []) hand
-nothing_more net sites begun start exchanges one blocks stp hand own so is none played piece shows crashes_are last = record {
-  parts = so.parts;
-  parts_are = sym (append-nil so.parts) ∙ ap (λ (l : List Item). so.parts ++ l) (sym none) ∙ asked_more net sites exchanges one stp so.parts so.parts_are (ap (λ (r : Open × Step). r.1) is);
-  lines = so.lines;
-  done = so.done;
-  played = lines_more net sites (is_some begun.told) 1 [] (at_start net sites begun.state.changes) so.done.end so.done.end start exchanges one (blocks, stp) own (1 + length (heard_in exchanges)) so.played is refl played piece shows
-      (subst (Last net (changes_at so.done.end) (shown_behind start exchanges).crashes) (sym crashes_are) so.lasts);
-  lasts = last_behind net sites begun so.parts hand so.lines start exchanges one so.done crashes_are last;
-}
+rounds_further : (net : Net) (sites : Sites) (begun : Books) (rounds : List Round) (items : List Item) (old new : Hand) (lines own : List ℕ) → (so : ItemsDone net sites begun items old lines) → RoundsPlayed net rounds old new own
+    → FurtherAll net sites begun so.end rounds (items ++ map item.Round rounds) new (lines ++ own) own
+rounds_further net sites begun [] items old new lines own so (same, nothing) =
+    subst (λ (l : List Item). FurtherAll net sites begun so.end [] l new (lines ++ own) own) (sym (append-nil items))
+    (subst (λ (t : List ℕ). FurtherAll net sites begun so.end [] items new (lines ++ t) t) (sym nothing)
+    (subst (λ (t : List ℕ). FurtherAll net sites begun so.end [] items new t []) (sym (append-nil lines))
+    (subst (λ (h : Hand). FurtherAll net sites begun so.end [] items h lines []) (sym same) (record { done = so; way = (refl, refl) }))))
+rounds_further net sites begun (round ∷ rounds) items old new lines own so (between, first, rest, played, lasts, more, text_is) =
+    let one : Item = item.Round round in
+    let begins = item_goes_further net sites begun items one old between lines first so played in
+    let others = rounds_further net sites begun rounds (items ++ one ∷ []) between new (lines ++ first) rest begins.done more in
+    subst (λ (t : List ℕ). FurtherAll net sites begun so.end (round ∷ rounds) (items ++ one ∷ map item.Round rounds) new (lines ++ t) t) (sym text_is)
+    (subst (λ (t : List ℕ). FurtherAll net sites begun so.end (round ∷ rounds) (items ++ one ∷ map item.Round rounds) new t (first ++ rest)) (append_assoc lines first rest)
+    (subst (λ (l : List Item). FurtherAll net sites begun so.end (round ∷ rounds) l new ((lines ++ first) ++ rest) (first ++ rest)) (append_assoc items (one ∷ []) (map item.Round rounds))
+    (record { done = others.done; way = (begins.done.end, first, rest, begins.way, others.way, refl) })))
+
+-- what a line comes to, once it was played by what a run has in hand, and the way that it took
+record StepFurther (net : Net) (sites : Sites) (begun : Books) (before : Stand) (stp : Step) (items : List Item) (new : Hand) (own : List ℕ) : Type 0 where
+  pub asked : List Item
+  pub all : List Item
+  pub all_are : all ≡ items ++ asked
+  pub lines : List ℕ
+  pub done : ItemsDone net sites begun all new lines
+  pub way : PlaysStep net (is_some begun.told) before stp asked own done.end
+
+-- nothing changed
+stays : (net : Net) (sites : Sites) (begun : Books) (stp : Step) (items : List Item) (old new : Hand) (lines own : List ℕ) → (so : ItemsDone net sites begun items old lines) → new ≡ old
+    → PlaysStep net (is_some begun.told) so.end stp [] own so.end → StepFurther net sites begun so.end stp items new own
+stays net sites begun stp items old new lines own so same way =
+    subst (λ (h : Hand). StepFurther net sites begun so.end stp items h own) (sym same)
+    (record { asked = []; all = items; all_are = sym (append-nil items); lines = lines; done = so; way = way })
+
+-- the state of the book in hand is that of how far it has come
+state_is : (net : Net) (sites : Sites) (begun : Books) (parts : List Item) (hand : Hand) (lines : List ℕ) → (so : ItemsDone net sites begun parts hand lines) → hand.book.state ≡ state_at so.end
+state_is net sites begun parts hand lines so = so.so_far.reached ∙ ap (state_after so.end.opening) (sym so.history_is)
 
 -- what was told of what a run has in hand was told of how far it has come
 told_at : (net : Net) (sites : Sites) (begun : Books) (parts : List Item) (hand : Hand) (lines : List ℕ) (asked : Query) (text : List ℕ) → (so : ItemsDone net sites begun parts hand lines)
-    → IsTold net hand.book.state (waiting_in hand.air) asked text → IsTold net (state_at so.end) (waiting_in so.end.air) asked text
+    → IsTold net hand.book.state hand.air asked text → IsTold net (state_at so.end) so.end.air asked text
 told_at net sites begun parts hand lines asked text so told =
-    let state : hand.book.state ≡ state_at so.end = so.so_far.reached ∙ ap (state_after so.end.opening) (sym so.history_is) in
-    subst (λ (s : State). IsTold net s (waiting_in so.end.air) asked text) state
-    (subst (λ (a : AirState). IsTold net hand.book.state (waiting_in a) asked text) (sym so.air_is) told)
+    subst (λ (s : State). IsTold net s so.end.air asked text) (state_is net sites begun parts hand lines so)
+    (subst (λ (a : AirState). IsTold net hand.book.state a asked text) (sym so.air_is) told)
+
+-- so was a block that was tried
+tried_at : (net : Net) (sites : Sites) (begun : Books) (parts : List Item) (hand : Hand) (lines : List ℕ) (said : List ScriptLine) (refusal : Option (List ℕ)) → (so : ItemsDone net sites begun parts hand lines)
+    → AllTried net hand.book.state 1 said refusal → AllTried net (state_at so.end) 1 said refusal
+tried_at net sites begun parts hand lines said refusal so tried = subst (λ (s : State). AllTried net s 1 said refusal) (state_is net sites begun parts hand lines so) tried
+
+-- what a line comes to is a way further
+step_further : (net : Net) (sites : Sites) (begun : Books) (stp : Step) (items : List Item) (old new : Hand) (lines own : List ℕ) → (so : ItemsDone net sites begun items old lines) → StepPlayed net stp old new own
+    → StepFurther net sites begun so.end stp items new own
+step_further net sites begun (step.Plays part) items old new lines own so played =
+    let further = item_goes_further net sites begun items part old new lines own so played in
+    record { asked = part ∷ []; all = items ++ part ∷ []; all_are = refl; lines = lines ++ own; done = further.done; way = (further.way, refl) }
+step_further net sites begun step.Nothing items old new lines own so (same, nothing) = stays net sites begun step.Nothing items old new lines own so same (nothing, refl, refl)
+step_further net sites begun (step.Fault code) items old new lines own so (same, nothing) = stays net sites begun (step.Fault code) items old new lines own so same (nothing, refl, refl)
+step_further net sites begun (step.Clock on) items old new lines own so (same, nothing) = stays net sites begun (step.Clock on) items old new lines own so same (nothing, refl, refl)
+step_further net sites begun (step.Tells asked) items old new lines own so (same, told) =
+    stays net sites begun (step.Tells asked) items old new lines own so same (told_at net sites begun items old lines asked own so told, refl, refl)
+step_further net sites begun (step.All said) items old new lines own so (inl (tried, played)) =
+    let rounds = rounds_in_turn said in
+    let further = rounds_further net sites begun rounds items old new lines own so played in
+    record {
+      asked = map item.Round rounds;
+      all = items ++ map item.Round rounds;
+      all_are = refl;
+      lines = lines ++ own;
+      done = further.done;
+      way = inl (tried_at net sites begun items old lines said None so tried, further.way, refl);
+    }
+step_further net sites begun (step.All said) items old new lines own so (inr (refusal, tried, text_is, same)) =
+    stays net sites begun (step.All said) items old new lines own so same (inr (refusal, tried_at net sites begun items old lines said (Some refusal) so tried, text_is, refl, refl))
 
 -- a store that tells the changes of a book tells those made up to there
 pub shown_at : (net : Net) (sites : Sites) (begun : Books) (parts : List Item) (hand : Hand) (lines : List ℕ) (shown : Shown) → (so : ItemsDone net sites begun parts hand lines)
@@ -253,85 +344,96 @@ shown_at net sites begun parts hand lines shown so kept =
     (subst (λ (c : List Change). IsKept net shown.told c (lost_of hand.book.history)) changes
     (subst (λ (n : Net). IsKept n shown.told hand.book.state.changes (lost_of hand.book.history)) so.so_far.network kept))
 
-shown_before : (net : Net) (sites : Sites) (begun : Books) (parts : List Item) (old new : Hand) (lines : List ℕ) (shown : Shown) → (so : ItemsDone net sites begun parts old lines) → new ≡ old
-    → IsKept new.book.net shown.told new.book.state.changes (lost_of new.book.history) → ShowsChanges net so.end shown
-shown_before net sites begun parts old new lines shown so same kept =
-    shown_at net sites begun parts old lines shown so (subst (λ (h : Hand). IsKept h.book.net shown.told h.book.state.changes (lost_of h.book.history)) same kept)
-
 -- what the store told at the start
 pub start_shown : (net : Net) (sites : Sites) (hand : Hand) (start : Shown) → IsBegun net sites hand → IsKept hand.book.net start.told hand.book.state.changes (lost_of hand.book.history)
     → ShowsChanges net (at_start net sites hand.book.state.changes) start
 unfolding items_begin
 start_shown net sites hand start begun kept = shown_at net sites hand.book [] hand [] start (items_begin net sites hand begun) kept
 
+-- the changes of a book last over what a line comes to
+same_last : (old new : Hand) → new ≡ old → LastOn old.book.net old.book.state.changes old.book.crashes new.book.crashes
+same_last old new same = λ now. subst (λ (h : Hand). Last old.book.net old.book.state.changes old.book.crashes h.book.crashes) (sym same) now
+
+rounds_last : (net : Net) (rounds : List Round) (old new : Hand) (own : List ℕ) → old.book.net ≡ net → Follows net old.book.state.changes → RoundsPlayed net rounds old new own → LastOn old.book.net old.book.state.changes old.book.crashes new.book.crashes
+rounds_last net rounds old new own network follow played = (rounds_go_on net rounds old new own network follow played).ran.last
+
+step_last : (net : Net) (stp : Step) (old new : Hand) (own : List ℕ) → old.book.net ≡ net → Follows net old.book.state.changes → StepPlayed net stp old new own → LastOn old.book.net old.book.state.changes old.book.crashes new.book.crashes
+step_last net (step.Plays part) old new own network follow played = item_last net part old new own network played
+step_last net step.Nothing old new own network follow (same, nothing) = same_last old new same
+step_last net (step.Fault code) old new own network follow (same, nothing) = same_last old new same
+step_last net (step.Clock on) old new own network follow (same, nothing) = same_last old new same
+step_last net (step.Tells asked) old new own network follow (same, told) = same_last old new same
+step_last net (step.All said) old new own network follow (inl (tried, played)) = rounds_last net (rounds_in_turn said) old new own network follow played
+step_last net (step.All said) old new own network follow (inr (refusal, tried, text_is, same)) = same_last old new same
+
 -- a line more
-pub session_goes_on : (net : Net) (sites : Sites) (begun : Books) (start : Shown) (exchanges : List Exchange) (one : Exchange) (blocks : Open) (stp : Step) (old new : Hand) (own : List ℕ) → (so : SessionDone net sites begun start exchanges old)
-    → IsRow net sites exchanges one.line blocks stp → StepPlayed net stp old new own → one.piece ≡ own ++ answer_of (1 + length (heard_in exchanges)) one.line (blocks, stp)
+pub session_goes_on : (net : Net) (sites : Sites) (begun : Books) (start : Shown) (exchanges : List Exchange) (one : Exchange) (blocks : Open) (timed : Bool) (stp : Step) (old new : Hand) (own : List ℕ) → (so : SessionDone net sites begun start exchanges old)
+    → IsRow net sites exchanges (one.known, one.line) blocks stp → StepPlayed net stp old new own → one.known ≡ old.book.state.changes → timed ≡ timed_after net sites 1 [] false (came_in exchanges) → is_some one.told ≡ timed_behind timed stp
+    → one.piece ≡ own ++ answer_of (1 + length (came_in exchanges)) one.line (blocks, stp) one.told
     → IsKept new.book.net one.shown.told new.book.state.changes (lost_of new.book.history)
     → one.shown.crashes ≡ new.book.crashes → LastsIn new → SessionDone net sites begun start (exchanges ++ one ∷ []) new
-session_goes_on net sites begun start exchanges one blocks (step.Plays part) old new own so is played piece kept crashes_are last =
-    let further = item_goes_further net sites begun so.parts part old new so.lines own so.done played in
+session_goes_on net sites begun start exchanges one blocks timed stp old new own so is played known timed_is told piece kept crashes_are last =
+    let further = step_further net sites begun stp so.parts old new so.lines own so.done played in
     record {
-      parts = so.parts ++ part ∷ [];
-      parts_are = asked_more net sites exchanges one (step.Plays part) so.parts so.parts_are (ap (λ (r : Open × Step). r.1) is);
-      lines = so.lines ++ own;
+      parts = further.all;
+      lines = further.lines;
       done = further.done;
-      played = lines_more net sites (is_some begun.told) 1 [] (at_start net sites begun.state.changes) so.done.end further.done.end start exchanges one (blocks, step.Plays part) own (1 + length (heard_in exchanges)) so.played is refl further.way piece
-          (shown_at net sites begun (so.parts ++ part ∷ []) new (so.lines ++ own) one.shown further.done kept)
+      played = subst (λ (l : List Item). PlaysLines net sites (is_some begun.told) 1 [] false (at_start net sites begun.state.changes) start (exchanges ++ one ∷ []) l further.done.end) (sym further.all_are)
+          (lines_more net sites (is_some begun.told) 1 [] false (at_start net sites begun.state.changes) so.done.end further.done.end start exchanges one (blocks, stp) own (1 + length (came_in exchanges)) so.parts further.asked so.played is refl further.way
+          (known ∙ sym (changes_are net sites begun so.parts old so.lines so.done))
+          (told ∙ ap (λ (b : Bool). timed_behind b stp) timed_is)
+          piece
+          (shown_at net sites begun further.all new further.lines one.shown further.done kept)
           (subst (Last net (changes_at so.done.end) (shown_behind start exchanges).crashes) (sym crashes_are)
-          (last_further net sites begun so.parts old so.lines (shown_behind start exchanges).crashes new.book.crashes so.done so.lasts (item_last net part old new own so.done.so_far.network played)));
-      lasts = last_behind net sites begun (so.parts ++ part ∷ []) new (so.lines ++ own) start exchanges one further.done crashes_are last;
+          (last_further net sites begun so.parts old so.lines (shown_behind start exchanges).crashes new.book.crashes so.done so.lasts (step_last net stp old new own so.done.so_far.network so.done.so_far.follow played))));
+      lasts = last_behind net sites begun further.all new further.lines start exchanges one further.done crashes_are last;
     }
-session_goes_on net sites begun start exchanges one blocks step.Nothing old new own so is (same, nothing) piece kept crashes_are last =
-    subst (SessionDone net sites begun start (exchanges ++ one ∷ [])) (sym same)
-    (nothing_more net sites begun start exchanges one blocks step.Nothing old own so is refl (nothing, refl) piece (shown_before net sites begun so.parts old new so.lines one.shown so.done same kept) (crashes_are ∙ ap (λ (h : Hand). h.book.crashes) same) (subst LastsIn same last))
-session_goes_on net sites begun start exchanges one blocks (step.Fault code) old new own so is (same, nothing) piece kept crashes_are last =
-    subst (SessionDone net sites begun start (exchanges ++ one ∷ [])) (sym same)
-    (nothing_more net sites begun start exchanges one blocks (step.Fault code) old own so is refl (nothing, refl) piece (shown_before net sites begun so.parts old new so.lines one.shown so.done same kept) (crashes_are ∙ ap (λ (h : Hand). h.book.crashes) same) (subst LastsIn same last))
-session_goes_on net sites begun start exchanges one blocks (step.Tells asked) old new own so is (same, told) piece kept crashes_are last =
-    subst (SessionDone net sites begun start (exchanges ++ one ∷ [])) (sym same)
-    (nothing_more net sites begun start exchanges one blocks (step.Tells asked) old own so is refl (told_at net sites begun so.parts old so.lines asked own so.done told, refl) piece
-    (shown_before net sites begun so.parts old new so.lines one.shown so.done same kept) (crashes_are ∙ ap (λ (h : Hand). h.book.crashes) same) (subst LastsIn same last))
 
 -- the first piece is that of a session that begins so
 pub opening_is : (net : Net) (sites : Sites) (hand : Hand) → IsBegun net sites hand → start_of hand ++ ready_line 0 ≡ opening_text net sites hand.book.state.changes
 opening_is net sites hand begins = ap (λ (t : List ℕ). t ++ ready_line 0) (start_is net sites hand begins)
 
 -- it was said
-pub session_first : (net : Net) (sites : Sites) (hand : Hand) (start : Shown) → IsBegun net sites hand → (before after : Option (List ℕ)) (t0 t1 : Option (List Turn)) → after ≡ gained before (start_of hand ++ ready_line 0)
+pub session_first : (net : Net) (sites : Sites) (hand : Hand) (start : Shown) → IsBegun net sites hand → (before after : Option (List ℕ)) (t0 t1 : Option (List Turn)) (m0 : Moments) → after ≡ gained before (start_of hand ++ ready_line 0)
     → t1 ≡ took t0 (said (start_of hand ++ ready_line 0) start) → IsKept hand.book.net start.told hand.book.state.changes (lost_of hand.book.history)
-    → start.crashes ≡ hand.book.crashes → LastsIn hand → SessionSaid net sites hand.book [] hand before after t0 t1
-session_first net sites hand start begins before after t0 t1 wrote turn kept crashes_are last = record {
+    → start.crashes ≡ hand.book.crashes → LastsIn hand → SessionSaid net sites hand.book [] hand before after t0 t1 m0 m0
+session_first net sites hand start begins before after t0 t1 m0 wrote turn kept crashes_are last = record {
   start = start;
   done = session_begins net sites hand start begins crashes_are last;
   shows = start_shown net sites hand start begins kept;
   taken = subst (λ (p : List ℕ). Took (Said p start ∷ []) before after t0 t1) (opening_is net sites hand begins)
       (took_said [] (start_of hand ++ ready_line 0) start before before after t0 t0 t1 (took_none before t0) wrote turn);
+  ticked = refl;
 }
 
 -- a line more was answered
-pub session_more : (net : Net) (sites : Sites) (begun : Books) (exchanges : List Exchange) (came : Incoming) (blocks : Open) (stp : Step) (old new : Hand) (own piece : List ℕ) (start shown : Shown) (before between after : Option (List ℕ)) (t0 t1 t2 : Option (List Turn))
+pub session_more : (net : Net) (sites : Sites) (begun : Books) (exchanges : List Exchange) (came : Incoming) (blocks : Open) (timed : Bool) (stp : Step) (told : Option (List ℕ)) (old new : Hand) (own piece : List ℕ) (start shown : Shown) (before between after : Option (List ℕ)) (t0 t1 t2 : Option (List Turn)) (m0 m1 m2 : Moments)
     → SessionDone net sites begun start exchanges old → ShowsChanges net (at_start net sites begun.state.changes) start → Took (session_turns net sites begun.state.changes start exchanges ++ Heard (said_by came) ∷ []) before between t0 t1
-    → IsRow net sites exchanges (said_by came) blocks stp
-    → StepPlayed net stp old new own → piece ≡ own ++ answer_of (1 + length (heard_in exchanges)) (said_by came) (blocks, stp) → after ≡ gained between piece → t2 ≡ took t1 (said piece shown)
+    → TicksAll m0 (told_in exchanges) m1 → IsRow net sites exchanges (old.book.state.changes, said_by came) blocks stp
+    → StepPlayed net stp old new own → timed ≡ timed_after net sites 1 [] false (came_in exchanges) → is_some told ≡ timed_behind timed stp → TicksIf m1 told m2
+    → piece ≡ own ++ answer_of (1 + length (came_in exchanges)) (said_by came) (blocks, stp) told → after ≡ gained between piece → t2 ≡ took t1 (said piece shown)
     → IsKept new.book.net shown.told new.book.state.changes (lost_of new.book.history) → shown.crashes ≡ new.book.crashes → LastsIn new
-    → SessionSaid net sites begun (exchanges ++ record { line = said_by came; piece = piece; shown = shown } ∷ []) new before after t0 t2
-session_more net sites begun exchanges came blocks stp old new own piece start shown before between after t0 t1 t2 so shows taken is played piece_is wrote turn kept crashes_are last =
-    let one : Exchange = record { line = said_by came; piece = piece; shown = shown } in
+    → SessionSaid net sites begun (exchanges ++ record { known = old.book.state.changes; line = said_by came; told = told; piece = piece; shown = shown } ∷ []) new before after t0 t2 m0 m2
+session_more net sites begun exchanges came blocks timed stp told old new own piece start shown before between after t0 t1 t2 m0 m1 m2 so shows taken ticked is played timed_is told_is tick piece_is wrote turn kept crashes_are last =
+    let one : Exchange = record { known = old.book.state.changes; line = said_by came; told = told; piece = piece; shown = shown } in
     let turns = session_turns net sites begun.state.changes start exchanges ++ Heard (said_by came) ∷ [] in
     record {
       start = start;
-      done = session_goes_on net sites begun start exchanges one blocks stp old new own so is played piece_is kept crashes_are last;
+      done = session_goes_on net sites begun start exchanges one blocks timed stp old new own so is played refl timed_is told_is piece_is kept crashes_are last;
       shows = shows;
       taken = subst (λ (l : List Turn). Took l before after t0 t2) (sym (session_turns_more net sites begun.state.changes start exchanges one)) (took_said turns piece shown before between after t0 t1 t2 taken wrote turn);
+      ticked = ticks_more m0 m1 m2 exchanges one ticked tick;
     }
 
--- a line plays one round at most
-pub rounds_behind : (net : Net) (stp : Step) (old new : Hand) (text : List ℕ) (k : ℕ) → StepPlayed net stp old new text → old.rounds + 1 ≤ k → new.rounds + 1 ≤ k + 1
-rounds_behind net (step.Plays one) old new text k played few = omega (arith, rounds_more net one old new text (old.rounds) played (omega arith), few)
-rounds_behind net step.Nothing old new text k (same, nothing) few = omega (arith, ap (λ (h : Hand). h.rounds) same, few)
-rounds_behind net (step.Fault code) old new text k (same, nothing) few = omega (arith, ap (λ (h : Hand). h.rounds) same, few)
-rounds_behind net (step.Tells one) old new text k (same, told) few = omega (arith, ap (λ (h : Hand). h.rounds) same, few)
+-- a line plays as many rounds at most as a block has lines
+pub rounds_behind : (net : Net) (stp : Step) (old new : Hand) (text : List ℕ) (k : ℕ) → IsStepFor net stp → StepPlayed net stp old new text → old.rounds + 20000 ≤ 20000 * k → new.rounds + 20000 ≤ 20000 * (k + 1)
+rounds_behind net (step.Plays one) old new text k named played few = omega (arith, rounds_more net one old new text (old.rounds) played (omega arith), few)
+rounds_behind net step.Nothing old new text k named (same, nothing) few = omega (arith, ap (λ (h : Hand). h.rounds) same, few)
+rounds_behind net (step.Fault code) old new text k named (same, nothing) few = omega (arith, ap (λ (h : Hand). h.rounds) same, few)
+rounds_behind net (step.Clock on) old new text k named (same, nothing) few = omega (arith, ap (λ (h : Hand). h.rounds) same, few)
+rounds_behind net (step.Tells one) old new text k named (same, told) few = omega (arith, ap (λ (h : Hand). h.rounds) same, few)
+rounds_behind net (step.All said) old new text k named (inl (tried, played)) few = omega (arith, rounds_count net (rounds_in_turn said) old new text played, turns_few said, named.1, few)
+rounds_behind net (step.All said) old new text k named (inr (refusal, tried, text_is, same)) few = omega (arith, ap (λ (h : Hand). h.rounds) same, few)
 
 -- what came, of so many bytes at most
 pub comes_of : (sites : Sites) (limit : ℕ) (now next : Option (List ℕ)) (came one : Option Incoming) → limit ≡ line_bytes sites → came ≡ one → Comes limit now came next
@@ -340,9 +442,9 @@ comes_of sites limit now next came one is same comes =
     subst (λ (n : ℕ). Comes n now one next) is (subst (λ (o : Option Incoming). Comes limit now o next) same comes)
 
 -- an input gave one more
-pub gave_more : (sites : Sites) (coming now next : Option (List ℕ)) (lines : List Came) (came : Incoming) → GaveSince sites coming now lines → Comes (line_bytes sites) now (Some came) next → GaveSince sites coming next (lines ++ said_by came ∷ [])
+pub gave_more : (sites : Sites) (coming now next : Option (List ℕ)) (lines : List Given) (came : Incoming) → GaveSince sites coming now lines → Comes (line_bytes sites) now (Some came) next → GaveSince sites coming next (lines ++ said_by came ∷ [])
 gave_more sites (Some bytes) (Some rest) (Some left) lines came gave comes =
-    gave ∙ ap (λ (l : List Came). lines ++ l) comes ∙ sym (append_assoc lines (said_by came ∷ []) _)
+    gave ∙ ap (λ (l : List Given). lines ++ l) comes ∙ sym (append_assoc lines (said_by came ∷ []) _)
 gave_more sites None None None lines came gave comes = tt
 gave_more sites (Some bytes) (Some rest) None lines came gave comes = absurd comes
 gave_more sites (Some bytes) None next lines came gave comes = absurd gave
@@ -355,46 +457,56 @@ gave_none sites (Some bytes) = refl
 gave_none sites None = tt
 
 -- a session at its start
-pub going_first : (net : Net) (sites : Sites) (hand : Hand) (start : Shown) → IsBegun net sites hand → (coming now before after : Option (List ℕ)) (t0 t1 : Option (List Turn)) → now ≡ coming → after ≡ gained before (start_of hand ++ ready_line 0)
+pub going_first : (net : Net) (sites : Sites) (hand : Hand) (start : Shown) → IsBegun net sites hand → (coming now before after : Option (List ℕ)) (t0 t1 : Option (List Turn)) (m0 : Moments) → now ≡ coming → after ≡ gained before (start_of hand ++ ready_line 0)
     → t1 ≡ took t0 (said (start_of hand ++ ready_line 0) start) → IsKept hand.book.net start.told hand.book.state.changes (lost_of hand.book.history)
-    → start.crashes ≡ hand.book.crashes → LastsIn hand → SessionGoing net sites hand.book 1 [] hand coming now before after t0 t1
-going_first net sites hand start begins coming now before after t0 t1 same wrote turn kept crashes_are last = record {
+    → start.crashes ≡ hand.book.crashes → LastsIn hand → SessionGoing net sites hand.book 1 [] false hand coming now before after t0 t1 m0 m0
+going_first net sites hand start begins coming now before after t0 t1 m0 same wrote turn kept crashes_are last = record {
   exchanges = [];
   count = refl;
   open_is = refl;
+  timed_is = refl;
   gave = subst (λ (c : Option (List ℕ)). GaveSince sites coming c []) (sym same) (gave_none sites coming);
-  said = session_first net sites hand start begins before after t0 t1 wrote turn kept crashes_are last;
+  said = session_first net sites hand start begins before after t0 t1 m0 wrote turn kept crashes_are last;
 }
 
 -- the row of a line in a session that came so far
-pub row_is : (net : Net) (sites : Sites) (at : ℕ) (blocks behind : Open) (exchanges : List Exchange) (one : Came) (stp : Step) → blocks ≡ open_behind net sites 1 [] (heard_in exchanges) → at ≡ 1 + length (heard_in exchanges)
-    → (let row : Open × Step = (behind, stp) in row ≡ row_of net sites at blocks one) → IsRow net sites exchanges one behind stp
+pub row_is : (net : Net) (sites : Sites) (at : ℕ) (blocks behind : Open) (exchanges : List Exchange) (one : Came) (stp : Step) → blocks ≡ open_behind net sites 1 [] (came_in exchanges) → at ≡ 1 + length (came_in exchanges)
+    → (let row : Open × Step = (behind, stp) in row ≡ row_of net sites at blocks one.0 one.1) → IsRow net sites exchanges one behind stp
 row_is net sites at blocks behind exchanges one stp is number row =
-    row ∙ ap (λ (o : Open). row_of net sites at o one) is ∙ ap (λ (n : ℕ). row_of net sites n (open_behind net sites 1 [] (heard_in exchanges)) one) number
+    row ∙ ap (λ (o : Open). row_of net sites at o one.0 one.1) is ∙ ap (λ (n : ℕ). row_of net sites n (open_behind net sites 1 [] (came_in exchanges)) one.0 one.1) number
 
 -- so is its answer
-pub answer_is : (at : ℕ) (exchanges : List Exchange) (one : Came) (behind : Open) (stp : Step) (own piece : List ℕ) → at ≡ 1 + length (heard_in exchanges) → piece ≡ own ++ answer_of at one (behind, stp)
-    → piece ≡ own ++ answer_of (1 + length (heard_in exchanges)) one (behind, stp)
-answer_is at exchanges one behind stp own piece number is = is ∙ ap (λ (n : ℕ). own ++ answer_of n one (behind, stp)) number
+pub answer_is : (at : ℕ) (exchanges : List Exchange) (one : Given) (behind : Open) (stp : Step) (told : Option (List ℕ)) (own piece : List ℕ) → at ≡ 1 + length (came_in exchanges) → piece ≡ own ++ answer_of at one (behind, stp) told
+    → piece ≡ own ++ answer_of (1 + length (came_in exchanges)) one (behind, stp) told
+answer_is at exchanges one behind stp told own piece number is = is ∙ ap (λ (n : ℕ). own ++ answer_of n one (behind, stp) told) number
 
 -- a session goes on
-pub going_more : (net : Net) (sites : Sites) (begun : Books) (at : ℕ) (blocks behind : Open) (came : Incoming) (stp : Step) (old new : Hand) (own piece : List ℕ) (shown : Shown) (coming now next rest before b1 b2 after : Option (List ℕ)) (t0 t1 t2 t3 : Option (List Turn))
-    → SessionGoing net sites begun at blocks old coming now before b1 t0 t1 → Comes (line_bytes sites) now (Some came) next → b2 ≡ b1 → t2 ≡ took t1 (heard (Some came))
-    → (let row : Open × Step = (behind, stp) in row ≡ row_of net sites at blocks (said_by came)) → StepPlayed net stp old new own
-    → piece ≡ own ++ answer_of at (said_by came) (behind, stp) → after ≡ gained b2 piece → t3 ≡ took t2 (said piece shown) → IsKept new.book.net shown.told new.book.state.changes (lost_of new.book.history) → rest ≡ next
-    → shown.crashes ≡ new.book.crashes → LastsIn new → SessionGoing net sites begun (at + 1) behind new coming rest before after t0 t3
-going_more net sites begun at blocks behind came stp old new own piece shown coming now next rest before b1 b2 after t0 t1 t2 t3 so comes same turn row played piece_is wrote answered kept input crashes_are last =
-    let one : Exchange = record { line = said_by came; piece = piece; shown = shown } in
+pub going_more : (net : Net) (sites : Sites) (begun : Books) (at : ℕ) (blocks behind : Open) (timed : Bool) (came : Incoming) (stp : Step) (told : Option (List ℕ)) (old new : Hand) (own piece : List ℕ) (shown : Shown) (coming now next rest before b1 b2 after : Option (List ℕ)) (t0 t1 t2 t3 : Option (List Turn)) (m0 m1 m2 : Moments)
+    → SessionGoing net sites begun at blocks timed old coming now before b1 t0 t1 m0 m1 → Comes (line_bytes sites) now (Some came) next → b2 ≡ b1 → t2 ≡ took t1 (heard (Some came))
+    → (let row : Open × Step = (behind, stp) in row ≡ row_of net sites at blocks old.book.state.changes (said_by came)) → StepPlayed net stp old new own → is_some told ≡ timed_behind timed stp → TicksIf m1 told m2
+    → piece ≡ own ++ answer_of at (said_by came) (behind, stp) told → after ≡ gained b2 piece → t3 ≡ took t2 (said piece shown) → IsKept new.book.net shown.told new.book.state.changes (lost_of new.book.history) → rest ≡ next
+    → shown.crashes ≡ new.book.crashes → LastsIn new → SessionGoing net sites begun (at + 1) behind (timed_behind timed stp) new coming rest before after t0 t3 m0 m2
+going_more net sites begun at blocks behind timed came stp told old new own piece shown coming now next rest before b1 b2 after t0 t1 t2 t3 m0 m1 m2 so comes same turn row played told_is tick piece_is wrote answered kept input crashes_are last =
+    let one : Exchange = record { known = old.book.state.changes; line = said_by came; told = told; piece = piece; shown = shown } in
     let lines = heard_in so.exchanges in
-    let number : at ≡ 1 + length lines = omega (arith, so.count) in
-    let is = row_is net sites at blocks behind so.exchanges one.line stp so.open_is number row in
+    let all = came_in so.exchanges in
+    let number : at ≡ 1 + length all = omega (arith, so.count, came_count so.exchanges) in
+    let is = row_is net sites at blocks behind so.exchanges (one.known, one.line) stp so.open_is number row in
     record {
       exchanges = so.exchanges ++ one ∷ [];
-      count = omega (arith, so.count, length-append lines (one.line ∷ []), ap (λ (l : List Came). length l) (heard_more so.exchanges one));
-      open_is = ap (λ (r : Open × Step). r.0) is ∙ sym (open_more net sites 1 [] lines one.line (1 + length lines) refl) ∙ ap (open_behind net sites 1 []) (sym (heard_more so.exchanges one));
+      count = omega (arith, so.count, length-append lines (one.line ∷ []), ap (λ (l : List Given). length l) (heard_more so.exchanges one));
+      open_is = ap (λ (r : Open × Step). r.0) is ∙ sym (open_more net sites 1 [] all (one.known, one.line) (1 + length all) refl) ∙ ap (open_behind net sites 1 []) (sym (came_more so.exchanges one));
+      timed_is = ap (λ (b : Bool). timed_behind b stp) so.timed_is ∙ ap (λ (r : Open × Step). timed_behind (timed_after net sites 1 [] false all) r.1) is
+          ∙ sym (timed_more net sites 1 [] false all (one.known, one.line) (1 + length all) refl) ∙ ap (timed_after net sites 1 [] false) (sym (came_more so.exchanges one));
       gave = subst (λ (c : Option (List ℕ)). GaveSince sites coming c (heard_in (so.exchanges ++ one ∷ []))) (sym input)
           (subst (GaveSince sites coming next) (sym (heard_more so.exchanges one)) (gave_more sites coming now next lines came so.gave comes));
-      said = session_more net sites begun so.exchanges came behind stp old new own piece so.said.start shown before b2 after t0 t2 t3 so.said.done so.said.shows
+      said = session_more net sites begun so.exchanges came behind timed stp told old new own piece so.said.start shown before b2 after t0 t2 t3 m0 m1 m2 so.said.done so.said.shows
           (took_heard (session_turns net sites begun.state.changes so.said.start so.exchanges) came before b1 b2 t0 t1 t2 so.said.taken same turn)
-          is played (answer_is at so.exchanges one.line behind stp own piece number piece_is) wrote answered kept crashes_are last;
+          so.said.ticked is played so.timed_is told_is tick (answer_is at so.exchanges one.line behind stp told own piece number piece_is) wrote answered kept crashes_are last;
     }
+
+-- the same, where answers say when they are given as another says it
+pub going_as : (net : Net) (sites : Sites) (begun : Books) (at : ℕ) (blocks : Open) (timed on : Bool) (hand : Hand) (coming now before after : Option (List ℕ)) (t0 t1 : Option (List Turn)) (m0 m1 : Moments) → on ≡ timed
+    → SessionGoing net sites begun at blocks timed hand coming now before after t0 t1 m0 m1 → SessionGoing net sites begun at blocks on hand coming now before after t0 t1 m0 m1
+going_as net sites begun at blocks timed on hand coming now before after t0 t1 m0 m1 same so =
+    subst (λ (b : Bool). SessionGoing net sites begun at blocks b hand coming now before after t0 t1 m0 m1) (sym same) so

@@ -1,5 +1,5 @@
 -- A session: a run whose parts are asked by lines that come one by one. Each is played and answered before the next is heard.
-use Rattle.std.specs.Prelude.{◌≡◌, ◌≢◌, ◌⊎◌, ℕ, ◌+◌, ◌≤◌, ◌++◌, Bool, List, [], ◌∷◌, length, map, reverse, Option, None, IfSome, if◌then◌else◌}
+use Rattle.std.specs.Prelude.{◌≡◌, ◌≢◌, ◌⊎◌, ℕ, ◌+◌, ◌≤◌, ◌++◌, Bool, false, List, [], ◌∷◌, length, map, reverse, Option, Some, None, IfSome, if◌then◌else◌}
 use Rattle.std.specs.Option.{is_some}
 use Rattle.bt_outside.specs.Told.{Rose}
 use Rattle.bt_outside.specs.Input.{given_by}
@@ -14,37 +14,56 @@ use Rattle.bt_history.specs.declared.fault.RecoverFault.TheVariants.{OutOfMemory
 use Rattle.bt_history.specs.Recovery.{IsRecoverFault}
 use Rattle.bt_history.specs.Store.{IsKept, lost_of}
 use Rattle.bt_journal.specs.declared.entry.Entry.{Entry}
+use Rattle.bt_script.specs.declared.line.ScriptLine.{ScriptLine}
 use Rattle.bt_script.specs.declared.script.Item.{Item}
 use Rattle.bt_script.specs.declared.script.Item.TheVariants as item
 use Rattle.bt_talk.specs.declared.block.Step.{Step}
 use Rattle.bt_talk.specs.declared.block.Step.TheVariants as step
 use Rattle.bt_talk.specs.Answers.{answer_of, input_fault_line, ready_line}
-use Rattle.bt_talk.specs.Asked.{parts_of, row_behind}
+use Rattle.bt_talk.specs.Asked.{Came, rounds_in_turn, row_behind, timed_behind}
 use Rattle.bt_talk.specs.Blocks.{Open, line_bytes, row_of}
+use Rattle.bt_talk.specs.Clock.{TicksAll}
 use Rattle.bt_timeline.specs.Timeline.{restart_line}
 use Rattle.bt_report.specs.declared.status.TheConstants.{DONE, READ_FAILED, STORE_FAILED, WRITE_FAILED}
 use Rattle.bt_report.specs.Stored.{Stored}
 use Rattle.bt_centre.specs.declared.history.History.{History}
 use Rattle.bt_centre.specs.declared.session.InputEnd.{InputEnd}
 use Rattle.bt_centre.specs.declared.session.InputEnd.TheVariants as ending
-use Rattle.bt_frame.specs.declared.limits.TheConstants.{MOST_ANSWERS}
-use Rattle.bt_round.specs.AirLines.{waiting_in}
+use Rattle.bt_centre.specs.declared.session.TheConstants.{MOST_HEARD}
+use Rattle.bt_round.specs.Trial.{AllTried}
 use Rattle.bt_centre.specs.Lines.{total_of}
 use Rattle.bt_centre.specs.RecoverFaults.{recover_line, recover_status}
-use Rattle.bt_centre.specs.Run.{BreaksEarly, BreaksOff, FramesAreSafe, IsOpening, IsRun, LeavesStore, PlaysItem, RunsNone, Stand, at_start, changes_at, entries_of, first_line, has_lost, opening_on, state_at}
+use Rattle.bt_centre.specs.Run.{BreaksEarly, BreaksOff, FramesAreSafe, IsOpening, IsRun, LeavesStore, PlaysItem, PlaysItems, RunsNone, Stand, at_start, changes_at, entries_of, first_line, has_lost, opening_on, state_at}
 use Rattle.bt_centre.specs.Talked.{Says, SaysPart, Talked, behind}
 use Rattle.bt_centre.specs.Told.{IsTold}
 use Rattle.bt_centre.specs.World.{IsSpelledWorld}
 
--- a line that was heard, or None where what came is no line, the piece that was said to it, and what the store told then
+-- the changes that were made when a line was heard, the line, or None where what came is no line, what the clock told, where it was asked,
+-- the piece that was said to the line, and what the store told then
 pub record Exchange : Type 0 where
+  pub known : List Change
   pub line : Option (List ℕ)
+  pub told : Option (List ℕ)
   pub piece : List ℕ
   pub shown : Shown
 
 -- the lines that were heard
 abbrev pub heard_in : List Exchange → List (Option (List ℕ))
 heard_in exchanges = map (λ (one : Exchange). one.line) exchanges
+
+-- the lines, with the changes that were made when they were heard
+abbrev pub came_in : List Exchange → List Came
+came_in exchanges = map (λ (one : Exchange). (one.known, one.line)) exchanges
+
+-- what a clock told, where it was asked, as a list
+abbrev pub told_list : Option (List ℕ) → List (List ℕ)
+told_list None = []
+told_list (Some told) = told ∷ []
+
+-- what it told to exchanges
+abbrev pub told_in : List Exchange → List (List ℕ)
+told_in [] = []
+told_in (first ∷ exchanges) = told_list first.told ++ told_in exchanges
 
 -- the turns of exchanges: each line is heard, and its piece is said before the next is heard
 abbrev pub turns_in : List Exchange → List Turn
@@ -60,21 +79,38 @@ shown_behind before (first ∷ exchanges) = shown_behind first.shown exchanges
 abbrev pub ShowsChanges : Net → Stand → Shown → Type 0
 ShowsChanges net stand shown = IsKept net shown.told (changes_at stand) (lost_of stand.history)
 
--- what a line comes to is played: a part of a run, or nothing; or it is told, of what is in hand before the line, and nothing changes
-abbrev pub PlaysStep : Net → (tells : Bool) → Stand → Step → List ℕ → Stand → Type 0
-PlaysStep net tells before (step.Plays one) text after = PlaysItem net tells before one text after
-PlaysStep net tells before step.Nothing text after = (text ≡ []) × (after ≡ before)
-PlaysStep net tells before (step.Fault code) text after = (text ≡ []) × (after ≡ before)
-PlaysStep net tells before (step.Tells one) text after = IsTold net (state_at before) (waiting_in before.air) one text × (after ≡ before)
+-- All of a block is played, where each of its edits would be done by the book as it stands, or nothing, and the first refusal is told.
+abbrev pub PlaysAll : Net → (tells : Bool) → Stand → List ScriptLine → List Item → List ℕ → Stand → Type 0
+PlaysAll net tells before said parts text after =
+    (AllTried net (state_at before) 1 said None × PlaysItems net tells before parts text after × (parts ≡ map item.Round (rounds_in_turn said)))
+    ⊎ ((refusal : List ℕ) × AllTried net (state_at before) 1 said (Some refusal) × (text ≡ refusal) × (after ≡ before) × (parts ≡ []))
 
--- lines one after the other, the first of them line `at`: each is played, and the piece said to it is the text of that with its answer
--- behind, while the store told all changes that were made up to there. The changes that were made before a line last from the piece said
--- before it, when the store told this, up to its own.
-abbrev pub PlaysLines : Net → Sites → (tells : Bool) → (at : ℕ) → Open → Stand → Shown → List Exchange → Stand → Type 0
-PlaysLines net sites tells at blocks before shown [] after = after ≡ before
-PlaysLines net sites tells at blocks before shown (first ∷ exchanges) after =
-    (between : Stand) × (own : List ℕ) × PlaysStep net tells before (row_of net sites at blocks first.line).1 own between
-    × PlaysLines net sites tells (at + 1) (row_of net sites at blocks first.line).0 between first.shown exchanges after × (first.piece ≡ own ++ answer_of at first.line (row_of net sites at blocks first.line))
+-- What a line comes to is played, which asks these parts: a part of a run, or nothing; all of a block, or nothing; or it is told, of what is
+-- in hand before the line, and nothing changes.
+abbrev pub PlaysStep : Net → (tells : Bool) → Stand → Step → List Item → List ℕ → Stand → Type 0
+PlaysStep net tells before (step.Plays one) parts text after = PlaysItem net tells before one text after × (parts ≡ one ∷ [])
+PlaysStep net tells before step.Nothing parts text after = (text ≡ []) × (after ≡ before) × (parts ≡ [])
+PlaysStep net tells before (step.Fault code) parts text after = (text ≡ []) × (after ≡ before) × (parts ≡ [])
+PlaysStep net tells before (step.Clock on) parts text after = (text ≡ []) × (after ≡ before) × (parts ≡ [])
+PlaysStep net tells before (step.Tells one) parts text after = IsTold net (state_at before) before.air one text × (after ≡ before) × (parts ≡ [])
+PlaysStep net tells before (step.All said) parts text after = PlaysAll net tells before said parts text after
+
+-- what a line comes to, by the changes that were made when it was heard
+abbrev pub row_in : Net → Sites → (at : ℕ) → Open → Exchange → Open × Step
+row_in net sites at blocks one = row_of net sites at blocks one.known one.line
+
+-- Lines one after the other, the first of them line `at`, which ask these parts: each is played, and the piece said to it is the text of
+-- that with its answer behind, while the store told all changes that were made up to there. What a line comes to may depend on the changes
+-- that were made before it. The changes that were made before a line last from the piece said before it, when the store told this, up to
+-- its own. `timed` is whether answers say when they are given: then the clock is asked for each.
+abbrev pub PlaysLines : Net → Sites → (tells : Bool) → (at : ℕ) → Open → (timed : Bool) → Stand → Shown → List Exchange → List Item → Stand → Type 0
+PlaysLines net sites tells at blocks timed before shown [] parts after = (after ≡ before) × (parts ≡ [])
+PlaysLines net sites tells at blocks timed before shown (first ∷ exchanges) parts after =
+    (between : Stand) × (own : List ℕ) × (asked : List Item) × (others : List Item)
+    × PlaysStep net tells before (row_in net sites at blocks first).1 asked own between
+    × PlaysLines net sites tells (at + 1) (row_in net sites at blocks first).0 (timed_behind timed (row_in net sites at blocks first).1) between first.shown exchanges others after
+    × (parts ≡ asked ++ others) × (first.known ≡ changes_at before) × (is_some first.told ≡ timed_behind timed (row_in net sites at blocks first).1)
+    × (first.piece ≡ own ++ answer_of at first.line (row_in net sites at blocks first) first.told)
     × ShowsChanges net between first.shown × Last net (changes_at before) shown.crashes first.shown.crashes
 
 -- the changes made up to there last from the last piece said, or that over which the sink or memory failed, to the end of the talk
@@ -82,14 +118,13 @@ abbrev pub LastToEnd : Net → Talked → Stand → Shown → List Exchange → 
 LastToEnd net talk stand start exchanges = Last net (changes_at stand) (shown_behind start exchanges).crashes talk.store.crashes
 
 -- A session of these exchanges, from these changes on: it is a run of the parts that its lines ask, and what is said to each line is the
--- text of what it plays, with its answer behind.
+-- text of what it plays, with its answer behind. Answers do not say when they are given before a line asks it.
 pub record IsSession (net : Net) (sites : Sites) (tells : Bool) (opening : List Change) (start : Shown) (exchanges : List Exchange) (histories : List History) (events : List Event) : Type 0 where
   pub shows : ShowsChanges net (at_start net sites opening) start
   pub parts : List Item
-  pub parts_are : parts ≡ parts_of net sites 1 [] (heard_in exchanges)
   pub lines : List ℕ
   pub run : IsRun net sites tells opening parts histories events lines
-  pub played : PlaysLines net sites tells 1 [] (at_start net sites opening) start exchanges run.end
+  pub played : PlaysLines net sites tells 1 [] false (at_start net sites opening) start exchanges parts run.end
 
 -- the first line of a session, and that the first line may come
 abbrev pub opening_text : Net → Sites → List Change → List ℕ
@@ -125,9 +160,13 @@ WereGiven sites talk lines = IfSome talk.coming (λ bytes. (more : List (Option 
 abbrev pub AllGiven : Sites → Talked → List (Option (List ℕ)) → Type 0
 AllGiven sites talk lines = IfSome talk.coming (λ bytes. given_by (line_bytes sites) bytes ≡ lines)
 
+-- what the clock told to these, it told first
+abbrev pub WereTold : Talked → List Exchange → Type 0
+WereTold talk exchanges = (more : List (List ℕ)) × TicksAll talk.moments_before (told_in exchanges ++ more) talk.moments_after
+
 -- why no line was heard behind these: none was left, or as many were heard as are counted; or the input failed
 abbrev pub StopsHearing : Sites → Talked → List (Option (List ℕ)) → InputEnd → Type 0
-StopsHearing sites talk lines ending.Over = AllGiven sites talk lines ⊎ ((length lines + 1 ≡ MOST_ANSWERS) × WereGiven sites talk lines)
+StopsHearing sites talk lines ending.Over = AllGiven sites talk lines ⊎ ((length lines + 1 ≡ MOST_HEARD) × WereGiven sites talk lines)
 StopsHearing sites talk lines ending.Failed = Rose talk.unheard_before talk.unheard_after × WereGiven sites talk lines
 
 -- the lines were played and answered up to the end of the input, and the last piece was said, or the sink failed over it
@@ -139,6 +178,7 @@ pub record SessionWhole (net : Net) (sites : Sites) (talk : Talked) (stored : St
   pub lasts : LastToEnd net talk session.run.end start exchanges
   pub end : InputEnd
   pub stops : StopsHearing sites talk (heard_in exchanges) end
+  pub timed : WereTold talk exchanges
   pub said : Says (behind talk (session_turns net sites opening start exchanges)) (closing_text end histories) (status_behind end histories) status
 
 -- The sink failed over the last of these turns, which is the first piece of the session or what was to be said to the last of its lines.
@@ -150,6 +190,7 @@ pub record SessionUnsaid (net : Net) (sites : Sites) (talk : Talked) (stored : S
   pub left : LeavesStore net stored histories session.run.end
   pub lasts : LastToEnd net talk session.run.end start exchanges
   pub given : WereGiven sites talk (heard_in exchanges)
+  pub timed : WereTold talk exchanges
   pub turns : List Turn
   pub piece : List ℕ
   pub shown : Shown
@@ -162,11 +203,13 @@ pub record SessionUnsaid (net : Net) (sites : Sites) (talk : Talked) (stored : S
 -- and its count of faults was this. A store that tells its bytes can only have failed.
 pub record SessionToRestart (net : Net) (sites : Sites) (talk : Talked) (stored : Stored) (opening : List Change) (status : ℕ) (histories : List History) (events : List Event) : Type 0 where
   pub exchanges : List Exchange
-  pub last : Option (List ℕ)
+  pub last : Came
   pub start : Shown
   pub session : IsSession net sites (is_some stored.before) opening start exchanges histories events
-  pub asked : (row_behind net sites (heard_in exchanges) last).1 ≡ step.Plays item.Restart
-  pub given : WereGiven sites talk (heard_in exchanges ++ last ∷ [])
+  pub asked : (row_behind net sites (came_in exchanges) last).1 ≡ step.Plays item.Restart
+  pub known : last.0 ≡ changes_at session.run.end
+  pub given : WereGiven sites talk (heard_in exchanges ++ last.1 ∷ [])
+  pub timed : WereTold talk exchanges
   pub told : Option (List ℕ)
   pub faults : ℕ
   pub left : LeavesStore net (record stored { after = told; faults_after = faults }) histories session.run.end
@@ -176,7 +219,7 @@ pub record SessionToRestart (net : Net) (sites : Sites) (talk : Talked) (stored 
   pub later : faults ≤ stored.faults_after
   pub named : fault ≢ OutOfMemory
   pub only : IfSome stored.before (λ _. fault ≡ StoreFault)
-  pub said : Says (behind talk (session_turns net sites opening start exchanges ++ Heard last ∷ [])) (restart_line ++ recover_line fault) (recover_status fault) status
+  pub said : Says (behind talk (session_turns net sites opening start exchanges ++ Heard last.1 ∷ [])) (restart_line ++ recover_line fault) (recover_status fault) status
 
 -- the turns that were taken where memory ran out: those of these exchanges; or one more line was heard; or all but the last of them, a
 -- piece that was not said
@@ -196,8 +239,10 @@ pub record SessionBreaksOff (net : Net) (sites : Sites) (talk : Talked) (stored 
   pub exchanges : List Exchange
   pub start : Shown
   pub shows : ShowsChanges net (at_start net sites opening) start
+  pub parts : List Item
   pub stand : Stand
-  pub played : PlaysLines net sites (is_some stored.before) 1 [] (at_start net sites opening) start exchanges stand
+  pub played : PlaysLines net sites (is_some stored.before) 1 [] false (at_start net sites opening) start exchanges parts stand
+  pub timed : WereTold talk exchanges
   pub lasts : LastToEnd net talk stand start exchanges
   pub goes : GoesOnFrom stand histories
   pub turns : List Turn

@@ -6,7 +6,7 @@ use Rattle.bt_report.specs.declared.status.TheConstants.{OUT_OF_MEMORY, WRITE_FA
 use Rattle.bt_report.specs.Output.{Output, HasFailed}
 
 -- the bytes that were to come in a talk at the start of a call; how often a line could not be heard at its start and at its end; what
--- its output told; its turns; and what the store told at its end
+-- its output told; its turns; what its clock was to tell at its start and at its end; and what the store told at its end
 pub record Talked : Type 0 where
   pub coming : Option (List ℕ)
   pub unheard_before : ℕ
@@ -14,6 +14,8 @@ pub record Talked : Type 0 where
   pub output : Output
   pub turns_before : Option (List Turn)
   pub turns_after : Option (List Turn)
+  pub moments_before : Option (List (List ℕ))
+  pub moments_after : Option (List (List ℕ))
   pub store : Shown
 
 -- all that is said in these turns
@@ -36,6 +38,8 @@ behind talk turns = record {
   };
   turns_before = took talk.turns_before turns;
   turns_after = talk.turns_after;
+  moments_before = talk.moments_before;
+  moments_after = talk.moments_after;
   store = talk.store;
 }
 

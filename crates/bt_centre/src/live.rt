@@ -1,16 +1,17 @@
 // The run of a session: between its lines the book hands its entries over, so that no bytes of them are kept; nor are any of
 // the events of its world, but for the plans that were installed.
-ghost use Rattle.std.specs.Prelude.{◌≡◌, ◌<◌, ◌++◌, ◌∷◌, [], false, length, IfErr, IfOk, OnOk};
-ghost use Rattle.bt_frame.specs.declared.limits.TheConstants.{MOST_ANSWERS};
+ghost use Rattle.std.specs.Prelude.{◌≡◌, ◌<◌, ◌+◌, ◌++◌, ◌∷◌, [], All, false, length, IfErr, IfOk, OnOk};
+ghost use Rattle.bt_frame.specs.declared.limits.TheConstants.{MOST_ANSWERS, MOST_LINES};
 ghost use Rattle.bt_history.specs.Causes.{Follows};
 ghost use Rattle.bt_history.specs.Crash.{Last};
 ghost use Rattle.bt_history.specs.Store.{IsKept, lost_of};
-ghost use Rattle.bt_round.specs.AirLines.{hearing, opening_in, waiting_in};
+ghost use Rattle.bt_round.specs.AirLines.{hearing, opening_in};
 ghost use Rattle.bt_script.specs.Heard.{IsOnBus};
 ghost use Rattle.bt_script.specs.Named.{IsItemFor, IsRoundFor};
+ghost use Rattle.bt_script.specs.Said.{IsSaidFor};
 ghost use Rattle.bt_script.specs.declared.script.Item.TheVariants as item;
 ghost use Rattle.bt_talk.specs.Block.{IsQueryFor, IsStepFor};
-ghost use Rattle.bt_centre.specs.Answering.{StepFailed, StepPlayed};
+ghost use Rattle.bt_centre.specs.Answering.{AllPlayed, RoundsPlayed, StepFailed, StepPlayed};
 ghost use Rattle.bt_centre.specs.Handed.{with_front};
 ghost use Rattle.bt_centre.specs.Lines.{total_of};
 ghost use Rattle.bt_centre.specs.Progress.{IsLeftEarly, IsLeftOf, ItemFailed, ItemPlayed, RestartPlayed, RoundPlayed};
@@ -26,14 +27,14 @@ use crate::restart::play_restart;
 use crate::tally::Tally;
 use crate::tell::tell;
 use crate::{SessionEnd, SessionHistories};
-use bt_book::RecoverFault;
+use bt_book::{Book, RecoverFault};
 use bt_frame::OutOfMemory;
 use bt_journal::Entries;
 use bt_net::Network;
 use bt_outside::Keeper;
-use bt_round::Gate;
+use bt_round::{Gate, refusal_of};
 use bt_script::{BusLine, Item, Round};
-use bt_talk::{Query, Step};
+use bt_talk::{Query, SaidLines, Step};
 use bt_world::TracedEvents;
 use std::alloc::Global;
 use std::marker::Model;
@@ -116,13 +117,21 @@ impl<K: Keeper> Live<K> {
         self.run.station.book.store()
     }
 
+    /// The book, which holds the changes of the run.
+    pub(crate) fn book(&self) -> &Book<K>
+        ensures state { result.now.state ≡ self.now.book.state }
+        ensures network { result.now.net ≡ self.now.book.net }
+    {
+        &self.run.station.book
+    }
+
     /// What a line that asks is told, of what the run has in hand.
     fn tell(&self, alloc: Global, net: &Network, query: Query) -> Result<Vec<u8>, OutOfMemory>
         requires network { self.now.book.net ≡ net.now }
         requires air_network { (opening_in self.now.air).net ≡ net.now }
         requires terminals { IsQueryFor net.now query }
         requires follow { Follows net.now self.now.book.state.changes }
-        ensures told { IfOk result (λ text. IsTold net.now self.now.book.state (waiting_in self.now.air) query text.items) }
+        ensures told { IfOk result (λ text. IsTold net.now self.now.book.state self.now.air query text.items) }
     {
         let station = &self.run.station;
         tell(alloc, net, &station.book, &station.centre, query)
@@ -217,7 +226,7 @@ pub(crate) fn play_step<R: Threads + Wait + Sync, G: Gate + Sync, K: Keeper + Se
     step: Step,
     live: Live<K>,
 ) -> Result<(Live<K>, Vec<u8>), (LiveRemains<K>, RecoverFault)>
-    requires few { live.rounds < MOST_ANSWERS }
+    requires few { live.rounds + MOST_LINES < MOST_ANSWERS }
     requires network { live.book.net ≡ net.now }
     requires air_network { (opening_in live.air).net ≡ net.now }
     requires terminals { IsStepFor net.now step }
@@ -227,12 +236,83 @@ pub(crate) fn play_step<R: Threads + Wait + Sync, G: Gate + Sync, K: Keeper + Se
 {
     match step {
         Step::Plays(item) => live_item(rt, alloc, net, gate, item, live),
-        Step::Nothing | Step::Fault(_) => Ok((live, Vec::new(alloc))),
+        Step::Nothing | Step::Fault(_) | Step::Clock(_) => Ok((live, Vec::new(alloc))),
         Step::Tells(query) => match live.tell(alloc, net, query) {
             Ok(text) => Ok((live, text)),
             Err(OutOfMemory) => Err((live.stop(rt, alloc), RecoverFault::OutOfMemory)),
         },
+        Step::All(said) => match play_all(rt, alloc, net, gate, &said, live) {
+            Ok(on) => Ok(on),
+            Err(remains) => Err((remains, RecoverFault::OutOfMemory)),
+        },
     }
+}
+
+/// Plays all lines of a block, where each of its edits would be done by the book as it stands, and gives their text; or nothing, and
+/// tells the first refusal. Gives what is left of the run, where memory runs out.
+fn play_all<R: Threads + Wait + Sync, G: Gate + Sync, K: Keeper + Send>(
+    rt: &R,
+    alloc: Global,
+    net: &Network,
+    gate: &G,
+    said: &SaidLines,
+    live: Live<K>,
+) -> Result<(Live<K>, Vec<u8>), LiveRemains<K>>
+    requires few { live.rounds + MOST_LINES < MOST_ANSWERS }
+    requires network { live.book.net ≡ net.now }
+    requires air_network { (opening_in live.air).net ≡ net.now }
+    requires terminals { All (IsSaidFor net.now) said.now }
+    requires follow { Follows net.now live.book.state.changes }
+    ensures played { IfOk result (λ on. AllPlayed net.now said.now live on.0 on.1.items) }
+    ensures failed { IfErr result (λ remains. IsLeftEarly live remains) }
+{
+    let refused = match refusal_of(alloc, net, live.book(), said.as_slice()) {
+        Ok(refused) => refused,
+        Err(OutOfMemory) => return Err(live.stop(rt, alloc)),
+    };
+    match refused {
+        Some(refusal) => Ok((live, refusal)),
+        None => match said.rounds_in_turn(alloc, net) {
+            Ok(rounds) => play_rounds(rt, alloc, net, gate, rounds.as_slice(), live),
+            Err(OutOfMemory) => Err(live.stop(rt, alloc)),
+        },
+    }
+}
+
+/// Plays rounds one after the other, and gives their text; or what is left of the run, where memory runs out.
+fn play_rounds<R: Threads + Wait + Sync, G: Gate + Sync, K: Keeper + Send>(
+    rt: &R,
+    alloc: Global,
+    net: &Network,
+    gate: &G,
+    rounds: &[Round],
+    mut live: Live<K>,
+) -> Result<(Live<K>, Vec<u8>), LiveRemains<K>>
+    requires few { live.rounds + length rounds.now < MOST_ANSWERS }
+    requires network { live.book.net ≡ net.now }
+    requires air_network { (opening_in live.air).net ≡ net.now }
+    requires terminals { All (IsRoundFor net.now) rounds.now }
+    requires follow { Follows net.now live.book.state.changes }
+    ensures played { IfOk result (λ on. RoundsPlayed net.now rounds.now live on.0 on.1.items) }
+    ensures failed { IfErr result (λ remains. IsLeftEarly live remains) }
+{
+    // This is there for what a crash now leaves.
+    let _store = live.store();
+    let mut text = Vec::new(alloc);
+    for round in rounds {
+        match live_round(rt, alloc, net, gate, round, live) {
+            Ok((next, own)) => {
+                live = next;
+                // This is there for what a crash now leaves.
+                let _store = live.store();
+                if text.extend_from_slice(own.as_slice()).is_err() {
+                    return Err(live.stop(rt, alloc));
+                }
+            }
+            Err(remains) => return Err(remains),
+        }
+    }
+    Ok((live, text))
 }
 
 /// Plays a part of a session, and gives its text; or what is left of the run.

@@ -26,6 +26,8 @@ pub fn say_text<T: Talk<K>, K: Keeper>(
           output = record { before = T.told talk.old; after = T.told talk.new; faults_before = T.fault_count talk.old; faults_after = T.fault_count talk.new };
           turns_before = T.turns talk.old;
           turns_after = T.turns talk.new;
+          moments_before = None;
+          moments_after = None;
           store = record { told = K.told store.now; faults = K.fault_count store.now; crashes = K.crashes store.now };
         })
         piece.now status result }
@@ -53,6 +55,8 @@ pub(crate) fn say_fault<T: Talk<K>, K: Keeper>(
           output = record { before = T.told talk.old; after = T.told talk.new; faults_before = T.fault_count talk.old; faults_after = T.fault_count talk.new };
           turns_before = T.turns talk.old;
           turns_after = T.turns talk.new;
+          moments_before = None;
+          moments_after = None;
           store = record { told = K.told store.now; faults = K.fault_count store.now; crashes = K.crashes store.now };
         })
         [] fault result }
@@ -78,6 +82,8 @@ pub(crate) fn say_restart_fault<T: Talk<K>, K: Keeper>(
           output = record { before = T.told talk.old; after = T.told talk.new; faults_before = T.fault_count talk.old; faults_after = T.fault_count talk.new };
           turns_before = T.turns talk.old;
           turns_after = T.turns talk.new;
+          moments_before = None;
+          moments_after = None;
           store = record { told = K.told store.now; faults = K.fault_count store.now; crashes = K.crashes store.now };
         })
         restart_line fault result }

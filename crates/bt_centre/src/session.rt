@@ -1,5 +1,5 @@
 // A session: lines come one by one, and each is played and answered before the next is heard.
-ghost use Rattle.std.specs.Prelude.{◌≡◌, ◌≤◌, ◌<◌, ◌++◌, [], IfErr, IfOk, IfSome, IsErrOf, OnErr, OnOk, Some, length, option_map};
+ghost use Rattle.std.specs.Prelude.{◌≡◌, ◌≤◌, ◌<◌, ◌++◌, [], IfErr, IfOk, IfSome, IsErrOf, List, None, OnErr, OnOk, Some, is_some, length, option_map, ℕ};
 ghost use Rattle.bt_outside.specs.Told.{GainsPrefix, Rose, gained};
 ghost use Rattle.bt_outside.specs.Input.{IsShort, said_by};
 ghost use Rattle.bt_outside.specs.Talk.{said, took};
@@ -7,8 +7,10 @@ ghost use Rattle.bt_history.specs.Crash.{Last};
 ghost use Rattle.bt_history.specs.Store.{IsKept, lost_of};
 ghost use Rattle.bt_timeline.specs.Timeline.{restart_line};
 ghost use Rattle.bt_talk.specs.Answers.{answer_of, ready_line};
+ghost use Rattle.bt_talk.specs.Asked.{timed_behind};
 ghost use Rattle.bt_talk.specs.Block.{IsStepFor};
 ghost use Rattle.bt_talk.specs.Blocks.{IsOpenFor, line_bytes, row_of};
+ghost use Rattle.bt_talk.specs.Clock.{TicksAll, TicksIf};
 ghost use Rattle.bt_centre.specs.Answering.{SaysNamed, SessionEnded, SessionHeard};
 ghost use Rattle.bt_centre.specs.Progress.{IsBegun, start_of};
 ghost use Rattle.bt_centre.specs.Session.{SessionTo, closing_text, input_status, input_text, status_behind};
@@ -20,14 +22,14 @@ use crate::live::{Live, LiveRemains, play_step};
 use crate::open::open;
 use crate::playing::Playing;
 use crate::say::{say_fault, say_restart_fault, say_text};
-use bt_book::{RecoverFault, installed_plans_are_good};
-use bt_frame::{MOST_ANSWERS, OutOfMemory};
+use bt_book::{Book, RecoverFault, installed_plans_are_good};
+use bt_frame::OutOfMemory;
 use bt_net::Network;
 use bt_outside::{Incoming, Keeper, SinkFault, SourceFault, Talk};
 use bt_report::{DONE, OUT_OF_MEMORY, READ_FAILED, STORE_FAILED, unwritten};
 use bt_round::Gate;
 use bt_script::Sites;
-use bt_talk::{Blocks, Step, add_input_fault, add_ready, answer_text, line_bytes};
+use bt_talk::{Blocks, Clock, Step, add_input_fault, add_ready, answer_text, line_bytes};
 use bt_world::{Events, TracedEvents, frames_are_safe};
 use std::alloc::Global;
 use std::sync::Wait;
@@ -63,6 +65,9 @@ impl<K> SessionEnd<K> {
     }
 }
 
+/// Behind how many lines a session ends, so that the rounds that they play can be counted: each of them plays `MOST_LINES` at most.
+pub const MOST_HEARD: u64 = 400_000_000_000_000;
+
 /// Why no more lines are heard.
 #[derive(Clone, Copy)]
 pub enum InputEnd {
@@ -79,14 +84,23 @@ pub enum InputEnd {
 /// answered; of a book that a fault of its store has stopped they are kept until the centre restarts. Of what happened on
 /// the air the plans that were installed are kept.
 ///
+/// Where a line asks it, each answer says the moment that the clock told.
+///
 /// The status is that of a run; it is 5 where the input failed and the store lost nothing.
-pub fn run_session<R: Threads + Wait + Sync, G: Gate + Sync, T: Talk<K>, K: Keeper + Send>(
+pub fn run_session<
+    R: Threads + Wait + Sync,
+    G: Gate + Sync,
+    T: Talk<K>,
+    C: Clock,
+    K: Keeper + Send,
+>(
     rt: &R,
     alloc: Global,
     net: &Network,
     sites: Sites,
     gate: &G,
     talk: &mut T,
+    clock: &mut C,
     store: K,
 ) -> SessionEnd<K>
     ensures ends { SessionTo net.now sites
@@ -97,6 +111,8 @@ pub fn run_session<R: Threads + Wait + Sync, G: Gate + Sync, T: Talk<K>, K: Keep
           output = record { before = T.told talk.old; after = T.told talk.new; faults_before = T.fault_count talk.old; faults_after = T.fault_count talk.new };
           turns_before = T.turns talk.old;
           turns_after = T.turns talk.new;
+          moments_before = C.coming clock.old;
+          moments_after = C.coming clock.new;
           store = record { told = K.told result.store; faults = K.fault_count result.store; crashes = K.crashes result.store };
         })
         (record { before = K.told store; after = K.told result.store; faults_before = K.fault_count store; faults_after = K.fault_count result.store })
@@ -104,7 +120,7 @@ pub fn run_session<R: Threads + Wait + Sync, G: Gate + Sync, T: Talk<K>, K: Keep
 {
     frames_are_safe();
     match open(rt, alloc, net, sites, store) {
-        Ok(playing) => session_from(rt, alloc, net, sites, gate, Live::new(playing), talk),
+        Ok(playing) => session_from(rt, alloc, net, sites, gate, Live::new(playing), talk, clock),
         Err((store, fault)) => {
             let status = say_fault(alloc, fault, talk, &store);
             SessionEnd::unbegun(alloc, status, store)
@@ -113,7 +129,7 @@ pub fn run_session<R: Threads + Wait + Sync, G: Gate + Sync, T: Talk<K>, K: Keep
 }
 
 /// A session from its first piece on.
-fn session_from<R: Threads + Wait + Sync, G: Gate + Sync, T: Talk<K>, K: Keeper + Send>(
+fn session_from<R: Threads + Wait + Sync, G: Gate + Sync, T: Talk<K>, C: Clock, K: Keeper + Send>(
     rt: &R,
     alloc: Global,
     net: &Network,
@@ -121,6 +137,7 @@ fn session_from<R: Threads + Wait + Sync, G: Gate + Sync, T: Talk<K>, K: Keeper 
     gate: &G,
     playing: Live<K>,
     talk: &mut T,
+    clock: &mut C,
 ) -> SessionEnd<K>
     requires begun { IsBegun net.now sites playing }
     ensures ended { SessionEnded net.now sites
@@ -131,12 +148,14 @@ fn session_from<R: Threads + Wait + Sync, G: Gate + Sync, T: Talk<K>, K: Keeper 
           output = record { before = T.told talk.old; after = T.told talk.new; faults_before = T.fault_count talk.old; faults_after = T.fault_count talk.new };
           turns_before = T.turns talk.old;
           turns_after = T.turns talk.new;
+          moments_before = C.coming clock.old;
+          moments_after = C.coming clock.new;
           store = record { told = K.told result.store; faults = K.fault_count result.store; crashes = K.crashes result.store };
         })
         playing.book (record { told = K.told result.store; faults = K.fault_count result.store; crashes = K.crashes result.store; histories = result.histories; events = result.events.all }) result.status }
 {
     installed_plans_are_good();
-    match play_lines(rt, alloc, net, sites, gate, playing, talk) {
+    match play_lines(rt, alloc, net, sites, gate, playing, talk, clock) {
         Ok((playing, end)) => {
             let remains = playing.stop(rt, alloc);
             let status = say_closing(alloc, end, &remains, talk);
@@ -148,7 +167,7 @@ fn session_from<R: Threads + Wait + Sync, G: Gate + Sync, T: Talk<K>, K: Keeper 
 
 /// Says the first piece of a session, then hears line after line, plays each, and answers it. Gives the run at the end of
 /// its input, or the end of the run where it stops before.
-fn play_lines<R: Threads + Wait + Sync, G: Gate + Sync, T: Talk<K>, K: Keeper + Send>(
+fn play_lines<R: Threads + Wait + Sync, G: Gate + Sync, T: Talk<K>, C: Clock, K: Keeper + Send>(
     rt: &R,
     alloc: Global,
     net: &Network,
@@ -156,6 +175,7 @@ fn play_lines<R: Threads + Wait + Sync, G: Gate + Sync, T: Talk<K>, K: Keeper + 
     gate: &G,
     mut playing: Live<K>,
     talk: &mut T,
+    clock: &mut C,
 ) -> Result<(Live<K>, InputEnd), SessionEnd<K>>
     requires begun { IsBegun net.now sites playing }
     ensures heard { IfOk result (λ on. SessionHeard net.now sites playing.book
@@ -166,6 +186,8 @@ fn play_lines<R: Threads + Wait + Sync, G: Gate + Sync, T: Talk<K>, K: Keeper + 
           output = record { before = T.told talk.old; after = T.told talk.new; faults_before = T.fault_count talk.old; faults_after = T.fault_count talk.new };
           turns_before = T.turns talk.old;
           turns_after = T.turns talk.new;
+          moments_before = C.coming clock.old;
+          moments_after = C.coming clock.new;
           store = record { told = on.0.book.told; faults = on.0.book.faults; crashes = on.0.book.crashes };
         })
         on.0 on.1) }
@@ -177,6 +199,8 @@ fn play_lines<R: Threads + Wait + Sync, G: Gate + Sync, T: Talk<K>, K: Keeper + 
           output = record { before = T.told talk.old; after = T.told talk.new; faults_before = T.fault_count talk.old; faults_after = T.fault_count talk.new };
           turns_before = T.turns talk.old;
           turns_after = T.turns talk.new;
+          moments_before = C.coming clock.old;
+          moments_after = C.coming clock.new;
           store = record { told = K.told end.store; faults = K.fault_count end.store; crashes = K.crashes end.store };
         })
         playing.book (record { told = K.told end.store; faults = K.fault_count end.store; crashes = K.crashes end.store; histories = end.histories; events = end.events.all }) end.status) }
@@ -187,21 +211,40 @@ fn play_lines<R: Threads + Wait + Sync, G: Gate + Sync, T: Talk<K>, K: Keeper + 
         return Err(playing.stop(rt, alloc).end(unwritten(fault)));
     }
     let mut opened = Blocks::none(alloc);
-    for at in 1..MOST_ANSWERS {
+    let mut timed = false;
+    for at in 1..MOST_HEARD {
         let came = match talk.hear(alloc, line_bytes(sites)) {
             Ok(Some(came)) => came,
             Ok(None) => return Ok((playing, InputEnd::Over)),
             Err(SourceFault::Failed) => return Ok((playing, InputEnd::Failed)),
             Err(SourceFault::OutOfMemory) => return Err(playing.stop(rt, alloc).end(OUT_OF_MEMORY)),
         };
-        let (behind, step, answer) = match take(alloc, net, sites, at, &came, opened) {
+        let taken = match take(
+            alloc,
+            net,
+            sites,
+            at,
+            &came,
+            opened,
+            timed,
+            playing.book(),
+            clock,
+        ) {
             Ok(taken) => taken,
             Err(OutOfMemory) => return Err(playing.stop(rt, alloc).end(OUT_OF_MEMORY)),
         };
+        let Taken {
+            blocks,
+            step,
+            timed: on,
+            told: _,
+            answer,
+        } = taken;
         match play_step(rt, alloc, net, gate, step, playing) {
             Ok((next, text)) => {
                 playing = next;
-                opened = behind;
+                opened = blocks;
+                timed = on;
                 if let Err(fault) = say_both(alloc, text, answer.as_slice(), &playing, talk) {
                     return Err(playing.stop(rt, alloc).end(unwritten(fault)));
                 }
@@ -215,47 +258,116 @@ fn play_lines<R: Threads + Wait + Sync, G: Gate + Sync, T: Talk<K>, K: Keeper + 
     Ok((playing, InputEnd::Over))
 }
 
-/// What line `at` comes to, with the blocks that are open behind it, and its answer.
-fn take(
+/// What a line comes to, with the blocks that are open behind it, whether answers then say when they are given, what the clock told, where
+/// it was asked, and the answer.
+#[derive(Drop)]
+struct Taken {
+    blocks: Blocks,
+    step: Step,
+    timed: bool,
+    told: Option<Vec<u8>>,
+    answer: Vec<u8>,
+}
+
+/// What line `at` comes to, where the book holds this. Want of memory may have asked the clock.
+fn take<C: Clock, K: Keeper>(
     alloc: Global,
     net: &Network,
     sites: Sites,
     at: u64,
     came: &Incoming,
     blocks: Blocks,
-) -> Result<(Blocks, Step, Vec<u8>), OutOfMemory>
+    timed: bool,
+    book: &Book<K>,
+    clock: &mut C,
+) -> Result<Taken, OutOfMemory>
     requires terminals { IsOpenFor net.now blocks }
+    requires network { book.now.net ≡ net.now }
     requires short { IsShort (line_bytes sites) (Some came.now) }
-    ensures row { IfOk result (λ on. (on.0, on.1) ≡ row_of net.now sites at blocks (said_by came.now)) }
-    ensures answer { IfOk result (λ on. on.2.items ≡ answer_of at (said_by came.now) (on.0, on.1)) }
-    ensures terminals { IfOk result (λ on. IsOpenFor net.now on.0) }
-    ensures part { IfOk result (λ on. IsStepFor net.now on.1) }
+    ensures row { IfOk result (λ on. (on.blocks, on.step) ≡ row_of net.now sites at blocks book.now.state.changes (said_by came.now)) }
+    ensures timed { IfOk result (λ on. on.timed ≡ timed_behind timed on.step) }
+    ensures asked { IfOk result (λ on. is_some (option_map (λ told. told.items) on.told) ≡ on.timed) }
+    ensures ticks { IfOk result (λ on. TicksIf (C.coming clock.old) (option_map (λ told. told.items) on.told) (C.coming clock.new)) }
+    ensures answer { IfOk result (λ on. on.answer.items ≡ answer_of at (said_by came.now) (on.blocks, on.step) (option_map (λ told. told.items) on.told)) }
+    ensures terminals { IfOk result (λ on. IsOpenFor net.now on.blocks) }
+    ensures part { IfOk result (λ on. IsStepFor net.now on.step) }
+    ensures err { OnErr result ((more : List (List ℕ)) × TicksAll (C.coming clock.old) more (C.coming clock.new)) }
 {
     match came {
-        Incoming::Line(line) => take_text(alloc, net, sites, at, Some(line.as_slice()), blocks),
-        Incoming::NoLine => take_text(alloc, net, sites, at, None, blocks),
+        Incoming::Line(line) => {
+            let line = Some(line.as_slice());
+            take_text(alloc, net, sites, at, line, blocks, timed, book, clock)
+        }
+        Incoming::NoLine => take_text(alloc, net, sites, at, None, blocks, timed, book, clock),
     }
 }
 
 /// The same of a line, or None where what came is none.
-fn take_text(
+fn take_text<C: Clock, K: Keeper>(
     alloc: Global,
     net: &Network,
     sites: Sites,
     at: u64,
     came: Option<&[u8]>,
     blocks: Blocks,
-) -> Result<(Blocks, Step, Vec<u8>), OutOfMemory>
+    timed: bool,
+    book: &Book<K>,
+    clock: &mut C,
+) -> Result<Taken, OutOfMemory>
     requires terminals { IsOpenFor net.now blocks }
+    requires network { book.now.net ≡ net.now }
     requires short { IfSome came (λ text. length text.now ≤ line_bytes sites) }
-    ensures row { IfOk result (λ on. (on.0, on.1) ≡ row_of net.now sites at blocks (option_map (λ text. text.now) came.entry)) }
-    ensures answer { IfOk result (λ on. on.2.items ≡ answer_of at (option_map (λ text. text.now) came.entry) (on.0, on.1)) }
-    ensures terminals { IfOk result (λ on. IsOpenFor net.now on.0) }
-    ensures part { IfOk result (λ on. IsStepFor net.now on.1) }
+    ensures row { IfOk result (λ on. (on.blocks, on.step) ≡ row_of net.now sites at blocks book.now.state.changes (option_map (λ text. text.now) came.entry)) }
+    ensures timed { IfOk result (λ on. on.timed ≡ timed_behind timed on.step) }
+    ensures asked { IfOk result (λ on. is_some (option_map (λ told. told.items) on.told) ≡ on.timed) }
+    ensures ticks { IfOk result (λ on. TicksIf (C.coming clock.old) (option_map (λ told. told.items) on.told) (C.coming clock.new)) }
+    ensures answer { IfOk result (λ on. on.answer.items ≡ answer_of at (option_map (λ text. text.now) came.entry) (on.blocks, on.step) (option_map (λ told. told.items) on.told)) }
+    ensures terminals { IfOk result (λ on. IsOpenFor net.now on.blocks) }
+    ensures part { IfOk result (λ on. IsStepFor net.now on.step) }
+    ensures err { OnErr result ((more : List (List ℕ)) × TicksAll (C.coming clock.old) more (C.coming clock.new)) }
 {
-    let (behind, step) = blocks.take(alloc, net, sites, at, came)?;
-    let answer = answer_text(alloc, at, came, &behind, &step)?;
-    Ok((behind, step, answer))
+    let (blocks, step) = blocks.take(alloc, net, sites, at, book, came)?;
+    let timed = timed_behind(timed, &step);
+    let told = told_by(alloc, timed, clock)?;
+    let moment = match &told {
+        Some(told) => Some(told.as_slice()),
+        None => None,
+    };
+    let answer = answer_text(alloc, at, came, &blocks, &step, moment)?;
+    Ok(Taken {
+        blocks,
+        step,
+        timed,
+        told,
+        answer,
+    })
+}
+
+/// Whether answers say when they are given, behind a line that comes to this.
+fn timed_behind(timed: bool, step: &Step) -> bool
+    ensures { result ≡ timed_behind timed step.now }
+{
+    match step {
+        Step::Clock(on) => *on,
+        _ => timed,
+    }
+}
+
+/// What the clock tells, where it is asked.
+fn told_by<C: Clock>(
+    alloc: Global,
+    asked: bool,
+    clock: &mut C,
+) -> Result<Option<Vec<u8>>, OutOfMemory>
+    ensures asked { IfOk result (λ told. is_some (option_map (λ told. told.items) told) ≡ asked) }
+    ensures ticks { IfOk result (λ told. TicksIf (C.coming clock.old) (option_map (λ told. told.items) told) (C.coming clock.new)) }
+    ensures unchanged { OnErr result (C.coming clock.new ≡ C.coming clock.old) }
+{
+    if asked {
+        Ok(Some(clock.moment(alloc)?))
+    } else {
+        Ok(None)
+    }
 }
 
 /// Says the first line of a session, and that the first line may come.
@@ -347,6 +459,8 @@ fn say_no_restart<T: Talk<K>, K: Keeper>(
           output = record { before = T.told talk.old; after = T.told talk.new; faults_before = T.fault_count talk.old; faults_after = T.fault_count talk.new };
           turns_before = T.turns talk.old;
           turns_after = T.turns talk.new;
+          moments_before = None;
+          moments_after = None;
           store = record { told = remains.now.told; faults = remains.now.faults; crashes = remains.now.crashes };
         })
         restart_line fault result }
@@ -370,6 +484,8 @@ fn say_closing<T: Talk<K>, K: Keeper>(
           output = record { before = T.told talk.old; after = T.told talk.new; faults_before = T.fault_count talk.old; faults_after = T.fault_count talk.new };
           turns_before = T.turns talk.old;
           turns_after = T.turns talk.new;
+          moments_before = None;
+          moments_after = None;
           store = record { told = remains.now.told; faults = remains.now.faults; crashes = remains.now.crashes };
         })
         (closing_text end remains.now.histories) (status_behind end remains.now.histories) result }

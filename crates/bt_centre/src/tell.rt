@@ -1,7 +1,7 @@
 // What a line that asks is told, of what a run has in hand.
 ghost use Rattle.std.specs.Prelude.{◌≡◌, IfOk};
 ghost use Rattle.bt_history.specs.Causes.{Follows};
-ghost use Rattle.bt_round.specs.AirLines.{opening_in, waiting_in};
+ghost use Rattle.bt_round.specs.AirLines.{opening_in};
 ghost use Rattle.bt_talk.specs.Block.{IsQueryFor};
 ghost use Rattle.bt_centre.specs.Told.{IsAnswer, IsTold};
 
@@ -12,7 +12,7 @@ use bt_look::{
 };
 use bt_net::Network;
 use bt_outside::Keeper;
-use bt_round::CentreWorker;
+use bt_round::{CentreWorker, tried_text};
 use bt_talk::{Query, counted_text, help_text};
 use bt_world::Events;
 use std::alloc::Global;
@@ -29,7 +29,7 @@ pub(crate) fn tell<K: Keeper, E: Events>(
     requires air_network { (opening_in centre.now).net ≡ net.now }
     requires terminals { IsQueryFor net.now query }
     requires follow { Follows net.now book.now.state.changes }
-    ensures told { IfOk result (λ text. IsTold net.now book.now.state (waiting_in centre.now) query text.items) }
+    ensures told { IfOk result (λ text. IsTold net.now book.now.state centre.now query text.items) }
 {
     let own = answer(alloc, net, book, centre, query)?;
     counted_text(alloc, own.as_slice())
@@ -47,7 +47,7 @@ fn answer<K: Keeper, E: Events>(
     requires air_network { (opening_in centre.now).net ≡ net.now }
     requires terminals { IsQueryFor net.now query }
     requires follow { Follows net.now book.now.state.changes }
-    ensures { IfOk result (λ text. IsAnswer net.now book.now.state (waiting_in centre.now) query text.items) }
+    ensures { IfOk result (λ text. IsAnswer net.now book.now.state centre.now query text.items) }
 {
     match query {
         Query::State => state_of_book(alloc, net, book),
@@ -56,8 +56,10 @@ fn answer<K: Keeper, E: Events>(
         Query::Demand => demand_of_book(alloc, net, book),
         Query::Installed => newest_of_book(alloc, net, book),
         Query::Plans => plans_of_book(alloc, book),
+        Query::Air => centre.air_text(alloc, net),
         Query::Waiting => centre.waiting_text(alloc, net),
         Query::Help(sites) => help_text(alloc, sites),
         Query::Blocks(lines) => Ok(lines.into_text()),
+        Query::Try(said) => tried_text(alloc, net, book, said.as_slice()),
     }
 }

@@ -27,6 +27,7 @@ use Rattle.bt_load.specs.Kinds.{network_file}
 use Rattle.bt_cli.specs.Complete.{IsDone, NothingFails, TellsChanges}
 use Rattle.bt_cli.specs.Live.{EndsOn, SaysOneOf, SaysStop}
 use Rattle.bt_cli.specs.Run.{End}
+use Rattle.bt_centre.proofs.Saying.{says_at, untimed}
 use Rattle.bt_load.proofs.OneLoad.{IsLoaded-same, file_lawful}
 use Rattle.bt_cli.proofs.Complete.{wants_memory}
 use Rattle.bt_cli.proofs.Kept.{kept_status}
@@ -34,12 +35,12 @@ use Rattle.bt_cli.proofs.OneJournal.{Laws, told}
 use Rattle.bt_cli.proofs.OneRun.{none_lost, rose_later}
 
 -- what was said of an outcome
-pub said_one : (talk : Talked) (Outcomes : Outcome → Type 0) (text : List ℕ) (wanted status : ℕ) → Outcomes (text_alone text wanted) → SaysOrNot talk text wanted status → SaysOneOf talk Outcomes status
+pub said_one : (talk : Talked) (Outcomes : Outcome → Type 0) (text : List ℕ) (wanted status : ℕ) → Outcomes (text_alone text wanted) → SaysOrNot (untimed talk) text wanted status → SaysOneOf talk Outcomes status
 said_one talk Outcomes text wanted status is (inl memory) = inl memory
-said_one talk Outcomes text wanted status is (inr told_so) = inr (text_alone text wanted, is, told_so)
+said_one talk Outcomes text wanted status is (inr told_so) = inr (text_alone text wanted, is, says_at talk text wanted status told_so)
 
 -- and of a stop
-pub said_stop : (talk : Talked) (Outcomes : Outcome → Type 0) (stop : Stop) (status : ℕ) → StopIs Outcomes stop → SaysStop talk stop status → SaysOneOf talk Outcomes status
+pub said_stop : (talk : Talked) (Outcomes : Outcome → Type 0) (stop : Stop) (status : ℕ) → StopIs Outcomes stop → SaysStop (untimed talk) stop status → SaysOneOf talk Outcomes status
 said_stop talk Outcomes (Early report) status is told_so = said_one talk Outcomes report.text.items report.status status is told_so
 said_stop talk Outcomes OutOfMemory status is memory = inl memory
 

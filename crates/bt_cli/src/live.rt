@@ -1,5 +1,5 @@
 // `live NET JOURNAL` and `centre NET JOURNAL`.
-ghost use Rattle.std.specs.Prelude.{◌≡◌, ℕ, List, Some, map, option_map};
+ghost use Rattle.std.specs.Prelude.{◌≡◌, ℕ, List, None, Some, map, option_map};
 ghost use Rattle.std.specs.String.{string_bytes};
 ghost use Rattle.bt_outside.specs.Told.{Rose};
 ghost use Rattle.bt_script.specs.declared.sites.Sites.{Sites};
@@ -21,6 +21,7 @@ use bt_load::load_network;
 use bt_outside::{Files, Keeper, Talk};
 use bt_report::{OUT_OF_MEMORY, Stop, faulty_words};
 use bt_script::Sites;
+use bt_talk::Clock;
 use std::alloc::Global;
 use std::sync::Wait;
 use std::thread::Threads;
@@ -67,12 +68,13 @@ fn sites_asked(words: &[String]) -> Sites
 /// that is made; where there is no session it comes back as it was.
 ///
 /// The status is one of the table in `bt_report`, `meaning.rt`.
-pub fn live_main<R: Threads + Wait + Sync, F: Files, T: Talk<K>, K: Keeper + Send>(
+pub fn live_main<R: Threads + Wait + Sync, F: Files, T: Talk<K>, C: Clock, K: Keeper + Send>(
     rt: &R,
     alloc: Global,
     words: &[String],
     files: &mut F,
     talk: &mut T,
+    clock: &mut C,
     store: K,
 ) -> SessionEnd<K>
     ensures ends { EndsLive (sites_asked (map string_bytes words.now)) (record { told = F.told files.old; faults_before = F.fault_count files.old; faults_after = F.fault_count files.new })
@@ -83,6 +85,8 @@ pub fn live_main<R: Threads + Wait + Sync, F: Files, T: Talk<K>, K: Keeper + Sen
           output = record { before = T.told talk.old; after = T.told talk.new; faults_before = T.fault_count talk.old; faults_after = T.fault_count talk.new };
           turns_before = T.turns talk.old;
           turns_after = T.turns talk.new;
+          moments_before = C.coming clock.old;
+          moments_after = C.coming clock.new;
           store = record { told = K.told result.store; faults = K.fault_count result.store; crashes = K.crashes result.store };
         })
         (record { before = K.told store; after = K.told result.store; faults_before = K.fault_count store; faults_after = K.fault_count result.store })
@@ -90,7 +94,18 @@ pub fn live_main<R: Threads + Wait + Sync, F: Files, T: Talk<K>, K: Keeper + Sen
         (record { status = result.status; histories = result.histories; events = result.events.all }) }
 {
     match live_words(words) {
-        Some((net, _)) => live_on(rt, alloc, net, sites_asked(words), files, talk, store),
+        Some((net, _)) => {
+            live_on(
+                rt,
+                alloc,
+                net,
+                sites_asked(words),
+                files,
+                talk,
+                clock,
+                store,
+            )
+        },
         None => {
             let status = say_faulty_words(alloc, talk, &store);
             SessionEnd::unbegun(alloc, status, store)
@@ -99,13 +114,14 @@ pub fn live_main<R: Threads + Wait + Sync, F: Files, T: Talk<K>, K: Keeper + Sen
 }
 
 /// A session on the network in a file.
-fn live_on<R: Threads + Wait + Sync, F: Files, T: Talk<K>, K: Keeper + Send>(
+fn live_on<R: Threads + Wait + Sync, F: Files, T: Talk<K>, C: Clock, K: Keeper + Send>(
     rt: &R,
     alloc: Global,
     net: &str,
     sites: Sites,
     files: &mut F,
     talk: &mut T,
+    clock: &mut C,
     store: K,
 ) -> SessionEnd<K>
     ensures ends { EndsOn sites (record { told = F.told files.old; faults_before = F.fault_count files.old; faults_after = F.fault_count files.new })
@@ -116,6 +132,8 @@ fn live_on<R: Threads + Wait + Sync, F: Files, T: Talk<K>, K: Keeper + Send>(
           output = record { before = T.told talk.old; after = T.told talk.new; faults_before = T.fault_count talk.old; faults_after = T.fault_count talk.new };
           turns_before = T.turns talk.old;
           turns_after = T.turns talk.new;
+          moments_before = C.coming clock.old;
+          moments_after = C.coming clock.new;
           store = record { told = K.told result.store; faults = K.fault_count result.store; crashes = K.crashes result.store };
         })
         (record { before = K.told store; after = K.told result.store; faults_before = K.fault_count store; faults_after = K.fault_count result.store })
@@ -125,7 +143,7 @@ fn live_on<R: Threads + Wait + Sync, F: Files, T: Talk<K>, K: Keeper + Send>(
         Ok(network) => {
             // This is there for what holds of each network: it is sound.
             let _beams = network.beam_count();
-            run_session(rt, alloc, &network, sites, &NoGate, talk, store)
+            run_session(rt, alloc, &network, sites, &NoGate, talk, clock, store)
         }
         Err(stop) => {
             let status = say_stop(alloc, stop, talk, &store);
@@ -144,6 +162,8 @@ fn say_faulty_words<T: Talk<K>, K: Keeper>(alloc: Global, talk: &mut T, store: &
           output = record { before = T.told talk.old; after = T.told talk.new; faults_before = T.fault_count talk.old; faults_after = T.fault_count talk.new };
           turns_before = T.turns talk.old;
           turns_after = T.turns talk.new;
+          moments_before = None;
+          moments_after = None;
           store = record { told = K.told store.now; faults = K.fault_count store.now; crashes = K.crashes store.now };
         })
         SaysFaultyWords result }
@@ -164,6 +184,8 @@ fn say_stop<T: Talk<K>, K: Keeper>(alloc: Global, stop: Stop, talk: &mut T, stor
           output = record { before = T.told talk.old; after = T.told talk.new; faults_before = T.fault_count talk.old; faults_after = T.fault_count talk.new };
           turns_before = T.turns talk.old;
           turns_after = T.turns talk.new;
+          moments_before = None;
+          moments_after = None;
           store = record { told = K.told store.now; faults = K.fault_count store.now; crashes = K.crashes store.now };
         })
         stop result }

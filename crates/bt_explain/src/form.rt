@@ -119,7 +119,7 @@ const DELAYS: Forms = &[
 /// How many of the forms of a session's lines are a script's, and how many are of a session of a simulated air.
 const SCRIPT_FORMS: usize = 23;
 
-const LIVE_FORMS: usize = 35;
+const LIVE_FORMS: usize = 42;
 
 #[rattlefmt::skip]
 const SESSION: Forms = &[
@@ -146,7 +146,11 @@ const SESSION: Forms = &[
     &[Word("reset"), Name],
     &[Word("standby"), Word("hears"), Number(0, LAST_MESSAGE)],
     &[Word("standby"), Word("burst")],
+    &[Word("desk"), Number(1, DESKS), Word("set"),  Name, Name, Number(0, MOST_UNITS)],
+    &[Word("desk"), Number(1, DESKS), Word("undo"), Number(1, LAST_EDITION)],
     &[Word("go")],
+    &[Word("all")],
+    &[Word("try")],
     &[Word("forget")],
     &[Word("forget"), Tag],
     &[Word("blocks")],
@@ -156,7 +160,10 @@ const SESSION: Forms = &[
     &[Word("demand")],
     &[Word("installed")],
     &[Word("plans")],
+    &[Word("air")],
     &[Word("waiting")],
+    &[Word("clock"), Word("on")],
+    &[Word("clock"), Word("off")],
     &[Word("help")],
     &[Word("mark"), Within(1, LAST_MARK)],
     &[Word("radio"), Within(1, LAST_MARK), Bytes],

@@ -7,15 +7,43 @@ use crate::walk::say_number;
 use bt_frame::LAST_EDITION;
 use bt_net::Network;
 use bt_text::{is_word, number};
-use bt_words::{Form, Token, forms_from, is_tag, tokens_of};
+use bt_words::{Form, Token, forms_from, is_moment, is_tag, tokens_of};
 use memchr::memchr;
 use std::alloc::Global;
 
 /// The words with which the lines of a run and of a session begin: the table has the forms of each, and their words.
-const HEADS: [&str; 26] = [
-    "start", "round", "restart", "total", "desk", "plan", "burst", "tick", "turn", "back", "ahead",
-    "order", "flow", "got", "lost", "deliver", "frame", "air", "reset", "standby", "sent", "fault",
-    "ready", "block", "stopped", "lines",
+const HEADS: [&str; 31] = [
+    "start",
+    "round",
+    "restart",
+    "total",
+    "desk",
+    "plan",
+    "burst",
+    "tick",
+    "turn",
+    "back",
+    "ahead",
+    "order",
+    "flow",
+    "got",
+    "lost",
+    "deliver",
+    "frame",
+    "air",
+    "reset",
+    "standby",
+    "sent",
+    "fault",
+    "ready",
+    "block",
+    "stopped",
+    "lines",
+    "superframe",
+    "status",
+    "last",
+    "missing",
+    "asks",
 ];
 
 /// The words at places of the table that it leaves open: what the satellite or a terminal does with a message that is for it.
@@ -35,11 +63,16 @@ const ANSWERS: [&str; 10] = [
 /// Looks for the first word that no line of a run has.
 pub fn find_output(alloc: Global, fault: &Fault<'_>, cause: &mut Cause) {
     for (at, word) in Words::of(fault.line) {
-        if !is_number(word) && !is_spoken(word) && !is_tag(word) && !is_named(fault.net, word) {
+        if !is_told(word) && !is_spoken(word) && !is_named(fault.net, word) {
             return say_word(alloc, at, word, cause);
         }
     }
     cause.say("no line of a run has these words in this order");
+}
+
+/// Whether a word is a number, a tag or a moment.
+fn is_told(word: &[u8]) -> bool {
+    is_number(word) || is_tag(word) || is_moment(word)
 }
 
 /// Whether a word is a number, or a superframe and the number of a frame of it.

@@ -1,4 +1,4 @@
-// Why an edit, a plan or an order is refused, in a sentence.
+// Why an edit, a plan, an order or a block is refused, in a sentence.
 //
 //     line 7: desk 1 refused E3: row NAE would have 363 slots, and a frame has 320
 use crate::bytes::word_of;
@@ -33,7 +33,11 @@ pub fn add_refusal(session: &Session, heard: &Heard, answer: &[u8], page: &mut P
         second: word_of(answer, at + 3),
         edit: heard.words(),
     };
-    refused.add_why(session.net(), page);
+    if is_word(word_of(answer, 0), b"block") {
+        page.add("nothing of the block was played, since that line of it would be refused");
+    } else {
+        refused.add_why(session.net(), page);
+    }
     page.add("\n");
 }
 

@@ -215,6 +215,15 @@ fn find_fault(
         b'5' => find_full(line, cause),
         _ => find_in_form(alloc, &fault, cause),
     }
+    if !cause.is_found() && digit == b'3' {
+        find_edit(line, cause);
+    }
+}
+
+/// Says that there is no edit to take back.
+fn find_edit(line: &[u8], cause: &mut Cause) {
+    cause.say_of_word(line, 3, "no edit made an edition of this number");
+    cause.hint.add("'state' tells the last edition");
 }
 
 /// Finds out why a line has no shape.
@@ -251,6 +260,10 @@ fn is_of_air(word: &[u8]) -> bool {
     .any(|other| is_word(word, other.as_bytes()))
 }
 
+/// How a block is closed.
+const CLOSE: &str =
+    "'go' or 'all' plays it, 'try' tells what it would come to, and 'forget' gives it up";
+
 /// Says why a line does not stand in its place.
 fn find_block(fault: &Fault<'_>, since: Option<u64>, cause: &mut Cause) {
     if closes(fault.line) {
@@ -266,7 +279,7 @@ fn find_block(fault: &Fault<'_>, since: Option<u64>, cause: &mut Cause) {
         cause.say(" since line ");
         cause.why.add_number(since);
     }
-    cause.hint.add("'go' plays it, and 'forget' gives it up");
+    cause.hint.add(CLOSE);
 }
 
 /// Says why there is no room for a line.
@@ -278,5 +291,5 @@ fn find_full(line: &[u8], cause: &mut Cause) {
         cause.why.add_number(u64::from(MOST_LINES));
         cause.say(" lines at most");
     }
-    cause.hint.add("'go' plays it, and 'forget' gives it up");
+    cause.hint.add(CLOSE);
 }

@@ -148,6 +148,11 @@ filled_says (part.Tag ∷ places) [] (word ∷ ws) after fits count apart plain 
 filled_says (part.Tag ∷ places) (name ∷ names) (word ∷ ws) after fits count apart plain members is =
     let parts = and_parts (not (is_among name names)) (are_apart names) apart in
     open_says places name word names ws members after (filled_says places names ws after fits (omega (arith, count, open_one part.Tag places)) parts.1 plain) parts.0 is
+filled_says (part.Moment ∷ places) names [] after fits count apart plain members is = absurd fits
+filled_says (part.Moment ∷ places) [] (word ∷ ws) after fits count apart plain members is = absurd (omega (arith, count, open_one part.Moment places))
+filled_says (part.Moment ∷ places) (name ∷ names) (word ∷ ws) after fits count apart plain members is =
+    let parts = and_parts (not (is_among name names)) (are_apart names) apart in
+    open_says places name word names ws members after (filled_says places names ws after fits (omega (arith, count, open_one part.Moment places)) parts.1 plain) parts.0 is
 
 -- the whole line
 pub form_says : (places : List Part) (names : List (List ℕ)) (line : List ℕ) (after : Members) → IsForm places names → Fits places (words line)

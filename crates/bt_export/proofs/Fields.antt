@@ -141,6 +141,7 @@ open_front token.Terminal places word rest other = refl
 open_front token.Taken places word rest other = refl
 open_front token.Heard places word rest other = refl
 open_front token.Tag places word rest other = refl
+open_front token.Moment places word rest other = refl
 
 -- at an open place
 pub at_open : (tokens : List Token) (at : ℕ) (names : List (Bor (List ℕ))) (used : ℕ) (words : List (List ℕ)) (word : List ℕ) (name : Bor (List ℕ)) (members : Members) → at < length tokens

@@ -29,6 +29,7 @@ fit (part.Terminal ∷ places) (word ∷ ws) are = fit places ws (and_parts (is_
 fit (part.Taken ∷ places) (word ∷ ws) are = fit places ws (and_parts (is_at part.Taken word) (are_at places ws) are).1
 fit (part.Heard ∷ places) (word ∷ ws) are = fit places ws (and_parts (is_at part.Heard word) (are_at places ws) are).1
 fit (part.Tag ∷ places) (word ∷ ws) are = fit places ws (and_parts (is_at part.Tag word) (are_at places ws) are).1
+fit (part.Moment ∷ places) (word ∷ ws) are = fit places ws (and_parts (is_at part.Moment word) (are_at places ws) are).1
 
 tested : (is : Bool) (form found : Form) (rest : Option Form) → cond is (Some form) rest ≡ Some found → ((is ≡ true) × (form ≡ found)) ⊎ (rest ≡ Some found)
 tested true form found rest has = inl (refl, cc)

@@ -8,6 +8,7 @@ use Rattle.bt_net.specs.Name.{is_name}
 use Rattle.bt_words.specs.declared.form.Form.{Form}
 use Rattle.bt_words.specs.Forms as part
 use Rattle.bt_words.specs.Forms.{Part, forms_from, parts_of}
+use Rattle.bt_words.specs.Moments.{is_moment}
 use Rattle.bt_words.specs.Names.{names_of}
 use Rattle.bt_words.specs.Tags.{is_tag}
 use Rattle.bt_export.specs.Object.{form_object, text_object}
@@ -34,6 +35,7 @@ is_at part.Terminal word = is_name word
 is_at part.Taken word = is_answer word
 is_at part.Heard word = is_answer word
 is_at part.Tag word = is_tag word
+is_at part.Moment word = is_moment word
 
 -- there is a word for each place, and it has the shape of what stands there
 abbrev pub are_at : List Part → List (List ℕ) → Bool

@@ -14,7 +14,7 @@ use crate::text_form::{TextForm, text_forms, text_names, text_tokens};
 use bt_frame::OutOfMemory;
 use bt_net::is_name;
 use bt_text::{LineFault, WordReader, fault_at, first_line, is_word, number_of_digits};
-use bt_words::{Form, Token, forms_from, is_tag, names_of, tokens_of};
+use bt_words::{Form, Token, forms_from, is_moment, is_tag, names_of, tokens_of};
 use serde_json::Value;
 use std::alloc::Global;
 
@@ -175,6 +175,7 @@ fn is_at(token: Token, word: &[u8]) -> bool
         Token::Beam | Token::Terminal => is_name(word),
         Token::Taken | Token::Heard => is_answer(word),
         Token::Tag => is_tag(word),
+        Token::Moment => is_moment(word),
     }
 }
 

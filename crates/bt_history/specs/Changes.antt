@@ -1,5 +1,5 @@
 -- What a list of changes made: an edition of the demand, plans and orders. Each sum is taken afresh from the list.
-use Rattle.std.specs.Prelude.{◌≡◌, ℕ, ◌-◌, ◌==◌, ◌&&◌, if◌then◌else◌, Bool, List, ◌∷◌, ◌++◌, length, sum_by, Option, Some, None, option_map, unwrap_or, slice_get, slice_index_or}
+use Rattle.std.specs.Prelude.{◌≡◌, ℕ, zero, suc, ◌-◌, ◌==◌, ◌&&◌, if◌then◌else◌, Bool, List, ◌∷◌, ◌++◌, length, sum_by, Option, Some, None, option_map, unwrap_or, slice_get, slice_index_or}
 use Rattle.std.specs.List.{filter_map, list_any}
 use Rattle.bt_frame.specs.declared.numbers.Command.{Command}
 use Rattle.bt_frame.specs.declared.numbers.EditionNo.{EditionNo}
@@ -13,6 +13,7 @@ use Rattle.bt_demand.specs.Plan.{empty_plan}
 use Rattle.bt_demand.specs.Traffic.{table_of}
 use Rattle.bt_air.specs.declared.order.Order.{Order}
 use Rattle.bt_air.specs.Orders.{command_of}
+use Rattle.bt_journal.specs.declared.call.Edit.{Edit}
 use Rattle.bt_journal.specs.declared.call.Edit.TheVariants.{Add, Drop, Move}
 use Rattle.bt_journal.specs.declared.call.Change.{Change}
 use Rattle.bt_journal.specs.declared.call.Change.TheVariants as change
@@ -64,6 +65,20 @@ pub record IsDemandAt (changes : List Change) (number : ℕ) (links : List Link)
   pub parts : changes ≡ before ++ after
   pub counted : edition before ≡ number
   pub demand : IsDemandAfter before links
+
+-- the edit that a change is, if it is one
+abbrev pub edit_in : Change → Option Edit
+edit_in (change.Edit edit) = Some edit
+edit_in _ = None
+
+-- the edits among these changes, in order
+abbrev pub edits_among : List Change → List Edit
+edits_among changes = filter_map edit_in changes
+
+-- the edit that made the edition of this number, if one did
+abbrev pub edit_at : List Change → ℕ → Option Edit
+edit_at changes zero = None
+edit_at changes (suc before) = slice_get (edits_among changes) before
 
 -- the plan that a change installs, if any
 abbrev pub plan_in : Change → Option Plan

@@ -116,6 +116,13 @@ impl Centre {
         act
     }
 
+    /// The status that the centre keeps: the latest that it took note of since its start.
+    pub fn kept(&self) -> Option<Status>
+        ensures kept { result ≡ self.now.kept }
+    {
+        self.kept
+    }
+
     /// The order that the centre wants placed.
     pub fn wanted(&self) -> Option<Order>
         ensures wanted { result ≡ self.now.wanted }
@@ -168,6 +175,13 @@ impl Centre {
         self.orders[place as usize]
     }
 
+    /// The last order that was placed.
+    pub fn last_order(&self) -> Option<Order>
+        ensures last { result ≡ last_order self.now.orders }
+    {
+        self.orders.last().copied()
+    }
+
     /// The order that was wanted is placed. `needs` are the terminals that transmit in its edition.
     ///
     /// The orders have their own allocator. One is taken as by every call that takes memory.
@@ -218,13 +232,6 @@ impl Centre {
         } else {
             &[]
         }
-    }
-
-    // The last order that was placed.
-    fn last_order(&self) -> Option<Order>
-        ensures { result ≡ last_order self.now.orders }
-    {
-        self.orders.last().copied()
     }
 
     // Some terminal has still to confirm.

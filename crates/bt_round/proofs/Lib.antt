@@ -13,6 +13,7 @@ pub mod Posting
 pub mod PlannerLines
 pub mod FromNumber
 pub mod Terminals
+pub mod OnAir
 pub mod Sending
 pub mod Running
 pub mod Bridging
@@ -22,3 +23,4 @@ pub mod Unplaced
 pub mod Wanted
 pub mod Turning
 pub mod PlayedLines
+pub mod Trying

@@ -41,13 +41,18 @@ abbrev links_in : Reply → List Link
 links_in (Demand edition newest links) = links
 links_in _ = []
 
+-- a snapshot tells the demand after the changes
+pub demand_told : (net : Net) (old new : State) (reply : Reply) (edition newest : EditionNo) (links : List Link) → Step net old call.Snapshot reply new → reply ≡ Demand edition newest links
+    → IsDemandAfter old.changes links
+demand_told net old new reply edition newest links step is =
+    let told : step.answered.0.links ≡ links = ap links_in (sym step.answered.0.told ∙ is) in
+    subst (λ (l : List Link). IsDemandAfter old.changes l) told step.answered.0.demand
+
 -- what the planner saw is the demand after the changes then
 pub seen_demand : {caller : Calling} (net : Net) (seen : Entry) (edition newest : EditionNo) (links : List Link) (so : IsAnswered net caller seen) → seen.call ≡ call.Snapshot
     → seen.reply ≡ Demand edition newest links → IsDemandAfter so.old.changes links
 seen_demand net seen edition newest links so asked is =
-    let step : Step net so.old call.Snapshot seen.reply so.new = subst (λ (c : Call). Step net so.old c seen.reply so.new) asked so.step in
-    let told : step.answered.0.links ≡ links = ap links_in (sym step.answered.0.told ∙ is) in
-    subst (λ (l : List Link). IsDemandAfter so.old.changes l) told step.answered.0.demand
+    demand_told net so.old so.new seen.reply edition newest links (subst (λ (c : Call). Step net so.old c seen.reply so.new) asked so.step) is
 
 -- a plan that was made for the network names terminals and beams of it
 pub plan_is_on : (net : Net) (links : List Link) (plan : Plan) → AreBetweenTerminals net plan.bursts
@@ -187,24 +192,55 @@ pub saw_more : (old new : Calling) (posted : List Plan) (seen : Entry) → IsSam
     → HasPosted old posted → HasPosted new posted
 saw_more old new posted seen same own asked has = posted_more old new posted posted seen same own has (posts_none posted seen asked)
 
+-- where nothing is new there is nothing to plan, and the line says so
+pub nothing_planned : (net : Net) (seen : Entry) (edition newest : EditionNo) (links : List Link) → seen.call ≡ call.Snapshot → seen.reply ≡ Demand edition newest links → edition.0 ≡ newest.0
+    → PlansOnce net (seen ∷ [])
+nothing_planned net seen edition newest links asked reply same = record {
+  seen = seen;
+  others = [];
+  all = refl;
+  edition = edition;
+  newest = newest;
+  links = links;
+  call = asked;
+  reply = reply;
+  planned = same;
+}
+
+pub nothing_shown : (net : Net) (seen : Entry) (edition newest : EditionNo) (links : List Link) → seen.reply ≡ Demand edition newest links → edition.0 ≡ newest.0
+    → planner_text net (seen ∷ []) ≡ entry_line net None seen
+nothing_shown net seen edition newest links reply same =
+    let line = entry_line net None seen in
+    append-nil (planner_line net seen.reply line) ∙ ap (λ (r : Reply). planner_line net r line) reply ∙ where_same edition.0 newest.0 line same
+
+-- where the edition is new its plan is asked to be installed, and the line of that alone is printed
+pub edition_plans : (net : Net) (seen entry : Entry) (edition newest : EditionNo) (links : List Link) (plan : Plan) → seen.call ≡ call.Snapshot → seen.reply ≡ Demand edition newest links
+    → edition.0 ≢ newest.0 → entry.call ≡ call.Install plan → plan.edition ≡ edition → IsGoodPlan net links plan → PlansOnce net (seen ∷ entry ∷ [])
+edition_plans net seen entry edition newest links plan asked reply differ installs same good = record {
+  seen = seen;
+  others = entry ∷ [];
+  all = refl;
+  edition = edition;
+  newest = newest;
+  links = links;
+  call = asked;
+  reply = reply;
+  planned = (differ, (plan, installs, same, good));
+}
+
+pub edition_shown : (net : Net) (seen entry : Entry) (edition newest : EditionNo) (links : List Link) → seen.reply ≡ Demand edition newest links → edition.0 ≢ newest.0
+    → planner_text net (seen ∷ entry ∷ []) ≡ planner_text net (entry ∷ [])
+edition_shown net seen entry edition newest links reply differ =
+    let unseen : planner_line net seen.reply (entry_line net None seen) ≡ [] =
+    ap (λ (r : Reply). planner_line net r (entry_line net None seen)) reply ∙ where_not edition.0 newest.0 (entry_line net None seen) differ in
+    ap (λ (l : List ℕ). l ++ planner_text net (entry ∷ [])) unseen
+
 -- nothing is new
 pub nothing_new : (net : Net) (seen : Entry) (edition newest : EditionNo) (links : List Link) (posted : List Plan) (h0 h1 : List Entry) (t0 t1 : List ℕ) → seen.caller ≡ 1 → seen.call ≡ call.Snapshot
     → seen.reply ≡ Demand edition newest links → edition.0 ≡ newest.0 → h1 ≡ h0 ++ seen ∷ [] → t1 ≡ t0 ++ entry_line net None seen → PlannerDone net 1 posted posted h0 h1 t0 t1
 nothing_new net seen edition newest links posted h0 h1 t0 t1 caller asked reply same kept printed =
-    let line = entry_line net None seen in
-    let shown : planner_text net (seen ∷ []) ≡ line =
-    append-nil (planner_line net seen.reply line) ∙ ap (λ (r : Reply). planner_line net r line) reply ∙ where_same edition.0 newest.0 line same in
-    one_line net posted posted (seen ∷ []) h0 h1 t0 t1 (record {
-      seen = seen;
-      others = [];
-      all = refl;
-      edition = edition;
-      newest = newest;
-      links = links;
-      call = asked;
-      reply = reply;
-      planned = same;
-    }) (All-cons (IsBy 1) seen [] caller (All-nil (IsBy 1))) (posts_none posted seen asked) kept (printed ∙ ap (λ (l : List ℕ). t0 ++ l) (sym shown))
+    let shown = nothing_shown net seen edition newest links reply same in
+    one_line net posted posted (seen ∷ []) h0 h1 t0 t1 (nothing_planned net seen edition newest links asked reply same) (All-cons (IsBy 1) seen [] caller (All-nil (IsBy 1))) (posts_none posted seen asked) kept (printed ∙ ap (λ (l : List ℕ). t0 ++ l) (sym shown))
 
 -- the edition was planned, and its plan asked to be installed
 pub edition_planned : (net : Net) (seen : Entry) (edition newest : EditionNo) (links : List Link) (plan : Plan) (p0 p1 : List Plan) (h0 h1 h2 : List Entry) (t0 t1 : List ℕ) → seen.caller ≡ 1
@@ -212,22 +248,10 @@ pub edition_planned : (net : Net) (seen : Entry) (edition newest : EditionNo) (l
     → InstallDone net plan p0 p1 h1 h2 t0 t1 → PlannerDone net 1 p0 p1 h0 h2 t0 t1
 edition_planned net seen edition newest links plan p0 p1 h0 h1 h2 t0 t1 caller asked reply differ kept same good done =
     let entry = done.entry in
-    let unseen : planner_line net seen.reply (entry_line net None seen) ≡ [] =
-    ap (λ (r : Reply). planner_line net r (entry_line net None seen)) reply ∙ where_not edition.0 newest.0 (entry_line net None seen) differ in
-    let shown : planner_text net (seen ∷ entry ∷ []) ≡ planner_text net (entry ∷ []) = ap (λ (l : List ℕ). l ++ planner_text net (entry ∷ [])) unseen in
+    let shown = edition_shown net seen entry edition newest links reply differ in
     let posted : installed_by (seen ∷ entry ∷ []) ≡ installed_by (entry ∷ []) =
     installed_by-append (seen ∷ []) (entry ∷ []) ∙ ap (λ (l : List Plan). l ++ installed_by (entry ∷ [])) (seen_installs_none seen asked) in
-    one_line net p0 p1 (seen ∷ entry ∷ []) h0 h2 t0 t1 (record {
-      seen = seen;
-      others = entry ∷ [];
-      all = refl;
-      edition = edition;
-      newest = newest;
-      links = links;
-      call = asked;
-      reply = reply;
-      planned = (differ, (plan, done.call, same, good));
-    }) (All-cons (IsBy 1) seen (entry ∷ []) caller (All-cons (IsBy 1) entry [] done.caller (All-nil (IsBy 1))))
+    one_line net p0 p1 (seen ∷ entry ∷ []) h0 h2 t0 t1 (edition_plans net seen entry edition newest links plan asked reply differ done.call same good) (All-cons (IsBy 1) seen (entry ∷ []) caller (All-cons (IsBy 1) entry [] done.caller (All-nil (IsBy 1))))
     (done.posts ∙ ap (λ (l : List Plan). p0 ++ l) (sym posted)) (two_pieces h0 (seen ∷ []) (entry ∷ []) h1 h2 kept done.kept)
     (done.printed ∙ ap (λ (l : List ℕ). t0 ++ l) (sym shown))
 

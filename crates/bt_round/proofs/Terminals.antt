@@ -12,10 +12,11 @@ use Rattle.bt_round.specs.Worker.{numbered}
 abbrev pub places : ℕ → ℕ → List (ℕ × Place)
 places number count = deliveries_of number (map (λ (terminal : TermNo). Terminal terminal) (numbered count))
 
-numbered-more : (n : ℕ) → numbered (n + 1) ≡ numbered n ++ record { 0 = n } ∷ []
+-- one terminal more
+pub numbered-more : (n : ℕ) → numbered (n + 1) ≡ numbered n ++ record { 0 = n } ∷ []
 numbered-more n = map-range_with_len_more (λ (k : ℕ). record { 0 = k }) 0 n n (omega arith)
 
--- one terminal more
+-- a message for one terminal more
 pub places-more : (number n : ℕ) (before now after : List (ℕ × Place)) → now ≡ before ++ places number n → after ≡ now ++ (number, Terminal (record { 0 = n })) ∷ []
     → after ≡ before ++ places number (n + 1)
 places-more number n before now after so added =

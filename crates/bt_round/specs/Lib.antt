@@ -7,8 +7,10 @@ pub mod Desks
 pub mod Planning
 pub mod Simulated
 pub mod AirLines
+pub mod OnAir
 pub mod Waiting
 pub mod Worker
 pub mod Callers
 pub mod Done
 pub mod Planned
+pub mod Trial

@@ -7,9 +7,11 @@
 //! has its place on the book's line; the round's text is put together when all have returned.
 //! These are promises: `specs/Rounds.antt`, what a round does, and `specs/Boards.antt`, the board between two rounds;
 //! `specs/Done.antt`, what the lines of a desk and of the planner come to, with `Lent`, `Desks` and
-//! `Planning`; `specs/AirLines.antt` with `Simulated` and `Waiting`, what those of the air come to; and of `Callers`, `Worker` and
-//! `Planned` what the public calls name: the number of a caller and its own entries, that a caller is the same, what is
-//! asked, and what was posted. The rest of these three, `Seats` and `Workers` are for bodies alone.
+//! `Planning`; `specs/AirLines.antt` with `Simulated` and `Waiting`, what those of the air come to; `specs/OnAir.antt`, the lines of
+//! how the centre sees the air, which a session asks for (`src/on_air.rt`); `specs/Trial.antt`, what a block of lines comes to on a
+//! copy of the book (`src/trial.rt`); and of `Callers`, `Worker` and `Planned` what the public calls name: the number of a caller and
+//! its own entries, that a caller is the same, what is asked, and what was posted. The rest of these three, `Seats` and `Workers` are
+//! for bodies alone.
 #![tactic(auto)]
 
 mod air;
@@ -19,11 +21,13 @@ mod desk;
 mod flow;
 mod gate;
 mod lines;
+mod on_air;
 mod planner;
 mod round;
 mod seats;
 mod simulated;
 mod standby;
+mod trial;
 mod turn;
 mod waiting;
 mod worker;
@@ -36,4 +40,5 @@ pub use planner::run_planner;
 pub use round::{Station, run_round};
 pub use seats::DESKS;
 pub use simulated::SimulatedCentre;
+pub use trial::{refusal_of, tried_text};
 pub use worker::{CentreOver, CentreWorker};

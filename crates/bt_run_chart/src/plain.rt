@@ -1,4 +1,4 @@
-// A printed line without its tag, which no picture shows.
+// A printed line without its tag and its moment, which no picture shows.
 use bt_air::{Heard, Taken};
 use bt_frame::{Mark, TermNo};
 use bt_run_lines::{Form, Printed, Value};
@@ -17,7 +17,7 @@ pub enum Plain {
     Taken(Taken),
     /// What a terminal did with a message.
     Heard(Heard),
-    /// What no picture shows: a beam, or a tag.
+    /// What no picture shows: a beam, a tag, or a moment.
     Unshown,
 }
 
@@ -30,7 +30,7 @@ pub struct PlainLine {
 }
 
 impl PlainLine {
-    /// The line without its tag.
+    /// The line without its tag and its moment.
     pub fn of(line: &Printed<'_>) -> PlainLine {
         let mut places = [Plain::Unshown; MOST_VALUES];
         let mut count = 0;
@@ -63,6 +63,6 @@ fn plain_of(value: &Value<'_>) -> Plain {
         Value::Terminal(terminal) => Plain::Terminal(*terminal),
         Value::Taken(taken) => Plain::Taken(*taken),
         Value::Heard(heard) => Plain::Heard(*heard),
-        Value::Beam(_) | Value::Tag(_) => Plain::Unshown,
+        Value::Beam(_) | Value::Tag(_) | Value::Moment(_) => Plain::Unshown,
     }
 }

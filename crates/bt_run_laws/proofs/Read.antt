@@ -36,6 +36,7 @@ use Rattle.bt_run_lines.proofs.FormsApart.{head_of, reached}
 use Rattle.bt_run_lines.proofs.Outputs.{lines_from-line, then_lines}
 use Rattle.bt_run_lines.proofs.Printing.{by_form}
 use Rattle.bt_run_lines.proofs.ReadBack.{spelled_read}
+use Rattle.bt_run_lines.proofs.Moments.{is_moment_byte, moment_lacks}
 use Rattle.bt_run_lines.proofs.Tags.{tag_lacks}
 use Rattle.bt_run_laws.specs.Readable.{tells_lines, IsLone, text_of, AreLines}
 
@@ -88,8 +89,8 @@ heard_is_name : (answer : Heard) → is_name (heard_name answer) ≡ true
 heard_is_name heard.Took = refl
 heard_is_name answer = refl
 
--- a byte that is in no name and no number is in no word of a line
-module _ (net : Net) (sound : IsSound net) (byte : ℕ) (no_digit : is_ascii_digit byte ≡ false) (no_name : is_name_byte byte ≡ false) (no_point : (46 == byte) ≡ false) (no_at : (64 == byte) ≡ false) where
+-- a byte that is in no name, no number and no moment is in no word of a line
+module _ (net : Net) (sound : IsSound net) (byte : ℕ) (no_digit : is_ascii_digit byte ≡ false) (no_name : is_name_byte byte ≡ false) (no_point : (46 == byte) ≡ false) (no_at : (64 == byte) ≡ false) (no_moment : is_moment_byte byte ≡ false) where
   word_lacks : (place : Part) (one : Value) → SuitsPlace net place one → lacks byte (word_of net one) ≡ true
   word_lacks part.Number (value.Number n) suits = lacks-decimal byte n no_digit (omega arith)
   word_lacks part.Count (value.Number n) suits = lacks-decimal byte n no_digit (omega arith)
@@ -101,6 +102,7 @@ module _ (net : Net) (sound : IsSound net) (byte : ℕ) (no_digit : is_ascii_dig
   word_lacks part.Taken (value.Taken answer) suits = name_lacks byte (taken_name answer) no_name (taken_is_name answer)
   word_lacks part.Heard (value.Heard answer) suits = name_lacks byte (heard_name answer) no_name (heard_is_name answer)
   word_lacks part.Tag (value.Tag tag) suits = tag_lacks byte tag no_at no_name suits
+  word_lacks part.Moment (value.Moment moment) suits = moment_lacks byte moment no_moment suits
   word_lacks place one suits = absurd suits
 
   words_lack : (places : List Part) (values : List Value) → SuitPlaces net places values → texts_are_names places ≡ true → list_all (lacks byte) (words_of net places values) ≡ true
@@ -125,13 +127,13 @@ module _ (net : Net) (sound : IsSound net) (printed : Printed) (is : IsLone net 
 
   -- it has no newline inside
   line_lacks : lacks 10 (spelled net printed) ≡ true
-  line_lacks = lacks-spaced 10 own_words refl ∙ words_lack net sound 10 refl refl refl refl (parts_of printed.form) printed.said is.suits.1 (form_of_names printed.form)
+  line_lacks = lacks-spaced 10 own_words refl ∙ words_lack net sound 10 refl refl refl refl refl (parts_of printed.form) printed.said is.suits.1 (form_of_names printed.form)
 
   -- it tells of no line behind it
   none_told : told_behind (spelled net printed) ≡ 0
   none_told =
       let some : 0 < length own_words = omega (arith, ap length begins) in
-      ap told_in (words-spaced own_words some (words_lack net sound 32 refl refl refl refl (parts_of printed.form) printed.said is.suits.1 (form_of_names printed.form)) ∙ begins)
+      ap told_in (words-spaced own_words some (words_lack net sound 32 refl refl refl refl refl (parts_of printed.form) printed.said is.suits.1 (form_of_names printed.form)) ∙ begins)
       ∙ rw (other_head printed.form is.lone) refl
 
   -- it is read, and then what stands behind it

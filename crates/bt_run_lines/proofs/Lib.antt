@@ -4,6 +4,7 @@ pub mod Outputs
 pub mod Spelling
 pub mod Printing
 pub mod Tags
+pub mod Moments
 pub mod WordsRead
 pub mod FormsApart
 pub mod ReadBack

@@ -27,8 +27,9 @@ use Rattle.bt_run_lines.specs.declared.printed.Value.{Value}
 use Rattle.bt_run_lines.specs.declared.printed.Value.TheVariants as value
 use Rattle.bt_words.specs.Forms as part
 use Rattle.bt_words.specs.Forms.{Part, parts_of, forms_from}
+use Rattle.bt_words.specs.Moments.{is_moment}
 use Rattle.bt_words.specs.Tags.{is_tag}
-use Rattle.bt_run_lines.specs.Words.{small_number, desk_number, frame_of, beam_of, taken_of, heard_of, tag_of, value_of, said_by}
+use Rattle.bt_run_lines.specs.Words.{small_number, desk_number, frame_of, beam_of, taken_of, heard_of, tag_of, moment_of, value_of, said_by}
 use Rattle.bt_run_lines.specs.Lines.{IsOf, followed, values_in, printed_as, or_else, first_of_forms, printed_in, line_in}
 use Rattle.bt_run_lines.specs.Spelled.{word_of, words_of, spelled}
 
@@ -121,6 +122,9 @@ heard_word word h is =
 tag_word : (word tag : List ℕ) → tag_of word ≡ Some tag → tag ≡ word
 tag_word word tag is = let same : Some word ≡ Some tag = (tested (is_tag word) (Some word) tag is).1 in cc
 
+moment_word : (word moment : List ℕ) → moment_of word ≡ Some moment → moment ≡ word
+moment_word word moment is = let same : Some word ≡ Some moment = (tested (is_moment word) (Some word) moment is).1 in cc
+
 mapped : {X : Type 0} (wrap : X → Value) (o : Option X) (one : Value) → option_map wrap o ≡ Some one → (x : X) × (o ≡ Some x) × (wrap x ≡ one)
 mapped wrap None one is = absurd cc
 mapped wrap (Some x) one is = (x, refl, cc)
@@ -152,6 +156,9 @@ value_said net part.Heard word one is =
 value_said net part.Tag word one is =
     let (tag, read, same) = mapped (λ tag. value.Tag tag) (tag_of word) one is in
     subst (IsSaid net word) same (tag_word word tag read, tt)
+value_said net part.Moment word one is =
+    let (moment, read, same) = mapped (λ moment. value.Moment moment) (moment_of word) one is in
+    subst (IsSaid net word) same (moment_word word moment read, tt)
 value_said net (part.Text text) word one is = absurd cc
 
 -- the words of places

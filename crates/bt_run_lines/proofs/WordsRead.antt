@@ -32,6 +32,7 @@ use Rattle.bt_words.specs.Forms.{Part}
 use Rattle.bt_run_lines.specs.Words.{small_number, desk_number, frame_of, frame_in, beam_of, taken_of, heard_of, value_of}
 use Rattle.bt_run_lines.specs.Spelled.{word_of, SuitsPlace}
 use Rattle.bt_run_lines.proofs.First.{position-first}
+use Rattle.bt_run_lines.proofs.Moments.{moment_lacks}
 use Rattle.bt_run_lines.proofs.Tags.{tag_lacks}
 
 -- numbers
@@ -96,6 +97,7 @@ value_read net sound part.Terminal (value.Terminal terminal) suits = ap (option_
 value_read net sound part.Taken (value.Taken answer) suits = ap (option_map (λ answer. value.Taken answer)) (taken_read answer suits)
 value_read net sound part.Heard (value.Heard answer) suits = ap (option_map (λ answer. value.Heard answer)) (heard_read answer suits)
 value_read net sound part.Tag (value.Tag tag) suits = ap (λ b. option_map (λ tag. value.Tag tag) (cond b (Some tag) None)) suits
+value_read net sound part.Moment (value.Moment moment) suits = ap (λ b. option_map (λ moment. value.Moment moment) (cond b (Some moment) None)) suits
 value_read net sound place one suits = absurd suits
 
 -- no word of a value has a space
@@ -118,4 +120,5 @@ value_lacks net sound part.Terminal (value.Terminal terminal) suits = name_lacks
 value_lacks net sound part.Taken (value.Taken answer) suits = taken_lacks answer
 value_lacks net sound part.Heard (value.Heard answer) suits = heard_lacks answer
 value_lacks net sound part.Tag (value.Tag tag) suits = tag_lacks 32 tag refl refl suits
+value_lacks net sound part.Moment (value.Moment moment) suits = moment_lacks 32 moment refl suits
 value_lacks net sound place one suits = absurd suits

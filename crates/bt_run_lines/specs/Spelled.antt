@@ -16,6 +16,7 @@ use Rattle.bt_run_lines.specs.declared.printed.Value.TheVariants as value
 use Rattle.bt_words.specs.Filled.{filled}
 use Rattle.bt_words.specs.Forms as part
 use Rattle.bt_words.specs.Forms.{Part, is_of_a_run, parts_of}
+use Rattle.bt_words.specs.Moments.{is_moment}
 use Rattle.bt_words.specs.Tags.{is_tag}
 
 -- the word of a value
@@ -27,6 +28,7 @@ word_of net (value.Terminal terminal) = name_at net terminal
 word_of net (value.Taken taken) = taken_name taken
 word_of net (value.Heard heard) = heard_name heard
 word_of net (value.Tag tag) = tag
+word_of net (value.Moment moment) = moment
 
 -- the words of these places, with the values at those that have no fixed word
 abbrev pub words_of : Net → List Part → List Value → List (List ℕ)
@@ -47,6 +49,7 @@ SuitsPlace net part.Terminal (value.Terminal terminal) = IsTerminal net terminal
 SuitsPlace net part.Taken (value.Taken answer) = answer ≢ taken.NotForMe
 SuitsPlace net part.Heard (value.Heard answer) = answer ≢ heard.NotForMe
 SuitsPlace net part.Tag (value.Tag tag) = IsTrue (is_tag tag)
+SuitsPlace net part.Moment (value.Moment moment) = IsTrue (is_moment moment)
 SuitsPlace net place value = ⊥
 
 -- these values are those of the places that have no fixed word, one each and no more

@@ -15,6 +15,7 @@ use Rattle.bt_run_lines.specs.declared.printed.Value.{Value}
 use Rattle.bt_run_lines.specs.declared.printed.Value.TheVariants as value
 use Rattle.bt_words.specs.Forms as part
 use Rattle.bt_words.specs.Forms.{Part}
+use Rattle.bt_words.specs.Moments.{is_moment}
 use Rattle.bt_words.specs.Tags.{is_tag}
 
 -- the number of a u32 that a word is
@@ -63,6 +64,10 @@ heard_of word =
 abbrev pub tag_of : List ℕ → Option (List ℕ)
 tag_of word = if is_tag word then Some word else None
 
+-- the moment that a word is
+abbrev pub moment_of : List ℕ → Option (List ℕ)
+moment_of word = if is_moment word then Some word else None
+
 -- what a word says at a place that has no fixed word
 abbrev pub value_of : Net → Part → List ℕ → Option Value
 value_of net (part.Text _) word = None
@@ -75,6 +80,7 @@ value_of net part.Terminal word = option_map (λ terminal. value.Terminal termin
 value_of net part.Taken word = option_map (λ taken. value.Taken taken) (taken_of word)
 value_of net part.Heard word = option_map (λ heard. value.Heard heard) (heard_of word)
 value_of net part.Tag word = option_map (λ tag. value.Tag tag) (tag_of word)
+value_of net part.Moment word = option_map (λ moment. value.Moment moment) (moment_of word)
 
 -- what a word says at a place, where it may stand there: a fixed word says nothing
 abbrev pub said_by : Net → Part → List ℕ → Option (List Value)

@@ -19,5 +19,5 @@ pub use laws::{
     printed_lines_have_one_spelling, spelled_lines_are_read,
 };
 pub use output::{OutputCode, check_output};
-pub use printed::{Printed, Tag, Value};
+pub use printed::{LineWord, Printed, Value};
 pub use reader::{read_line, told_behind};

@@ -8,13 +8,13 @@ use bt_frame::{BeamNo, Mark, TermNo};
 use bt_words::{Form, MOST_VALUES};
 use std::marker::Model;
 
-/// The tag of those who speak, its `@` included, where it stands in its line.
+/// A word as it is spelled, where it stands in its line: a tag, its `@` included, or a moment.
 #[derive(Drop)]
-pub struct Tag<'a> {
+pub struct LineWord<'a> {
     bytes: &'a [u8],
 }
 
-impl<'a> Model for Tag<'a> {
+impl<'a> Model for LineWord<'a> {
     ghost use Rattle.std.specs.Prelude.{ℕ, List};
 
     ghost Value = { List ℕ };
@@ -22,12 +22,12 @@ impl<'a> Model for Tag<'a> {
     ghost view = { λ a. a.bytes.now };
 }
 
-impl<'a> Tag<'a> {
-    // The tag of these bytes.
-    pub(crate) fn of(bytes: &'a [u8]) -> Tag<'a>
+impl<'a> LineWord<'a> {
+    // The word of these bytes.
+    pub(crate) fn of(bytes: &'a [u8]) -> LineWord<'a>
         ensures { result ≡ bytes.now }
     {
-        Tag { bytes }
+        LineWord { bytes }
     }
 
     /// Its bytes.
@@ -54,7 +54,9 @@ pub enum Value<'a> {
     /// What a terminal did with a message.
     Heard(Heard),
     /// The tag of those who speak.
-    Tag(Tag<'a>),
+    Tag(LineWord<'a>),
+    /// The moment that a clock told.
+    Moment(LineWord<'a>),
 }
 
 /// A printed line: its form, and what its words say that are not fixed, in the order of the line.

@@ -3,14 +3,14 @@ ghost use Rattle.std.specs.Prelude.{◌≡◌, ◌<◌, ◌==◌, ◌++◌, Some
 ghost use Rattle.bt_text.specs.WordReader.{number_to};
 ghost use Rattle.bt_words.specs.declared.token.TheConstants.{MOST_VALUES};
 ghost use Rattle.bt_words.specs.Forms.{part_of, is_fixed};
-ghost use Rattle.bt_run_lines.specs.Words.{desk_number, frame_in, beam_of, taken_of, heard_of, tag_of, value_of, said_by};
+ghost use Rattle.bt_run_lines.specs.Words.{desk_number, frame_in, beam_of, taken_of, heard_of, moment_of, tag_of, value_of, said_by};
 
-use crate::printed::{Tag, Value, Values};
+use crate::printed::{LineWord, Value, Values};
 use bt_air::{Heard, Taken};
 use bt_frame::{BeamNo, MOST_DESKS, Mark};
 use bt_net::Network;
 use bt_text::{is_word, number, number_of_digits};
-use bt_words::{Token, is_tag};
+use bt_words::{Token, is_moment, is_tag};
 
 /// Adds what the word says at this place, and answers whether it may stand there.
 pub(crate) fn add_said<'a>(
@@ -50,6 +50,7 @@ fn value_of<'a>(net: &Network, token: Token, word: &'a [u8]) -> Option<Value<'a>
         Token::Taken => Some(Value::Taken(taken_of(word)?)),
         Token::Heard => Some(Value::Heard(heard_of(word)?)),
         Token::Tag => Some(Value::Tag(tag_of(word)?)),
+        Token::Moment => Some(Value::Moment(moment_of(word)?)),
     }
 }
 
@@ -154,11 +155,22 @@ fn heard_of(word: &[u8]) -> Option<Heard>
 }
 
 // The tag that a word is.
-fn tag_of<'a>(word: &'a [u8]) -> Option<Tag<'a>>
+fn tag_of<'a>(word: &'a [u8]) -> Option<LineWord<'a>>
     ensures { result ≡ tag_of word.now }
 {
     if is_tag(word) {
-        Some(Tag::of(word))
+        Some(LineWord::of(word))
+    } else {
+        None
+    }
+}
+
+// The moment that a word is.
+fn moment_of<'a>(word: &'a [u8]) -> Option<LineWord<'a>>
+    ensures { result ≡ moment_of word.now }
+{
+    if is_moment(word) {
+        Some(LineWord::of(word))
     } else {
         None
     }

@@ -16,7 +16,7 @@ ghost use Rattle.bt_site.specs.Sites.{aired_of, centre_with, noted_by, turn_says
 use crate::carry::message_of;
 use crate::plans::Plans;
 use crate::posted::{Posted, post};
-use crate::says::{last_order, send_act, send_known, send_order};
+use crate::says::{send_act, send_known, send_order};
 use bt_air::{Act, Aired, Answer, Message, Order};
 use bt_demand::Plan;
 use bt_frame::{EditionNo, Mark, OutOfMemory};
@@ -67,6 +67,13 @@ impl CentreSite {
         ensures plans { result.now ≡ record { terminals = self.now.terminals; all = self.now.plans } }
     {
         &self.plans
+    }
+
+    /// The centre itself.
+    pub fn centre(&self) -> &Centre
+        ensures centre { result.now ≡ self.now.centre }
+    {
+        &self.centre
     }
 
     /// The order that its last turn wanted, where it was neither placed nor lost since.
@@ -206,6 +213,6 @@ fn last_kept(centre: &Centre, kept: bool) -> Option<Order>
 {
     match centre.wanted() {
         Some(order) if kept => Some(order),
-        _ => last_order(centre),
+        _ => centre.last_order(),
     }
 }

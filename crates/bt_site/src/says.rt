@@ -140,7 +140,7 @@ pub(crate) fn send_act(sent: &mut Vec<Posted>, plans: &Plans, centre: &Centre, a
     ensures capacity { vec_capacity sent.new ≡ vec_capacity sent.old }
     ensures count { vec_len sent.new ≤ vec_len sent.old + (plans.now.terminals + 1) }
 {
-    let last = last_order(centre);
+    let last = centre.last_order();
     match act {
         Act::RepeatLoad { load } => {
             if load {
@@ -177,17 +177,5 @@ fn send_last(sent: &mut Vec<Posted>, plans: &Plans, centre: &Centre, last: Optio
 {
     if let Some(Order::Load { command, edition }) = last {
         send_missing(sent, plans, centre, command, edition);
-    }
-}
-
-/// The last order that was placed.
-pub(crate) fn last_order(centre: &Centre) -> Option<Order>
-    ensures { result ≡ last_order centre.now.orders }
-{
-    let count = centre.order_count();
-    if count == 0 {
-        None
-    } else {
-        Some(centre.order(count - 1))
     }
 }

@@ -1,3 +1,4 @@
 pub mod Places
 pub mod Scripts
 pub mod Tags
+pub mod InTurn

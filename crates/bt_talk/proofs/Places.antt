@@ -1,5 +1,5 @@
 -- The place of the block of a tag among those that are open, and what a line leaves there.
-use Rattle.std.proofs.Common.{◌≡◌, ℕ, suc, ◌+◌, ◌<◌, Bool, true, false, cond, List, [], ◌∷◌, ◌++◌, length, get_or, take, drop, Some, None, refl, sym, ap, ◌∙◌, subst, arith}
+use Rattle.std.proofs.Common.{◌≡◌, ℕ, suc, ◌+◌, ◌<◌, Bool, true, false, cond, List, [], ◌∷◌, ◌++◌, length, get_or, take, drop, Option, Some, None, refl, sym, ap, ◌∙◌, subst, arith}
 use Rattle.std.specs.Prelude.{nat_lt, not, option_map, remove}
 use Rattle.std.specs.List.{position_or_len}
 use Rattle.std.specs.Option.{is_some}
@@ -14,9 +14,10 @@ use Rattle.bt_talk.specs.declared.block.Step.TheVariants as step
 use Rattle.bt_talk.specs.declared.blocks.TheConstants.{MOST_OPEN_BLOCKS}
 use Rattle.bt_script.specs.declared.sites.Sites.{Sites}
 use Rattle.bt_talk.specs.Answers.{count_in}
-use Rattle.bt_talk.specs.Block.{IsOwnFor, IsStepFor, Own, line_row}
+use Rattle.bt_talk.specs.Block.{IsOwnFor, IsStepFor, Own, wish_row}
 use Rattle.bt_talk.specs.Blocks.{IsBlockFor, IsOpenFor, has_room, kept_row, other_row, own_of, with_own, with_said}
 use Rattle.bt_talk.specs.Opened.{Open, OpenBlock}
+use Rattle.bt_talk.specs.Wishes.{Wished}
 
 -- the place of the block of a tag, or how many are open where that is closed
 abbrev pub place_in : List ℕ → Open → ℕ
@@ -172,37 +173,37 @@ step_for_test net behind blocks stp true named = named
 step_for_test net behind blocks stp false named = tt
 
 -- what a line comes to in the block of its tag names terminals of the network alone
-pub open_for : (net : Net) (sites : Sites) (at : ℕ) (tag text : List ℕ) (blocks : Open) (own : Own) (stp : Step) (on : Open × Step) → (let row : Own × Step = (own, stp) in row ≡ line_row net sites (own_of tag blocks) text)
-    → on ≡ kept_row at tag blocks (line_row net sites (own_of tag blocks) text) → IsOpenFor net blocks → IsOwnFor net own → IsOpenFor net on.0
-open_for net sites at tag text blocks own stp on row is others named =
+pub open_for : (net : Net) (sites : Sites) (at : ℕ) (tag text : List ℕ) (wished : Option Wished) (blocks : Open) (own : Own) (stp : Step) (on : Open × Step) → (let row : Own × Step = (own, stp) in row ≡ wish_row net sites (own_of tag blocks) text wished)
+    → on ≡ kept_row at tag blocks (wish_row net sites (own_of tag blocks) text wished) → IsOpenFor net blocks → IsOwnFor net own → IsOpenFor net on.0
+open_for net sites at tag text wished blocks own stp on row is others named =
     subst (λ (r : Open × Step). IsOpenFor net r.0) (sym (is ∙ ap (kept_row at tag blocks) (sym row))) (kept_for net at tag blocks (own, stp) others named)
 
-pub step_for : (net : Net) (sites : Sites) (at : ℕ) (tag text : List ℕ) (blocks : Open) (own : Own) (stp : Step) (on : Open × Step) → (let row : Own × Step = (own, stp) in row ≡ line_row net sites (own_of tag blocks) text)
-    → on ≡ kept_row at tag blocks (line_row net sites (own_of tag blocks) text) → IsStepFor net stp → IsStepFor net on.1
-step_for net sites at tag text blocks own stp on row is named =
+pub step_for : (net : Net) (sites : Sites) (at : ℕ) (tag text : List ℕ) (wished : Option Wished) (blocks : Open) (own : Own) (stp : Step) (on : Open × Step) → (let row : Own × Step = (own, stp) in row ≡ wish_row net sites (own_of tag blocks) text wished)
+    → on ≡ kept_row at tag blocks (wish_row net sites (own_of tag blocks) text wished) → IsStepFor net stp → IsStepFor net on.1
+step_for net sites at tag text wished blocks own stp on row is named =
     subst (λ (r : Open × Step). IsStepFor net r.1) (sym (is ∙ ap (kept_row at tag blocks) (sym row))) (step_for_test net (with_own at tag blocks own) blocks stp (has_room blocks (own_of tag blocks) own) named)
 
 -- where the block was closed
-pub row_closed : (net : Net) (sites : Sites) (tag text : List ℕ) (blocks : Open) (own closed : Own) (stp : Step) → closed ≡ None → own_of tag blocks ≡ None → (let row : Own × Step = (own, stp) in row ≡ line_row net sites closed text)
-    → (let row : Own × Step = (own, stp) in row ≡ line_row net sites (own_of tag blocks) text)
-row_closed net sites tag text blocks own closed stp is none row = row ∙ ap (λ (o : Own). line_row net sites o text) (is ∙ sym none)
+pub row_closed : (net : Net) (sites : Sites) (tag text : List ℕ) (wished : Option Wished) (blocks : Open) (own closed : Own) (stp : Step) → closed ≡ None → own_of tag blocks ≡ None → (let row : Own × Step = (own, stp) in row ≡ wish_row net sites closed text wished)
+    → (let row : Own × Step = (own, stp) in row ≡ wish_row net sites (own_of tag blocks) text wished)
+row_closed net sites tag text wished blocks own closed stp is none row = row ∙ ap (λ (o : Own). wish_row net sites o text wished) (is ∙ sym none)
 
 -- where it was open
-pub row_open : (net : Net) (sites : Sites) (tag text : List ℕ) (blocks : Open) (seen d : OpenBlock) (own before : Own) (stp : Step) (place : ℕ) → place ≡ place_in tag blocks → place < length blocks → seen ≡ get_or blocks place d
-    → before ≡ Some seen.said → (let row : Own × Step = (own, stp) in row ≡ line_row net sites before text) → (let row : Own × Step = (own, stp) in row ≡ line_row net sites (own_of tag blocks) text)
-row_open net sites tag text blocks seen d own before stp place at_it within seen_is said row =
+pub row_open : (net : Net) (sites : Sites) (tag text : List ℕ) (wished : Option Wished) (blocks : Open) (seen d : OpenBlock) (own before : Own) (stp : Step) (place : ℕ) → place ≡ place_in tag blocks → place < length blocks → seen ≡ get_or blocks place d
+    → before ≡ Some seen.said → (let row : Own × Step = (own, stp) in row ≡ wish_row net sites before text wished) → (let row : Own × Step = (own, stp) in row ≡ wish_row net sites (own_of tag blocks) text wished)
+row_open net sites tag text wished blocks seen d own before stp place at_it within seen_is said row =
     let there : own_of tag blocks ≡ Some seen.said =
     own_some tag blocks d (subst (λ (n : ℕ). n < length blocks) at_it within)
     ∙ ap (λ (n : ℕ). (let found : Own = Some (get_or blocks n d).said in found)) (sym at_it)
     ∙ ap (λ (one : OpenBlock). (let found : Own = Some one.said in found)) (sym seen_is) in
-    row ∙ ap (λ (o : Own). line_row net sites o text) (said ∙ sym there)
+    row ∙ ap (λ (o : Own). wish_row net sites o text wished) (said ∙ sym there)
 
 -- what was put back then is the row
-pub put_back_row : (net : Net) (sites : Sites) (at : ℕ) (tag text : List ℕ) (blocks after : Open) (seen d : OpenBlock) (own : Own) (stp : Step) (place : ℕ) → place ≡ place_in tag blocks → place < length blocks → seen ≡ get_or blocks place d
-    → (let row : Own × Step = (own, stp) in row ≡ line_row net sites (own_of tag blocks) text)
+pub put_back_row : (net : Net) (sites : Sites) (at : ℕ) (tag text : List ℕ) (wished : Option Wished) (blocks after : Open) (seen d : OpenBlock) (own : Own) (stp : Step) (place : ℕ) → place ≡ place_in tag blocks → place < length blocks → seen ≡ get_or blocks place d
+    → (let row : Own × Step = (own, stp) in row ≡ wish_row net sites (own_of tag blocks) text wished)
     → after ≡ take place (remove blocks place) ++ with_said (record { tag = seen.tag; since = seen.since; said = [] }) own ++ drop place (remove blocks place)
-    → (let row : Open × Step = (after, stp) in row ≡ kept_row at tag blocks (line_row net sites (own_of tag blocks) text))
-put_back_row net sites at tag text blocks after seen d own stp place at_it within seen_is row after_is =
+    → (let row : Open × Step = (after, stp) in row ≡ kept_row at tag blocks (wish_row net sites (own_of tag blocks) text wished))
+put_back_row net sites at tag text wished blocks after seen d own stp place at_it within seen_is row after_is =
     let rest = remove blocks place in
     let put : after ≡ put_at (place_in tag blocks) d blocks own =
     after_is

@@ -1,6 +1,6 @@
 -- What a line of a session comes to in the block of its tag: a table with a row for each kind of line, where that is closed and where it
 -- is open.
-use Rattle.std.specs.Prelude.{ℕ, ◌&&◌, if◌then◌else◌, nat_lt, Bool, true, false, List, [], ◌∷◌, ◌++◌, length, codes, Option, Some, None, Ok, Err, All}
+use Rattle.std.specs.Prelude.{ℕ, ◌≤◌, ◌&&◌, if◌then◌else◌, nat_lt, Bool, true, false, List, [], ◌∷◌, ◌++◌, length, codes, Option, Some, None, Ok, Err, All}
 use Rattle.bt_frame.specs.declared.limits.TheConstants.{MOST_LINES}
 use Rattle.bt_frame.specs.declared.numbers.TermNo.{TermNo}
 use Rattle.bt_text.specs.Text.{is_word, words}
@@ -24,6 +24,7 @@ use Rattle.bt_talk.specs.declared.block.Query.{Query}
 use Rattle.bt_talk.specs.declared.block.Query.TheVariants as query
 use Rattle.bt_talk.specs.declared.block.Step.{Step}
 use Rattle.bt_talk.specs.declared.block.Step.TheVariants as step
+use Rattle.bt_talk.specs.Wishes.{Wished}
 
 -- the lines that wait in the block of a tag; None where that is closed
 abbrev pub Own : Type 0
@@ -99,6 +100,16 @@ abbrev pub forget_row : Own → Own × Step
 forget_row None = (None, step.Fault S4)
 forget_row (Some said) = (None, step.Nothing)
 
+-- `all`: the block is played, where each of its edits would be done
+abbrev pub all_row : Own → Own × Step
+all_row None = (None, step.Fault S4)
+all_row (Some said) = (None, step.All said)
+
+-- `try`: it is told what the block would come to
+abbrev pub try_row : Own → Own × Step
+try_row None = (None, step.Fault S4)
+try_row (Some said) = (None, step.Tells (query.Try said))
+
 -- a line that asks and changes nothing is told in an open block too, which stays as it is
 abbrev pub tell_row : Own → Query → Own × Step
 tell_row block one = (block, step.Tells one)
@@ -116,9 +127,10 @@ word_asked sites text =
     else (if is_word (codes "demand") text then Some query.Demand
     else (if is_word (codes "installed") text then Some query.Installed
     else (if is_word (codes "plans") text then Some query.Plans
+    else (if is_word (codes "air") text then Some query.Air
     else (if is_word (codes "waiting") text then waiting_asked sites
     else (if is_word (codes "help") text then Some (query.Help sites)
-    else None))))))
+    else None)))))))
 
 -- the names behind `room`
 abbrev pub room_names : List (List ℕ) → Option (List ℕ × List ℕ)
@@ -145,7 +157,20 @@ abbrev pub line_row : Net → Sites → Own → List ℕ → Own × Step
 line_row net sites block text =
     if is_word (codes "go") text then go_row block
     else (if is_word (codes "forget") text then forget_row block
-    else asked_row net sites block text (word_asked sites text))
+    else (if is_word (codes "all") text then all_row block
+    else (if is_word (codes "try") text then try_row block
+    else asked_row net sites block text (word_asked sites text))))
+
+-- what a desk wishes: the line that it says, no line, or its fault
+abbrev pub wished_row : Own → Wished → Own × Step
+wished_row block (Ok (Some one)) = said_row block one
+wished_row block (Ok None) = (block, step.Nothing)
+wished_row block (Err code) = (block, step.Fault code)
+
+-- a line that wishes something, or another
+abbrev pub wish_row : Net → Sites → Own → List ℕ → Option Wished → Own × Step
+wish_row net sites block text (Some wished) = wished_row block wished
+wish_row net sites block text None = line_row net sites block text
 
 -- the lines of the block name terminals of the network alone
 abbrev pub IsOwnFor : Net → Own → Type 0
@@ -155,11 +180,14 @@ IsOwnFor net (Some said) = All (IsSaidFor net) said
 -- so does what is asked
 abbrev pub IsQueryFor : Net → Query → Type 0
 IsQueryFor net (query.Room from to) = IsBetweenTerminals net from to
+IsQueryFor net (query.Try said) = All (IsSaidFor net) said
 IsQueryFor net _ = Unit {0}
 
--- so does the part that is played, or what is told, where there is one
+-- so does the part that is played, the block, which has few lines, or what is told, where there is one
 abbrev pub IsStepFor : Net → Step → Type 0
 IsStepFor net step.Nothing = Unit {0}
 IsStepFor net (step.Fault code) = Unit {0}
 IsStepFor net (step.Plays one) = IsItemFor net one
 IsStepFor net (step.Tells one) = IsQueryFor net one
+IsStepFor net (step.All said) = All (IsSaidFor net) said × (length said ≤ MOST_LINES)
+IsStepFor net (step.Clock on) = Unit {0}

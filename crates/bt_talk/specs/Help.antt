@@ -9,6 +9,8 @@ abbrev pub help_lines : List (List ℕ)
 help_lines =
     codes "round: a block of lines begins" ∷
     codes "go: the block is played as one round" ∷
+    codes "all: the block is played line by line, where each of its edits would be done" ∷
+    codes "try: it is told what the block would come to, and the block is given up" ∷
     codes "forget: the block is given up" ∷
     codes "forget @WORD: the block of that tag is given up" ∷
     codes "blocks: the blocks that are open" ∷
@@ -16,6 +18,8 @@ help_lines =
     codes "desk D add FROM TO UNITS: desk D wants so many slots more for the link" ∷
     codes "desk D drop FROM TO UNITS: desk D wants so many fewer" ∷
     codes "desk D move FROM TO NEWFROM NEWTO UNITS: so many fewer for the one, and more for the other" ∷
+    codes "desk D set FROM TO UNITS: the add or drop that brings the link to so many slots" ∷
+    codes "desk D undo K: the edit that takes back the one that made edition K" ∷
     codes "desk D show NAME: the bursts that the terminal transmits by the newest plan" ∷
     codes "plan: the planner plans the last edition" ∷
     codes "tick: the next superframe begins" ∷
@@ -37,7 +41,9 @@ help_lines =
     codes "demand: the links of the demand" ∷
     codes "installed: the newest plan" ∷
     codes "plans: the editions that have a plan" ∷
+    codes "air: what the centre knows of the air" ∷
     codes "waiting: the messages on their way" ∷
+    codes "clock on, clock off: whether each answer says when it is given" ∷
     codes "help: these lines" ∷
     []
 
@@ -46,6 +52,8 @@ abbrev pub apart_lines : List (List ℕ)
 apart_lines =
     codes "round: a block of lines begins" ∷
     codes "go: the block is played as one round" ∷
+    codes "all: the block is played line by line, where each of its edits would be done" ∷
+    codes "try: it is told what the block would come to, and the block is given up" ∷
     codes "forget: the block is given up" ∷
     codes "forget @WORD: the block of that tag is given up" ∷
     codes "blocks: the blocks that are open" ∷
@@ -53,6 +61,8 @@ apart_lines =
     codes "desk D add FROM TO UNITS: desk D wants so many slots more for the link" ∷
     codes "desk D drop FROM TO UNITS: desk D wants so many fewer" ∷
     codes "desk D move FROM TO NEWFROM NEWTO UNITS: so many fewer for the one, and more for the other" ∷
+    codes "desk D set FROM TO UNITS: the add or drop that brings the link to so many slots" ∷
+    codes "desk D undo K: the edit that takes back the one that made edition K" ∷
     codes "desk D show NAME: the bursts that the terminal transmits by the newest plan" ∷
     codes "plan: the planner plans the last edition" ∷
     codes "mark N: superframe N begins" ∷
@@ -67,6 +77,8 @@ apart_lines =
     codes "demand: the links of the demand" ∷
     codes "installed: the newest plan" ∷
     codes "plans: the editions that have a plan" ∷
+    codes "air: what the centre knows of the air" ∷
+    codes "clock on, clock off: whether each answer says when it is given" ∷
     codes "help: these lines" ∷
     []
 

@@ -1,5 +1,7 @@
+pub mod Clock
 pub mod Tags
 pub mod Opened
+pub mod Wishes
 pub mod Block
 pub mod Blocks
 pub mod Answers

@@ -3,6 +3,7 @@
 //     line                     comes to
 //     of the bus               is heard
 //     `blocks`                 the blocks that are open are told
+//     `clock on`, `clock off`  from here on answers say when they are given, or they don't
 //     `forget @WORD`           closes the block of that tag; fault S4 where that is closed
 //     another                  its row of `block.rt` in the block of its tag; fault S5 where it opens one block too many
 //     none                     fault S1
@@ -15,13 +16,18 @@ ghost use Rattle.bt_net.specs.Network.{Net};
 ghost use Rattle.bt_script.specs.Heard.{IsOnBus};
 ghost use Rattle.bt_talk.specs.Answers.{count_in};
 ghost use Rattle.bt_talk.specs.Block.{IsStepFor};
-ghost use Rattle.bt_talk.specs.Blocks.{IsOpenFor, heard_by, kept_row, line_bytes, other_row, own_of, own_row, row_of, tagged_row, with_said};
+ghost use Rattle.bt_talk.specs.Blocks.{IsOpenFor, heard_by, in_own_row, kept_row, line_bytes, other_row, own_of, row_of, tagged_row, with_said};
+ghost use Rattle.bt_talk.specs.Wishes.{IsWishedFor};
 ghost use Rattle.bt_talk.specs.Opened.{OpenBlock, block_line, block_lines, line_since};
 
 use crate::block::{Block, BlockLines, Query, Step};
+use crate::clock::clock_asked;
 use crate::tag::{cut_tag, forgotten};
+use crate::wish::{Wished, wished_in};
+use bt_book::Book;
 use bt_frame::{MOST_SESSION_LINE_BYTES, MOST_STATION_LINE_BYTES, OutOfMemory};
 use bt_net::Network;
+use bt_outside::Keeper;
 use bt_script::{BusLine, Item, ScriptCode, ScriptLine, Sites, read_bus_line};
 use bt_text::is_word;
 use bt_words::{Form, Word, print};
@@ -42,6 +48,7 @@ struct Opened {
 impl Model for Opened {
     ghost use Rattle.std.specs.Prelude.{◌≤◌, length};
     ghost use Rattle.bt_frame.specs.declared.limits.TheConstants.{MOST_LINES};
+    ghost use Rattle.bt_talk.specs.Wishes.{IsWishedFor};
     ghost use Rattle.bt_talk.specs.Opened.{OpenBlock};
 
     ghost Value = { OpenBlock };
@@ -59,6 +66,7 @@ pub struct Blocks {
 
 impl Model for Blocks {
     ghost use Rattle.std.specs.Prelude.{List};
+    ghost use Rattle.bt_talk.specs.Wishes.{IsWishedFor};
     ghost use Rattle.bt_talk.specs.Opened.{OpenBlock};
 
     ghost Value = { List OpenBlock };
@@ -89,18 +97,21 @@ impl Blocks {
         Some(one.said.len() as u64)
     }
 
-    /// What comes as line `at` is a line, or None where it is none: what it comes to, and the blocks that are open behind it.
-    pub fn take(
+    /// What comes as line `at`, where the book holds this, is a line, or None where it is none: what it comes to, and the blocks that are
+    /// open behind it.
+    pub fn take<K: Keeper>(
         self,
         alloc: Global,
         net: &Network,
         sites: Sites,
         at: u64,
+        book: &Book<K>,
         came: Option<&[u8]>,
     ) -> Result<(Blocks, Step), OutOfMemory>
         requires terminals { IsOpenFor net.now self }
+        requires network { book.now.net ≡ net.now }
         requires short { IfSome came (λ text. length text.now ≤ line_bytes sites) }
-        ensures row { IfOk result (λ on. (on.0, on.1) ≡ row_of net.now sites at self (option_map (λ text. text.now) came.entry)) }
+        ensures row { IfOk result (λ on. (on.0, on.1) ≡ row_of net.now sites at self book.now.state.changes (option_map (λ text. text.now) came.entry)) }
         ensures terminals { IfOk result (λ on. IsOpenFor net.now on.0) }
         ensures part { IfOk result (λ on. IsStepFor net.now on.1) }
     {
@@ -111,23 +122,25 @@ impl Blocks {
             Some(one) => Ok((self, Step::Plays(Item::Heard(one)))),
             None => {
                 let (tag, line) = cut_tag(text);
-                self.line(alloc, net, sites, at, tag, line)
+                self.line(alloc, net, sites, at, book, tag, line)
             }
         }
     }
 
     /// What a line behind its tag comes to.
-    fn line(
+    fn line<K: Keeper>(
         self,
         alloc: Global,
         net: &Network,
         sites: Sites,
         at: u64,
+        book: &Book<K>,
         tag: &[u8],
         text: &[u8],
     ) -> Result<(Blocks, Step), OutOfMemory>
         requires terminals { IsOpenFor net.now self }
-        ensures row { IfOk result (λ on. (on.0, on.1) ≡ tagged_row net.now sites at self tag.now text.now) }
+        requires network { book.now.net ≡ net.now }
+        ensures row { IfOk result (λ on. (on.0, on.1) ≡ tagged_row net.now sites at self book.now.state.changes tag.now text.now) }
         ensures terminals { IfOk result (λ on. IsOpenFor net.now on.0) }
         ensures part { IfOk result (λ on. IsStepFor net.now on.1) }
     {
@@ -135,9 +148,15 @@ impl Blocks {
             let listed = self.listed(alloc)?;
             return Ok((self, Step::Tells(Query::Blocks(listed))));
         }
+        if let Some(on) = clock_asked(text) {
+            return Ok((self, Step::Clock(on)));
+        }
         match forgotten(text) {
             Some(other) => Ok(self.forget(net, other)),
-            None => self.own(alloc, net, sites, at, tag, text),
+            None => {
+                let wished = wished_in(net, book, text);
+                self.own(alloc, net, sites, at, tag, text, wished)
+            }
         }
     }
 
@@ -166,7 +185,7 @@ impl Blocks {
         (Blocks { open }, Step::Nothing)
     }
 
-    /// A line in the block of its tag.
+    /// A line in the block of its tag, which wishes this, if it wishes something.
     fn own(
         self,
         alloc: Global,
@@ -175,21 +194,23 @@ impl Blocks {
         at: u64,
         tag: &[u8],
         text: &[u8],
+        wished: Option<Wished>,
     ) -> Result<(Blocks, Step), OutOfMemory>
         requires terminals { IsOpenFor net.now self }
-        ensures row { IfOk result (λ on. (on.0, on.1) ≡ own_row net.now sites at self tag.now text.now None) }
+        requires wished { IfSome wished (IsWishedFor net.now) }
+        ensures row { IfOk result (λ on. (on.0, on.1) ≡ in_own_row net.now sites at self tag.now text.now wished) }
         ensures terminals { IfOk result (λ on. IsOpenFor net.now on.0) }
         ensures part { IfOk result (λ on. IsStepFor net.now on.1) }
     {
         let Blocks { mut open } = self;
         let place = place_of(open.as_slice(), tag);
         if place == open.len() {
-            let (own, step) = Block::closed().line(alloc, net, sites, text)?;
+            let (own, step) = Block::closed().wish(alloc, net, sites, text, wished)?;
             return keep(alloc, at, tag, open, own, step);
         }
         let one = open.remove(place);
         let Opened { tag, since, said } = one;
-        let (own, step) = Block::open(said).line(alloc, net, sites, text)?;
+        let (own, step) = Block::open(said).wish(alloc, net, sites, text, wished)?;
         put_back(&mut open, place, tag, since, own)?;
         Ok((Blocks { open }, step))
     }

@@ -10,6 +10,8 @@ use std::alloc::Global;
 const HELP: &str = "\
 round: a block of lines begins\n\
 go: the block is played as one round\n\
+all: the block is played line by line, where each of its edits would be done\n\
+try: it is told what the block would come to, and the block is given up\n\
 forget: the block is given up\n\
 forget @WORD: the block of that tag is given up\n\
 blocks: the blocks that are open\n\
@@ -17,6 +19,8 @@ blocks: the blocks that are open\n\
 desk D add FROM TO UNITS: desk D wants so many slots more for the link\n\
 desk D drop FROM TO UNITS: desk D wants so many fewer\n\
 desk D move FROM TO NEWFROM NEWTO UNITS: so many fewer for the one, and more for the other\n\
+desk D set FROM TO UNITS: the add or drop that brings the link to so many slots\n\
+desk D undo K: the edit that takes back the one that made edition K\n\
 desk D show NAME: the bursts that the terminal transmits by the newest plan\n\
 plan: the planner plans the last edition\n\
 tick: the next superframe begins\n\
@@ -38,13 +42,17 @@ room FROM TO: the most units that one add may have\n\
 demand: the links of the demand\n\
 installed: the newest plan\n\
 plans: the editions that have a plan\n\
+air: what the centre knows of the air\n\
 waiting: the messages on their way\n\
+clock on, clock off: whether each answer says when it is given\n\
 help: these lines\n";
 
 /// Those that a session has whose sites are apart.
 const APART_HELP: &str = "\
 round: a block of lines begins\n\
 go: the block is played as one round\n\
+all: the block is played line by line, where each of its edits would be done\n\
+try: it is told what the block would come to, and the block is given up\n\
 forget: the block is given up\n\
 forget @WORD: the block of that tag is given up\n\
 blocks: the blocks that are open\n\
@@ -52,6 +60,8 @@ blocks: the blocks that are open\n\
 desk D add FROM TO UNITS: desk D wants so many slots more for the link\n\
 desk D drop FROM TO UNITS: desk D wants so many fewer\n\
 desk D move FROM TO NEWFROM NEWTO UNITS: so many fewer for the one, and more for the other\n\
+desk D set FROM TO UNITS: the add or drop that brings the link to so many slots\n\
+desk D undo K: the edit that takes back the one that made edition K\n\
 desk D show NAME: the bursts that the terminal transmits by the newest plan\n\
 plan: the planner plans the last edition\n\
 mark N: superframe N begins\n\
@@ -66,6 +76,8 @@ room FROM TO: the most units that one add may have\n\
 demand: the links of the demand\n\
 installed: the newest plan\n\
 plans: the editions that have a plan\n\
+air: what the centre knows of the air\n\
+clock on, clock off: whether each answer says when it is given\n\
 help: these lines\n";
 
 /// The lines that a session has, a short line each.

@@ -11,12 +11,15 @@
 mod answer;
 mod block;
 mod blocks;
+mod clock;
 mod help;
 mod laws;
 mod tag;
+mod wish;
 
 pub use answer::{add_input_fault, add_ready, answer_text, counted_text};
-pub use block::{BlockLines, Query, Step};
+pub use block::{BlockLines, Query, SaidLines, Step};
 pub use blocks::{Blocks, MOST_OPEN_BLOCKS, line_bytes};
+pub use clock::{Clock, MemClock};
 pub use help::help_text;
 pub use laws::scripts_are_sessions;

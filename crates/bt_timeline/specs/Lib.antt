@@ -1,4 +1,5 @@
 pub mod Air
+pub mod OnAir
 pub mod Timeline
 pub mod Verdicts
 pub mod Replayed

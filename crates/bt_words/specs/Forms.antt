@@ -7,7 +7,7 @@ use Rattle.bt_words.specs.declared.token.Token.{Token}
 use Rattle.bt_words.specs.declared.token.Token.TheVariants as token
 
 -- What may stand at a place of a line: a number, a count, the number of a desk, a frame, the name of a beam or of a
--- terminal, what the satellite or a terminal did with a message, the tag of those who speak, and this word alone.
+-- terminal, what the satellite or a terminal did with a message, the tag of those who speak, the moment that a clock told, and this word alone.
 pub data Part : Type 0 where
   Number : Part
   Count : Part
@@ -18,6 +18,7 @@ pub data Part : Type 0 where
   Taken : Part
   Heard : Part
   Tag : Part
+  Moment : Part
   Text : List ℕ → Part
 
 -- what a token of the code stands for
@@ -31,6 +32,7 @@ part_of token.Terminal = Terminal
 part_of token.Taken = Taken
 part_of token.Heard = Heard
 part_of token.Tag = Tag
+part_of token.Moment = Moment
 part_of (token.Text text) = Text text.now
 
 -- the place has one word alone
@@ -110,10 +112,27 @@ parts_of form.Ready = Text (codes "ready") ∷ Count ∷ []
 parts_of form.ReadyOpen = Text (codes "ready") ∷ Count ∷ Text (codes "open") ∷ Count ∷ []
 parts_of form.ReadyTag = Text (codes "ready") ∷ Count ∷ Tag ∷ []
 parts_of form.ReadyOpenTag = Text (codes "ready") ∷ Count ∷ Text (codes "open") ∷ Count ∷ Tag ∷ []
+parts_of form.ReadyAt = Text (codes "ready") ∷ Count ∷ Text (codes "at") ∷ Moment ∷ []
+parts_of form.ReadyOpenAt = Text (codes "ready") ∷ Count ∷ Text (codes "open") ∷ Count ∷ Text (codes "at") ∷ Moment ∷ []
+parts_of form.ReadyAtTag = Text (codes "ready") ∷ Count ∷ Text (codes "at") ∷ Moment ∷ Tag ∷ []
+parts_of form.ReadyOpenAtTag = Text (codes "ready") ∷ Count ∷ Text (codes "open") ∷ Count ∷ Text (codes "at") ∷ Moment ∷ Tag ∷ []
 parts_of form.BlockOpen = Text (codes "block") ∷ Count ∷ Text (codes "lines") ∷ Count ∷ []
 parts_of form.BlockOpenTag = Text (codes "block") ∷ Count ∷ Text (codes "lines") ∷ Count ∷ Tag ∷ []
+parts_of form.BlockRefused = Text (codes "block") ∷ Text (codes "refused") ∷ Count ∷ []
 parts_of form.Stopped = Text (codes "stopped") ∷ []
 parts_of form.Lines = Text (codes "lines") ∷ Count ∷ []
+parts_of form.Superframe = Text (codes "superframe") ∷ Number ∷ []
+parts_of form.NoSuperframe = Text (codes "superframe") ∷ Text (codes "none") ∷ []
+parts_of form.Status = Text (codes "status") ∷ Text (codes "mark") ∷ Number ∷ Text (codes "age") ∷ Number ∷ Text (codes "fore") ∷ Number ∷ Text (codes "back") ∷ Number ∷ Text (codes "armed") ∷ Text (codes "none") ∷ Text (codes "last") ∷ Number ∷ []
+parts_of form.ArmedStatus = Text (codes "status") ∷ Text (codes "mark") ∷ Number ∷ Text (codes "age") ∷ Number ∷ Text (codes "fore") ∷ Number ∷ Text (codes "back") ∷ Number ∷ Text (codes "armed") ∷ Number ∷ Text (codes "due") ∷ Number ∷ Text (codes "last") ∷ Number ∷ []
+parts_of form.NoStatus = Text (codes "status") ∷ Text (codes "none") ∷ []
+parts_of form.LastLoad = Text (codes "last") ∷ Text (codes "load") ∷ Number ∷ Number ∷ Text (codes "unconfirmed") ∷ []
+parts_of form.LastLoadConfirmed = Text (codes "last") ∷ Text (codes "load") ∷ Number ∷ Number ∷ Text (codes "confirmed") ∷ []
+parts_of form.LastArm = Text (codes "last") ∷ Text (codes "arm") ∷ Number ∷ Number ∷ Number ∷ Text (codes "unconfirmed") ∷ []
+parts_of form.LastArmConfirmed = Text (codes "last") ∷ Text (codes "arm") ∷ Number ∷ Number ∷ Number ∷ Text (codes "confirmed") ∷ []
+parts_of form.NoLast = Text (codes "last") ∷ Text (codes "none") ∷ []
+parts_of form.Missing = Text (codes "missing") ∷ Terminal ∷ []
+parts_of form.Asks = Text (codes "asks") ∷ Terminal ∷ []
 parts_of form.LineFaultS1 = Text (codes "fault") ∷ Text (codes "S1") ∷ Count ∷ []
 parts_of form.LineFaultS2 = Text (codes "fault") ∷ Text (codes "S2") ∷ Count ∷ []
 parts_of form.LineFaultS3 = Text (codes "fault") ∷ Text (codes "S3") ∷ Count ∷ []
@@ -167,8 +186,13 @@ forms_from head =
     if is_word (codes "reset") head then form.Reset ∷ [] else
     if is_word (codes "standby") head then form.StandbyNoted ∷ form.StandbyWrongMark ∷ form.StandbyNotForMe ∷ form.StandbyNotSent ∷ form.StandbyBurst ∷ [] else
     if is_word (codes "fault") head then form.StoreFault ∷ form.LineFaultS1 ∷ form.LineFaultS2 ∷ form.LineFaultS3 ∷ form.LineFaultS4 ∷ form.LineFaultS5 ∷ form.InputFault ∷ [] else
-    if is_word (codes "ready") head then form.Ready ∷ form.ReadyOpen ∷ form.ReadyTag ∷ form.ReadyOpenTag ∷ [] else
-    if is_word (codes "block") head then form.BlockOpen ∷ form.BlockOpenTag ∷ [] else
+    if is_word (codes "ready") head then form.Ready ∷ form.ReadyOpen ∷ form.ReadyTag ∷ form.ReadyOpenTag ∷ form.ReadyAt ∷ form.ReadyOpenAt ∷ form.ReadyAtTag ∷ form.ReadyOpenAtTag ∷ [] else
+    if is_word (codes "block") head then form.BlockOpen ∷ form.BlockOpenTag ∷ form.BlockRefused ∷ [] else
     if is_word (codes "stopped") head then form.Stopped ∷ [] else
     if is_word (codes "lines") head then form.Lines ∷ [] else
+    if is_word (codes "superframe") head then form.Superframe ∷ form.NoSuperframe ∷ [] else
+    if is_word (codes "status") head then form.Status ∷ form.ArmedStatus ∷ form.NoStatus ∷ [] else
+    if is_word (codes "last") head then form.LastLoad ∷ form.LastLoadConfirmed ∷ form.LastArm ∷ form.LastArmConfirmed ∷ form.NoLast ∷ [] else
+    if is_word (codes "missing") head then form.Missing ∷ [] else
+    if is_word (codes "asks") head then form.Asks ∷ [] else
     []

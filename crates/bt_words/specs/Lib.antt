@@ -4,3 +4,4 @@ pub mod Forms
 pub mod Filled
 pub mod Names
 pub mod Tags
+pub mod Moments

@@ -21,5 +21,6 @@ frame_name mark number = decimal mark.0 ++ 46 ∷ decimal number
 abbrev pub word_bytes : Word → List ℕ
 word_bytes (word.Text text) = text.now
 word_bytes (word.Tag tag) = tag.now
+word_bytes (word.Moment moment) = moment.now
 word_bytes (word.Number number) = decimal number
 word_bytes (word.Frame mark number) = frame_name mark number

@@ -6,7 +6,8 @@
 //! forms, `token.rt` and `specs/Forms.antt` the table, a row a form in the same order: what prints a line and what reads one take
 //! it from here. The last rows are of answers to the planner that no run prints: by them a line is printed, and none is read. A
 //! name is a word here, so that no network is needed. `names.rt` and `specs/Names.antt` say what the open places of each row are
-//! called, in the same order. `tag.rt` and `specs/Tags.antt` say which words are tags.
+//! called, in the same order. `tag.rt` and `specs/Tags.antt` say which words are tags,
+//! `moment.rt` and `specs/Moments.antt` which are moments.
 //!
 //! It stands on printed numbers (`bt_text`). All of `specs/` is promise: `Lines.antt`, what a line and its words spell;
 //! `Written.antt`, that a text only grew; `Forms.antt`, the table; `Filled.antt`, the line of a form with these words at its
@@ -15,6 +16,7 @@
 
 mod form;
 mod line;
+mod moment;
 mod names;
 mod printing;
 mod tag;
@@ -22,6 +24,7 @@ mod token;
 
 pub use form::Form;
 pub use line::{Word, add_line, add_word, put_word};
+pub use moment::is_moment;
 pub use names::names_of;
 pub use printing::{print, print_front, put};
 pub use tag::is_tag;

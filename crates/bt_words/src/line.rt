@@ -16,6 +16,8 @@ pub enum Word<'a> {
     Text(&'a str),
     /// A tag, its `@` included.
     Tag(&'a [u8]),
+    /// A moment.
+    Moment(&'a [u8]),
     /// A number in decimal digits.
     Number(u64),
     /// A superframe and the number of a frame of it, from 0, with a point between them.
@@ -84,7 +86,7 @@ pub fn add_word(alloc: Global, word: &Word<'_>, out: &mut Vec<u8>) -> Result<(),
 {
     match *word {
         Word::Text(text) => Ok(out.extend_from_slice(text.as_bytes())?),
-        Word::Tag(tag) => Ok(out.extend_from_slice(tag)?),
+        Word::Tag(text) | Word::Moment(text) => Ok(out.extend_from_slice(text)?),
         Word::Number(number) => number_text(alloc, number, out),
         Word::Frame(mark, number) => add_frame(alloc, mark, number, out),
     }
@@ -109,7 +111,7 @@ pub fn put_word(is_further: bool, word: &Word<'_>, text: &mut ShortText) -> bool
 {
     match *word {
         Word::Text(word) => text.put_word(is_further, word.as_bytes()),
-        Word::Tag(tag) => text.put_word(is_further, tag),
+        Word::Tag(bytes) | Word::Moment(bytes) => text.put_word(is_further, bytes),
         Word::Number(number) => text.put_number(is_further, number),
         Word::Frame(mark, number) => put_frame(is_further, mark, number, text),
     }

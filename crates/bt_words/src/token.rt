@@ -30,6 +30,8 @@ pub enum Token {
     Heard,
     /// The tag of those who speak in a session: an `@` and their word.
     Tag,
+    /// The moment that a clock told.
+    Moment,
     /// This word alone.
     Text(&'static str),
 }
@@ -108,10 +110,27 @@ pub fn tokens_of(form: Form) -> &'static [Token]
         Form::ReadyOpen         => &[Text("ready"), Count, Text("open"), Count],
         Form::ReadyTag          => &[Text("ready"), Count, Tag],
         Form::ReadyOpenTag      => &[Text("ready"), Count, Text("open"), Count, Tag],
+        Form::ReadyAt           => &[Text("ready"), Count, Text("at"), Moment],
+        Form::ReadyOpenAt       => &[Text("ready"), Count, Text("open"), Count, Text("at"), Moment],
+        Form::ReadyAtTag        => &[Text("ready"), Count, Text("at"), Moment, Tag],
+        Form::ReadyOpenAtTag    => &[Text("ready"), Count, Text("open"), Count, Text("at"), Moment, Tag],
         Form::BlockOpen         => &[Text("block"), Count, Text("lines"), Count],
         Form::BlockOpenTag      => &[Text("block"), Count, Text("lines"), Count, Tag],
+        Form::BlockRefused      => &[Text("block"), Text("refused"), Count],
         Form::Stopped           => &[Text("stopped")],
         Form::Lines             => &[Text("lines"), Count],
+        Form::Superframe        => &[Text("superframe"), Number],
+        Form::NoSuperframe      => &[Text("superframe"), Text("none")],
+        Form::Status            => &[Text("status"), Text("mark"), Number, Text("age"), Number, Text("fore"), Number, Text("back"), Number, Text("armed"), Text("none"), Text("last"), Number],
+        Form::ArmedStatus       => &[Text("status"), Text("mark"), Number, Text("age"), Number, Text("fore"), Number, Text("back"), Number, Text("armed"), Number, Text("due"), Number, Text("last"), Number],
+        Form::NoStatus          => &[Text("status"), Text("none")],
+        Form::LastLoad          => &[Text("last"), Text("load"), Number, Number, Text("unconfirmed")],
+        Form::LastLoadConfirmed => &[Text("last"), Text("load"), Number, Number, Text("confirmed")],
+        Form::LastArm           => &[Text("last"), Text("arm"), Number, Number, Number, Text("unconfirmed")],
+        Form::LastArmConfirmed  => &[Text("last"), Text("arm"), Number, Number, Number, Text("confirmed")],
+        Form::NoLast            => &[Text("last"), Text("none")],
+        Form::Missing           => &[Text("missing"), Terminal],
+        Form::Asks              => &[Text("asks"), Terminal],
         Form::LineFaultS1       => &[Text("fault"), Text("S1"), Count],
         Form::LineFaultS2       => &[Text("fault"), Text("S2"), Count],
         Form::LineFaultS3       => &[Text("fault"), Text("S3"), Count],
@@ -238,13 +257,33 @@ pub fn forms_from(head: &[u8]) -> &'static [Form]
             Form::ReadyOpen,
             Form::ReadyTag,
             Form::ReadyOpenTag,
+            Form::ReadyAt,
+            Form::ReadyOpenAt,
+            Form::ReadyAtTag,
+            Form::ReadyOpenAtTag,
         ]
     } else if is_word(head, b"block") {
-        &[Form::BlockOpen, Form::BlockOpenTag]
+        &[Form::BlockOpen, Form::BlockOpenTag, Form::BlockRefused]
     } else if is_word(head, b"stopped") {
         &[Form::Stopped]
     } else if is_word(head, b"lines") {
         &[Form::Lines]
+    } else if is_word(head, b"superframe") {
+        &[Form::Superframe, Form::NoSuperframe]
+    } else if is_word(head, b"status") {
+        &[Form::Status, Form::ArmedStatus, Form::NoStatus]
+    } else if is_word(head, b"last") {
+        &[
+            Form::LastLoad,
+            Form::LastLoadConfirmed,
+            Form::LastArm,
+            Form::LastArmConfirmed,
+            Form::NoLast,
+        ]
+    } else if is_word(head, b"missing") {
+        &[Form::Missing]
+    } else if is_word(head, b"asks") {
+        &[Form::Asks]
     } else {
         &[]
     }

@@ -5,10 +5,12 @@
 //! with (`bt_report`), on what is said of that (`bt_explain`) and on the top calls (`bt_cli`).
 #![tactic(auto)]
 
+mod clock;
 mod dash;
 mod one_file;
 mod pages;
 
+use crate::clock::HostClock;
 use bt_base::{FileDisk, LineKeeper};
 use bt_cli::{centre_main, journal_of, live_main, live_words};
 use bt_explain::{Alarming, Done, KeptFiles, LastLine, Reasons, Session, tell, tell_status};
@@ -23,9 +25,9 @@ use std::alloc::{AllocError, Global};
 use std::env::Env;
 use std::io::{BufRead, BufReader, IsTerminal};
 use std::process::ExitCode;
-use std::rt;
 use std::sync::Wait;
 use std::thread::Threads;
+use std::{rt, time};
 
 fn main(rt: HostRuntime) -> ExitCode {
     // before any file is opened
@@ -106,7 +108,7 @@ struct Talked<O> {
 /// Holds the session that the words ask for, over a reader and an output. Where it is asked, standard error says why a line is at
 /// fault, and why something is refused.
 fn hold_session<
-    R: Threads + Wait + Sync + Eprint + rt::Files,
+    R: Threads + Wait + Sync + Eprint + rt::Files + time::Clock,
     F: Files,
     B: BufRead + Drop,
     O: Sink + Drop,
@@ -125,7 +127,8 @@ fn hold_session<
     let store = Alarming::new(rt, Program::Nozgurt, session.journal(), store);
     let console = Console::new(StdSource::new(reader), out);
     let mut talk = Reasons::new(rt, alloc, Program::Nozgurt, session, console);
-    let status = live_main(rt, alloc, words, files, &mut talk, store).status;
+    let mut clock = HostClock::new(rt);
+    let status = live_main(rt, alloc, words, files, &mut talk, &mut clock, store).status;
     let (heard, out) = talk.into_talk().into_parts();
     let begun = heard.begun();
     Talked { status, begun, out }

@@ -1,5 +1,5 @@
 -- the network is loaded, and there is a session on it; or why it could not be is said
-use Rattle.std.proofs.Common.{ℕ, inl, sym, ap, subst}
+use Rattle.std.proofs.Common.{ℕ, None, inl, sym, ap, subst}
 use Rattle.bt_outside.specs.Told.{Rose}
 use Rattle.bt_centre.specs.Talked.{Talked}
 use Rattle.bt_load.specs.Files.{StopsAtLoad}
@@ -17,6 +17,8 @@ returns-in-Err g c =
       output = record { before = g.T.Sink.told c.args.talk.now; after = g.T.Sink.told c.say_stop-status.new.talk; faults_before = g.T.Sink.fault_count c.args.talk.now; faults_after = g.T.Sink.fault_count c.say_stop-status.new.talk };
       turns_before = g.T.Talk.turns c.args.talk.now;
       turns_after = g.T.Talk.turns c.say_stop-status.new.talk;
+      moments_before = g.C.Clock.coming c.args.clock.now;
+      moments_after = g.C.Clock.coming c.args.clock.now;
       store = record { told = g.K.Keeper.told c.unbegun.result.store; faults = g.K.Keeper.fault_count c.unbegun.result.store; crashes = g.K.Keeper.crashes c.unbegun.result.store };
     } in
     let failed = Rose (g.F.Files.fault_count c.args.files.now) (g.F.Files.fault_count c.load_network.new.files) in
@@ -29,6 +31,6 @@ returns-in-Err g c =
           store = record { bytes = ap g.K.Keeper.told c.unbegun.ensures.store; faults = ap g.K.Keeper.fault_count c.unbegun.ensures.store };
         },
         subst P (sym c.unbegun.ensures.status) (said_stop talk (StopsAtLoad network_file (g.F.Files.told c.args.files.now) failed c.args.net.now) c.in-Err.stop _ c.in-Err.ensures.stops
-            (subst (λ (st : _). SaysStop (record talk { store = record { told = g.K.Keeper.told st; faults = g.K.Keeper.fault_count st; crashes = g.K.Keeper.crashes st } }) c.in-Err.stop c.say_stop-status.result) (sym c.unbegun.ensures.store) c.say_stop-status.ensures.said)),
+            (subst (λ (st : _). SaysStop (record talk { moments_before = None; moments_after = None; store = record { told = g.K.Keeper.told st; faults = g.K.Keeper.fault_count st; crashes = g.K.Keeper.crashes st } }) c.in-Err.stop c.say_stop-status.result) (sym c.unbegun.ensures.store) c.say_stop-status.ensures.said)),
       );
     }
