@@ -11,7 +11,7 @@
 //! how many lines a script has; `specs/Codes.antt`, how a fault is called. `specs/Reading.antt` and `specs/Range.antt` are
 //! words of theirs.
 //!
-//! By `mark N` and `radio N HEX` sites hear each other that share nothing else; `docs/bus.md` has them as a table. They stand on the
+//! By `mark N` and `radio N HEX` sites hear each other that share nothing else; `docs/sites.md` has them as a table. They stand on the
 //! bytes of messages (`bt_air`) and on printed lines (`bt_words`). Promises: `specs/Heard.antt` says what such a line says,
 //! `specs/BusSaid.antt` how it is said.
 #![tactic(auto)]
@@ -38,4 +38,5 @@ pub use said::{add_mark, add_radio};
 pub use script::{
     AirLine, AirLines, DeskLine, DeskLines, Desks, Item, Items, Losing, Round, Script,
 };
+pub use shape::{LinkWords, link_in, lone_number};
 pub use sites::Sites;

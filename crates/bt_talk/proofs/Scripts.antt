@@ -24,7 +24,7 @@ use Rattle.bt_script.specs.declared.script.Item.{Item}
 use Rattle.bt_script.specs.declared.script.Item.TheVariants as item
 use Rattle.bt_script.specs.declared.script.Round.{Round}
 use Rattle.bt_script.specs.declared.shape.LineShape.{LineShape}
-use Rattle.bt_script.specs.LineShape.{LinkWords, Shape, link_in, number_in, shape_of, words_shape}
+use Rattle.bt_script.specs.LineShape.{LinkWords, Shape, link_in, lone_number, shape_of, words_shape}
 use Rattle.bt_script.specs.Reading.{Reading}
 use Rattle.bt_script.specs.ScriptText.{air_lines, desks_of, ends_round, entry_of, is_open_behind, is_plan, items_of, limited_line, lines_in, own_lines, round_lines, round_of}
 use Rattle.bt_script.specs.Stages.{in_range, line_in, may_stand, with_terminals}
@@ -271,7 +271,7 @@ no_set net at is_open text one (Some found) is asked =
     absurd (no_shape net at is_open (shape_of text) one (shapeless text (codes "desk" ∷ named.0 ∷ codes "set" ∷ named.1) named.2 refl (nothing_then (length (named.0 ∷ codes "set" ∷ named.1) == 0) (number_of_digits 10 named.0))) is)
 
 undo_none : (ws : List (List ℕ)) (found : Option (ℕ × List (List ℕ))) → desk_words (codes "undo") ws ≡ found → found ≡ None → undo_words ws ≡ None
-undo_none ws None is none = ap (λ (o : Option (ℕ × List (List ℕ))). option_and_then (λ (both : ℕ × List (List ℕ)). option_map (λ (number : ℕ). (let x : ℕ × ℕ = (both.0, number) in x)) (number_in both.1)) o) is
+undo_none ws None is none = ap (λ (o : Option (ℕ × List (List ℕ))). option_and_then (λ (both : ℕ × List (List ℕ)). option_map (λ (number : ℕ). (let x : ℕ × ℕ = (both.0, number) in x)) (lone_number both.1)) o) is
 undo_none ws (Some found) is none = absurd cc
 
 set_none : (ws : List (List ℕ)) (found : Option (ℕ × List (List ℕ))) → desk_words (codes "set") ws ≡ found → found ≡ None → set_words ws ≡ None

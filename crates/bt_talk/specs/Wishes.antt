@@ -14,7 +14,7 @@ use Rattle.bt_script.specs.declared.fault.ScriptCode.TheVariants.{S2, S3}
 use Rattle.bt_script.specs.declared.line.ScriptLine.{ScriptLine}
 use Rattle.bt_script.specs.declared.line.ScriptLine.TheVariants as line
 use Rattle.bt_script.specs.declared.script.DeskLine.TheVariants as desk_line
-use Rattle.bt_script.specs.LineShape.{LinkWords, link_in, number_in}
+use Rattle.bt_script.specs.LineShape.{LinkWords, link_in, lone_number}
 use Rattle.bt_script.specs.Range.{up_to, within}
 use Rattle.bt_script.specs.Said.{IsSaidFor}
 
@@ -30,7 +30,7 @@ desk_words kind _ = None
 
 -- `desk D undo K`: the number of the desk, and that of the edit
 abbrev pub undo_words : List (List ℕ) → Option (ℕ × ℕ)
-undo_words words = option_and_then (λ both. option_map (λ number. (both.0, number)) (number_in both.1)) (desk_words (codes "undo") words)
+undo_words words = option_and_then (λ both. option_map (λ number. (both.0, number)) (lone_number both.1)) (desk_words (codes "undo") words)
 
 -- `desk D set FROM TO UNITS`: the number of the desk, and the link with its units
 abbrev pub set_words : List (List ℕ) → Option (ℕ × LinkWords)

@@ -5,16 +5,16 @@ ghost use Rattle.bt_frame.specs.declared.limits.TheConstants.{MOST_DIGITS, MOST_
 ghost use Rattle.bt_net.specs.Terminals.{IsTerminal};
 ghost use Rattle.bt_journal.specs.Journal.{NamesTerminals};
 ghost use Rattle.bt_history.specs.Changes.{held_after};
-ghost use Rattle.bt_script.specs.LineShape.{link_in, number_in};
+ghost use Rattle.bt_script.specs.LineShape.{link_in, lone_number};
 ghost use Rattle.bt_script.specs.Range.{up_to, within};
 ghost use Rattle.bt_talk.specs.Wishes.{IsWishedFor, desk_words, edit_numbered, inverse, set_by, set_to, set_words, setting, undo_words, undone, wished_in};
 
 use bt_book::Book;
 use bt_frame::{EditionNo, LAST_EDITION, MOST_DIGITS, MOST_UNITS, TermNo, Units};
 use bt_journal::Edit;
-use bt_net::{Network, are_names};
+use bt_net::Network;
 use bt_outside::Keeper;
-use bt_script::{DeskLine, DeskNo, ScriptCode, ScriptLine};
+use bt_script::{DeskLine, DeskNo, LinkWords, ScriptCode, ScriptLine, link_in, lone_number};
 use bt_text::{WordReader, is_word, number_of_digits};
 
 /// What a wish comes to: a line that a desk says; no line, since the link has so many slots already; or its fault.
@@ -42,7 +42,7 @@ fn undo_words(text: &[u8]) -> Option<(u64, u64)>
     let Some((desk, words)) = desk_words(b"undo", WordReader::of(text)) else {
         return None;
     };
-    let Some(number) = number_in(words) else {
+    let Some(number) = lone_number(words) else {
         return None;
     };
     Some((desk, number))
@@ -81,51 +81,6 @@ fn desk_words<'a>(kind: &[u8], mut words: WordReader<'a>) -> Option<(u64, WordRe
         return None;
     };
     Some((desk, words))
-}
-
-/// A number, and no more words.
-fn number_in(mut words: WordReader<'_>) -> Option<u64>
-    ensures { result ≡ number_in words.entry }
-{
-    let Some(number) = words.next() else {
-        return None;
-    };
-    if !words.is_done() {
-        return None;
-    }
-    number_of(number)
-}
-
-/// The ends of a link, and units.
-type LinkWords<'a> = ((&'a [u8], &'a [u8]), u64);
-
-/// The ends of a link and its units, and no more words.
-fn link_in<'a>(mut words: WordReader<'a>) -> Option<LinkWords<'a>>
-    ensures { option_map (λ link. ((link.0.0.now, link.0.1.now), link.1)) result ≡ link_in words.entry }
-{
-    let Some(from) = words.next() else {
-        return None;
-    };
-    let Some(to) = words.next() else {
-        return None;
-    };
-    let Some(units) = words.next() else {
-        return None;
-    };
-    if !words.is_done() || !are_names(from, to) {
-        return None;
-    }
-    let Some(units) = number_of(units) else {
-        return None;
-    };
-    Some(((from, to), units))
-}
-
-/// The number that a word of at most `MOST_DIGITS` digits is.
-fn number_of(word: &[u8]) -> Option<u64>
-    ensures { result ≡ number_of_digits MOST_DIGITS word.now }
-{
-    number_of_digits(word, MOST_DIGITS)
 }
 
 /// The inverse of the edit that made this edition, where one did.
