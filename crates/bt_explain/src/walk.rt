@@ -15,7 +15,7 @@ use std::alloc::Global;
 pub const BAD_TAG: &str = "a tag has 1 to 16 letters, digits or underscores behind its '@'";
 
 /// The most words of a place that are said one by one.
-const MOST_SAID: usize = 5;
+const MOST_SAID: usize = 6;
 
 /// What is looked at beside the shape of a line.
 #[derive(Clone, Copy)]
