@@ -93,7 +93,8 @@ impl Refused<'_> {
     /// Whether the line that was heard is an edit of one link.
     fn is_of_one_link(self) -> bool {
         let word = word_of(self.edit, 2);
-        is_word(word_of(self.edit, 0), b"desk") && (is_word(word, b"add") || is_word(word, b"drop"))
+        is_word(word_of(self.edit, 0), b"desk")
+            && (is_word(word, b"add") || is_word(word, b"drop") || is_word(word, b"set"))
     }
 
     /// Whether it is an edit that takes slots from a link.
