@@ -1,7 +1,6 @@
 -- The edition to which a centre of sites apart goes back when it starts: no file of its own keeps it, it is read off the orders. Lists
 -- have the latest first.
 use Rattle.std.specs.Prelude.{ℕ, max, nat_lt, if◌then◌else◌, map, List, [], ◌∷◌, is_some, Option, Some, None}
-use Rattle.bt_frame.specs.declared.numbers.Command.{Command}
 use Rattle.bt_frame.specs.declared.numbers.EditionNo.{EditionNo}
 use Rattle.bt_demand.specs.Plan.{empty_plan}
 use Rattle.bt_demand.specs.declared.plan.Plan.{Plan}

@@ -21,7 +21,7 @@ use Rattle.bt_history.specs.Store.{IsNextOpening, is_lost, lost_of}
 use Rattle.bt_script.specs.declared.script.Item.{Item}
 use Rattle.bt_script.specs.declared.script.Item.TheVariants as item
 use Rattle.bt_script.specs.declared.script.Round.{Round}
-use Rattle.bt_round.specs.AirLines.{AirState, hearing, orders_in, restarting, wanted_in}
+use Rattle.bt_round.specs.AirLines.{hearing, orders_in, restarting, wanted_in}
 use Rattle.bt_centre.specs.declared.history.History.{History}
 use Rattle.bt_centre.specs.Joining.{HasOrders, JoinsAsTold, JoinsNone, JoinsOne, JoinsWanted, PartHasOrders, RestartJoins}
 use Rattle.bt_report.specs.Output.{Output}

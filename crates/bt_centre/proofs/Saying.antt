@@ -1,5 +1,5 @@
 -- What is said has nothing to do with what a clock tells.
-use Rattle.std.proofs.Common.{◌≡◌, ℕ, List, None, Result, Ok, Err, inl, inr}
+use Rattle.std.proofs.Common.{ℕ, List, None, Result, Ok, Err, inl, inr}
 use Rattle.std.specs.Result.{OnErr}
 use Rattle.bt_history.specs.declared.fault.RecoverFault.{RecoverFault}
 use Rattle.bt_centre.specs.Answering.{SaysNamed}

@@ -6,7 +6,7 @@ use Rattle.bt_demand.specs.declared.plan.Plan.{Plan}
 use Rattle.bt_air.specs.declared.event.Event.{Event}
 use Rattle.bt_air.specs.declared.order.Order.{Order}
 use Rattle.bt_script.specs.declared.heard.BusLine.{BusLine}
-use Rattle.bt_site.specs.Event.{Install, Ordered, RestartCentre}
+use Rattle.bt_site.specs.Event.{Install, Ordered}
 use Rattle.bt_journal.specs.declared.entry.Entry.{Entry}
 use Rattle.bt_journal.specs.declared.reply.Reply.{Reply}
 use Rattle.bt_journal.specs.declared.reply.Reply.TheVariants as reply

@@ -1,6 +1,6 @@
 -- The run of a script: what the desks, the planner and the centre's worker ask, what happens on the air, what the store keeps, and
 -- what is printed.
-use Rattle.std.specs.Prelude.{◌≡◌, ◌≢◌, ◌⊎◌, ℕ, ◌+◌, ◌<◌, ◌≤◌, ◌^◌, ◌++◌, if◌then◌else◌, Bool, true, false, List, [], ◌∷◌, length, map, reverse, All, AllPairs, Contains, Option, Some, None, IfSome}
+use Rattle.std.specs.Prelude.{◌≡◌, ◌≢◌, ◌⊎◌, ℕ, ◌+◌, ◌<◌, ◌≤◌, ◌^◌, ◌++◌, if◌then◌else◌, Bool, true, false, List, [], ◌∷◌, length, map, reverse, All, AllPairs, Contains, Option, Some, IfSome}
 use Rattle.std.specs.List.{HoldsAt, flat_map, list_any}
 use Rattle.std.specs.Option.{is_some}
 use Rattle.bt_outside.specs.Told.{GainsPrefix, gained}

@@ -1,7 +1,6 @@
 -- the rounds of a block, or what is left where memory ran out
-use Rattle.std.proofs.Common.{All, List, sym, subst}
+use Rattle.std.proofs.Common.{All, sym, subst}
 use Rattle.bt_script.specs.Named.{IsRoundFor}
-use Rattle.bt_script.specs.declared.script.Round.{Round}
 use Rattle.bt_centre.proofs.Going.{left_early}
 use Rattle.bt_centre.proofs.live.play_all.Goals as goal
 

@@ -1,4 +1,4 @@
-use Rattle.std.proofs.Common.{◌≡◌, ◌<◌, ◌≤◌, ◌++◌, List, ℕ, [], ap, ◌∙◌, length, arith}
+use Rattle.std.proofs.Common.{◌<◌, ◌≤◌, ◌++◌, [], ap, ◌∙◌, length, arith}
 use Rattle.bt_words.proofs.Extending.{all_of, one_more}
 use Rattle.bt_history.specs.Changes.{plans}
 use Rattle.bt_demand.specs.declared.plan.Plan.{Plan}

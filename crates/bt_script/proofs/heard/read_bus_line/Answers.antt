@@ -1,4 +1,4 @@
-use Rattle.std.proofs.Common.{rules, ◌≡◌, ◌≤◌, length, arith}
+use Rattle.std.proofs.Common.{rules, arith}
 use Rattle.bt_script.proofs.Words.{third_short}
 use Rattle.bt_script.proofs.heard.read_bus_line.Goals as goal
 
