@@ -2,6 +2,7 @@
 use Rattle.std.proofs.Common.{◌≡◌, ℕ, ◌+◌, ◌≤◌, Bool, true, false, List, [], ◌∷◌, ◌++◌, length, Option, refl, sym, ap, ◌∙◌, subst}
 use Rattle.std.specs.List.{filter_map}
 use Rattle.std.proofs.lemmas.List.{append-nil}
+use Rattle.bt_outside.specs.Crash.{Crashes}
 use Rattle.bt_outside.specs.Told.{gained}
 use Rattle.bt_frame.specs.declared.numbers.EditionNo.{EditionNo}
 use Rattle.bt_frame.specs.declared.schedule.Critical.{Critical}
@@ -25,6 +26,7 @@ use Rattle.bt_history.proofs.After.{matrix_after-AddsUp}
 use Rattle.bt_history.proofs.Entries.{keeps_made, keeps_other, lists_more}
 use Rattle.bt_history.proofs.Histories.{same_state}
 use Rattle.bt_history.proofs.Start.{Counts-start, KeepsUp-start}
+use Rattle.bt_book.specs.Answered.{with_store}
 use Rattle.bt_book.specs.Kept.{KeepsAll, reply_to}
 use Rattle.bt_book.specs.declared.kept.Kept.{Kept}
 use Rattle.bt_book.proofs.Past.{more_edits}
@@ -123,10 +125,12 @@ stores_reply net changes (change.Order order) number most line old new before no
 abbrev pub view_of : Net → List Change → Bool → List Entry → Records
 view_of net changes stopped history = record { net = net; state = record { changes = changes; stopped = stopped }; history = history }
 
--- where memory ran out it is as before
-pub same_view : (now : Records) (net new_net : Net) (changes new_changes : List Change) (stopped : Bool) (history new_history : List Entry) → new_net ≡ net → new_changes ≡ changes
-    → new_history ≡ history → view_of net changes stopped history ≡ now → view_of new_net new_changes stopped new_history ≡ now
-same_view now net new_net changes new_changes stopped history new_history nets same calls view = rw (nets, same, calls) view
+-- where memory ran out it is as before, and so is the store
+pub same_book : (now : Records) (net new_net : Net) (changes new_changes : List Change) (stopped : Bool) (history new_history : List Entry) (told new_told : Option (List ℕ)) (faults new_faults : ℕ)
+    (crashes new_crashes : Option Crashes) → new_net ≡ net → new_changes ≡ changes → new_history ≡ history → view_of net changes stopped history ≡ now → new_told ≡ told → new_faults ≡ faults
+    → new_crashes ≡ crashes → with_store (view_of new_net new_changes stopped new_history) new_told new_faults new_crashes ≡ with_store now told faults crashes
+same_book now net new_net changes new_changes stopped history new_history told new_told faults new_faults crashes new_crashes nets same calls view tells counts leaves =
+    rw (nets, same, calls, tells, counts, leaves) (ap (λ (r : Records). with_store r told faults crashes) view)
 
 -- the state has the change that was made
 pub made_state : (now : Records) (net : Net) (changes reserved after : List Change) (stopped : Bool) (history : List Entry) (asked one : Change) → view_of net changes stopped history ≡ now

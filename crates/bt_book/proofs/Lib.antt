@@ -1,4 +1,5 @@
 pub mod Causes
+mod Answered
 mod Copied
 mod Keeping
 mod Named

@@ -1,13 +1,15 @@
-// A change that is asked for is refused for its first cause, or it is made and its line kept.
-ghost use Rattle.std.specs.Prelude.{◌≡◌, ◌+◌, ◌≤◌, ◌++◌, ◌∷◌, [], true, false, IfOk, OnErr};
+// A call is answered: a change that is asked for is refused for its first cause, or it is made and its line kept.
+ghost use Rattle.std.specs.Prelude.{◌≡◌, ℕ, ◌+◌, ◌≤◌, false, List, Option};
 ghost use Rattle.bt_frame.specs.declared.limits.TheConstants.{MOST_UNITS};
-ghost use Rattle.bt_outside.specs.Crash.{IsSettled};
-ghost use Rattle.bt_journal.specs.Journal.{is_fault, is_made};
+ghost use Rattle.bt_outside.specs.Crash.{Crashes, IsSettled};
+ghost use Rattle.bt_journal.specs.Journal.{is_made};
 ghost use Rattle.bt_journal.specs.JournalLines.{IsChangeInRange, edits_in, units_in};
 ghost use Rattle.bt_history.specs.Changes.{edition};
 ghost use Rattle.bt_history.specs.Causes.{IsChangeOn, IsGood};
-ghost use Rattle.bt_history.specs.Machine.{ChangeStep, line_behind};
-ghost use Rattle.bt_history.specs.Records.{CrashStep, IsBookFull, IsSpelled, Stores, call_of};
+ghost use Rattle.bt_history.specs.Machine.{IsOfNetwork, Step, line_behind};
+ghost use Rattle.bt_history.specs.Records.{IsBookFull, IsSpelled, call_of};
+ghost use Rattle.bt_history.specs.Store.{is_lost};
+ghost use Rattle.bt_book.specs.Answered.{Answers, with_store};
 
 use crate::machine::Machine;
 use crate::place::parts_of;
@@ -18,8 +20,30 @@ use std::alloc::Global;
 use std::mem;
 
 impl Machine {
+    /// Answers a call, and keeps its entry. The line of a change that is made is kept in the store.
+    pub(crate) fn apply<K: Keeper>(
+        &mut self,
+        alloc: Global,
+        caller: u32,
+        call: Call,
+        store: &mut K,
+    ) -> Result<Reply, OutOfMemory>
+        requires on { IsOfNetwork self.old.net call }
+        requires settled { self.old.state.stopped ≡ false → IsSettled (K.told store.old) (K.crashes store.old) }
+        ensures { Answers (with_store self.old (K.told store.old) (K.fault_count store.old) (K.crashes store.old)) caller call result
+            (with_store self.new (K.told store.new) (K.fault_count store.new) (K.crashes store.new)) }
+    {
+        match call {
+            Call::Snapshot => self.snapshot(alloc, caller),
+            Call::Newest { after } => self.newest_after(alloc, caller, after),
+            Call::Edit(edit) => self.change(alloc, caller, Change::Edit(edit), store),
+            Call::Install(plan) => self.change(alloc, caller, Change::Install(plan), store),
+            Call::Place(order) => self.change(alloc, caller, Change::Order(order), store),
+        }
+    }
+
     /// Answers a change that is asked for: refuses it for its first cause, or makes it and keeps its line in the store.
-    pub(crate) fn change<K: Keeper>(
+    fn change<K: Keeper>(
         &mut self,
         alloc: Global,
         caller: u32,
@@ -28,18 +52,8 @@ impl Machine {
     ) -> Result<Reply, OutOfMemory>
         requires on { IsChangeOn self.old.net asked }
         requires settled { self.old.state.stopped ≡ false → IsSettled (K.told store.old) (K.crashes store.old) }
-        ensures step { IfOk result (λ reply. ChangeStep self.old.net self.old.state asked reply self.new.state) }
-        ensures entry { IfOk result (λ reply. self.new.history
-            ≡ self.old.history ++ record { caller = caller; call = call_of asked; reply = reply } ∷ []) }
-        ensures store { IfOk result (λ reply. Stores self.old.net self.old.state.changes asked reply
-            (K.told store.old) (K.told store.new) (K.fault_count store.old) (K.fault_count store.new)) }
-        ensures crash { IfOk result (λ reply. CrashStep (line_behind self.old.net self.old.state.changes asked) reply
-            (K.told store.old) (K.told store.new) (K.crashes store.old) (K.crashes store.new)) }
-        ensures net { self.new.net ≡ self.old.net }
-        ensures err { OnErr result (self.new ≡ self.old) }
-        ensures err_told { OnErr result (K.told store.new ≡ K.told store.old) }
-        ensures err_faults { OnErr result (K.fault_count store.new ≡ K.fault_count store.old) }
-        ensures err_crashes { OnErr result (K.crashes store.new ≡ K.crashes store.old) }
+        ensures { Answers (with_store self.old (K.told store.old) (K.fault_count store.old) (K.crashes store.old)) caller (call_of asked) result
+            (with_store self.new (K.told store.new) (K.fault_count store.new) (K.crashes store.new)) }
     {
         if self.stopped {
             return self.answer(alloc, caller, call_of(asked), Reply::Stopped);
@@ -62,18 +76,8 @@ impl Machine {
         requires runs { self.old.state.stopped ≡ false }
         requires good { IsGood self.old.net self.old.state.changes asked }
         requires settled { IsSettled (K.told store.old) (K.crashes store.old) }
-        ensures step { IfOk result (λ reply. ChangeStep self.old.net self.old.state asked reply self.new.state) }
-        ensures entry { IfOk result (λ reply. self.new.history
-            ≡ self.old.history ++ record { caller = caller; call = call_of asked; reply = reply } ∷ []) }
-        ensures store { IfOk result (λ reply. Stores self.old.net self.old.state.changes asked reply
-            (K.told store.old) (K.told store.new) (K.fault_count store.old) (K.fault_count store.new)) }
-        ensures crash { IfOk result (λ reply. CrashStep (line_behind self.old.net self.old.state.changes asked) reply
-            (K.told store.old) (K.told store.new) (K.crashes store.old) (K.crashes store.new)) }
-        ensures net { self.new.net ≡ self.old.net }
-        ensures err { OnErr result (self.new ≡ self.old) }
-        ensures err_told { OnErr result (K.told store.new ≡ K.told store.old) }
-        ensures err_faults { OnErr result (K.fault_count store.new ≡ K.fault_count store.old) }
-        ensures err_crashes { OnErr result (K.crashes store.new ≡ K.crashes store.old) }
+        ensures { Answers (with_store self.old (K.told store.old) (K.fault_count store.old) (K.crashes store.old)) caller (call_of asked) result
+            (with_store self.new (K.told store.new) (K.fault_count store.new) (K.crashes store.new)) }
     {
         let number = self.number_of(&asked);
         let mut line = mem::replace(&mut self.line, Vec::new(alloc));
@@ -99,18 +103,8 @@ impl Machine {
         requires line { line.now ≡ line_behind self.old.net self.old.state.changes asked }
         requires spelled { IsSpelled self.old.net self.old.state.changes asked }
         requires settled { IsSettled (K.told store.old) (K.crashes store.old) }
-        ensures step { IfOk result (λ reply. ChangeStep self.old.net self.old.state asked reply self.new.state) }
-        ensures entry { IfOk result (λ reply. self.new.history
-            ≡ self.old.history ++ record { caller = caller; call = call_of asked; reply = reply } ∷ []) }
-        ensures store { IfOk result (λ reply. Stores self.old.net self.old.state.changes asked reply
-            (K.told store.old) (K.told store.new) (K.fault_count store.old) (K.fault_count store.new)) }
-        ensures crash { IfOk result (λ reply. CrashStep (line_behind self.old.net self.old.state.changes asked) reply
-            (K.told store.old) (K.told store.new) (K.crashes store.old) (K.crashes store.new)) }
-        ensures net { self.new.net ≡ self.old.net }
-        ensures err { OnErr result (self.new ≡ self.old) }
-        ensures err_told { OnErr result (K.told store.new ≡ K.told store.old) }
-        ensures err_faults { OnErr result (K.fault_count store.new ≡ K.fault_count store.old) }
-        ensures err_crashes { OnErr result (K.crashes store.new ≡ K.crashes store.old) }
+        ensures { Answers (with_store self.old (K.told store.old) (K.fault_count store.old) (K.crashes store.old)) caller (call_of asked) result
+            (with_store self.new (K.told store.new) (K.fault_count store.new) (K.crashes store.new)) }
     {
         match self.book_full(line.len()) {
             Some(full) => self.answer(alloc, caller, call_of(asked), full),
@@ -160,7 +154,7 @@ impl Machine {
         }
     }
 
-    /// Answers a call without a change, and keeps its entry.
+    /// Answers a call that leaves the changes as they are, and keeps its entry. No store is asked for anything.
     #[inline(never)]
     pub(crate) fn answer(
         &mut self,
@@ -169,14 +163,11 @@ impl Machine {
         call: Call,
         reply: Reply,
     ) -> Result<Reply, OutOfMemory>
+        requires step { Step self.old.net self.old.state call reply self.old.state }
         requires not_made { is_made reply ≡ false }
-        requires no_fault { is_fault reply ≡ true → self.old.state.stopped ≡ true }
-        ensures told { IfOk result (λ answer. answer ≡ reply) }
-        ensures entry { IfOk result (λ answer. self.new.history
-            ≡ self.old.history ++ record { caller = caller; call = call; reply = answer } ∷ []) }
-        ensures state { self.new.state ≡ self.old.state }
-        ensures net { self.new.net ≡ self.old.net }
-        ensures err { OnErr result (self.new ≡ self.old) }
+        requires not_lost { is_lost reply ≡ false }
+        ensures { (told : Option (List ℕ)) (faults : ℕ) (crashes : Option Crashes) → Answers (with_store self.old told faults crashes) caller call result
+            (with_store self.new told faults crashes) }
     {
         let kept = reply.copy(alloc)?;
         self.history.push(Entry {

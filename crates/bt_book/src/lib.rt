@@ -5,11 +5,12 @@
 //! plans and the journal's calls, replies and lines, and is handed a store, in which it keeps the line of each change
 //! before it answers. What a list of changes made, why a change is refused, the desk machine as a relation, what a
 //! journal and a store tell, and what holds of all of them, `bt_history` says, whose laws are given out here too.
-//! `book.rt` has the book and its calls, `change.rt` the way of a change, `cause.rt` and `install.rt` the first cause of
-//! a refusal, `make.rt` the change that is made, `kept.rt` what it leaves, in room that was taken before, `recover.rt`
-//! and `replay.rt` the changes of a journal made again, `changes.rt` all that were made, as clauses see them,
-//! `earlier.rt` the demand of an earlier edition, and `trial.rt` with `no_store.rt` a copy of the book without its store.
-//! `specs/Kept.antt`, `specs/Lines.antt` and `specs/Noted.antt` are for bodies alone.
+//! `book.rt` has the book, `change.rt` the way of a call and of a change, `tell.rt` the calls that only ask, `cause.rt`
+//! and `install.rt` the first cause of a refusal, `make.rt` the change that is made, `kept.rt` what it leaves, in room that
+//! was taken before, `recover.rt` and `replay.rt` the changes of a journal made again, `changes.rt` all that were made, as
+//! clauses see them, `earlier.rt` the demand of an earlier edition, and `trial.rt` with `no_store.rt` a copy of the book
+//! without its store. `specs/Answered.antt`, `specs/Kept.antt`, `specs/Lines.antt` and `specs/Noted.antt` are for bodies
+//! alone.
 #![tactic(auto)]
 
 mod book;

@@ -3,8 +3,9 @@ ghost use Rattle.std.specs.Prelude.{◌≡◌, ◌<◌, ◌≤◌, ◌++◌, ◌
 ghost use Rattle.bt_outside.specs.Told.{gained, GainsPrefix, Rose};
 ghost use Rattle.bt_outside.specs.Crash.{IsSettled};
 ghost use Rattle.bt_history.specs.Causes.{IsChangeOn};
-ghost use Rattle.bt_history.specs.Machine.{ChangeStep, CanMake, line_behind};
-ghost use Rattle.bt_history.specs.Records.{CrashStep, Endures, IsSpelled, Stores, call_of};
+ghost use Rattle.bt_history.specs.Machine.{CanMake, line_behind};
+ghost use Rattle.bt_history.specs.Records.{Endures, IsSpelled, call_of};
+ghost use Rattle.bt_book.specs.Answered.{Answers, with_store};
 ghost use Rattle.bt_book.specs.Kept.{reply_to};
 
 use crate::change::call_of;
@@ -29,18 +30,8 @@ impl Machine {
         requires line { line.now ≡ line_behind self.old.net self.old.state.changes asked }
         requires spelled { IsSpelled self.old.net self.old.state.changes asked }
         requires settled { IsSettled (K.told store.old) (K.crashes store.old) }
-        ensures step { IfOk result (λ reply. ChangeStep self.old.net self.old.state asked reply self.new.state) }
-        ensures entry { IfOk result (λ reply. self.new.history
-            ≡ self.old.history ++ record { caller = caller; call = call_of asked; reply = reply } ∷ []) }
-        ensures store { IfOk result (λ reply. Stores self.old.net self.old.state.changes asked reply
-            (K.told store.old) (K.told store.new) (K.fault_count store.old) (K.fault_count store.new)) }
-        ensures crash { IfOk result (λ reply. CrashStep (line_behind self.old.net self.old.state.changes asked) reply
-            (K.told store.old) (K.told store.new) (K.crashes store.old) (K.crashes store.new)) }
-        ensures net { self.new.net ≡ self.old.net }
-        ensures err { OnErr result (self.new ≡ self.old) }
-        ensures err_told { OnErr result (K.told store.new ≡ K.told store.old) }
-        ensures err_faults { OnErr result (K.fault_count store.new ≡ K.fault_count store.old) }
-        ensures err_crashes { OnErr result (K.crashes store.new ≡ K.crashes store.old) }
+        ensures { Answers (with_store self.old (K.told store.old) (K.fault_count store.old) (K.crashes store.old)) caller (call_of asked) result
+            (with_store self.new (K.told store.new) (K.fault_count store.new) (K.crashes store.new)) }
     {
         // This is there for what holds of each network: it is sound.
         let _slots = self.kept.occupancy.slots();

@@ -1,8 +1,8 @@
 // The calls that only ask: they are always answered, and change nothing.
-ghost use Rattle.std.specs.Prelude.{◌≡◌, ◌++◌, ◌∷◌, [], IfOk, OnErr};
-ghost use Rattle.bt_journal.specs.declared.reply.Reply.TheVariants.{Newest};
-ghost use Rattle.bt_history.specs.Changes.{newest};
-ghost use Rattle.bt_history.specs.Machine.{IsSnapshot, newer_than};
+ghost use Rattle.std.specs.Prelude.{◌≡◌, ℕ, IfOk, List, Option};
+ghost use Rattle.bt_outside.specs.Crash.{Crashes};
+ghost use Rattle.bt_history.specs.Machine.{newer_than};
+ghost use Rattle.bt_book.specs.Answered.{Answers, with_store};
 
 use crate::machine::Machine;
 use bt_demand::Plan;
@@ -13,12 +13,8 @@ use std::alloc::Global;
 impl Machine {
     /// Tells the last edition, that of the newest plan, and the demand.
     pub(crate) fn snapshot(&mut self, alloc: Global, caller: u32) -> Result<Reply, OutOfMemory>
-        ensures told { IfOk result (λ reply. IsSnapshot self.old.state reply) }
-        ensures entry { IfOk result (λ reply. self.new.history
-            ≡ self.old.history ++ record { caller = caller; call = Call.Snapshot; reply = reply } ∷ []) }
-        ensures state { self.new.state ≡ self.old.state }
-        ensures net { self.new.net ≡ self.old.net }
-        ensures err { OnErr result (self.new ≡ self.old) }
+        ensures { (told : Option (List ℕ)) (faults : ℕ) (crashes : Option Crashes) → Answers (with_store self.old told faults crashes) caller Call.Snapshot result
+            (with_store self.new told faults crashes) }
     {
         let reply = Reply::Demand {
             edition: self.edition(),
@@ -35,12 +31,8 @@ impl Machine {
         caller: u32,
         after: EditionNo,
     ) -> Result<Reply, OutOfMemory>
-        ensures told { IfOk result (λ reply. reply ≡ Newest (newer_than after (newest self.old.state.changes))) }
-        ensures entry { IfOk result (λ reply. self.new.history
-            ≡ self.old.history ++ record { caller = caller; call = Call.Newest after; reply = reply } ∷ []) }
-        ensures state { self.new.state ≡ self.old.state }
-        ensures net { self.new.net ≡ self.old.net }
-        ensures err { OnErr result (self.new ≡ self.old) }
+        ensures { (told : Option (List ℕ)) (faults : ℕ) (crashes : Option Crashes) → Answers (with_store self.old told faults crashes) caller (Call.Newest after) result
+            (with_store self.new told faults crashes) }
     {
         let newer = newer_than(alloc, after, self.newest())?;
         self.answer(
