@@ -77,7 +77,7 @@ fn desk_words<'a>(kind: &[u8], mut words: WordReader<'a>) -> Option<(u64, WordRe
     if !is_word(head, b"desk") || !is_word(word, kind) {
         return None;
     }
-    let Some(desk) = number_of(desk) else {
+    let Some(desk) = number_of_digits(desk, MOST_DIGITS) else {
         return None;
     };
     Some((desk, words))
