@@ -1,16 +1,14 @@
 -- What the centre is and says with an act is what the site is and says with it.
-use Rattle.std.proofs.Common.{◌≡◌, ℕ, zero, suc, ◌+◌, ◌<◌, ◌≤◌, max, if◌then◌else◌, Bool, true, false, Result, Ok, Err, List, [], ◌∷◌, ◌++◌, map, Option, refl, sym, ap, ◌∙◌, subst, arith}
+use Rattle.std.proofs.Common.{◌≡◌, ℕ, zero, suc, ◌+◌, ◌<◌, ◌≤◌, max, if◌then◌else◌, Bool, true, false, List, [], ◌∷◌, ◌++◌, map, Option, refl, sym, ap, ◌∙◌, subst, arith}
 use Rattle.std.specs.Prelude.{nat_le, nat_lt}
-use Rattle.std.proofs.Math.Nat.{le-max_left, le-max_right, max-le}
+use Rattle.std.proofs.Math.Nat.{le-max_left}
 use Rattle.std.proofs.lemmas.Bool.Decides.{nat_tests}
 use Rattle.bt_frame.specs.declared.numbers.EditionNo.{EditionNo}
 use Rattle.bt_frame.specs.declared.numbers.Mark.{Mark}
 use Rattle.bt_net.specs.Network.{Net}
 use Rattle.bt_demand.specs.declared.plan.Plan.{Plan}
-use Rattle.bt_air.specs.declared.fault.AirFault.{AirFault}
 use Rattle.bt_air.specs.declared.message.Message.{Message}
 use Rattle.bt_air.specs.declared.sent.Aired.{Aired}
-use Rattle.bt_air.specs.MessageText.{message_of}
 use Rattle.bt_air.specs.Sent.{sent_as}
 use Rattle.bt_machines.specs.Centre.{State as Centre, after_turn}
 use Rattle.bt_machines.specs.CentreSteps.{beginning, once_placed, with_wanted}
@@ -21,37 +19,20 @@ use Rattle.bt_site.specs.Event.{Install, Opening, Ordered, RestartCentre, Turn}
 use Rattle.bt_site.specs.World.{terminals}
 use Rattle.bt_sites.specs.Late.{now_of}
 use Rattle.bt_sites.specs.Sites.{bytes_of, centre_after, plans_after, said_with}
-use Rattle.bt_sites.specs.Sites as sites
 use Rattle.bt_sites.specs.Stamps.{Act, Begun, Hears, Installs, Line, Places, Radio, Restarts, Turns, actor_of, is_same_site, known, late_of, lines_by, made_in, said_if, steps_by, where_known}
 use Rattle.bt_sites.specs.Step.{Step}
 use Rattle.bt_sites.specs.Step as step
-use Rattle.bt_script.specs.Heard.{if_read, read_of}
+use Rattle.bt_script.specs.Heard.{read_of}
 use Rattle.bt_apart.specs.Apart.{ApartAir, apart_at_start, heard_apart, later_mark, noting_apart, said_lines, says_apart}
-use Rattle.bt_apart_laws.specs.Acts.{BeginsSome, IsAct, IsCentreAt, heard_as, known_in, opening_again, printed_with, takes_up, text_of}
+use Rattle.bt_station.specs.Acts.{heard_as, text_of}
+use Rattle.bt_station.proofs.Acts.{if-false, if-true, mark_of, max-first, max-last, read-same}
+use Rattle.bt_apart_laws.specs.Acts.{BeginsSome, IsAct, IsCentreAt, known_in, opening_again, printed_with, takes_up}
 use Rattle.bt_apart_laws.specs.Processes.{radios}
-use Rattle.bt_apart_laws.proofs.Others.{centre-still, if-false, if-true, known-other, plans-still, where-same, where-some}
-
--- the superframe of that number
-abbrev pub mark_of : ℕ → Mark
-mark_of number = record { 0 = number }
+use Rattle.bt_apart_laws.proofs.Others.{centre-still, known-other, plans-still, where-same, where-some}
 
 -- an opening in this network
 abbrev in_net : Net → Opening
 in_net net = record { net = net; plans = []; orders = [] }
-
--- the centre reads bytes as a site does
-same-read : (read : Result Message AirFault) → if_read read ≡ sites.if_read read
-same-read (Ok message) = refl
-same-read (Err fault) = refl
-
-read-same : (bytes : List ℕ) → read_of bytes ≡ sites.read_of bytes
-read-same bytes = same-read (message_of bytes)
-
-max-first : (a b : ℕ) → b ≤ a → max a b ≡ a
-max-first a b le = let up : max a b ≤ a = max-le (omega arith) le in omega (arith, up, le-max_left a b)
-
-max-last : (a b : ℕ) → a ≤ b → max a b ≡ b
-max-last a b le = let up : max a b ≤ b = max-le le (omega arith) in omega (arith, up, le-max_right a b)
 
 -- the later of two superframes
 pub later-either : (k n : ℕ) (test : Bool) → nat_lt k n ≡ test → (if test then mark_of n else mark_of k) ≡ mark_of (max k n)

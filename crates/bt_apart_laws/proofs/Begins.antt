@@ -2,7 +2,6 @@
 use Rattle.std.proofs.Common.{◌≡◌, ℕ, zero, suc, ◌+◌, ◌≤◌, max, false, List, [], ◌∷◌, refl, ap, ◌∙◌, arith}
 use Rattle.std.proofs.Math.Nat.{max-le}
 use Rattle.bt_frame.specs.declared.limits.TheConstants.{LAST_MARK}
-use Rattle.bt_frame.specs.declared.numbers.Mark.{Mark}
 use Rattle.bt_frame.specs.declared.numbers.TermNo.{TermNo}
 use Rattle.bt_machines.specs.Satellite.{State as Satellite, new_at, ticked}
 use Rattle.bt_site.specs.Event.{Opening}
@@ -18,6 +17,7 @@ use Rattle.bt_station.specs.declared.station.Station.TheVariants as station
 use Rattle.bt_station.specs.Acts.{standby_at, terminal_at}
 use Rattle.bt_station.specs.Standby.{standby_new}
 use Rattle.bt_station.specs.Terminal.{terminal_of}
+use Rattle.bt_station.proofs.Acts.{mark_of}
 use Rattle.bt_apart_laws.proofs.Near.{IsNear, near-lower, near-other, near-start}
 use Rattle.bt_apart_laws.proofs.Others.{known-other, standby-still, terminal-still}
 
@@ -25,9 +25,6 @@ use Rattle.bt_apart_laws.proofs.Others.{known-other, standby-still, terminal-sti
 abbrev pub begin : ℕ → List Act
 begin zero = []
 begin (suc n) = Begins ∷ begin n
-
-abbrev mark_of : ℕ → Mark
-mark_of number = record { 0 = number }
 
 -- nothing is armed
 tick-new : (m : ℕ) → ticked (new_at (mark_of m)) ≡ new_at (mark_of (m + 1))

@@ -4,7 +4,6 @@ use Rattle.std.specs.List.{flat_map}
 use Rattle.std.specs.List.Sorted.{IsPermutation}
 use Rattle.std.proofs.Math.Nat.{le-max_right}
 use Rattle.std.proofs.lemmas.Bool.{eqb-true}
-use Rattle.std.proofs.lemmas.Bool.Decides.{nat_tests}
 use Rattle.std.proofs.lemmas.List.{length-reverse}
 use Rattle.std.proofs.lemmas.List.Elements.{All-cons, All-weaker}
 use Rattle.bt_frame.specs.declared.mode.Mode.{Mode}
@@ -39,14 +38,13 @@ use Rattle.bt_station.specs.declared.station.Station.TheVariants as station
 use Rattle.bt_station.specs.Acts.{terminal_at}
 use Rattle.bt_station.specs.Satellite.{SatelliteAt}
 use Rattle.bt_station.specs.Terminal.{TerminalAt, is_present, sent_in, terminal_of}
-use Rattle.bt_station.proofs.Acts.{begun-some, goes-on_with}
+use Rattle.bt_station.proofs.Acts.{begun-some, goes-on_with, terminal-sends}
 use Rattle.bt_apart_laws.specs.Acts.{IsCentreAt, IsPlanInFront}
 use Rattle.bt_apart_laws.specs.Premises.{ActAsSites, AreProcesses, AreTransmitted, IsGoodInFront, IsMoment, IsOnBoard, IsSafeInGood, IsSmall, MayAsk, TransmitsIn}
 use Rattle.bt_apart_laws.specs.Processes.{Asks, Deed, Start, centre_by, journal_by, satellite_by}
 use Rattle.bt_apart_laws.proofs.Front.{small-moment}
 use Rattle.bt_apart_laws.proofs.Journals.{all-over, plans_over}
 use Rattle.bt_apart_laws.proofs.Near.{with_plans}
-use Rattle.bt_apart_laws.proofs.Others.{if-true}
 use Rattle.bt_apart_laws.proofs.Processes.{Stands, acts_of, acts_with, if_framed, over}
 use Rattle.bt_apart_laws.proofs.Running.{stands}
 use Rattle.bt_apart_laws.proofs.Within.{begun-past}
@@ -166,22 +164,6 @@ front-at fronts goods s deeds board onboard sound are small on =
     (fronts o acts air sound st.stamped (small-at s deeds board sound are small on.moment) st.centre.at))
 
 -- what a terminal transmits when its modem asks
-is-itself : (n : ℕ) → (n == n) ≡ true
-is-itself n = grind (arith, nat_tests)
-
-sends-if : (o : Opening) (number : TermNo) (acts : List Act) (mark : ℕ) (test : Bool) → 0 < mark → (max (known (site.Terminal number) acts) mark == mark) ≡ test
-    → ((if test then transmitted (terminal_after number (steps_by o acts)) (record { 0 = mark }) else []) ≡ [])
-    ⊎ SendsIn o (Acts (site.Terminal number) (Begun mark) ∷ acts) mark number (if test then transmitted (terminal_after number (steps_by o acts)) (record { 0 = mark }) else [])
-sends-if o number acts mark true some is = inr (record {
-  done = Acts (site.Terminal number) (Begun mark) ∷ acts;
-  later = [];
-  is = refl;
-  knows = if-true (number.0 == number.0) (max (known (site.Terminal number) acts) mark) (known (site.Terminal number) acts) (is-itself number.0) ∙ eqb-true _ _ is;
-  some = some;
-  sends = refl;
-})
-sends-if o number acts mark false some is = inl refl
-
 abbrev SendsOr : Opening → List Act → ℕ → TermNo → List Burst → Type 0
 SendsOr o acts mark number bursts = (bursts ≡ []) ⊎ SendsIn o acts mark number bursts
 
@@ -193,7 +175,7 @@ sends-by o number acts mark some =
     let here : Mark = record { 0 = mark } in
     let knows = goes-on_with k mark some ∙ begun-some (max k mark) (omega (arith, some, le-max_right k mark)) in
     subst (λ (list : List Burst). SendsOr o (Acts (site.Terminal number) (Begun mark) ∷ acts) mark number list)
-    (sym (ap (λ (p : Option Mark). if is_present p here then transmitted was here else []) knows)) (sends-if o number acts mark (max k mark == mark) some refl)
+    (sym (ap (λ (p : Option Mark). if is_present p here then transmitted was here else []) knows)) (terminal-sends o number acts mark (max k mark == mark) some refl)
 
 sends-later : (o : Opening) (acts small more : List Act) (mark : ℕ) (number : TermNo) (bursts : List Burst) → more ++ small ≡ acts → SendsOr o small mark number bursts → SendsOr o acts mark number bursts
 sends-later o acts small more mark number bursts is (inl none) = inl none

@@ -1,5 +1,5 @@
 -- What another site does leaves a site as it is.
-use Rattle.std.proofs.Common.{◌≡◌, ℕ, zero, suc, ◌<◌, ◌≤◌, ◌==◌, max, if◌then◌else◌, Bool, true, false, List, ◌∷◌, Option, refl, sym, ap, ◌∙◌, arith}
+use Rattle.std.proofs.Common.{◌≡◌, ℕ, zero, suc, ◌<◌, ◌≤◌, ◌==◌, max, false, List, ◌∷◌, Option, refl, sym, ap, ◌∙◌, arith}
 use Rattle.std.proofs.Math.Nat.{le-max_left, le-max_right, max-le}
 use Rattle.bt_frame.specs.declared.numbers.Mark.{Mark}
 use Rattle.bt_frame.specs.declared.numbers.TermNo.{TermNo}
@@ -13,18 +13,9 @@ use Rattle.bt_sites.specs.Sites.{centre_after, plans_after, satellite_after, sta
 use Rattle.bt_sites.specs.Stamps.{Act, Begins, Begun, Hears, Installs, Places, Radio, Restarts, Seconds, StandbyStarts, Starts, Turns, actor_of, is_same_site, joined, known, known_by, late_of, made_in, reached, steps_by, where_known}
 use Rattle.bt_sites.specs.Step.{Site, Step}
 use Rattle.bt_sites.specs.Step as step
-use Rattle.bt_station.specs.Asked.{if_begun}
+use Rattle.bt_script.specs.Heard.{if_begun}
 use Rattle.bt_station.specs.declared.station.Station.TheVariants as station
 use Rattle.bt_station.specs.Acts.{satellite_at, standby_at, terminal_at}
-
--- a test that holds, and one that does not
-pub if-true : {X : Type 0} (test : Bool) (a b : X) → test ≡ true → (if test then a else b) ≡ a
-if-true true a b is = refl
-if-true false a b is = absurd cc
-
-pub if-false : {X : Type 0} (test : Bool) (a b : X) → test ≡ false → (if test then a else b) ≡ b
-if-false true a b is = absurd cc
-if-false false a b is = refl
 
 -- a step of a site that knows a superframe, and one that leaves something as it was
 pub where-some : {X : Type 0} (f : List Step → X) (late : List Late) (made k : ℕ) (make : Mark → Step) → 0 < k → f (steps_of (joined made (where_known k make) late)) ≡ f (make (record { 0 = k }) ∷ steps_of late)

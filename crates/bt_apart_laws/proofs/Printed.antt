@@ -38,20 +38,22 @@ use Rattle.bt_site.specs.Sites.{satellite_says, standby_says, terminal_says}
 use Rattle.bt_sites.specs.Stamps.{Line}
 use Rattle.bt_timeline.specs.Air.{answer_name, got_line, last_tick_line, noticed_line, over_line, place_name, standby_burst_line}
 use Rattle.bt_timeline.specs.Timeline.{burst_line, burst_lines}
+use Rattle.bt_script.specs.BusSaid.{mark_line}
+use Rattle.bt_script.specs.declared.heard.BusLine.TheVariants as bus
 use Rattle.bt_station.specs.declared.asked.Asked.{Asked}
 use Rattle.bt_station.specs.declared.asked.Asked.TheVariants as asked
 use Rattle.bt_station.specs.declared.station.Station.{Station}
 use Rattle.bt_station.specs.declared.station.Station.TheVariants as station
+use Rattle.bt_station.specs.Acts.{texts_of}
 use Rattle.bt_station.specs.Asked.{asked_of}
-use Rattle.bt_station.specs.Lines.{burst_frame_lines, fault_line, mark_line, mode_lines, radio_line, radio_lines}
+use Rattle.bt_station.specs.Lines.{burst_frame_lines, fault_line, mode_lines, radio_line, radio_lines}
 use Rattle.bt_station.specs.Satellite.{SatelliteAt, begun_lines as begun_texts, frame_lines, heard_by_satellite, taken_line}
 use Rattle.bt_station.specs.Standby.{StandbyAt, heard_by_standby, second_lines as second_texts}
 use Rattle.bt_station.specs.Station.{answer, answer_asked}
 use Rattle.bt_station.specs.Terminal.{heard_by_terminal, heard_line, present_by, sent_in, start_lines}
-use Rattle.bt_apart_laws.specs.Acts.{texts_of}
+use Rattle.bt_station.proofs.Said.{line-spaced}
 use Rattle.bt_apart_laws.specs.Premises.{AreOfLog, IsOfLog, SaysBehind}
 use Rattle.bt_apart_laws.specs.Processes.{asked_lines, begun_lines, confirm_lines, radios, second_lines}
-use Rattle.bt_apart_laws.proofs.Said.{line-spaced}
 
 -- a text is lines of a log
 record IsLog (text : List ℕ) : Type 0 where
@@ -191,27 +193,27 @@ standby-seconds s (Some mark) =
 by-asked : (net : Net) (at : ℕ) (x : Station) (one : Option Asked) → SaysBehind (answer_asked net at x one) (asked_lines x one)
 by-asked net at (station.Satellite s) None = log-alone (fault_line at) (log-fault at)
 by-asked net at (station.Satellite s) (Some asked.Tick) = ticks-by s (nat_lt s.site.mark.0 LAST_MARK)
-by-asked net at (station.Satellite s) (Some (asked.Radio stamp message)) = satellite-heard net at s message
+by-asked net at (station.Satellite s) (Some (asked.Heard (bus.Radio stamp message))) = satellite-heard net at s message
 by-asked net at (station.Satellite s) (Some asked.Frame) = log-alone (frame_lines net s) (log-frame s (nat_lt s.shown net.frames))
 by-asked net at (station.Satellite s) (Some asked.Remark) = log-alone [] log-none
-by-asked net at (station.Satellite s) (Some (asked.Begun mark)) = log-alone [] log-none
+by-asked net at (station.Satellite s) (Some (asked.Heard (bus.Begun mark))) = log-alone [] log-none
 by-asked net at (station.Satellite s) (Some asked.Second) = log-alone [] log-none
 by-asked net at (station.Satellite s) (Some (asked.FrameOf mark frame)) = log-alone [] log-none
 by-asked net at (station.Terminal s) None = log-alone (fault_line at) (log-fault at)
-by-asked net at (station.Terminal s) (Some (asked.Radio stamp message)) = terminal-heard net at s.site (present_by s.present stamp) message
+by-asked net at (station.Terminal s) (Some (asked.Heard (bus.Radio stamp message))) = terminal-heard net at s.site (present_by s.present stamp) message
 by-asked net at (station.Terminal s) (Some (asked.FrameOf mark frame)) = log-alone (burst_frame_lines net mark frame (sent_in s mark)) (log-sent net mark frame (sent_in s mark))
 by-asked net at (station.Terminal s) (Some asked.Tick) = log-alone [] log-none
 by-asked net at (station.Terminal s) (Some asked.Frame) = log-alone [] log-none
 by-asked net at (station.Terminal s) (Some asked.Remark) = log-alone [] log-none
-by-asked net at (station.Terminal s) (Some (asked.Begun mark)) = log-alone [] log-none
+by-asked net at (station.Terminal s) (Some (asked.Heard (bus.Begun mark))) = log-alone [] log-none
 by-asked net at (station.Terminal s) (Some asked.Second) = log-alone [] log-none
 by-asked net at (station.Standby s) None = log-alone (fault_line at) (log-fault at)
-by-asked net at (station.Standby s) (Some (asked.Radio stamp message)) = log-alone (heard_by_standby at s.kept (present_by s.present stamp) message) (log-standby at s.kept (present_by s.present stamp) message)
+by-asked net at (station.Standby s) (Some (asked.Heard (bus.Radio stamp message))) = log-alone (heard_by_standby at s.kept (present_by s.present stamp) message) (log-standby at s.kept (present_by s.present stamp) message)
 by-asked net at (station.Standby s) (Some asked.Second) = standby-seconds s s.present
 by-asked net at (station.Standby s) (Some asked.Tick) = log-alone [] log-none
 by-asked net at (station.Standby s) (Some asked.Frame) = log-alone [] log-none
 by-asked net at (station.Standby s) (Some asked.Remark) = log-alone [] log-none
-by-asked net at (station.Standby s) (Some (asked.Begun mark)) = log-alone [] log-none
+by-asked net at (station.Standby s) (Some (asked.Heard (bus.Begun mark))) = log-alone [] log-none
 by-asked net at (station.Standby s) (Some (asked.FrameOf mark frame)) = log-alone [] log-none
 
 pub station-prints : (net : Net) (at : ℕ) (x : Station) (text : List ℕ) → SaysBehind (answer net at x (Some text)) (asked_lines x (asked_of net text))

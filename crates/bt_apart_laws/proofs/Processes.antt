@@ -30,14 +30,13 @@ use Rattle.bt_station.specs.Asked.{asked_of}
 use Rattle.bt_station.specs.Satellite.{SatelliteAt}
 use Rattle.bt_station.specs.Station.{after, after_asked}
 use Rattle.bt_station.specs.Terminal.{terminal_of}
-use Rattle.bt_station.proofs.Acts.{satellite-heard, satellite-ticks, standby-heard, standby-passed_over, standby-seconds, terminal-heard, terminal-modem, terminal-passed_over, terminal-starts}
+use Rattle.bt_station.proofs.Acts.{if-false, satellite-heard, satellite-ticks, standby-heard, standby-passed_over, standby-seconds, terminal-heard, terminal-modem, terminal-passed_over, terminal-starts}
 use Rattle.bt_apart_laws.specs.Acts.{takes_up}
 use Rattle.bt_apart_laws.specs.Premises.{GoesOnBy, IsStart, MayAsk, MayHear}
 use Rattle.bt_apart_laws.specs.Processes.{Asks, Deed, Goes, Hears, Learns, Makes, Opens, Places, Restarts, StandbyStarts, Start, Starts, Turns, asked_lines, begun_lines, centre_by, is_order, is_started, journal_by, known_by, lines_said, opening_over, present_in, radios, reached_by, satellite_by, standby_by, terminal_by}
 use Rattle.bt_apart_laws.proofs.Begins.{begin, begun-near, begun-reached, begun-satellite, begun-stamped, begun-standby, begun-started, begun-terminal}
 use Rattle.bt_apart_laws.proofs.Journals.{orders_over, plans_over}
 use Rattle.bt_apart_laws.proofs.Near.{IsNear, near-idle, near-other}
-use Rattle.bt_apart_laws.proofs.Others.{if-false}
 use Rattle.bt_apart_laws.proofs.Stations.{IsSatelliteAt, IsStandbyAt, IsTerminalAt, satellite-begins, satellite-kept, satellite-says, standby-idle, standby-kept, standby-known, standby-next, standby-says, terminal-idle, terminal-kept, terminal-known, terminal-next, terminal-says, terminal-silent}
 use Rattle.bt_apart_laws.proofs.Within.{AreWithin, begun-past, within-both, within-none, within-same}
 
@@ -337,8 +336,7 @@ stands-satellite_asks s before acts text (Some (asked.FrameOf mark frame)) asks 
     stands-satellite_idle s before acts text
     (satellite-asked s.net o acts (satellite_by s before) text (Some (asked.FrameOf mark frame)) asks st.satellite (λ shown. record { shown = shown; is = refl }))
     (silent-asked (satellite_by s before) (satellite_at o st.satellite.shown acts) s.net text (Some (asked.FrameOf mark frame)) asks st.satellite.is refl) st
-stands-satellite_asks s before acts text (Some (asked.Begun mark)) asks may st = absurd may
-stands-satellite_asks s before acts text (Some (asked.Radio stamp message)) asks may st = absurd may
+stands-satellite_asks s before acts text (Some (asked.Heard line)) asks may st = absurd may
 
 -- a terminal does what is an act
 stands-terminal_act : (s : Start) (before : List Deed) (acts : List Act) (to : TermNo) (line : Line) (text : List ℕ) → MayAct (over s) acts (act.Hears (site.Terminal to) line)
@@ -466,8 +464,7 @@ stands-terminal_asks s before acts to text (Some (asked.FrameOf mark frame)) ask
     (st.said line may.0, (st.named to may.1.0, st.started to ∙ may.1.0, goes-on s before acts (site.Terminal to) line knows at.reached past may.1.1))
     (ap (λ (y : Station). after s.net y (Some text)) at.is ∙ terminal-modem s.net o to acts mark.0 frame text asks past)
     (within-same _ _ (silent-asked x (terminal_at o to acts) s.net text (Some (asked.FrameOf mark frame)) asks at.is refl)) st)
-stands-terminal_asks s before acts to text (Some (asked.Begun mark)) asks may st = absurd may
-stands-terminal_asks s before acts to text (Some (asked.Radio stamp message)) asks may st = absurd may
+stands-terminal_asks s before acts to text (Some (asked.Heard line)) asks may st = absurd may
 
 -- the standby does what is an act
 stands-standby_act : (s : Start) (before : List Deed) (acts : List Act) (one : Act) (line : Line) (text : List ℕ) → MayAct (over s) acts one → actor_of one ≡ site.Standby
@@ -578,5 +575,4 @@ stands-standby_asks s before acts text (Some asked.Second) asks may st =
     (stands-standby_act s before acts act.Seconds (Begun 0) text tt refl (λ number. refl)
     (ap (λ (y : Station). after s.net y (Some text)) st.standby.is ∙ (standby-seconds s.net 0 o acts text asks).state)
     (within-same _ _ (ap (λ (a : Option Asked). asked_lines x a) asks ∙ ap (λ (y : Station). asked_lines y (Some asked.Second)) st.standby.is ∙ standby-says o acts)) st)
-stands-standby_asks s before acts text (Some (asked.Begun mark)) asks may st = absurd may
-stands-standby_asks s before acts text (Some (asked.Radio stamp message)) asks may st = absurd may
+stands-standby_asks s before acts text (Some (asked.Heard line)) asks may st = absurd may

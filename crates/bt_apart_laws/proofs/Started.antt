@@ -1,7 +1,6 @@
 -- The example meets what must hold of processes.
-use Rattle.std.proofs.Common.{◌≡◌, inl, inr, ℕ, ◌==◌, ◌||◌, Bool, true, false, [], ◌++◌, All, Option, Some, refl, sym, ap, subst, arith}
+use Rattle.std.proofs.Common.{◌≡◌, inl, inr, ◌==◌, ◌||◌, Bool, true, false, [], ◌++◌, All, Option, Some, refl, sym, ap, subst, arith}
 use Rattle.std.specs.Prelude.{codes}
-use Rattle.std.proofs.lemmas.Bool.Decides.{nat_tests}
 use Rattle.std.proofs.lemmas.List.Elements.{All-nil}
 use Rattle.bt_frame.specs.declared.numbers.TermNo.{TermNo}
 use Rattle.bt_net.specs.Network.{Net}
@@ -14,18 +13,15 @@ use Rattle.bt_sites.specs.Stamps.{Begun, HasLine, Line}
 use Rattle.bt_sites.specs.Step as site
 use Rattle.bt_station.specs.declared.asked.Asked.{Asked}
 use Rattle.bt_station.specs.declared.asked.Asked.TheVariants as asked
-use Rattle.bt_station.specs.Acts.{IsHeardAs, IsSayable}
+use Rattle.bt_station.specs.Acts.{IsHeardAs, IsSayable, words_of}
 use Rattle.bt_station.specs.Asked.{asked_of}
-use Rattle.bt_apart_laws.specs.Acts.{words_of}
+use Rattle.bt_station.proofs.Acts.{is-itself}
 use Rattle.bt_apart_laws.specs.Example.{empty_start, first_superframe}
 use Rattle.bt_apart_laws.specs.Premises.{AreProcesses, IsStart, MayAsk}
 use Rattle.bt_apart_laws.specs.Processes.{asked_lines, opening_over, satellite_by}
 
 tick-asked : (net : Net) → asked_of net (codes "tick") ≡ Some asked.Tick
 tick-asked net = refl
-
-is-itself : (n : ℕ) → (n == n) ≡ true
-is-itself n = grind (arith, nat_tests)
 
 or-true : (a b : Bool) → a ≡ true → (a || b) ≡ true
 or-true a b is = ap (λ (c : Bool). c || b) is

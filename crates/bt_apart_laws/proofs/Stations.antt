@@ -1,33 +1,29 @@
 -- Where the processes of the satellite, the terminals and the standby stand, and what they say.
-use Rattle.std.proofs.Common.{◌≡◌, ℕ, zero, suc, ◌+◌, ◌≤◌, ◌==◌, max, if◌then◌else◌, Bool, true, false, Result, Ok, Err, List, [], ◌∷◌, map, Option, Some, None, refl, sym, ap, ◌∙◌, arith}
+use Rattle.std.proofs.Common.{◌≡◌, ℕ, zero, suc, ◌≤◌, ◌==◌, max, true, false, List, [], ◌∷◌, map, Option, Some, None, refl, sym, ap, ◌∙◌, arith}
 use Rattle.std.specs.Prelude.{nat_lt}
-use Rattle.std.proofs.lemmas.Bool.Decides.{nat_tests}
 use Rattle.bt_frame.specs.declared.limits.TheConstants.{LAST_MARK}
 use Rattle.bt_frame.specs.declared.numbers.Mark.{Mark}
 use Rattle.bt_frame.specs.declared.numbers.TermNo.{TermNo}
-use Rattle.bt_air.specs.declared.fault.AirFault.{AirFault}
 use Rattle.bt_air.specs.declared.message.Message.{Message}
 use Rattle.bt_air.specs.declared.sent.Aired.TheVariants as sends
-use Rattle.bt_air.specs.MessageText.{message_of}
-use Rattle.bt_machines.specs.Satellite.{State as Satellite, begun, changed, is_due, status_of, ticked}
+use Rattle.bt_machines.specs.Satellite.{status_of, ticked}
 use Rattle.bt_machines.specs.Terminal.{State as Terminal}
 use Rattle.bt_site.specs.Event.{Opening}
-use Rattle.bt_site.specs.Sites.{satellite_says, terminal_says, terminal_with}
+use Rattle.bt_site.specs.Sites.{satellite_says, terminal_says}
 use Rattle.bt_sites.specs.Late.{now_of}
 use Rattle.bt_sites.specs.Sites.{satellite_after, standby_after, terminal_after}
 use Rattle.bt_sites.specs.Sites as sites
 use Rattle.bt_sites.specs.Stamps.{Act, Begins, Begun, Hears, Line, Radio, Seconds, actor_of, is_same_site, known, lines_by, reached, said_if, step_by, steps_by, where_known}
 use Rattle.bt_sites.specs.Step.{Step}
 use Rattle.bt_sites.specs.Step as step
+use Rattle.bt_script.specs.Heard.{if_begun, read_of}
 use Rattle.bt_station.specs.declared.asked.Asked.TheVariants as asked
 use Rattle.bt_station.specs.declared.station.Station.{Station}
 use Rattle.bt_station.specs.Acts.{IsTakenUp, asked_by_line, satellite_at, standby_at, terminal_at}
-use Rattle.bt_station.specs.Asked.{if_begun, if_read, read_of}
 use Rattle.bt_station.specs.Terminal.{present_by}
-use Rattle.bt_station.proofs.Acts.{begun-some, goes-on_by}
-use Rattle.bt_station.proofs.Confirms.{number_kept}
+use Rattle.bt_station.proofs.Acts.{begun-some, goes-on_by, if-true, is-itself, mark-ticked, number-after, read-same, terminal_hears}
 use Rattle.bt_apart_laws.specs.Processes.{asked_lines, begun_lines, confirm_lines, number_in, present_in, radios, second_lines}
-use Rattle.bt_apart_laws.proofs.Others.{if-true, reached-more, reached-still, satellite-still, standby-still, terminal-still}
+use Rattle.bt_apart_laws.proofs.Others.{reached-more, reached-still, satellite-still, standby-still, terminal-still}
 
 -- the superframe that a station knows is the one that the site knows
 number-begun : (k : ℕ) → number_in (if_begun k) ≡ k
@@ -93,27 +89,12 @@ terminal-lower o acts number x reach bound most at = record { is = at.is; reache
 pub standby-lower : (o : Opening) (acts : List Act) (x : Station) (reach bound : ℕ) → reach ≤ bound → IsStandbyAt o acts x reach → IsStandbyAt o acts x bound
 standby-lower o acts x reach bound most at = record { is = at.is; reached = omega (arith, at.reached, most) }
 
--- a station reads bytes as a site does
-same-read : (read : Result Message AirFault) → if_read read ≡ sites.if_read read
-same-read (Ok message) = refl
-same-read (Err fault) = refl
-
-read-same : (bytes : List ℕ) → read_of bytes ≡ sites.read_of bytes
-read-same bytes = same-read (message_of bytes)
-
 -- what the satellite says with a line that it hears
 pub satellite-says : (o : Opening) (shown : ℕ) (acts : List Act) (line : Line) → asked_lines (satellite_at o shown acts) (Some (asked_by_line line)) ≡ lines_by o acts (Hears step.Satellite line)
 satellite-says o shown acts (Begun stamp) = refl
 satellite-says o shown acts (Radio stamp bytes) =
     let was = satellite_after o (steps_by o acts) in
     ap (λ (m : Option Message). radios was.mark.0 [] (satellite_says was m)) (read-same bytes)
-
-mark-either : (s : Satellite) (due : Bool) → (if due then changed (begun s) else begun s).mark.0 ≡ s.mark.0 + 1
-mark-either s true = refl
-mark-either s false = refl
-
-pub mark-ticked : (s : Satellite) → (ticked s).mark.0 ≡ s.mark.0 + 1
-mark-ticked s = mark-either s (is_due s.armed (s.mark.0 + 1))
 
 -- and where its next superframe begins
 pub satellite-begins : (o : Opening) (shown : ℕ) (acts : List Act) → nat_lt (now_of o (steps_by o acts)) LAST_MARK ≡ true → asked_lines (satellite_at o shown acts) (Some asked.Tick) ≡ lines_by o acts Begins
@@ -122,35 +103,7 @@ satellite-begins o shown acts below =
     if-true (nat_lt was.mark.0 LAST_MARK) (begun_lines (ticked was)) [] below
     ∙ ap (λ (n : ℕ). Begun n ∷ radios n [] (sends.Status (status_of (ticked was)) ∷ [])) (mark-ticked was)
 
--- a terminal keeps its number
-number-either : (number : TermNo) (test : Bool) (x y : Terminal) → x.number ≡ number → y.number ≡ number → (if test then x else y).number ≡ number
-number-either number true x y this other = this
-number-either number false x y this other = other
-
-number-with : (s : Terminal) (mark : Mark) (message : Option Message) → (terminal_with s mark message).number ≡ s.number
-number-with s mark None = refl
-number-with s mark (Some message) = number_kept s mark message
-
-number-after : (number : TermNo) (steps : List Step) → (terminal_after number steps).number ≡ number
-number-after number [] = refl
-number-after number (step.Starts other ∷ before) = number-either number (other.0 == number.0) _ _ refl (number-after number before)
-number-after number (step.TerminalHears to mark bytes ∷ before) =
-    number-either number (to.0 == number.0) _ _ (number-with (terminal_after number before) mark (sites.read_of bytes) ∙ number-after number before) (number-after number before)
-number-after number (step.Begins ∷ before) = number-after number before
-number-after number (step.SatelliteHears bytes ∷ before) = number-after number before
-number-after number (step.CentreHears mark bytes ∷ before) = number-after number before
-number-after number (step.Turns mark target ∷ before) = number-after number before
-number-after number (step.Places ∷ before) = number-after number before
-number-after number (step.Installs plan ∷ before) = number-after number before
-number-after number (step.Restarts kept ∷ before) = number-after number before
-number-after number (step.StandbyStarts ∷ before) = number-after number before
-number-after number (step.StandbyHears mark bytes ∷ before) = number-after number before
-number-after number (step.Seconds mark ∷ before) = number-after number before
-
 -- what a terminal says with a line that it takes up
-abbrev terminal_hears : TermNo → List ℕ → Mark → Step
-terminal_hears number bytes mark = step.TerminalHears number mark bytes
-
 confirms-known : (o : Opening) (number : TermNo) (steps : List Step) (k : ℕ) (bytes : List ℕ)
     → confirm_lines (terminal_after number steps) (if_begun k) (read_of bytes) ≡ map (λ (one : List ℕ). Radio k one) (said_if o steps (where_known k (terminal_hears number bytes)))
 confirms-known o number steps zero bytes = refl
@@ -160,9 +113,6 @@ confirms-known o number steps (suc k) bytes =
     ap (λ (p : Option Mark). confirm_lines was p (read_of bytes)) (begun-some (suc k) (omega arith))
     ∙ ap (λ (m : Option Message). radios (suc k) [] (terminal_says was.number was mark m)) (read-same bytes)
     ∙ ap (λ (n : TermNo). radios (suc k) [] (terminal_says n was mark (sites.read_of bytes))) (number-after number steps)
-
-is-itself : (n : ℕ) → (n == n) ≡ true
-is-itself n = grind (arith, nat_tests)
 
 pub terminal-says : (o : Opening) (number : TermNo) (acts : List Act) (line : Line) → IsTakenUp (known (step.Terminal number) acts) line
     → asked_lines (terminal_at o number acts) (Some (asked_by_line line)) ≡ lines_by o acts (Hears (step.Terminal number) line)

@@ -1,7 +1,5 @@
 -- The centre of sites apart as a site that hears lines with stamps (`bt_sites`). Lists of acts have the latest first.
-use Rattle.std.specs.Prelude.{◌≡◌, ℕ, ◌+◌, ◌<◌, ◌≤◌, nat_le, if◌then◌else◌, Bool, true, false, codes, decimal, flat_map, List, [], ◌∷◌, ◌++◌, Some}
-use Rattle.hex.specs.Hex.{IsBytes, encode_lower}
-use Rattle.bt_frame.specs.declared.limits.TheConstants.{LAST_MARK}
+use Rattle.std.specs.Prelude.{◌≡◌, ℕ, ◌+◌, ◌<◌, ◌≤◌, nat_le, if◌then◌else◌, Bool, true, false, List, [], ◌∷◌, ◌++◌, Some}
 use Rattle.bt_net.specs.Network.{Net}
 use Rattle.bt_demand.specs.declared.burst.Burst.{Burst}
 use Rattle.bt_demand.specs.declared.plan.Plan.{Plan}
@@ -11,35 +9,16 @@ use Rattle.bt_air.specs.Sent.{sent_as}
 use Rattle.bt_machines.specs.CentreSteps.{orders_kept}
 use Rattle.bt_machines.specs.Plans.{plan_of}
 use Rattle.bt_machines.specs.Satellite.{State as Satellite}
-use Rattle.bt_words.specs.Lines.{line_of}
 use Rattle.bt_timeline.specs.Air.{sent_line}
 use Rattle.bt_site.specs.Air.{IsSafe}
 use Rattle.bt_site.specs.Event.{Opening, Event}
 use Rattle.bt_sites.specs.Sites.{centre_after, plans_after}
 use Rattle.bt_sites.specs.Stamps.{Act, Begun, Hears, Line, Radio, known, lines_by, reached, steps_by}
 use Rattle.bt_sites.specs.Step as site
-use Rattle.bt_script.specs.Heard.{bus_line_of, read_of}
+use Rattle.bt_script.specs.Heard.{bus_line_of}
 use Rattle.bt_script.specs.declared.heard.BusLine.{BusLine}
-use Rattle.bt_script.specs.declared.heard.BusLine.TheVariants as bus
 use Rattle.bt_apart.specs.Apart.{ApartAir, having_apart, lines_apart, says_apart}
-
--- the words of a line: `mark N`, or `radio N HEX`
-abbrev pub words_of : Line → List (List ℕ)
-words_of (Begun stamp) = codes "mark" ∷ decimal stamp ∷ []
-words_of (Radio stamp bytes) = codes "radio" ∷ decimal stamp ∷ encode_lower bytes ∷ []
-
--- the line as it is said on the bus
-abbrev pub text_of : Line → List ℕ
-text_of line = line_of (words_of line)
-
--- these lines
-abbrev pub texts_of : List Line → List ℕ
-texts_of lines = flat_map text_of lines
-
--- what is heard of a line
-abbrev pub heard_as : Line → BusLine
-heard_as (Begun stamp) = bus.Begun (record { 0 = stamp })
-heard_as (Radio stamp bytes) = bus.Radio (record { 0 = stamp }) (read_of bytes)
+use Rattle.bt_station.specs.Acts.{heard_as, text_of, texts_of}
 
 -- the superframe that the centre knows, or 0, where it has heard of none since its start
 abbrev pub known_in : ApartAir → ℕ
@@ -105,11 +84,6 @@ pub record IsPlanInFront (air : ApartAir) (onboard : Satellite) : Type 0 where
 pub record IsSafeInFront (net : Net) (air : ApartAir) (onboard : Satellite) (bursts : List Burst) : Type 0 where
   pub front : IsPlanInFront air onboard
   pub safe : IsSafe net front.plan.schedule.modes bursts
-
--- a line that can be said: its superframe is within the range, from 1 on where it begins, and its bytes are bytes
-abbrev pub IsSayable : Line → Type 0
-IsSayable (Begun stamp) = (0 < stamp) × (stamp ≤ LAST_MARK)
-IsSayable (Radio stamp bytes) = (stamp ≤ LAST_MARK) × IsBytes bytes
 
 -- a text is heard as this line
 abbrev pub IsHeardAs : List ℕ → Line → Type 0

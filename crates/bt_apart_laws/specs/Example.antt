@@ -5,7 +5,7 @@ use Rattle.bt_net.specs.Network.{Net}
 use Rattle.bt_text.specs.Text.{spaced}
 use Rattle.bt_sites.specs.Stamps.{Begun}
 use Rattle.bt_sites.specs.Step as site
-use Rattle.bt_apart_laws.specs.Acts.{words_of}
+use Rattle.bt_station.specs.Acts.{words_of}
 use Rattle.bt_apart_laws.specs.Processes.{Asks, Deed, Hears, Start, Starts}
 
 -- a network whose journal is empty, and a satellite in superframe 0

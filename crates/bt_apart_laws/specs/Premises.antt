@@ -27,11 +27,11 @@ use Rattle.bt_apart.specs.Apart.{ApartAir}
 use Rattle.bt_station.specs.declared.asked.Asked.{Asked}
 use Rattle.bt_station.specs.declared.asked.Asked.TheVariants as asked
 use Rattle.bt_station.specs.declared.station.Station.TheVariants as station
-use Rattle.bt_station.specs.Acts.{asked_by_line, satellite_at, standby_at, terminal_at}
+use Rattle.bt_station.specs.Acts.{asked_by_line, heard_as, satellite_at, standby_at, terminal_at, texts_of}
 use Rattle.bt_station.specs.Asked.{asked_of}
 use Rattle.bt_station.specs.Satellite.{SatelliteAt}
 use Rattle.bt_station.specs.Terminal.{TerminalAt, sent_in}
-use Rattle.bt_apart_laws.specs.Acts.{heard_as, takes_up, texts_of}
+use Rattle.bt_apart_laws.specs.Acts.{takes_up}
 use Rattle.bt_apart_laws.specs.Processes.{Asks, Deed, Goes, Hears, Learns, Makes, Opens, Places, Restarts, StandbyStarts, Start, Starts, Turns, centre_by, is_started, journal_by, known_by, lines_said, opening_over, reached_by, satellite_by, standby_by, terminal_by, with_one}
 
 -- the process of a site hears this text as that line
@@ -59,8 +59,7 @@ MayHear s before site.Standby line = GoesOnBy s before site.Standby line
 -- which said that this one begins.
 abbrev pub MayAsk : Start → List Deed → Site → Option Asked → Type 0
 MayAsk s before one None = Unit {0}
-MayAsk s before one (Some (asked.Begun mark)) = ⊥
-MayAsk s before one (Some (asked.Radio stamp message)) = ⊥
+MayAsk s before one (Some (asked.Heard line)) = ⊥
 MayAsk s before (site.Terminal number) (Some (asked.FrameOf mark frame)) = HasLine (lines_said s before) (Begun mark.0) × MayHear s before (site.Terminal number) (Begun mark.0)
 MayAsk s before one (Some _) = Unit {0}
 

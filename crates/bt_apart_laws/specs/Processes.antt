@@ -25,6 +25,7 @@ use Rattle.bt_sites.specs.Step.{Site}
 use Rattle.bt_sites.specs.Step as site
 use Rattle.bt_script.specs.Heard.{bus_line_of}
 use Rattle.bt_script.specs.declared.heard.BusLine.{BusLine}
+use Rattle.bt_script.specs.declared.heard.BusLine.TheVariants as bus
 use Rattle.bt_apart.specs.Back.{back_lasting}
 use Rattle.bt_apart.specs.Apart.{ApartAir, apart_at_start, going_apart, having_apart, heard_apart, says_apart}
 use Rattle.bt_station.specs.declared.asked.Asked.{Asked}
@@ -144,7 +145,7 @@ begun_lines s = Begun s.mark.0 ∷ radios s.mark.0 [] (sends.Status (status_of s
 -- the lines that a station says to the others with what it is asked
 abbrev pub satellite_lines : SatelliteAt → Asked → List Line
 satellite_lines s asked.Tick = if nat_lt s.site.mark.0 LAST_MARK then begun_lines (ticked s.site) else []
-satellite_lines s (asked.Radio stamp message) = radios s.site.mark.0 [] (satellite_says s.site message)
+satellite_lines s (asked.Heard (bus.Radio stamp message)) = radios s.site.mark.0 [] (satellite_says s.site message)
 satellite_lines s _ = []
 
 -- the lines of a terminal with a message in a superframe, where it knows one
@@ -153,7 +154,7 @@ confirm_lines s None message = []
 confirm_lines s (Some mark) message = radios mark.0 [] (terminal_says s.number s mark message)
 
 abbrev pub terminal_lines : TerminalAt → Asked → List Line
-terminal_lines s (asked.Radio stamp message) = confirm_lines s.site (present_by s.present stamp) message
+terminal_lines s (asked.Heard (bus.Radio stamp message)) = confirm_lines s.site (present_by s.present stamp) message
 terminal_lines s _ = []
 
 -- the lines of the standby with its burst, where it knows a superframe

@@ -1,5 +1,5 @@
 // The centre of sites apart is a site that hears lines with stamps, of which the laws of `bt_sites` speak.
-ghost use Rattle.std.specs.Prelude.{◌≡◌, ℕ, ◌<◌, ◌≤◌, ◌++◌, Bool, true, false, [], ◌∷◌, List, IsSome, Option, Some};
+ghost use Rattle.std.specs.Prelude.{◌≡◌, ℕ, ◌<◌, ◌≤◌, Bool, true, false, [], ◌∷◌, List, IsSome, Option, Some};
 ghost use Rattle.std.specs.List.{flat_map};
 ghost use Rattle.std.specs.List.Sorted.{IsPermutation};
 ghost use Rattle.bt_frame.specs.declared.numbers.EditionNo.{EditionNo};
@@ -20,7 +20,8 @@ ghost use Rattle.bt_sites.specs.Step as site;
 ghost use Rattle.bt_script.specs.Heard.{bus_line_of};
 ghost use Rattle.bt_script.specs.declared.heard.BusLine.{BusLine};
 ghost use Rattle.bt_apart.specs.Apart.{ApartAir, apart_at_start, going_apart, having_apart, heard_apart};
-ghost use Rattle.bt_apart_laws.specs.Acts.{BeginsSome, IsAct, IsCentreAt, IsHeardAs, IsNotBehind, IsOfLine, IsPlanInFront, IsSafeInFront, IsSayable, heard_as, is_hearing, opening_again, takes_up, text_of, words_of};
+ghost use Rattle.bt_station.specs.Acts.{IsSayable, heard_as, words_of};
+ghost use Rattle.bt_apart_laws.specs.Acts.{BeginsSome, IsAct, IsCentreAt, IsHeardAs, IsNotBehind, IsOfLine, IsPlanInFront, IsSafeInFront, is_hearing, opening_again, takes_up};
 
 use bt_site::{banks_hold_plans, frames_are_safe};
 use bt_sites::{
@@ -28,10 +29,9 @@ use bt_sites::{
     stamped_superframes_are_safe,
 };
 
-/// Each line that can be said, its newline left out, is heard as it was said, and what is read of any text is what is heard
-/// of some line.
+/// Each line that can be said, its newline left out, is heard on the bus as it was said, and what is read of any text is what
+/// is heard of some line.
 pub fn lines_are_heard_as_said()
-    ensures said { (line : Line) → text_of line ≡ spaced (words_of line) ++ 10 ∷ [] }
     ensures heard { (line : Line) → IsSayable line → IsHeardAs (spaced (words_of line)) line }
     ensures read { (text : List ℕ) (one : BusLine) → bus_line_of text ≡ Some one → IsOfLine one }
 {}

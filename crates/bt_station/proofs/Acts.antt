@@ -28,12 +28,13 @@ use Rattle.bt_sites.specs.Sites as sites
 use Rattle.bt_sites.specs.Stamps.{Act, Begins, Begun, Hears, Line, Radio, Seconds, Starts, joined, known, late_of, lines_by, made_in, said_if, stamp_of, step_by, steps_by, where_known}
 use Rattle.bt_sites.specs.Step.{Step}
 use Rattle.bt_sites.specs.Step as step
+use Rattle.bt_script.specs.Heard.{if_begun, if_read, read_of}
 use Rattle.bt_station.specs.declared.asked.Asked.{Asked}
 use Rattle.bt_station.specs.declared.asked.Asked.TheVariants as asked
 use Rattle.bt_station.specs.declared.station.Station.{Station}
 use Rattle.bt_station.specs.declared.station.Station.TheVariants as station
 use Rattle.bt_station.specs.Acts.{IsAct, IsHeardAs, IsPassedOver, IsTakenUp, ShowsSent, asked_by_line, present_after, satellite_at, satellite_log, satellite_logs, second_logs, standby_at, standby_log, terminal_at, terminal_log, terminal_logs, text_of, texts_of}
-use Rattle.bt_station.specs.Asked.{asked_of, if_begun, if_read, read_of}
+use Rattle.bt_station.specs.Asked.{asked_of}
 use Rattle.bt_station.specs.Lines.{burst_frame_lines, radio_line, radio_lines}
 use Rattle.bt_station.specs.Satellite.{SatelliteAt, begun_lines, having_heard, heard_by_satellite}
 use Rattle.bt_station.specs.Standby.{heard_by_standby, kept_by, second_lines}
@@ -42,19 +43,19 @@ use Rattle.bt_station.specs.Terminal.{heard_by_terminal, is_present, present_by,
 use Rattle.bt_station.proofs.Confirms.{number_kept}
 
 -- the superframe of that number
-abbrev mark_of : ℕ → Mark
+abbrev pub mark_of : ℕ → Mark
 mark_of number = record { 0 = number }
 
 -- a test that holds, and one that does not
-if-true : {X : Type 0} (test : Bool) (a b : X) → test ≡ true → (if test then a else b) ≡ a
+pub if-true : {X : Type 0} (test : Bool) (a b : X) → test ≡ true → (if test then a else b) ≡ a
 if-true true a b is = refl
 if-true false a b is = absurd cc
 
-if-false : {X : Type 0} (test : Bool) (a b : X) → test ≡ false → (if test then a else b) ≡ b
+pub if-false : {X : Type 0} (test : Bool) (a b : X) → test ≡ false → (if test then a else b) ≡ b
 if-false true a b is = absurd cc
 if-false false a b is = refl
 
-is-itself : (n : ℕ) → (n == n) ≡ true
+pub is-itself : (n : ℕ) → (n == n) ≡ true
 is-itself n = grind (arith, nat_tests)
 
 is-some : (n : ℕ) → 0 < n → (n == 0) ≡ false
@@ -68,17 +69,17 @@ same-read : (read : Result Message AirFault) → if_read read ≡ sites.if_read 
 same-read (Ok message) = refl
 same-read (Err fault) = refl
 
-read-same : (bytes : List ℕ) → read_of bytes ≡ sites.read_of bytes
+pub read-same : (bytes : List ℕ) → read_of bytes ≡ sites.read_of bytes
 read-same bytes = same-read (message_of bytes)
 
 -- a superframe from 1 on is one
 pub begun-some : (n : ℕ) → 0 < n → if_begun n ≡ Some (mark_of n)
 begun-some n some = if-false (n == 0) None (Some (mark_of n)) (is-some n some)
 
-max-first : (a b : ℕ) → b ≤ a → max a b ≡ a
+pub max-first : (a b : ℕ) → b ≤ a → max a b ≡ a
 max-first a b le = let up : max a b ≤ a = max-le (omega arith) le in omega (arith, up, le-max_left a b)
 
-max-last : (a b : ℕ) → a ≤ b → max a b ≡ b
+pub max-last : (a b : ℕ) → a ≤ b → max a b ≡ b
 max-last a b le = let up : max a b ≤ b = max-le le (omega arith) in omega (arith, up, le-max_right a b)
 
 -- the later of two superframes
@@ -129,7 +130,7 @@ number-with : (s : Terminal) (mark : Mark) (message : Option Message) → (termi
 number-with s mark None = refl
 number-with s mark (Some message) = number_kept s mark message
 
-number-after : (number : TermNo) (steps : List Step) → (terminal_after number steps).number ≡ number
+pub number-after : (number : TermNo) (steps : List Step) → (terminal_after number steps).number ≡ number
 number-after number [] = refl
 number-after number (step.Starts other ∷ before) = number-either number (other.0 == number.0) _ _ refl (number-after number before)
 number-after number (step.TerminalHears to mark bytes ∷ before) =
@@ -150,7 +151,7 @@ abbrev terminal_with_present : Terminal → Option Mark → Station
 terminal_with_present s present = station.Terminal (record { site = s; present = present })
 
 -- its step in a superframe, where it knows one
-abbrev terminal_hears : TermNo → List ℕ → Mark → Step
+abbrev pub terminal_hears : TermNo → List ℕ → Mark → Step
 terminal_hears number bytes mark = step.TerminalHears number mark bytes
 
 terminal-step : (number : TermNo) (late : List Late) (made k : ℕ) (bytes : List ℕ)
@@ -245,7 +246,7 @@ terminal-modem net o number before mark frame text is some =
     ap (λ (a : Option Asked). after_asked net (terminal_at o number before) a) is ∙ terminal-begun o number before mark some
 
 -- and what it is to transmit
-terminal-sends : (o : Opening) (number : TermNo) (before : List Act) (mark : ℕ) (test : Bool) → 0 < mark → (max (known (step.Terminal number) before) mark == mark) ≡ test
+pub terminal-sends : (o : Opening) (number : TermNo) (before : List Act) (mark : ℕ) (test : Bool) → 0 < mark → (max (known (step.Terminal number) before) mark == mark) ≡ test
     → ((if test then transmitted (terminal_after number (steps_by o before)) (mark_of mark) else []) ≡ [])
     ⊎ SendsIn o (Hears (step.Terminal number) (Begun mark) ∷ before) mark number (if test then transmitted (terminal_after number (steps_by o before)) (mark_of mark) else [])
 terminal-sends o number before mark true some is = inr (record {
@@ -401,7 +402,7 @@ mark-either : (s : Satellite) (due : Bool) → (if due then changed (begun s) el
 mark-either s true = refl
 mark-either s false = refl
 
-mark-ticked : (s : Satellite) → (ticked s).mark.0 ≡ s.mark.0 + 1
+pub mark-ticked : (s : Satellite) → (ticked s).mark.0 ≡ s.mark.0 + 1
 mark-ticked s = mark-either s (is_due s.armed (s.mark.0 + 1))
 
 pub satellite-ticks : (net : Net) (at : ℕ) (o : Opening) (shown : ℕ) (before : List Act) (text : List ℕ) → asked_of net text ≡ Some asked.Tick

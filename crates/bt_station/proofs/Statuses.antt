@@ -1,12 +1,11 @@
 -- The status of the satellite stays one that has a spelling.
-use Rattle.std.proofs.Common.{◌≡◌, ℕ, ◌+◌, ◌<◌, ◌≤◌, Bool, true, false, cond, List, Option, Some, None, refl, arith}
-use Rattle.std.specs.Prelude.{if◌then◌else◌, IfSome}
+use Rattle.std.proofs.Common.{◌+◌, ◌<◌, Bool, true, false, arith}
+use Rattle.std.specs.Prelude.{if◌then◌else◌}
 use Rattle.bt_air.specs.declared.message.Message.{Message}
 use Rattle.bt_air.specs.declared.message.Message.TheVariants as message
 use Rattle.bt_air.specs.declared.sent.Taken.{Taken}
 use Rattle.bt_air.specs.Range.{IsInRange, IsStatus}
 use Rattle.bt_machines.specs.Satellite.{State, begun, changed, is_armed, is_due, is_not_loaded, is_stale, is_too_late, status_of, step_of, ticked}
-use Rattle.bt_site.specs.Sites.{satellite_with}
 
 either : (b : Bool) (x y : Taken × State) → IsStatus (status_of x.1) → IsStatus (status_of y.1) → IsStatus (status_of (if b then x else y).1)
 either true x y this other = this

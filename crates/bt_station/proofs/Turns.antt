@@ -1,5 +1,5 @@
 -- The turns of a station, one line after the other, and how it ends.
-use Rattle.std.proofs.Common.{◌≡◌, ◌⊎◌, inl, inr, ℕ, ◌+◌, ◌<◌, ◌≤◌, Result, Ok, Err, List, [], ◌∷◌, ◌++◌, length, length-append, Option, Some, None, refl, sym, ap, ◌∙◌, subst, append_assoc, arith}
+use Rattle.std.proofs.Common.{◌≡◌, inl, inr, ℕ, ◌+◌, ◌≤◌, Result, Err, List, [], ◌∷◌, ◌++◌, length, length-append, Option, Some, None, refl, sym, ap, ◌∙◌, subst, append_assoc, arith}
 use Rattle.std.specs.Prelude.{IfSome, IsErrOf}
 use Rattle.std.proofs.lemmas.List.{append-nil}
 use Rattle.bt_net.specs.Network.{Net}
@@ -15,8 +15,8 @@ use Rattle.bt_station.specs.declared.talk.InputEnd.{InputEnd}
 use Rattle.bt_station.specs.declared.talk.InputEnd.TheVariants as ending
 use Rattle.bt_station.specs.Going.{GaveSince, HasHeard, IsGoing}
 use Rattle.bt_station.specs.Station.{after, answer, opening_of}
-use Rattle.bt_station.specs.Talked.{Talked, Took, TookPart, spoken}
-use Rattle.bt_station.specs.Turns.{AllGiven, StationEnds, StopsHearing, WereGiven, after_all, closing_turns, input_status, turns_from, turns_of}
+use Rattle.bt_station.specs.Talked.{Talked, spoken}
+use Rattle.bt_station.specs.Turns.{StationEnds, after_all, turns_from, turns_of}
 use Rattle.bt_station.specs.Lines.{input_fault_line}
 
 -- what came of an input

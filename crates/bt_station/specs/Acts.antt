@@ -17,7 +17,10 @@ use Rattle.bt_sites.specs.Sites.{satellite_after, standby_after, terminal_after}
 use Rattle.bt_sites.specs.Stamps.{Act, Begun, Line, Radio, known, steps_by}
 use Rattle.bt_sites.specs.Step.{Site}
 use Rattle.bt_sites.specs.Step as site
-use Rattle.bt_station.specs.Asked.{asked_of, if_begun, read_of}
+use Rattle.bt_script.specs.Heard.{if_begun, read_of}
+use Rattle.bt_script.specs.declared.heard.BusLine.{BusLine}
+use Rattle.bt_script.specs.declared.heard.BusLine.TheVariants as bus
+use Rattle.bt_station.specs.Asked.{asked_of}
 use Rattle.bt_station.specs.Lines.{burst_frame_lines}
 use Rattle.bt_station.specs.Satellite.{taken_line}
 use Rattle.bt_station.specs.Standby.{heard_by_standby}
@@ -46,10 +49,14 @@ IsSayable (Radio stamp bytes) = (stamp ≤ LAST_MARK) × IsBytes bytes
 abbrev pub texts_of : List Line → List ℕ
 texts_of lines = flat_map text_of lines
 
+-- what is heard of a line
+abbrev pub heard_as : Line → BusLine
+heard_as (Begun stamp) = bus.Begun (record { 0 = stamp })
+heard_as (Radio stamp bytes) = bus.Radio (record { 0 = stamp }) (read_of bytes)
+
 -- what a line asks of a station that hears it
 abbrev pub asked_by_line : Line → Asked
-asked_by_line (Begun stamp) = asked.Begun (record { 0 = stamp })
-asked_by_line (Radio stamp bytes) = asked.Radio (record { 0 = stamp }) (read_of bytes)
+asked_by_line line = asked.Heard (heard_as line)
 
 -- a text is heard as this line
 abbrev pub IsHeardAs : Net → List ℕ → Line → Type 0

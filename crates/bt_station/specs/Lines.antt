@@ -1,6 +1,5 @@
 -- The lines that a station says.
 use Rattle.std.specs.Prelude.{ℕ, codes, decimal, flat_map, map, List, [], ◌∷◌, ◌++◌}
-use Rattle.hex.specs.Hex.{encode_lower}
 use Rattle.bt_frame.specs.declared.mode.Mode.{Mode}
 use Rattle.bt_frame.specs.declared.numbers.Mark.{Mark}
 use Rattle.bt_text.specs.Text.{ended}
@@ -8,20 +7,16 @@ use Rattle.bt_net.specs.Network.{Net}
 use Rattle.bt_demand.specs.declared.burst.Burst.{Burst}
 use Rattle.bt_plan.specs.ScheduleSpelling.{mode_line}
 use Rattle.bt_air.specs.declared.sent.Aired.{Aired}
-use Rattle.bt_air.specs.Spelling.{message_bytes}
 use Rattle.bt_machines.specs.Says.{carried}
+use Rattle.bt_script.specs.BusSaid as bus
 use Rattle.bt_timeline.specs.Timeline.{burst_lines}
 use Rattle.bt_words.specs.Lines.{line_of, frame_name}
 use Rattle.bt_words.specs.declared.form.Form.TheVariants as form
 use Rattle.bt_words.specs.Filled.{form_line}
 
--- a superframe begins: `mark N`
-abbrev pub mark_line : Mark → List ℕ
-mark_line mark = line_of (codes "mark" ∷ decimal mark.0 ∷ [])
-
--- a message, behind the superframe that its sayer takes for the present one: `radio N HEX`
+-- what is said in a superframe, as it is carried by who has no plan
 abbrev pub radio_line : Mark → Aired → List ℕ
-radio_line stamp one = line_of (codes "radio" ∷ decimal stamp.0 ∷ encode_lower (message_bytes (carried [] one)) ∷ [])
+radio_line stamp one = bus.radio_line stamp (carried [] one)
 
 -- the lines of what is said in a superframe
 abbrev pub radio_lines : Mark → List Aired → List ℕ

@@ -1,23 +1,21 @@
 -- What holds of a station on its way, so that each message that it says has a spelling. All of it is for bodies alone.
-use Rattle.std.specs.Prelude.{◌≡◌, Option, IfSome}
-use Rattle.bt_air.specs.Range.{IsInRange, IsMark, IsStatus}
-use Rattle.bt_air.specs.declared.message.Message.{Message}
+use Rattle.std.specs.Prelude.{◌≡◌, IfSome}
+use Rattle.bt_air.specs.Range.{IsMark, IsStatus}
 use Rattle.bt_air.specs.declared.sent.Aired.{Aired}
 use Rattle.bt_air.specs.declared.sent.Aired.TheVariants as sends
 use Rattle.bt_frame.specs.declared.numbers.TermNo.{TermNo}
 use Rattle.bt_machines.specs.Satellite.{status_of}
 use Rattle.bt_net.specs.Network.{Net}
 use Rattle.bt_net.specs.Terminals.{IsTerminal}
-use Rattle.bt_frame.specs.declared.numbers.Mark.{Mark}
+use Rattle.bt_script.specs.Heard.{IsOnBus}
 use Rattle.bt_station.specs.declared.asked.Asked.{Asked}
 use Rattle.bt_station.specs.declared.asked.Asked.TheVariants as asked
 use Rattle.bt_station.specs.declared.station.Station.{Station}
 use Rattle.bt_station.specs.declared.station.Station.TheVariants as station
 
--- a line has its superframe and its message in range
+-- what is heard of others has its superframe and its message in range
 abbrev pub IsHeard : Asked → Type 0
-IsHeard (asked.Begun mark) = IsMark mark
-IsHeard (asked.Radio stamp message) = IsMark stamp × IfSome message IsInRange
+IsHeard (asked.Heard line) = IsOnBus line
 IsHeard _ = Unit {0}
 
 -- the satellite's status has a spelling; a terminal is one of the network's; a superframe that is known is one

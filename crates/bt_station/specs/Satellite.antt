@@ -16,9 +16,11 @@ use Rattle.bt_timeline.specs.Air.{got_line, last_tick_line, over_line}
 use Rattle.bt_words.specs.Lines.{frame_name}
 use Rattle.bt_words.specs.declared.form.Form.TheVariants as form
 use Rattle.bt_words.specs.Filled.{form_line}
+use Rattle.bt_script.specs.BusSaid.{mark_line}
+use Rattle.bt_script.specs.declared.heard.BusLine.TheVariants as bus
 use Rattle.bt_station.specs.declared.asked.Asked.{Asked}
 use Rattle.bt_station.specs.declared.asked.Asked.TheVariants as asked
-use Rattle.bt_station.specs.Lines.{mark_line, mode_lines, radio_line, radio_lines}
+use Rattle.bt_station.specs.Lines.{mode_lines, radio_line, radio_lines}
 
 -- the satellite, and how many frames of its superframe it has shown
 pub record SatelliteAt : Type 0 where
@@ -45,7 +47,7 @@ having_shown net s = if nat_lt s.shown net.frames then record { site = s.site; s
 -- once it was asked this
 abbrev pub satellite_after : Net → SatelliteAt → Asked → SatelliteAt
 satellite_after net s asked.Tick = having_ticked s
-satellite_after net s (asked.Radio stamp message) = having_heard s message
+satellite_after net s (asked.Heard (bus.Radio stamp message)) = having_heard s message
 satellite_after net s asked.Frame = having_shown net s
 satellite_after net s _ = s
 
@@ -76,6 +78,6 @@ frame_lines net s =
 -- what it says to what line `at` asks
 abbrev pub satellite_answer : Net → ℕ → SatelliteAt → Asked → List ℕ
 satellite_answer net at s asked.Tick = tick_lines s.site
-satellite_answer net at s (asked.Radio stamp message) = heard_by_satellite net at s.site message
+satellite_answer net at s (asked.Heard (bus.Radio stamp message)) = heard_by_satellite net at s.site message
 satellite_answer net at s asked.Frame = frame_lines net s
 satellite_answer net at s _ = []

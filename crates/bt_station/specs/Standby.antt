@@ -8,6 +8,7 @@ use Rattle.bt_machines.specs.Standby.{step_of as notice}
 use Rattle.bt_site.specs.Present.{present_with}
 use Rattle.bt_site.specs.Sites.{standby_says, standby_with}
 use Rattle.bt_timeline.specs.Air.{noticed_line, standby_burst_line}
+use Rattle.bt_script.specs.declared.heard.BusLine.TheVariants as bus
 use Rattle.bt_station.specs.declared.asked.Asked.{Asked}
 use Rattle.bt_station.specs.declared.asked.Asked.TheVariants as asked
 use Rattle.bt_station.specs.Lines.{radio_line}
@@ -29,8 +30,8 @@ kept_by kept (Some mark) heard = standby_with kept mark heard
 
 -- once it was asked this
 abbrev pub standby_after : StandbyAt → Asked → StandbyAt
-standby_after s (asked.Begun mark) = record { kept = s.kept; present = present_with s.present mark }
-standby_after s (asked.Radio stamp heard) = record { kept = kept_by s.kept (present_by s.present stamp) heard; present = present_by s.present stamp }
+standby_after s (asked.Heard (bus.Begun mark)) = record { kept = s.kept; present = present_with s.present mark }
+standby_after s (asked.Heard (bus.Radio stamp heard)) = record { kept = kept_by s.kept (present_by s.present stamp) heard; present = present_by s.present stamp }
 standby_after s _ = s
 
 -- what it says to a message in a superframe: what it did with a status; others are not for it
@@ -45,6 +46,6 @@ second_lines kept (Some mark) = standby_burst_line ++ radio_line mark (standby_s
 
 -- what it says to what line `at` asks
 abbrev pub standby_answer : ℕ → StandbyAt → Asked → List ℕ
-standby_answer at s (asked.Radio stamp heard) = heard_by_standby at s.kept (present_by s.present stamp) heard
+standby_answer at s (asked.Heard (bus.Radio stamp heard)) = heard_by_standby at s.kept (present_by s.present stamp) heard
 standby_answer at s asked.Second = second_lines s.kept s.present
 standby_answer at s _ = []

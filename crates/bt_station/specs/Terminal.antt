@@ -14,6 +14,7 @@ use Rattle.bt_machines.specs.Terminal.{State, new_of, step_of as hear, transmitt
 use Rattle.bt_site.specs.Present.{present_with}
 use Rattle.bt_site.specs.Sites.{terminal_says, terminal_with}
 use Rattle.bt_timeline.specs.Air.{got_line}
+use Rattle.bt_script.specs.declared.heard.BusLine.TheVariants as bus
 use Rattle.bt_station.specs.declared.asked.Asked.{Asked}
 use Rattle.bt_station.specs.declared.asked.Asked.TheVariants as asked
 use Rattle.bt_station.specs.Lines.{burst_frame_lines, radio_line, radio_lines}
@@ -43,9 +44,9 @@ site_by s (Some mark) message = terminal_with s mark message
 
 -- once it was asked this
 abbrev pub terminal_after : TerminalAt → Asked → TerminalAt
-terminal_after s (asked.Begun mark) = record { site = s.site; present = present_with s.present mark }
+terminal_after s (asked.Heard (bus.Begun mark)) = record { site = s.site; present = present_with s.present mark }
 terminal_after s (asked.FrameOf mark number) = record { site = s.site; present = present_with s.present mark }
-terminal_after s (asked.Radio stamp message) = record { site = site_by s.site (present_by s.present stamp) message; present = present_by s.present stamp }
+terminal_after s (asked.Heard (bus.Radio stamp message)) = record { site = site_by s.site (present_by s.present stamp) message; present = present_by s.present stamp }
 terminal_after s _ = s
 
 -- the line of what it did with a message that line `at` brought; nothing where that is not for it
@@ -71,6 +72,6 @@ sent_in s mark = if is_present (present_with s.present mark) mark then transmitt
 
 -- what it says to what line `at` asks
 abbrev pub terminal_answer : Net → ℕ → TerminalAt → Asked → List ℕ
-terminal_answer net at s (asked.Radio stamp message) = heard_by_terminal net at s.site (present_by s.present stamp) message
+terminal_answer net at s (asked.Heard (bus.Radio stamp message)) = heard_by_terminal net at s.site (present_by s.present stamp) message
 terminal_answer net at s (asked.FrameOf mark number) = burst_frame_lines net mark number (sent_in s mark)
 terminal_answer net at s _ = []

@@ -1,8 +1,7 @@
 -- What the words of `station` ask, and how it ends.
-use Rattle.std.specs.Prelude.{◌≡◌, ℕ, ◌⊎◌, if◌then◌else◌, codes, List, [], ◌∷◌, Option, Some, None}
+use Rattle.std.specs.Prelude.{ℕ, ◌⊎◌, if◌then◌else◌, codes, List, [], ◌∷◌, Option, Some, None}
 use Rattle.std.specs.Str.{bytes_eq}
 use Rattle.bt_frame.specs.declared.limits.TheConstants.{LAST_MARK}
-use Rattle.bt_frame.specs.declared.numbers.Mark.{Mark}
 use Rattle.bt_frame.specs.declared.numbers.TermNo.{TermNo}
 use Rattle.bt_net.specs.Network.{Net}
 use Rattle.bt_net.specs.Terminals.{terminal_of as number_of}
@@ -10,9 +9,9 @@ use Rattle.bt_report.specs.Faults.{SaysFaultyWords}
 use Rattle.bt_report.specs.Input.{Input, FilesFailed}
 use Rattle.bt_load.specs.Files.{IsLoaded, StopsAtLoad}
 use Rattle.bt_load.specs.Kinds.{network_file}
+use Rattle.bt_script.specs.Heard.{number_in}
 use Rattle.bt_station.specs.declared.station.Station.{Station}
 use Rattle.bt_station.specs.declared.station.Station.TheVariants as station
-use Rattle.bt_station.specs.Asked.{number_in}
 use Rattle.bt_station.specs.Satellite.{satellite_in}
 use Rattle.bt_station.specs.Standby.{standby_new}
 use Rattle.bt_station.specs.Terminal.{terminal_of}

@@ -1,6 +1,6 @@
 //! A site at work over lines: the satellite, a terminal or the standby hears line after line, and answers each before the next.
 //!
-//! It stands on the sites (`bt_site`), on the bytes of messages (`bt_air`), on the lines of a run (`bt_timeline`) and on a talk
+//! It stands on the sites (`bt_site`), on the lines of a bus (`bt_script`) and of a run (`bt_timeline`), and on a talk
 //! (`bt_outside`). `docs/sites.md` has the lines. Promises: `specs/Asked.antt` says what a line asks, `specs/Satellite.antt`,
 //! `specs/Terminal.antt` and `specs/Standby.antt` what each is once it has heard a line and what it says to it, in the words of
 //! `bt_site`, `specs/Station.antt` the same of any of the three, `specs/Lines.antt` the lines that are said, `specs/Turns.antt` that

@@ -1,15 +1,16 @@
 // The satellite at work.
-ghost use Rattle.std.specs.Prelude.{◌≡◌, ◌≤◌, ◌++◌, IfOk, IfSome, OnOk, Some};
+ghost use Rattle.std.specs.Prelude.{◌≡◌, ◌++◌, IfOk, OnOk, Some};
 ghost use Rattle.bt_air.specs.Range.{IsInRange, IsMark, IsStatus};
 ghost use Rattle.bt_machines.specs.Satellite.{status_of};
 ghost use Rattle.bt_station.specs.Ready.{IsHeard};
 ghost use Rattle.bt_station.specs.Satellite.{begun_lines, frame_lines, having_heard, having_shown, having_ticked, heard_by_satellite, satellite_after, satellite_answer, satellite_in, taken_line, tick_lines};
 
 use crate::asked::Asked;
-use crate::say::{add_mark, add_modes, add_radio};
+use crate::say::{add_modes, add_said};
 use bt_air::{Aired, Message, Status, Taken};
 use bt_frame::{LAST_MARK, Mark, OutOfMemory};
 use bt_net::Network;
+use bt_script::{BusLine, add_mark};
 use bt_site::SatelliteSite;
 use bt_timeline::{last_tick_text, over_text, taken_text};
 use bt_words::{Form, Word, print};
@@ -61,7 +62,9 @@ impl SatelliteAtWork {
         let mut text = Vec::new(alloc);
         match asked {
             Asked::Tick => self.tick(alloc, &mut text)?,
-            Asked::Radio(_, Some(message)) => self.hear(alloc, net, at, message, &mut text)?,
+            Asked::Heard(BusLine::Radio(_, Some(message))) => {
+                self.hear(alloc, net, at, message, &mut text)?
+            }
             Asked::Frame => self.show(alloc, net, &mut text)?,
             _ => {}
         }
@@ -101,7 +104,7 @@ impl SatelliteAtWork {
         let (taken, said) = self.site.hear(message);
         add_taken(alloc, net, at, taken, out)?;
         match said {
-            Some(said) => add_radio(alloc, self.site.status().mark, said, out),
+            Some(said) => add_said(alloc, self.site.status().mark, said, out),
             None => Ok(()),
         }
     }
@@ -132,7 +135,7 @@ fn add_begun(alloc: Global, status: Status, out: &mut Vec<u8>) -> Result<(), Out
     ensures added { OnOk result (out.new.items ≡ out.old.items ++ begun_lines status) }
 {
     add_mark(alloc, status.mark, out)?;
-    add_radio(alloc, status.mark, Aired::Status(status), out)
+    add_said(alloc, status.mark, Aired::Status(status), out)
 }
 
 /// Appends the line of what the satellite did with a message that line `at` brought, where that was for it.

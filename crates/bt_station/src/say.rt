@@ -5,26 +5,19 @@ ghost use Rattle.bt_machines.specs.Says.{carried};
 ghost use Rattle.bt_net.specs.Terminals.{name_at};
 ghost use Rattle.bt_timeline.specs.Timeline.{burst_lines};
 ghost use Rattle.bt_words.specs.declared.form.Form.TheVariants as form;
-ghost use Rattle.bt_station.specs.Lines.{burst_frame_lines, fault_line, input_fault_line, mark_line, mode_lines, radio_line};
+ghost use Rattle.bt_station.specs.Lines.{burst_frame_lines, fault_line, input_fault_line, mode_lines, radio_line};
 
-use bt_air::{Aired, Message, encode};
+use bt_air::{Aired, Message};
 use bt_demand::{Burst, Bursts};
 use bt_frame::{Mark, Mode, Modes, OutOfMemory, TermNo};
 use bt_net::Network;
 use bt_plan::write_mode;
+use bt_script::add_radio;
 use bt_words::{Form, Word, add_line, print};
 use std::alloc::Global;
 
-/// Appends that a superframe begins.
-pub(crate) fn add_mark(alloc: Global, mark: Mark, out: &mut Vec<u8>) -> Result<(), OutOfMemory>
-    ensures added { OnOk result (out.new.items ≡ out.old.items ++ mark_line mark) }
-{
-    let words = [Word::Text("mark"), Word::number(mark.0)];
-    add_line(alloc, &words, out)
-}
-
-/// Appends the line of a message that is said in a superframe.
-pub(crate) fn add_radio(
+/// Appends the line of what is said in a superframe by who has no plan.
+pub(crate) fn add_said(
     alloc: Global,
     stamp: Mark,
     said: Aired,
@@ -33,14 +26,7 @@ pub(crate) fn add_radio(
     requires in_range { IsInRange (carried [] said) }
     ensures added { OnOk result (out.new.items ≡ out.old.items ++ radio_line stamp said) }
 {
-    let message = carried(alloc, said);
-    let digits = hex::encode(alloc, encode(alloc, &message)?)?;
-    let words = [
-        Word::Text("radio"),
-        Word::number(stamp.0),
-        Word::Text(digits.as_str()),
-    ];
-    add_line(alloc, &words, out)
+    add_radio(alloc, stamp, &carried(alloc, said), out)
 }
 
 /// A message as it is carried by who has no plan.

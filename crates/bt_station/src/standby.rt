@@ -1,5 +1,5 @@
 // The standby at work.
-ghost use Rattle.std.specs.Prelude.{◌≡◌, ◌++◌, IfOk, IfSome, OnOk, None, Some};
+ghost use Rattle.std.specs.Prelude.{◌≡◌, ◌++◌, IfOk, IfSome, OnOk, Some};
 ghost use Rattle.bt_air.specs.Range.{IsMark};
 ghost use Rattle.bt_site.specs.Sites.{standby_with};
 ghost use Rattle.bt_station.specs.Ready.{IsHeard};
@@ -7,9 +7,10 @@ ghost use Rattle.bt_station.specs.Standby.{heard_by_standby, second_lines, stand
 ghost use Rattle.bt_station.specs.Terminal.{present_by};
 
 use crate::asked::Asked;
-use crate::say::add_radio;
+use crate::say::add_said;
 use bt_air::Message;
 use bt_frame::{Mark, OutOfMemory};
+use bt_script::BusLine;
 use bt_site::{Present, StandbySite};
 use bt_timeline::standby_burst_text;
 use bt_words::{Form, Word, print};
@@ -57,10 +58,10 @@ impl StandbyAtWork {
     {
         let mut text = Vec::new(alloc);
         match asked {
-            Asked::Begun(mark) => {
+            Asked::Heard(BusLine::Begun(mark)) => {
                 self.present.begin(mark);
             }
-            Asked::Radio(stamp, message) => {
+            Asked::Heard(BusLine::Radio(stamp, message)) => {
                 if let Some(mark) = self.go_on(stamp)
                     && let Some(message) = message
                 {
@@ -114,6 +115,6 @@ impl StandbyAtWork {
             return Ok(());
         };
         standby_burst_text(alloc, out)?;
-        add_radio(alloc, mark, self.site.says(mark), out)
+        add_said(alloc, mark, self.site.says(mark), out)
     }
 }

@@ -1,5 +1,5 @@
 // A station: the satellite, a terminal or the standby, at work.
-ghost use Rattle.std.specs.Prelude.{◌≡◌, ◌≤◌, IfOk, IfSome, vec_len};
+ghost use Rattle.std.specs.Prelude.{◌≡◌, IfOk, IfSome};
 ghost use Rattle.bt_frame.specs.declared.limits.TheConstants.{MOST_STATION_LINE_BYTES};
 ghost use Rattle.bt_outside.specs.Input.{IsShort, said_by};
 ghost use Rattle.std.specs.Prelude.{Some};

@@ -1,19 +1,18 @@
 // A terminal at work.
-ghost use Rattle.std.specs.Prelude.{◌≡◌, ◌++◌, IfOk, IfSome, OnOk, None, Some};
-ghost use Rattle.bt_air.specs.Range.{IsInRange};
+ghost use Rattle.std.specs.Prelude.{◌≡◌, ◌++◌, IfOk, OnOk, None, Some};
 ghost use Rattle.bt_net.specs.Terminals.{IsTerminal};
-ghost use Rattle.bt_machines.specs.Terminal.{new_of};
 ghost use Rattle.bt_site.specs.Present.{present_with};
 ghost use Rattle.bt_site.specs.Sites.{terminal_with};
 ghost use Rattle.bt_station.specs.Ready.{IsConfirmOf, IsHeard};
-ghost use Rattle.bt_station.specs.Terminal.{heard_by_terminal, heard_line, present_by, sent_in, site_by, start_lines, terminal_after, terminal_answer, terminal_of};
+ghost use Rattle.bt_station.specs.Terminal.{heard_by_terminal, heard_line, present_by, sent_in, start_lines, terminal_after, terminal_answer, terminal_of};
 ghost use Rattle.bt_station.specs.Lines.{burst_frame_lines, radio_line};
 
 use crate::asked::Asked;
-use crate::say::{add_burst_frame, add_radio};
+use crate::say::{add_burst_frame, add_said};
 use bt_air::{Aired, Heard, Message};
 use bt_frame::{Mark, OutOfMemory, TermNo};
 use bt_net::Network;
+use bt_script::BusLine;
 use bt_site::{Present, TerminalSite};
 use bt_timeline::heard_text;
 use bt_words::{Form, Word, print};
@@ -59,7 +58,7 @@ impl TerminalAtWork {
         // This is there for what holds of each network: its terminals are few.
         let _terminals = net.terminal_count();
         let mut text = Vec::new(alloc);
-        add_radio(alloc, Mark(0), Aired::Lost { from: self.number }, &mut text)?;
+        add_said(alloc, Mark(0), Aired::Lost { from: self.number }, &mut text)?;
         Ok(text)
     }
 
@@ -79,10 +78,10 @@ impl TerminalAtWork {
     {
         let mut text = Vec::new(alloc);
         match asked {
-            Asked::Begun(mark) => {
+            Asked::Heard(BusLine::Begun(mark)) => {
                 self.present.begin(mark);
             }
-            Asked::Radio(stamp, message) => {
+            Asked::Heard(BusLine::Radio(stamp, message)) => {
                 if let Some(mark) = self.go_on(stamp)
                     && let Some(message) = message
                 {
@@ -201,7 +200,7 @@ fn add_confirm(
                 load,
                 edition,
             };
-            add_radio(alloc, mark, said, out)
+            add_said(alloc, mark, said, out)
         }
         _ => Ok(()),
     }

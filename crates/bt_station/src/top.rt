@@ -1,16 +1,14 @@
 // The top call.
-ghost use Rattle.std.specs.Prelude.{◌≡◌, ◌≤◌, IfSome, map};
+ghost use Rattle.std.specs.Prelude.{◌≡◌, IfSome, map};
 ghost use Rattle.std.specs.String.{string_bytes};
 ghost use Rattle.bt_frame.specs.declared.limits.TheConstants.{LAST_MARK};
-ghost use Rattle.bt_outside.specs.Told.{Rose};
 ghost use Rattle.bt_report.specs.Faults.{SaysFaultyWords};
 ghost use Rattle.bt_station.specs.CommandLine.{IsSuperframe, if_wanted, named, wanted};
 ghost use Rattle.bt_station.specs.Ready.{IsReady};
 ghost use Rattle.bt_station.specs.Stops.{SaysStop};
-ghost use Rattle.bt_station.specs.Talked.{EndsEarly, SaysAlone};
+ghost use Rattle.bt_station.specs.Talked.{EndsEarly};
 ghost use Rattle.bt_station.specs.Top.{EndsAs, EndsOn, EndsStation, request_of, site_of, standby_of, station_of};
 
-use crate::asked::number_in;
 use crate::satellite::SatelliteAtWork;
 use crate::standby::StandbyAtWork;
 use crate::station::Station;
@@ -21,6 +19,7 @@ use bt_load::load_network;
 use bt_net::Network;
 use bt_outside::{Files, Keeper, Talk};
 use bt_report::{OUT_OF_MEMORY, Stop, faulty_words, unwritten};
+use bt_script::number_in;
 use std::alloc::Global;
 
 /// A site of a network.
