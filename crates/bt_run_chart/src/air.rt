@@ -1,12 +1,11 @@
 // The frames that were shown: the bursts on the air, and who was silent.
-use crate::editions::{beam_of, name_of};
+use crate::editions::beam_of;
+use crate::frames::{draw_bar, draw_ring};
 use crate::layout::{COLUMN, FRAME_COLUMNS, Layout, Placed};
-use crate::step::{Frame, OnAir, Silence, Step};
-use crate::titles::{burst_title, silence_title};
+use crate::step::{Frame, OnAir, Step};
 use bt_net::Network;
-use bt_picture::{Anchor, Drawn, Pen, Point, Shape, Style, place, rectangle};
+use bt_picture::{Anchor, Drawn, Pen, Point, Rect, Style, place, rectangle};
 use bt_words::Word;
-use bt_words::Word::Text;
 
 // Twips from the left edge of a frame's columns to its first slot, and the twips of its slots.
 const MARGIN: u64 = 60;
@@ -50,27 +49,19 @@ fn draw_frame<'a>(layout: &Layout<'a>, placed: &Placed, frame: Frame, pen: &mut 
     pen.label(at, Anchor::Middle, Style::Small, words)
 }
 
-// Draws a burst in the row of its uplink beam, in the fill of its downlink beam.
+// Draws a burst in the row of its uplink beam.
 fn draw_burst<'a>(layout: &Layout<'a>, placed: &Placed, burst: OnAir, pen: &mut Pen<'a>) -> Drawn {
     let net = layout.net;
     let end = burst.start.saturating_add(burst.length);
     let row = row_of(layout, placed, u32::from(beam_of(net, burst.from)));
     let (left, right) = (slot_x(net, burst.start), slot_x(net, end));
-    let (width, height) = (right.saturating_sub(left), layout.heights.row());
-    let corner = place(row.x.saturating_add(left), row.y);
-    let bar = rectangle(corner, width, height, Style::Fill(beam_of(net, burst.to)));
-    let (from, to) = (name_of(net, burst.from), name_of(net, burst.to));
-    let title = burst_title(net, burst, pen)?;
-    let letters = from.len().saturating_add(to.len()).saturating_add(2) as u64;
-    if letters.saturating_mul(105) > width {
-        return pen.titled(bar, title);
-    }
-    let at = place(
-        corner.x.saturating_add(width / 2),
-        row.y.saturating_add(height / 2).saturating_add(60),
-    );
-    let words = pen.phrase("#→#", &[Text(from), Text(to)])?;
-    pen.marked(bar, at, Style::Small, words, title)
+    let bar = Rect {
+        x: row.x.saturating_add(left),
+        y: row.y,
+        width: right.saturating_sub(left),
+        height: layout.heights.row(),
+    };
+    draw_bar(net, bar, burst, pen)
 }
 
 // Twips from the first slot of a frame to this one.
@@ -85,15 +76,8 @@ pub fn draw_silences<'a>(layout: &Layout<'a>, pen: &mut Pen<'a>) -> Drawn {
     for placed in &layout.placed {
         if let (Step::Silent(silence), Some((_, at))) = (placed.step, layout.lane_of(placed)) {
             let middle = place(at.x.saturating_add(MARGIN + BREADTH / 2), at.y);
-            draw_silence(layout, middle, silence, pen)?;
+            draw_ring(layout.net, middle, 110, silence, pen)?;
         }
     }
     Ok(())
-}
-
-// Draws the ring of a terminal in a frame.
-fn draw_silence<'a>(layout: &Layout<'a>, at: Point, silence: Silence, pen: &mut Pen<'a>) -> Drawn {
-    let name = name_of(layout.net, silence.terminal);
-    let title = silence_title(name, silence.frame, pen)?;
-    pen.titled(Shape::Dot(at, 110, Style::Edge), title)
 }

@@ -10,7 +10,6 @@ use crate::ladder_ways::{draw_departures, draw_ladder_ways};
 use crate::lanes::Lanes;
 use crate::reading::is_apart;
 use crate::rungs::Ladder;
-use crate::step::Step;
 use crate::view::Asked;
 use crate::whole::{asked_steps, write_heading, write_titled_picture};
 use bt_frame::OutOfMemory;
@@ -46,28 +45,12 @@ pub fn ladder_picture(
     requires chosen { All (IsTerminal net.now) asked.chosen.now }
     ensures picture { OnOk result (IsPictureBehind IsLadder out.old.items out.new.items) }
 {
-    let steps = asked_steps(alloc, net, text, asked.view)?;
-    let is_apart = is_apart(text);
-    if !asked.view.folds {
-        return write_ladder(alloc, net, steps.as_slice(), is_apart, asked, out);
+    let mut steps = asked_steps(alloc, net, text, asked.view)?;
+    if asked.view.folds {
+        steps = folded(alloc, net, steps.as_slice())?;
     }
-    let folded = folded(alloc, net, steps.as_slice())?;
-    write_ladder(alloc, net, folded.as_slice(), is_apart, asked, out)
-}
-
-// Appends the picture of steps, where it is told who heard a message or, of a centre apart, is not.
-fn write_ladder(
-    alloc: Global,
-    net: &Network,
-    steps: &[Step],
-    is_apart: bool,
-    asked: Asked<'_>,
-    out: &mut Vec<u8>,
-) -> Result<(), OutOfMemory>
-    ensures { OnOk result (IsPictureBehind IsLadder out.old.items out.new.items) }
-{
-    let lanes = Lanes::of(alloc, steps, asked.chosen)?;
-    let ladder = Ladder::of(alloc, net, lanes, is_apart, steps)?;
+    let lanes = Lanes::of(alloc, steps.as_slice(), asked.chosen)?;
+    let ladder = Ladder::of(alloc, net, lanes, is_apart(text), steps.as_slice())?;
     let mut pen = Pen::new(alloc);
     draw_ladder(&ladder, &mut pen)?;
     let height = ladder.bottom().saturating_add(300);

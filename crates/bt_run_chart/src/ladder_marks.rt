@@ -1,12 +1,11 @@
 // What stands in a ladder beside messages: names, superframes, frames and notes.
-use crate::editions::{beam_of, name_of, tint_of};
+use crate::editions::tint_of;
+use crate::frames::{draw_bar, draw_ring};
 use crate::lanes::{letters_of, station_name};
 use crate::rungs::{Ladder, Rung};
-use crate::step::{Folded, Frame, Note, OnAir, Said, Silence, Station, Step};
-use crate::titles::{
-    burst_title, happening_label, happening_title, note_label, silence_title, width_of,
-};
-use bt_picture::{Anchor, Drawn, Pen, Point, Shape, Style, place, rectangle};
+use crate::step::{Folded, Frame, Note, OnAir, Said, Station, Step};
+use crate::titles::{happening_label, happening_title, note_label, width_of};
+use bt_picture::{Anchor, Drawn, Pen, Point, Rect, Shape, Style, place, rectangle};
 use bt_words::Word;
 use bt_words::Word::Number;
 
@@ -95,11 +94,11 @@ pub fn draw_notes<'a>(ladder: &Ladder<'a>, pen: &mut Pen<'a>) -> Drawn {
 
 fn draw_note<'a>(ladder: &Ladder<'a>, rung: &Rung, pen: &mut Pen<'a>) -> Drawn {
     let row = rung.row;
-    match rung.step {
-        Step::Shown(frame) => name_frame(ladder, row, frame, pen),
-        Step::Burst(burst) => draw_burst(ladder, rung, burst, pen),
-        Step::Silent(silence) => draw_silence(ladder, row, silence, pen),
-        Step::Noted(note) => {
+    match (rung.step, ladder.place_of(rung)) {
+        (Step::Shown(frame), _) => name_frame(ladder, row, frame, pen),
+        (Step::Burst(burst), _) => draw_burst(ladder, rung, burst, pen),
+        (Step::Silent(silence), Some(at)) => draw_ring(ladder.net, at, 90, silence, pen),
+        (Step::Noted(note), _) => {
             let words = note_label(note, pen)?;
             draw_box(
                 ladder.at(lane_of(ladder, note), row),
@@ -108,16 +107,12 @@ fn draw_note<'a>(ladder: &Ladder<'a>, rung: &Rung, pen: &mut Pen<'a>) -> Drawn {
                 pen,
             )
         }
-        Step::Happened(station, happening) => match ladder.lanes.find(station) {
-            Some(lane) => {
-                let words = happening_label(happening, pen)?;
-                let name = station_name(ladder.net, station);
-                let title = happening_title(name, happening, pen)?;
-                draw_titled_box(ladder.at(lane, row), words, title, pen)
-            }
-            None => Ok(()),
-        },
-        Step::Sent(message) if rung.is_new_front => match message.said {
+        (Step::Happened(station, happening), Some(at)) => {
+            let words = happening_label(happening, pen)?;
+            let title = happening_title(ladder.net, station, happening, pen)?;
+            draw_titled_box(at, words, title, pen)
+        }
+        (Step::Sent(message), _) if rung.is_new_front => match message.said {
             Said::Status(status) => {
                 let at = place(satellite_x(ladder), ladder.row_y(row.saturating_sub(1)));
                 draw_front(at, status.fore, pen)
@@ -200,24 +195,18 @@ fn name_frame<'a>(ladder: &Ladder<'a>, row: u64, frame: Frame, pen: &mut Pen<'a>
     draw_box(at, tint_of(frame.fore), words, pen)
 }
 
-// Draws a burst beside the lane of its sender, in the fill of its downlink beam.
+// Draws a burst beside the lane of its sender.
 fn draw_burst<'a>(ladder: &Ladder<'a>, rung: &Rung, burst: OnAir, pen: &mut Pen<'a>) -> Drawn {
     let Some(lane) = ladder.lanes.find(Station::Terminal(burst.from)) else {
         return Ok(());
     };
     let at = ladder.at(lane, rung.row);
     let right = rung.beside.min(MOST_BESIDE).saturating_mul(BURST);
-    let corner = place(at.x.saturating_add(right), at.y.saturating_sub(80));
-    let fill = Style::Fill(beam_of(ladder.net, burst.to));
-    let title = burst_title(ladder.net, burst, pen)?;
-    pen.titled(rectangle(corner, BURST - 30, 160, fill), title)
-}
-
-// Draws the ring of a terminal in a frame.
-fn draw_silence<'a>(ladder: &Ladder<'a>, row: u64, silence: Silence, pen: &mut Pen<'a>) -> Drawn {
-    let Some(lane) = ladder.lanes.find(Station::Terminal(silence.terminal)) else {
-        return Ok(());
+    let bar = Rect {
+        x: at.x.saturating_add(right),
+        y: at.y.saturating_sub(80),
+        width: BURST - 30,
+        height: 160,
     };
-    let title = silence_title(name_of(ladder.net, silence.terminal), silence.frame, pen)?;
-    pen.titled(Shape::Dot(ladder.at(lane, row), 90, Style::Edge), title)
+    draw_bar(ladder.net, bar, burst, pen)
 }

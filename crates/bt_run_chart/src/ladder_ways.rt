@@ -1,9 +1,9 @@
 // The ways of messages in a ladder, with what they are called.
 use crate::labels::{is_labelled_above, write_upon_plate};
-use crate::lanes::station_name;
 use crate::rungs::{Departure, Ladder, PAGE, Rung};
 use crate::step::{Delivery, SentMessage, Step};
-use crate::titles::{delivery_title, message_title, numbered_label, width_of};
+use crate::titles::{message_title, numbered_label, width_of};
+use crate::ways::{draw_unheard, draw_way};
 use bt_picture::{Anchor, Drawn, Pen, Point, Shape, Style, place};
 use bt_words::Word::{Number, Text};
 
@@ -46,7 +46,7 @@ fn draw_arrival<'a>(
     } else {
         ladder.at(from, departure.row)
     };
-    draw_way(ladder, begin, end, delivery, pen)?;
+    draw_way(ladder.net, begin, end, Style::Arrow, delivery, pen)?;
     if is_far && !departure.is_hidden() {
         draw_leaving(ladder.at(from, departure.row), is_rightward, pen)?;
     }
@@ -66,23 +66,6 @@ fn aside(x: u64, twips: u64, is_rightward: bool) -> u64 {
     } else {
         x.saturating_sub(twips)
     }
-}
-
-// Draws a line from place to place: with a tip, or grey where the hearer refused it.
-fn draw_way<'a>(
-    ladder: &Ladder<'a>,
-    from: Point,
-    to: Point,
-    delivery: Delivery,
-    pen: &mut Pen<'a>,
-) -> Drawn {
-    let title = delivery_title(station_name(ladder.net, delivery.hearer), delivery, pen)?;
-    let style = if delivery.refused {
-        Style::Thin
-    } else {
-        Style::Arrow
-    };
-    pen.titled(Shape::Line(from, to, style), title)
 }
 
 // Draws the beginning of a way that ends in another page.
@@ -141,9 +124,9 @@ fn left_of(x: u64, width: u64, is_rightward: bool) -> u64 {
 /// Writes at each message what it is called, and draws how it ends where nobody heard it.
 pub fn draw_departures<'a>(ladder: &Ladder<'a>, pen: &mut Pen<'a>) -> Drawn {
     for rung in &ladder.rungs {
-        match rung.step {
-            Step::Sent(message) => draw_departure(ladder, rung, message, pen)?,
-            Step::Others(count) => write_others(ladder, rung, count, pen)?,
+        match (rung.step, ladder.place_of(rung)) {
+            (Step::Sent(message), Some(at)) => draw_departure(ladder, at, message, pen)?,
+            (Step::Others(count), Some(at)) => write_others(at, count, pen)?,
             _ => (),
         }
     }
@@ -152,41 +135,28 @@ pub fn draw_departures<'a>(ladder: &Ladder<'a>, pen: &mut Pen<'a>) -> Drawn {
 
 fn draw_departure<'a>(
     ladder: &Ladder<'a>,
-    rung: &Rung,
+    at: Point,
     message: SentMessage,
     pen: &mut Pen<'a>,
 ) -> Drawn {
-    let Some(lane) = ladder.lanes.find(message.sender) else {
-        return Ok(());
-    };
-    let at = ladder.at(lane, rung.row);
     let is_rightward = is_labelled_above(message.said);
     let words = numbered_label(message, pen)?;
     let width = width_of(words.as_slice());
     let departure = ladder.departure(message.place);
-    let mut title = message_title(ladder.net, message, pen)?;
-    if !departure.is_some_and(|departure| departure.is_heard) {
-        title.push(Text("; nobody heard it"))?;
+    let is_heard = departure.is_some_and(|departure| departure.is_heard);
+    if !is_heard {
         let length = width.saturating_add(2 * GAP + 120);
         let end = place(aside(at.x, length, is_rightward), at.y);
         draw_unheard(at, end, pen)?;
     }
+    let title = message_title(ladder.net, message, is_heard, pen)?;
     pen.titled(Shape::Dot(at, 55, Style::Mark), title)?;
     let left = left_of(at.x, width, is_rightward);
     write_upon_plate(left, at.y.saturating_sub(RISE), width, words, pen)
 }
 
-// Draws the way of a message that nobody heard, with a cross at its end.
-fn draw_unheard(at: Point, end: Point, pen: &mut Pen<'_>) -> Drawn {
-    pen.shape(Shape::Line(at, end, Style::Line))?;
-    let corner = place(end.x.saturating_sub(75), end.y.saturating_sub(75));
-    pen.shape(Shape::Cross(corner, 150, Style::Line))
-}
-
 // Writes how many messages are sent to terminals without a lane.
-fn write_others<'a>(ladder: &Ladder<'a>, rung: &Rung, count: u64, pen: &mut Pen<'a>) -> Drawn {
-    let Rung { row, .. } = *rung;
-    let at = ladder.at(0, row);
+fn write_others(at: Point, count: u64, pen: &mut Pen<'_>) -> Drawn {
     let text = if count == 1 {
         "+# message with bursts, for a terminal without a lane"
     } else {

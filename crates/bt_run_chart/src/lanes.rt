@@ -1,7 +1,7 @@
 // The lanes: who has one, in which order, and how they are drawn.
 use crate::editions::name_of;
 use crate::layout::{LEFT, Layout, RIGHT, Stave};
-use crate::step::{Said, SentMessage, Station, Step};
+use crate::step::{Said, SentMessage, Station, Step, Telling};
 use bt_frame::{BeamNo, OutOfMemory, TermNo};
 use bt_net::Network;
 use bt_picture::{Anchor, Drawn, Pen, Shape, Style, place};
@@ -68,6 +68,14 @@ impl Lanes {
         }
     }
 
+    /// The lane of the sender of a message, where it has one; none for one that passes terminals that were chosen.
+    pub fn sender_lane(&self, message: SentMessage) -> Option<usize> {
+        if self.are_chosen && self.passes(message) {
+            return None;
+        }
+        self.find(message.sender)
+    }
+
     /// The lane of a station, from 0 at the top.
     pub fn find(&self, station: Station) -> Option<usize> {
         self.stations.iter().position(|other| *other == station)
@@ -77,11 +85,12 @@ impl Lanes {
 // The first terminals that send or hear in what is asked for, in the network's order.
 fn heard_terminals(alloc: Global, steps: &[Step]) -> Result<Vec<TermNo>, OutOfMemory> {
     let mut terminals: Vec<TermNo> = Vec::new(alloc);
-    let mut is_hidden = false;
+    let mut telling = Telling::Drawn;
     for step in steps {
-        is_hidden = step.hides(is_hidden);
+        telling = step.telling(telling);
         if let Some(Station::Terminal(terminal)) = step.station() {
-            let is_new = !is_hidden && !terminals.iter().any(|other| *other == terminal);
+            let is_new = telling != Telling::Hidden
+                && !terminals.iter().any(|other| *other == terminal);
             if is_new && terminals.len() < MOST_LANES {
                 terminals.push(terminal)?;
             }
@@ -123,8 +132,8 @@ pub fn letters_of(name: &str) -> Style {
     }
 }
 
-// Writes what stands before a row.
-fn write_name<'a>(pen: &mut Pen<'a>, y: u64, style: Style, name: &'a str) -> Drawn {
+/// Writes what stands before a row.
+pub fn write_name<'a>(pen: &mut Pen<'a>, y: u64, style: Style, name: &'a str) -> Drawn {
     let words = pen.phrase("#", &[Text(name)])?;
     pen.label(place(LEFT - 140, y), Anchor::End, style, words)
 }

@@ -1,6 +1,6 @@
 // Where each step stands: columns go from left to right, and what does not fit goes on in a further stave below.
 use crate::lanes::Lanes;
-use crate::step::{Delivery, SentMessage, Station, Step};
+use crate::step::{Delivery, SentMessage, Station, Step, Telling};
 use bt_frame::OutOfMemory;
 use bt_net::Network;
 use bt_picture::{Drawn, Point, place};
@@ -56,7 +56,6 @@ pub struct Placed {
 /// A message at its place, where its sender has a lane; that of superframes that are folded is the middle of these.
 #[derive(Clone, Copy)]
 pub struct Posted {
-    pub message: SentMessage,
     pub lane: Option<usize>,
     pub stave: usize,
     pub x: u64,
@@ -131,9 +130,7 @@ pub struct Layout<'a> {
     column: u64,
     x: u64,
     heard: Option<usize>,
-    // Whether steps are drawn, or are folded or hidden; and whether they are hidden.
-    draws: bool,
-    hides: bool,
+    telling: Telling,
 }
 
 impl<'a> Layout<'a> {
@@ -169,8 +166,7 @@ impl<'a> Layout<'a> {
             column: 0,
             x: LEFT,
             heard: None,
-            draws: true,
-            hides: false,
+            telling: Telling::Drawn,
         }
     }
 
@@ -187,10 +183,8 @@ impl<'a> Layout<'a> {
 
     // Puts a step behind the others, unless it is not drawn or of a station without a lane.
     fn add(&mut self, step: Step) -> Drawn {
-        let is_folded = matches!(step, Step::Folded(_));
-        self.draws = step.draws(self.draws);
-        self.hides = step.hides(self.hides);
-        if self.draws || is_folded {
+        self.telling = step.telling(self.telling);
+        if step.is_drawn(self.telling) {
             self.put_drawn(step)?;
         }
         match step {
@@ -219,15 +213,10 @@ impl<'a> Layout<'a> {
         if self.lanes.are_chosen {
             return Ok(());
         }
-        if let Some(
-            Placed {
-                step: Step::Others(count),
-                ..
-            },
-        ) = self.placed.last_mut()
-        {
-            *count = count.saturating_add(1);
-            return Ok(());
+        if let Some(placed) = self.placed.last_mut() {
+            if placed.step.counts_one_more() {
+                return Ok(());
+            }
         }
         self.put(Step::Others(1), 1)
     }
@@ -298,25 +287,16 @@ impl<'a> Layout<'a> {
 
     // Remembers where a message was sent, behind those before it.
     fn post(&mut self, message: SentMessage) -> Drawn {
-        let is_placed = !(self.lanes.are_chosen && self.lanes.passes(message));
-        let lane = if is_placed {
-            self.lanes.find(message.sender)
-        } else {
-            None
-        };
-        let x = self.x;
-        let stave = if self.hides {
+        let stave = if self.telling == Telling::Hidden {
             NOWHERE
         } else {
             self.staves.len().saturating_sub(1)
         };
-        let is_heard = false;
         self.posted.push(Posted {
-            message,
-            lane,
+            lane: self.lanes.sender_lane(message),
             stave,
-            x,
-            is_heard,
+            x: self.x,
+            is_heard: false,
         })?;
         Ok(())
     }

@@ -7,7 +7,7 @@
 //! From left to right each step gets a place in a column of a stave (`layout.rt`), and from there all is drawn (`spans.rt`,
 //! `lanes.rt`, `folds.rt`, `air.rt`, `messages.rt`); where there are too many messages, they are counted by superframes
 //! (`totals.rt`). In a ladder each step gets a row (`rungs.rt`), and from there its ways and its marks are drawn
-//! (`ladder_ways.rt`, `ladder_marks.rt`).
+//! (`ladder_ways.rt`, `ladder_marks.rt`). Both pictures have the ways of `ways.rt`, and the bursts and silences of `frames.rt`.
 //!
 //! The crate stands on read lines (`bt_run_lines`) and on what is drawn by a pen (`bt_picture`), whose `specs/Drawn.antt`
 //! says what is promised: what is written is a picture; and `specs/Titles.antt` of which title. What else is drawn in it is not
@@ -18,6 +18,7 @@ mod air;
 mod editions;
 mod folding;
 mod folds;
+mod frames;
 mod holdings;
 mod labels;
 mod ladder;
@@ -38,6 +39,7 @@ mod step;
 mod titles;
 mod totals;
 mod view;
+mod ways;
 mod whole;
 
 pub use ladder::ladder_picture;

@@ -1,11 +1,11 @@
 // Messages from lane to lane, and what happens to stations.
 use crate::labels::{is_labelled_above, write_upon_plate};
-use crate::lanes::station_name;
 use crate::layout::{LEFT, Layout, Placed, RIGHT};
-use crate::step::{Delivery, SentMessage, Step};
-use crate::titles::{delivery_title, happening_title, message_title, width_of_number};
+use crate::step::{Delivery, Said, SentMessage, Step};
+use crate::titles::{happening_title, message_title, width_of_number};
+use crate::ways::{draw_unheard, draw_way};
 use bt_picture::{Drawn, Pen, Point, Shape, Style, place, rectangle};
-use bt_words::Word::{Number, Text};
+use bt_words::Word::Number;
 
 // Twips of the circle of a message.
 const RADIUS: u64 = 165;
@@ -15,7 +15,7 @@ pub fn draw_deliveries<'a>(layout: &Layout<'a>, pen: &mut Pen<'a>) -> Drawn {
     for placed in &layout.placed {
         if let Step::Got(delivery) = placed.step {
             if let Some((from, to)) = way_of(layout, placed, delivery) {
-                draw_way(layout, from, to, delivery, pen)?;
+                draw_way(layout.net, from, to, Style::Arrow, delivery, pen)?;
             }
         }
     }
@@ -78,14 +78,7 @@ fn draw_edges_of<'a>(
     let begin = place(posted.x, layout.heights.lane_y(&there, lane));
     let depth = from.y.saturating_sub(stave.top);
     let edge = place(RIGHT, there.top.saturating_add(depth));
-    let style = if delivery.refused {
-        Style::Thin
-    } else {
-        Style::Line
-    };
-    let name = station_name(layout.net, delivery.hearer);
-    let title = delivery_title(name, delivery, pen)?;
-    pen.titled(Shape::Line(begin, edge, style), title)?;
+    draw_way(layout.net, begin, edge, Style::Line, delivery, pen)?;
     let width = width_of_number(delivery.number);
     tags.exit = beside(tags.exit, edge.y);
     let left = RIGHT.saturating_sub(width).saturating_sub(20);
@@ -126,24 +119,6 @@ fn part_way(from: u64, to: u64, past: u64, left: u64) -> u64 {
     from.saturating_add(down).saturating_sub(up)
 }
 
-// Draws the way of a delivery: a grey line where the hearer refuses.
-fn draw_way<'a>(
-    layout: &Layout<'a>,
-    from: Point,
-    to: Point,
-    delivery: Delivery,
-    pen: &mut Pen<'a>,
-) -> Drawn {
-    let name = station_name(layout.net, delivery.hearer);
-    let title = delivery_title(name, delivery, pen)?;
-    let style = if delivery.refused {
-        Style::Thin
-    } else {
-        Style::Arrow
-    };
-    pen.titled(Shape::Line(from, to, style), title)
-}
-
 /// Draws each message on the lane of its sender, and what happens to stations on their lanes.
 pub fn draw_senders<'a>(layout: &Layout<'a>, pen: &mut Pen<'a>) -> Drawn {
     for placed in &layout.placed {
@@ -159,7 +134,7 @@ fn draw_sender<'a>(layout: &Layout<'a>, placed: &Placed, at: Point, pen: &mut Pe
         Step::Sent(message) => draw_message(layout, at, message, pen),
         Step::Others(count) => draw_others(at, count, pen),
         Step::Happened(station, happening) => {
-            let title = happening_title(station_name(layout.net, station), happening, pen)?;
+            let title = happening_title(layout.net, station, happening, pen)?;
             pen.titled(Shape::Dot(at, 100, Style::Mark), title)
         }
         _ => Ok(()),
@@ -188,12 +163,12 @@ fn draw_message<'a>(
     message: SentMessage,
     pen: &mut Pen<'a>,
 ) -> Drawn {
-    let mut title = message_title(layout.net, message, pen)?;
     let posted = layout.posted_as(message.place);
-    if !posted.is_some_and(|posted| posted.is_heard) {
-        title.push(Text("; nobody heard it"))?;
-        draw_unheard(at, message, pen)?;
+    let is_heard = posted.is_some_and(|posted| posted.is_heard);
+    if !is_heard {
+        draw_unheard(at, end_of_unheard(at, message.said), pen)?;
     }
+    let title = message_title(layout.net, message, is_heard, pen)?;
     let circle = Shape::Dot(at, RADIUS, Style::Band);
     let number = pen.phrase("#", &[Number(message.number)])?;
     pen.marked(
@@ -205,15 +180,12 @@ fn draw_message<'a>(
     )
 }
 
-// Draws the way of a message that nobody heard: towards its hearers, with a cross at its end.
-fn draw_unheard(at: Point, message: SentMessage, pen: &mut Pen<'_>) -> Drawn {
-    let y = if is_labelled_above(message.said) {
+// Where the way of a message that nobody heard ends: towards its hearers.
+fn end_of_unheard(at: Point, said: Said) -> Point {
+    let y = if is_labelled_above(said) {
         at.y.saturating_add(430)
     } else {
         at.y.saturating_sub(430)
     };
-    let end = place(at.x.saturating_add(220), y);
-    pen.shape(Shape::Line(at, end, Style::Line))?;
-    let corner = place(end.x.saturating_sub(75), end.y.saturating_sub(75));
-    pen.shape(Shape::Cross(corner, 150, Style::Line))
+    place(at.x.saturating_add(220), y)
 }

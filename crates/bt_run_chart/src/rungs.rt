@@ -1,6 +1,6 @@
 // Where each step stands in a ladder: time runs down, a row for each message, and a lane for each station.
 use crate::lanes::Lanes;
-use crate::step::{Delivery, Said, SentMessage, Station, Step};
+use crate::step::{Delivery, Said, SentMessage, Station, Step, Telling};
 use bt_frame::OutOfMemory;
 use bt_net::Network;
 use bt_picture::{Drawn, Point, place};
@@ -45,7 +45,6 @@ pub struct Rung {
 /// A message in its row, where its sender has a lane; heard too where it is not told who hears it.
 #[derive(Clone, Copy)]
 pub struct Departure {
-    pub message: SentMessage,
     pub lane: Option<usize>,
     pub row: u64,
     pub is_heard: bool,
@@ -80,8 +79,7 @@ pub struct Ladder<'a> {
     common: Option<u64>,
     late: Option<usize>,
     fore: Option<u64>,
-    draws: bool,
-    hides: bool,
+    telling: Telling,
 }
 
 impl<'a> Ladder<'a> {
@@ -111,8 +109,7 @@ impl<'a> Ladder<'a> {
             common: None,
             late: None,
             fore: None,
-            draws: true,
-            hides: false,
+            telling: Telling::Drawn,
         };
         for step in steps {
             ladder.add(*step)?;
@@ -122,11 +119,9 @@ impl<'a> Ladder<'a> {
 
     // Puts a step behind the others, where it is drawn.
     fn add(&mut self, step: Step) -> Drawn {
-        let is_folded = matches!(step, Step::Folded(_));
-        self.draws = step.draws(self.draws);
-        self.hides = step.hides(self.hides);
+        self.telling = step.telling(self.telling);
         let is_new_front = self.is_new_front(step);
-        if self.draws || is_folded {
+        if step.is_drawn(self.telling) {
             self.put(step, is_new_front)?;
         }
         match step {
@@ -214,15 +209,10 @@ impl<'a> Ladder<'a> {
         if self.lanes.are_chosen {
             return Ok(());
         }
-        if let Some(
-            Rung {
-                step: Step::Others(count),
-                ..
-            },
-        ) = self.rungs.last_mut()
-        {
-            *count = count.saturating_add(1);
-            return Ok(());
+        if let Some(rung) = self.rungs.last_mut() {
+            if rung.step.counts_one_more() {
+                return Ok(());
+            }
         }
         self.put_on(Step::Others(1), Station::Centre, false)
     }
@@ -290,20 +280,13 @@ impl<'a> Ladder<'a> {
 
     // Remembers in which row a message was sent, behind those before it: the last one.
     fn depart(&mut self, message: SentMessage) -> Drawn {
-        let is_left_out = self.lanes.are_chosen && self.lanes.passes(message);
-        let lane = if is_left_out {
-            None
-        } else {
-            self.lanes.find(message.sender)
-        };
-        let row = if self.hides {
+        let row = if self.telling == Telling::Hidden {
             NOWHERE
         } else {
             self.rows.saturating_sub(1)
         };
         self.departures.push(Departure {
-            message,
-            lane,
+            lane: self.lanes.sender_lane(message),
             row,
             is_heard: self.is_apart,
         })?;
@@ -357,6 +340,12 @@ impl<'a> Ladder<'a> {
     /// Where the lanes end.
     pub fn bottom(&self) -> u64 {
         self.row_y(self.rows.saturating_sub(1)).saturating_add(ROW)
+    }
+
+    /// The place of a rung on the lane of the station that sends, hears or is struck, where it has one.
+    pub fn place_of(&self, rung: &Rung) -> Option<Point> {
+        let lane = self.lanes.find(rung.step.station()?)?;
+        Some(self.at(lane, rung.row))
     }
 
     /// The place of a lane in a row.

@@ -132,6 +132,14 @@ pub enum Step {
     Noted(Note),
 }
 
+/// Whether what is told is drawn.
+#[derive(Clone, Copy, PartialEq, Eq)]
+pub enum Telling {
+    Drawn,
+    Folded,
+    Hidden,
+}
+
 impl Step {
     /// The station that sends, hears or is struck here.
     pub fn station(&self) -> Option<Station> {
@@ -145,21 +153,29 @@ impl Step {
         }
     }
 
-    /// Whether the steps behind this one are not asked for, where it says so, and else as it was before.
-    pub fn hides(&self, before: bool) -> bool {
+    /// Whether this step and those behind it are drawn, where it says so, and else as it was before.
+    pub fn telling(&self, before: Telling) -> Telling {
         match self {
-            Step::Hidden => true,
-            Step::Begin(_) | Step::Folded(_) => false,
+            Step::Begin(_) => Telling::Drawn,
+            Step::Folded(_) => Telling::Folded,
+            Step::Hidden => Telling::Hidden,
             _ => before,
         }
     }
 
-    /// Whether the steps behind this one are drawn, where it says so, and else as it was before.
-    pub fn draws(&self, before: bool) -> bool {
+    /// It is drawn, where what is told is drawn or not: the first step of what is folded is in any case.
+    pub fn is_drawn(&self, telling: Telling) -> bool {
+        telling == Telling::Drawn || matches!(self, Step::Folded(_))
+    }
+
+    /// Counts a further message where this stands for some to terminals without a lane; false where it does not.
+    pub fn counts_one_more(&mut self) -> bool {
         match self {
-            Step::Begin(_) => true,
-            Step::Folded(_) | Step::Hidden => false,
-            _ => before,
+            Step::Others(count) => {
+                *count = count.saturating_add(1);
+                true
+            }
+            _ => false,
         }
     }
 }

@@ -1,7 +1,8 @@
 // What is written at a message: short above its circle, in whole words beside the mouse.
 use crate::editions::name_of;
+use crate::lanes::station_name;
 use crate::step::{
-    Delivery, Frame, Happening, Note, OnAir, Said, SentMessage, ShownStatus, Station,
+    Delivery, Happening, Note, OnAir, Said, SentMessage, ShownStatus, Silence, Station,
 };
 use bt_frame::OutOfMemory;
 use bt_net::Network;
@@ -37,18 +38,33 @@ pub fn happening_label<'a>(happening: Happening, pen: &Pen<'a>) -> Result<Vec<Wo
 
 /// What happens to a station, in words.
 #[rattlefmt::skip]
-pub fn happening_title<'a>(name: &'a str, happening: Happening, pen: &Pen<'a>) -> Result<Vec<Word<'a>>, OutOfMemory> {
+pub fn happening_title<'a>(net: &'a Network, station: Station, happening: Happening, pen: &Pen<'a>) -> Result<Vec<Word<'a>>, OutOfMemory> {
+    let name = Text(station_name(net, station));
     match happening {
-        Happening::Restart       => pen.phrase("the # restarts", &[Text(name)]),
-        Happening::Reset         => pen.phrase("# restarts and holds nothing", &[Text(name)]),
-        Happening::Back(edition) => pen.phrase("the # is to go back to edition #", &[Text(name), Number(edition)]),
-        Happening::Ahead         => pen.phrase("the # is to bring the newest edition to the front again", &[Text(name)]),
+        Happening::Restart       => pen.phrase("the # restarts", &[name]),
+        Happening::Reset         => pen.phrase("# restarts and holds nothing", &[name]),
+        Happening::Back(edition) => pen.phrase("the # is to go back to edition #", &[name, Number(edition)]),
+        Happening::Ahead         => pen.phrase("the # is to bring the newest edition to the front again", &[name]),
     }
 }
 
-/// What a message says, in words.
+/// What a message says, in words, and that nobody heard it, where nobody did.
+pub fn message_title<'a>(
+    net: &'a Network,
+    message: SentMessage,
+    is_heard: bool,
+    pen: &Pen<'a>,
+) -> Result<Vec<Word<'a>>, OutOfMemory> {
+    let mut title = said_title(net, message, pen)?;
+    if !is_heard {
+        title.push(Text("; nobody heard it"))?;
+    }
+    Ok(title)
+}
+
+// What a message says, in words.
 #[rattlefmt::skip]
-pub fn message_title<'a>(net: &'a Network, message: SentMessage, pen: &Pen<'a>) -> Result<Vec<Word<'a>>, OutOfMemory> {
+fn said_title<'a>(net: &'a Network, message: SentMessage, pen: &Pen<'a>) -> Result<Vec<Word<'a>>, OutOfMemory> {
     let number = Number(message.number);
     match message.said {
         Said::Load { edition, .. }      => pen.phrase("message #, load: the modes of edition # into the background", &[number, Number(edition)]),
@@ -140,26 +156,29 @@ pub fn burst_title<'a>(
 
 /// That a terminal is silent in a frame, in words.
 pub fn silence_title<'a>(
-    name: &'a str,
-    frame: Frame,
+    net: &'a Network,
+    silence: Silence,
     pen: &Pen<'a>,
 ) -> Result<Vec<Word<'a>>, OutOfMemory> {
+    let name = Text(name_of(net, silence.terminal));
+    let frame = silence.frame;
     let shown = Word::Frame(frame.mark, frame.number);
     pen.phrase(
         "# is silent in frame #: it holds its bursts of edition #",
-        &[Text(name), shown, Number(frame.fore)],
+        &[name, shown, Number(frame.fore)],
     )
 }
 
 /// What came to a station, in words.
 pub fn delivery_title<'a>(
-    name: &'a str,
+    net: &'a Network,
     delivery: Delivery,
     pen: &Pen<'a>,
 ) -> Result<Vec<Word<'a>>, OutOfMemory> {
+    let name = Text(station_name(net, delivery.hearer));
     pen.phrase(
         "message # came to #: #",
-        &[Number(delivery.number), Text(name), Text(delivery.answer)],
+        &[Number(delivery.number), name, Text(delivery.answer)],
     )
 }
 

@@ -1,14 +1,14 @@
 // A run of many messages, counted by superframes.
 use crate::editions::tint_of;
-use crate::step::{Happening, Said, Step};
+use crate::lanes::write_name;
+use crate::layout::LEFT;
+use crate::step::{Happening, Said, Step, Telling};
 use bt_frame::OutOfMemory;
 use bt_picture::{Anchor, Drawn, Pen, Point, Style, place, rectangle};
 use bt_words::Word::{Number, Text};
 use std::alloc::Global;
 
-// Twips from the left to the first column, of a column, and of a row.
-const LEFT: u64 = 2200;
-
+// Twips of a column, and of a row.
 const COLUMN: u64 = 1080;
 
 const ROW: u64 = 300;
@@ -59,13 +59,13 @@ struct Tally {
     totals: Vec<Total>,
     rows: Vec<usize>,
     begun: usize,
-    draws: bool,
+    telling: Telling,
 }
 
 impl Tally {
     // Counts a step; so many superframes share a total.
     fn add(&mut self, step: &Step, shared: usize) -> Drawn {
-        self.draws = step.draws(self.draws);
+        self.telling = step.telling(self.telling);
         if let Step::Begin(mark) = step {
             self.begin(*mark, shared)?;
         }
@@ -76,7 +76,7 @@ impl Tally {
             Step::Got(delivery) => self.rows.get(delivery.place).copied(),
             _ => None,
         };
-        if !self.draws {
+        if self.telling != Telling::Drawn {
             return Ok(());
         }
         let made = made_row(step);
@@ -180,7 +180,7 @@ fn tally_of(alloc: Global, steps: &[Step]) -> Result<Tally, OutOfMemory> {
         totals,
         rows,
         begun: 0,
-        draws: true,
+        telling: Telling::Drawn,
     };
     for step in steps {
         tally.add(step, shared)?;
@@ -199,13 +199,7 @@ fn name_rows(top: u64, pen: &mut Pen<'_>) -> Drawn {
 }
 
 fn name_row<'a>(y: u64, name: &'a str, pen: &mut Pen<'a>) -> Drawn {
-    let words = pen.phrase("#", &[Text(name)])?;
-    pen.label(
-        place(LEFT - 140, y.saturating_add(220)),
-        Anchor::End,
-        Style::Text,
-        words,
-    )
+    write_name(pen, y.saturating_add(220), Style::Text, name)
 }
 
 // Where a row begins.

@@ -15,7 +15,7 @@ use crate::range::within;
 use crate::reading::read_steps;
 use crate::silences::with_silences;
 use crate::spans::{draw_fronts, draw_superframes};
-use crate::step::Step;
+use crate::step::{Step, Telling};
 use crate::totals::draw_totals;
 use crate::view::{Asked, View};
 use bt_frame::{OutOfMemory, TermNo};
@@ -185,20 +185,13 @@ fn count_drawn(steps: &[Step]) -> DrawnCount {
         messages: 0,
         shown: 0,
     };
-    let mut draws = true;
+    let mut telling = Telling::Drawn;
     for step in steps {
-        draws = step.draws(draws);
-        let counts = usize::from(draws);
-        let of_message = if matches!(step, Step::Sent(_)) {
-            counts
-        } else {
-            0
-        };
-        let of_frame = if matches!(step, Step::Shown(_)) {
-            counts
-        } else {
-            0
-        };
+        telling = step.telling(telling);
+        let is_drawn = telling == Telling::Drawn;
+        let counts = usize::from(is_drawn);
+        let of_message = usize::from(is_drawn && matches!(step, Step::Sent(_)));
+        let of_frame = usize::from(is_drawn && matches!(step, Step::Shown(_)));
         let of_fold = usize::from(matches!(step, Step::Folded(_)));
         drawn.steps = drawn.steps.saturating_add(counts);
         drawn.messages = drawn.messages.saturating_add(of_message);
