@@ -16,7 +16,8 @@ use Rattle.bt_sites.specs.Step as step
 use Rattle.bt_script.specs.Heard.{read_of}
 use Rattle.bt_apart.specs.Apart.{ApartAir, having_apart, heard_apart, later_mark, noting_apart}
 use Rattle.bt_station.proofs.Acts.{if-true, mark_of}
-use Rattle.bt_apart_laws.specs.Acts.{IsCentreAt, IsNotBehind, heard_as, is_hearing, takes_up}
+use Rattle.bt_station.specs.Acts.{heard_as}
+use Rattle.bt_apart_laws.specs.Acts.{IsCentreAt, IsNotBehind, is_hearing, takes_up}
 use Rattle.bt_apart_laws.proofs.Acts.{known-marked, known-some, later-either}
 
 -- it may have its turn, place an order, install a plan and restart

@@ -30,7 +30,8 @@ use Rattle.bt_sites.specs.Step as step
 use Rattle.bt_script.specs.declared.heard.BusLine.{BusLine}
 use Rattle.bt_script.specs.declared.heard.BusLine.TheVariants as bus
 use Rattle.bt_apart.specs.Apart.{ApartAir, apart_at_start, going_apart, having_apart, heard_apart, later_mark, noting_apart}
-use Rattle.bt_apart_laws.specs.Acts.{BeginsSome, IsCentreAt, heard_as, known_in, takes_up}
+use Rattle.bt_station.specs.Acts.{heard_as}
+use Rattle.bt_apart_laws.specs.Acts.{BeginsSome, IsCentreAt, known_in, takes_up}
 use Rattle.bt_apart_laws.proofs.Acts.{hears, installs, known-some, orders, others, restarts, starts, turns}
 use Rattle.bt_apart_laws.proofs.Others.{count-still, reached-more, reached-still, where-same, where-some}
 

@@ -16,6 +16,7 @@ use Rattle.bt_sites.specs.Step as step
 use Rattle.bt_script.specs.Heard.{if_begun}
 use Rattle.bt_station.specs.declared.station.Station.TheVariants as station
 use Rattle.bt_station.specs.Acts.{satellite_at, standby_at, terminal_at}
+use Rattle.bt_station.proofs.Acts.{if-false}
 
 -- a step of a site that knows a superframe, and one that leaves something as it was
 pub where-some : {X : Type 0} (f : List Step → X) (late : List Late) (made k : ℕ) (make : Mark → Step) → 0 < k → f (steps_of (joined made (where_known k make) late)) ≡ f (make (record { 0 = k }) ∷ steps_of late)

@@ -26,8 +26,8 @@ use Rattle.bt_script.specs.declared.heard.BusLine.{BusLine}
 use Rattle.bt_apart.specs.Back.{back_lasting}
 use Rattle.bt_apart.specs.Apart.{ApartAir, apart_at_start, going_apart, having_apart, says_apart}
 use Rattle.bt_station.specs.Asked.{asked_of}
-use Rattle.bt_station.specs.Acts.{IsTakenUp}
-use Rattle.bt_apart_laws.specs.Acts.{BeginsSome, IsCentreAt, heard_as, known_in, takes_up}
+use Rattle.bt_station.specs.Acts.{IsTakenUp, heard_as}
+use Rattle.bt_apart_laws.specs.Acts.{BeginsSome, IsCentreAt, known_in, takes_up}
 use Rattle.bt_apart_laws.specs.Premises.{AreProcesses, GoesOnBy, IsUnderWay, MayDo, MayHear}
 use Rattle.bt_apart_laws.specs.Processes.{Asks, Deed, Goes, Hears, Learns, Makes, Opens, Places, Restarts, StandbyStarts, Start, Starts, Turns, centre_by, having_heard, is_order, is_started, journal_by, lines_said, present_in, radios, reached_by, satellite_by, standby_by, terminal_by, with_one}
 use Rattle.bt_apart_laws.proofs.Acts.{known-some, order-lines, passes-over, turn-lines}
