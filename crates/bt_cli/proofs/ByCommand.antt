@@ -15,6 +15,7 @@ use Rattle.bt_load.specs.Kinds.{matrix_file, network_file}
 use Rattle.bt_load.proofs.OneLoad.{done_alike, file_lawful, nothing_lawful}
 use Rattle.bt_cli.specs.declared.command_line.CommandLine.{CommandLine}
 use Rattle.bt_cli.specs.declared.command_line.CommandLine.TheVariants as command
+use Rattle.bt_cli.specs.Calls.{stored_of}
 use Rattle.bt_cli.specs.Complete.{NothingFails}
 use Rattle.bt_cli.specs.Json.{json_file}
 use Rattle.bt_cli.specs.Make.{PrintsSummary}
@@ -26,14 +27,14 @@ use Rattle.bt_report.specs.declared.report.Stop.{Stop}
 use Rattle.bt_report.specs.Printing.{CameTo}
 use Rattle.bt_cli.specs.Command.{EndsBy, no_store}
 use Rattle.bt_cli.specs.Replay.{EndsReplay, HasReplayed, without_run}
-use Rattle.bt_cli.specs.Request.{Request, Faulty, CheckModes, CheckPlan, PlanModes, PlanDemand, RunScript, ReplayJournal, PlanDrawn, TimeSends, PlanPart, TellCapacity, TellState, TellDemand, TellInstalled, TellCompact, TellEdits, TellMetrics, TellCarry, TellTraffic, TellJson, asked, name_of}
+use Rattle.bt_cli.specs.Request.{Request, Faulty, CheckModes, CheckPlan, PlanModes, PlanDemand, RunScript, ReplayJournal, PlanDrawn, TimeSends, PlanPart, TellCapacity, TellJournal, TellEdits, TellCarry, TellTraffic, TellJson, asked, name_of}
 use Rattle.bt_cli.specs.Run.{BeginsNoRun, End}
 use Rattle.bt_cli.specs.Top.{AreOneStore, AreTold, AsksNoStore, Ends, IsOneReport, Reported, Reports, Serves, command_of}
 use Rattle.bt_cli.specs.Trans.{PrintsPart}
 use Rattle.bt_cli.proofs.Finished.{FinishReports, FinishServes, LawsAs, ended_as, none_reports, none_serves, reported_as, same_as, served_as}
 use Rattle.bt_cli.proofs.Complete.{recovery_done, run_done}
 use Rattle.bt_cli.proofs.LoadsAsked.{Lines, asked_lawful}
-use Rattle.bt_cli.proofs.OneLook.{carry_lawful, carry_same, compact_same, demand_same, edits_lawful, edits_same, installed_same, journal_lawful, metrics_same, state_same}
+use Rattle.bt_cli.proofs.OneLook.{carry_lawful, carry_same, edits_lawful, edits_same, journal_lawful, look_same}
 use Rattle.bt_cli.proofs.Lawful.{delay_lawful, modes_lawful, plan_lawful, script_lawful, table_lawful}
 use Rattle.bt_cli.proofs.OneJournal as journal
 use Rattle.bt_cli.proofs.OneReplay.{one_replay}
@@ -64,12 +65,8 @@ laws_of laws (TimeSends net traffic plan delays) = record { lawful = delay_lawfu
 laws_of laws (PlanDrawn beams seed) = record { lawful = nothing_lawful; same = λ one other kept none. alike {Tells = PrintsSummary beams seed} (λ o is. ap (λ (x : Outcome). x.status) is.1.printed) }
 laws_of laws (PlanPart transponders matrix) = record { lawful = suited_lawful transponders matrix; same = λ one other kept rows. alike {Tells = PrintsPart transponders rows} (λ o is. ap (λ (x : Outcome). x.status) is.printed) }
 laws_of laws (TellCapacity net traffic) = record { lawful = asked_lawful laws.lines net traffic; same = λ one other kept asked a b first second. first ∙ sym second }
-laws_of laws (TellState net journal) = record { lawful = journal_lawful net journal; same = λ one other kept both. state_same laws.journals both.0 both.1 }
-laws_of laws (TellDemand net journal edition) = record { lawful = journal_lawful net journal; same = λ one other kept both. demand_same laws.journals edition both.0 both.1 }
-laws_of laws (TellInstalled net journal edition) = record { lawful = journal_lawful net journal; same = λ one other kept both. installed_same laws.journals edition both.0 both.1 }
-laws_of laws (TellCompact net journal) = record { lawful = journal_lawful net journal; same = λ one other kept both. compact_same laws.journals both.0 both.1 }
+laws_of laws (TellJournal net journal look) = record { lawful = journal_lawful net journal; same = λ one other kept both. look_same laws.journals look both.0 both.1 }
 laws_of laws (TellEdits net journal traffic desk) = record { lawful = edits_lawful laws.lines net journal traffic; same = λ one other kept all. edits_same laws.journals desk all.0.0 all.0.1 all.1 }
-laws_of laws (TellMetrics net journal) = record { lawful = journal_lawful net journal; same = λ one other kept both. metrics_same laws.journals both.0 both.1 }
 laws_of laws (TellCarry net journal new) = record { lawful = carry_lawful net journal new; same = λ one other kept all. carry_same laws.journals laws.lines all.0.0 all.0.1 all.1 }
 laws_of laws (TellTraffic net table) = record { lawful = table_lawful net table; same = λ one other kept both a b first second. first ∙ sym second }
 laws_of laws (TellJson text) = record { lawful = file_lawful json_file text; same = λ one other kept json a b first second. first ∙ sym second }
@@ -129,10 +126,6 @@ none_named read first name named is no_run no_replay =
     (λ net journal same. two_names (codes "replay") name first no_replay (subst P same named) is)
 
 -- ---- from call to call
-
--- what a store tells between two calls
-abbrev pub stored_of : {Store : Type 0} → (Store → Option (List ℕ)) → (Store → ℕ) → Store → Store → Stored
-stored_of tell count given left = record { before = tell given; after = tell left; faults_before = count given; faults_after = count left }
 
 -- what a call without a run gives back
 end_is : (end : End) (status : ℕ) → end.histories ≡ [] → end.events ≡ [] → end.status ≡ status → end ≡ without_run status

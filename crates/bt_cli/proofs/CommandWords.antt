@@ -1,28 +1,11 @@
--- Words of `make`, and how many words a command has.
-use Rattle.std.proofs.Common.{◌≡◌, ℕ, ◌<◌, ◌≤◌, ◌-◌, ◌^◌, List, [], ◌∷◌, length, map, codes, decimal, Option, Some, None, option_map, option_and_then, true, false, refl, sym, ap, ◌∙◌, ⊎_elim, arith}
+-- Words of `make`.
+use Rattle.std.proofs.Common.{◌≡◌, ℕ, ◌<◌, ◌≤◌, ◌-◌, ◌^◌, List, codes, decimal, Option, Some, None, option_map, option_and_then, true, false, refl, sym, ap, ◌∙◌, ⊎_elim, arith}
 use Rattle.std.specs.Str.{bytes_eq}
 use Rattle.std.proofs.lemmas.Bool.{cases_eq}
 use Rattle.std.proofs.lemmas.Slice.Eq.{bytes_eq-Decides}
 use Rattle.bt_text.specs.Text.{capped, number_of}
 use Rattle.bt_text.proofs.TextNumbers.{decimal_from_number_of}
 use Rattle.bt_cli.specs.NumberWords.{seed_of, within}
-use Rattle.bt_cli.specs.Request.{Faulty, request_of}
-
--- no command has less than two words
-pub too_few : {A : Type 0} (word : A → List ℕ) (words : List A) → length words < 2 → Faulty ≡ request_of (map word words)
-too_few word [] few = refl
-too_few word (_ ∷ []) few = refl
-too_few word (_ ∷ _ ∷ rest) few = absurd (omega (arith, few))
-
--- or more than five
-pub too_many : {A : Type 0} (word : A → List ℕ) (words : List A) → 5 < length words → Faulty ≡ request_of (map word words)
-too_many word [] many = absurd (omega (arith, many))
-too_many word (_ ∷ []) many = absurd (omega (arith, many))
-too_many word (_ ∷ _ ∷ []) many = absurd (omega (arith, many))
-too_many word (_ ∷ _ ∷ _ ∷ []) many = absurd (omega (arith, many))
-too_many word (_ ∷ _ ∷ _ ∷ _ ∷ []) many = absurd (omega (arith, many))
-too_many word (_ ∷ _ ∷ _ ∷ _ ∷ _ ∷ []) many = absurd (omega (arith, many))
-too_many word (_ ∷ _ ∷ _ ∷ _ ∷ _ ∷ _ ∷ rest) many = refl
 
 -- another word than that of the last number is not the last number
 other_number : (word : List ℕ) (n : ℕ) → number_of word ≡ Some n → bytes_eq word (codes "18446744073709551615") ≡ false → n ≡ 2 ^ 64 - 1 → ⊥

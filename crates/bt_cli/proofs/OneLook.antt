@@ -1,35 +1,37 @@
 -- A look at one journal has one outcome.
-use Rattle.std.proofs.Common.{◌≡◌, ◌⊎◌, ℕ, ◌≤◌, inl, inr, List, length, Option, Some, None, option_map, sym, subst, ap, ◌∙◌, arith}
+use Rattle.std.proofs.Common.{◌≡◌, ◌⊎◌, ℕ, ◌≤◌, inl, inr, List, length, Option, Some, None, option_map, refl, sym, subst, ap, ◌∙◌, arith}
 use Rattle.std.proofs.lemmas.Option.{same_Some}
 use Rattle.bt_frame.specs.declared.limits.TheConstants.{MOST_JOURNAL_BYTES}
-use Rattle.bt_frame.specs.declared.numbers.EditionNo.{EditionNo}
 use Rattle.bt_net.specs.Network.{Net, IsSound}
 use Rattle.bt_demand.specs.declared.demand.Link.{Link}
 use Rattle.bt_journal.specs.declared.call.Change.{Change}
 use Rattle.bt_history.specs.declared.fault.RecoverFault.{RecoverFault}
 use Rattle.bt_history.specs.declared.fault.RecoverFault.TheVariants.{J1, J2, StoreFault, TooLong, OutOfMemory}
 use Rattle.bt_history.specs.Changes.{IsDemandAfter}
+use Rattle.bt_history.specs.Recovery.{Recovered}
 use Rattle.bt_plan.specs.PlanSpelling.{plan_spelling}
 use Rattle.bt_timeline.specs.Replayed.{link_lines}
 use Rattle.bt_export.specs.declared.carry.Carried.{Carried}
 use Rattle.bt_export.specs.declared.carry.Carried.TheVariants as carried
 use Rattle.bt_export.specs.Carry.{ComesTo}
 use Rattle.bt_export.specs.Edits.{TellsEdits, block_lines, surplus}
-use Rattle.bt_export.specs.Metrics.{TellsMetrics, metrics_lines}
+use Rattle.bt_export.specs.Metrics.{metrics_lines}
 use Rattle.bt_export.proofs.CarriedBack.{one_coming as one_carried}
 use Rattle.bt_look.specs.Compact.{compact_lines}
-use Rattle.bt_look.specs.Installed.{TellsInstalled, plan_asked}
-use Rattle.bt_look.specs.State.{TellsState, state_lines}
-use Rattle.bt_look.specs.Look.{IsDemandText, IsLookFault, TellsCompact, TellsDemand}
+use Rattle.bt_look.specs.Installed.{plan_asked}
+use Rattle.bt_look.specs.State.{state_lines}
+use Rattle.bt_look.specs.Look.{IsDemandText, IsLookFault}
 use Rattle.bt_report.specs.declared.status.TheConstants.{DONE}
 use Rattle.bt_report.specs.Outcome.{Outcome, text_alone}
 use Rattle.bt_load.specs.Kinds.{journal_file, network_file}
 use Rattle.bt_load.specs.Loaders.{file}
 use Rattle.bt_load.proofs.OneLoad.{IsLawful, file_lawful, then_lawful}
+use Rattle.bt_cli.specs.declared.look.Look.{Look}
+use Rattle.bt_cli.specs.declared.look.Look.TheVariants as look
 use Rattle.bt_cli.specs.Carry.{PrintsCarried, PrintsCarry, TellsCarry, carry_files}
 use Rattle.bt_cli.specs.Edits.{PrintsEdits, edits_files}
 use Rattle.bt_cli.specs.Fitting.{fitting_file}
-use Rattle.bt_cli.specs.Looks.{NamesLine, PrintsCompact, PrintsDemand, PrintsInstalled, PrintsJournalState, PrintsMetrics, PrintsOrNone, PrintsText, journal_files}
+use Rattle.bt_cli.specs.Looks.{Looks, NamesLine, PrintsLook, PrintsOrNone, PrintsText, TellsLook, journal_files}
 use Rattle.bt_cli.specs.Replay.{NamesRecoverFault}
 use Rattle.bt_cli.proofs.LoadsAsked.{Lines, fitting_lawful, never_both, overload_same}
 use Rattle.bt_cli.proofs.OneDemand.{none_behind, one_demand}
@@ -53,115 +55,76 @@ look_comes : (Done : List Change → Outcome → Type 0) (Prints : Outcome → T
 look_comes Done Prints net bytes outcome short changes (inl printed) = inl (changes printed)
 look_comes Done Prints net bytes outcome short changes (inr (fault, is, names)) = line_comes Done net bytes fault outcome short is names
 
--- ---- `state`
+-- So a look has one outcome, where what is printed of one list of changes is one.
+looks_same : Laws → (Done : List Change → Outcome → Type 0) (Prints : Outcome → Type 0) (net : Net) (bytes : List ℕ)
+    → ((outcome : Outcome) → length bytes ≤ MOST_JOURNAL_BYTES → Prints outcome → HasChanges Done net bytes outcome)
+    → ((changes : List Change) (a b : Outcome) → Done changes a → Done changes b → a ≡ b)
+    → (a b : Outcome) → Looks Prints net bytes a → Looks Prints net bytes b → a ≡ b
+looks_same laws Done Prints net bytes changes printed a b first second =
+    one_coming laws (λ x y. x ≡ y) (λ x y same. same) Done printed net first.sound bytes a b
+    (look_comes Done Prints net bytes a first.short (changes a first.short) first.comes)
+    (look_comes Done Prints net bytes b second.short (changes b second.short) second.comes)
 
-abbrev StateOf : Net → List ℕ → List Change → Outcome → Type 0
-StateOf net bytes changes outcome = outcome ≡ text_alone (state_lines net bytes changes) DONE
+-- ---- looks at one journal
 
-state_changes : (net : Net) (bytes : List ℕ) (outcome : Outcome) → length bytes ≤ MOST_JOURNAL_BYTES → PrintsText (TellsState net bytes) outcome → HasChanges (StateOf net bytes) net bytes outcome
-state_changes net bytes outcome short (text, tells, is) = record { changes = tells.changes; told = tells.told; short = short; done = is ∙ ap (λ (t : List ℕ). text_alone t DONE) tells.spelled }
+-- the text is told of these changes
+abbrev ToldOf : Look → Net → List ℕ → List Change → Option (List ℕ) → Type 0
+ToldOf look.State net bytes changes text = text ≡ Some (state_lines net bytes changes)
+ToldOf (look.Demand asked) net bytes changes text = IsDemandText net changes asked text
+ToldOf (look.Installed asked) net bytes changes text = text ≡ option_map (plan_spelling net) (plan_asked changes asked)
+ToldOf look.Compact net bytes changes text = (links : List Link) × IsDemandAfter changes links × (text ≡ Some (compact_lines net links))
+ToldOf look.Metrics net bytes changes text = text ≡ Some (metrics_lines net changes)
 
-pub state_same : Laws → (net : Net) (bytes : List ℕ) (a b : Outcome) → PrintsJournalState net bytes a → PrintsJournalState net bytes b → a ≡ b
-state_same laws net bytes a b first second =
-    let Prints : Outcome → Type 0 = PrintsText (TellsState net bytes) in
-    one_coming laws (λ x y. x ≡ y) (λ x y same. same) (StateOf net bytes) (λ changes x y one other. one ∙ sym other) net first.sound bytes a b
-    (look_comes (StateOf net bytes) Prints net bytes a first.short (state_changes net bytes a first.short) first.comes)
-    (look_comes (StateOf net bytes) Prints net bytes b second.short (state_changes net bytes b second.short) second.comes)
+-- what is told is told of the changes that the bytes tell
+told_changes : (asked : Look) (net : Net) (bytes : List ℕ) (text : Option (List ℕ)) → TellsLook asked net bytes text → (changes : List Change) × Recovered net bytes changes × ToldOf asked net bytes changes text
+told_changes look.State net bytes (Some text) tells = (tells.changes, tells.told, ap Some tells.spelled)
+told_changes look.State net bytes None tells = absurd tells
+told_changes (look.Demand asked) net bytes text tells = (tells.changes, tells.told, tells.tells)
+told_changes (look.Installed asked) net bytes text tells = (tells.changes, tells.told, tells.spelled)
+told_changes look.Compact net bytes (Some text) tells = (tells.changes, tells.told, (tells.links, tells.demand, ap Some tells.spelled))
+told_changes look.Compact net bytes None tells = absurd tells
+told_changes look.Metrics net bytes (Some text) tells = (tells.changes, tells.told, ap Some tells.spelled)
+told_changes look.Metrics net bytes None tells = absurd tells
 
--- ---- `demand`
-
-abbrev DemandOf : Net → Option EditionNo → List Change → Outcome → Type 0
-DemandOf net asked changes outcome = PrintsOrNone (IsDemandText net changes asked) outcome
-
-demand_changes : (net : Net) (bytes : List ℕ) (asked : Option EditionNo) (outcome : Outcome) → length bytes ≤ MOST_JOURNAL_BYTES → PrintsOrNone (TellsDemand net bytes asked) outcome → HasChanges (DemandOf net asked) net bytes outcome
-demand_changes net bytes asked outcome short (inl (text, tells, is)) = record { changes = tells.changes; told = tells.told; short = short; done = inl (text, tells.tells, is) }
-demand_changes net bytes asked outcome short (inr (tells, says)) = record { changes = tells.changes; told = tells.told; short = short; done = inr (tells.tells, says) }
-
-demand_printed : (net : Net) (asked : Option EditionNo) (changes : List Change) (a b : Outcome) → DemandOf net asked changes a → DemandOf net asked changes b → a ≡ b
-demand_printed net asked changes a b (inl (text, one, is)) (inl (text', other, is')) =
+-- and of the same changes one text is told
+told_same : (asked : Look) (net : Net) (bytes : List ℕ) (changes : List Change) (a b : Option (List ℕ)) → ToldOf asked net bytes changes a → ToldOf asked net bytes changes b → a ≡ b
+told_same look.State net bytes changes a b one other = one ∙ sym other
+told_same (look.Demand asked) net bytes changes (Some a) (Some b) one other =
     let links : one.links ≡ other.links = one_demand changes asked one.links other.links one.demand other.demand in
-    let same : text ≡ text' = one.spelled ∙ (ap (link_lines net) links ∙ sym other.spelled) in
-    is ∙ (ap (λ (t : List ℕ). text_alone t DONE) same ∙ sym is')
-demand_printed net asked changes a b (inl (text, one, is)) (inr (none, says)) = absurd (none_behind changes asked one.links one.demand none)
-demand_printed net asked changes a b (inr (none, says)) (inl (text, other, is)) = absurd (none_behind changes asked other.links other.demand none)
-demand_printed net asked changes a b (inr (none, says)) (inr (none', says')) = says ∙ sym says'
+    ap Some (one.spelled ∙ (ap (link_lines net) links ∙ sym other.spelled))
+told_same (look.Demand asked) net bytes changes (Some a) None one none = absurd (none_behind changes asked one.links one.demand none)
+told_same (look.Demand asked) net bytes changes None (Some b) none other = absurd (none_behind changes asked other.links other.demand none)
+told_same (look.Demand asked) net bytes changes None None none none' = refl
+told_same (look.Installed asked) net bytes changes a b one other = one ∙ sym other
+told_same look.Compact net bytes changes a b (links, one, is) (links', other, is') =
+    is ∙ (ap (λ (l : List Link). Some (compact_lines net l)) (one_demand changes None links links' one other) ∙ sym is')
+told_same look.Metrics net bytes changes a b one other = one ∙ sym other
 
-pub demand_same : Laws → (asked : Option EditionNo) (net : Net) (bytes : List ℕ) (a b : Outcome) → PrintsDemand asked net bytes a → PrintsDemand asked net bytes b → a ≡ b
-demand_same laws asked net bytes a b first second =
-    let Prints : Outcome → Type 0 = PrintsOrNone (TellsDemand net bytes asked) in
-    one_coming laws (λ x y. x ≡ y) (λ x y same. same) (DemandOf net asked) (demand_printed net asked) net first.sound bytes a b
-    (look_comes (DemandOf net asked) Prints net bytes a first.short (demand_changes net bytes asked a first.short) first.comes)
-    (look_comes (DemandOf net asked) Prints net bytes b second.short (demand_changes net bytes asked b second.short) second.comes)
+abbrev LookOf : Look → Net → List ℕ → List Change → Outcome → Type 0
+LookOf asked net bytes changes outcome = PrintsOrNone (ToldOf asked net bytes changes) outcome
 
--- ---- `installed`
-
-abbrev InstalledText : Net → Option EditionNo → List Change → Option (List ℕ) → Type 0
-InstalledText net asked changes text = text ≡ option_map (plan_spelling net) (plan_asked changes asked)
-
-abbrev InstalledOf : Net → Option EditionNo → List Change → Outcome → Type 0
-InstalledOf net asked changes outcome = PrintsOrNone (InstalledText net asked changes) outcome
-
-installed_changes : (net : Net) (bytes : List ℕ) (asked : Option EditionNo) (outcome : Outcome) → length bytes ≤ MOST_JOURNAL_BYTES → PrintsOrNone (TellsInstalled net bytes asked) outcome
-    → HasChanges (InstalledOf net asked) net bytes outcome
-installed_changes net bytes asked outcome short (inl (text, tells, is)) = record { changes = tells.changes; told = tells.told; short = short; done = inl (text, tells.spelled, is) }
-installed_changes net bytes asked outcome short (inr (tells, says)) = record { changes = tells.changes; told = tells.told; short = short; done = inr (tells.spelled, says) }
+look_changes : (asked : Look) (net : Net) (bytes : List ℕ) (outcome : Outcome) → length bytes ≤ MOST_JOURNAL_BYTES → PrintsOrNone (TellsLook asked net bytes) outcome → HasChanges (LookOf asked net bytes) net bytes outcome
+look_changes asked net bytes outcome short (inl (text, tells, is)) =
+    let found = told_changes asked net bytes (Some text) tells in
+    record { changes = found.0; told = found.1; short = short; done = inl (text, found.2, is) }
+look_changes asked net bytes outcome short (inr (tells, says)) =
+    let found = told_changes asked net bytes None tells in
+    record { changes = found.0; told = found.1; short = short; done = inr (found.2, says) }
 
 -- a text is none that is not there
-never_none : (text : List ℕ) (found : Option (List ℕ)) → Some text ≡ found → None ≡ found → ⊥
-never_none text found is none = cc
+never_none : (text : List ℕ) → Some text ≡ None → ⊥
+never_none text none = cc
 
-installed_printed : (net : Net) (asked : Option EditionNo) (changes : List Change) (a b : Outcome) → InstalledOf net asked changes a → InstalledOf net asked changes b → a ≡ b
-installed_printed net asked changes a b (inl (text, one, is)) (inl (text', other, is')) =
-    is ∙ (ap (λ (t : List ℕ). text_alone t DONE) (same_Some text text' (one ∙ sym other)) ∙ sym is')
-installed_printed net asked changes a b (inl (text, one, is)) (inr (none, says)) = absurd (never_none text _ one none)
-installed_printed net asked changes a b (inr (none, says)) (inl (text, other, is)) = absurd (never_none text _ other none)
-installed_printed net asked changes a b (inr (none, says)) (inr (none', says')) = says ∙ sym says'
+look_printed : (asked : Look) (net : Net) (bytes : List ℕ) (changes : List Change) (a b : Outcome) → LookOf asked net bytes changes a → LookOf asked net bytes changes b → a ≡ b
+look_printed asked net bytes changes a b (inl (text, one, is)) (inl (text', other, is')) =
+    is ∙ (ap (λ (t : List ℕ). text_alone t DONE) (same_Some text text' (told_same asked net bytes changes (Some text) (Some text') one other)) ∙ sym is')
+look_printed asked net bytes changes a b (inl (text, one, is)) (inr (none, says)) = absurd (never_none text (told_same asked net bytes changes (Some text) None one none))
+look_printed asked net bytes changes a b (inr (none, says)) (inl (text, other, is)) = absurd (never_none text (told_same asked net bytes changes (Some text) None other none))
+look_printed asked net bytes changes a b (inr (none, says)) (inr (none', says')) = says ∙ sym says'
 
-pub installed_same : Laws → (asked : Option EditionNo) (net : Net) (bytes : List ℕ) (a b : Outcome) → PrintsInstalled asked net bytes a → PrintsInstalled asked net bytes b → a ≡ b
-installed_same laws asked net bytes a b first second =
-    let Prints : Outcome → Type 0 = PrintsOrNone (TellsInstalled net bytes asked) in
-    one_coming laws (λ x y. x ≡ y) (λ x y same. same) (InstalledOf net asked) (installed_printed net asked) net first.sound bytes a b
-    (look_comes (InstalledOf net asked) Prints net bytes a first.short (installed_changes net bytes asked a first.short) first.comes)
-    (look_comes (InstalledOf net asked) Prints net bytes b second.short (installed_changes net bytes asked b second.short) second.comes)
-
--- ---- `compact`
-
-abbrev CompactOf : Net → List Change → Outcome → Type 0
-CompactOf net changes outcome = (links : List Link) × IsDemandAfter changes links × (outcome ≡ text_alone (compact_lines net links) DONE)
-
-compact_changes : (net : Net) (bytes : List ℕ) (outcome : Outcome) → length bytes ≤ MOST_JOURNAL_BYTES → PrintsText (TellsCompact net bytes) outcome → HasChanges (CompactOf net) net bytes outcome
-compact_changes net bytes outcome short (text, tells, is) = record {
-  changes = tells.changes;
-  told = tells.told;
-  short = short;
-  done = (tells.links, tells.demand, is ∙ ap (λ (t : List ℕ). text_alone t DONE) tells.spelled);
-}
-
-compact_printed : (net : Net) (changes : List Change) (a b : Outcome) → CompactOf net changes a → CompactOf net changes b → a ≡ b
-compact_printed net changes a b (links, one, is) (links', other, is') =
-    is ∙ (ap (λ (l : List Link). text_alone (compact_lines net l) DONE) (one_demand changes None links links' one other) ∙ sym is')
-
-pub compact_same : Laws → (net : Net) (bytes : List ℕ) (a b : Outcome) → PrintsCompact net bytes a → PrintsCompact net bytes b → a ≡ b
-compact_same laws net bytes a b first second =
-    let Prints : Outcome → Type 0 = PrintsText (TellsCompact net bytes) in
-    one_coming laws (λ x y. x ≡ y) (λ x y same. same) (CompactOf net) (compact_printed net) net first.sound bytes a b
-    (look_comes (CompactOf net) Prints net bytes a first.short (compact_changes net bytes a first.short) first.comes)
-    (look_comes (CompactOf net) Prints net bytes b second.short (compact_changes net bytes b second.short) second.comes)
-
--- ---- `metrics`
-
-abbrev MetricsOf : Net → List Change → Outcome → Type 0
-MetricsOf net changes outcome = outcome ≡ text_alone (metrics_lines net changes) DONE
-
-metrics_changes : (net : Net) (bytes : List ℕ) (outcome : Outcome) → length bytes ≤ MOST_JOURNAL_BYTES → PrintsText (TellsMetrics net bytes) outcome → HasChanges (MetricsOf net) net bytes outcome
-metrics_changes net bytes outcome short (text, tells, is) = record { changes = tells.changes; told = tells.told; short = short; done = is ∙ ap (λ (t : List ℕ). text_alone t DONE) tells.spelled }
-
-pub metrics_same : Laws → (net : Net) (bytes : List ℕ) (a b : Outcome) → PrintsMetrics net bytes a → PrintsMetrics net bytes b → a ≡ b
-metrics_same laws net bytes a b first second =
-    let Prints : Outcome → Type 0 = PrintsText (TellsMetrics net bytes) in
-    one_coming laws (λ x y. x ≡ y) (λ x y same. same) (MetricsOf net) (λ changes x y one other. one ∙ sym other) net first.sound bytes a b
-    (look_comes (MetricsOf net) Prints net bytes a first.short (metrics_changes net bytes a first.short) first.comes)
-    (look_comes (MetricsOf net) Prints net bytes b second.short (metrics_changes net bytes b second.short) second.comes)
+pub look_same : Laws → (asked : Look) (net : Net) (bytes : List ℕ) (a b : Outcome) → PrintsLook asked net bytes a → PrintsLook asked net bytes b → a ≡ b
+look_same laws asked net bytes a b first second =
+    looks_same laws (LookOf asked net bytes) (PrintsOrNone (TellsLook asked net bytes)) net bytes (look_changes asked net bytes) (look_printed asked net bytes) a b first second
 
 -- ---- `edits`
 
@@ -189,10 +152,7 @@ edits_printed net desk want changes a b (have, one, is) (have', other, is') =
 
 pub edits_same : Laws → (desk : ℕ) (net : Net) (bytes : List ℕ) (want : List Link) (a b : Outcome) → PrintsEdits desk net bytes want a → PrintsEdits desk net bytes want b → a ≡ b
 edits_same laws desk net bytes want a b first second =
-    let Prints : Outcome → Type 0 = PrintsText (TellsEdits net bytes desk want) in
-    one_coming laws (λ x y. x ≡ y) (λ x y same. same) (EditsOf net desk want) (edits_printed net desk want) net first.sound bytes a b
-    (look_comes (EditsOf net desk want) Prints net bytes a first.short (edits_changes net bytes desk want a first.short) first.comes)
-    (look_comes (EditsOf net desk want) Prints net bytes b second.short (edits_changes net bytes desk want b second.short) second.comes)
+    looks_same laws (EditsOf net desk want) (PrintsText (TellsEdits net bytes desk want)) net bytes (edits_changes net bytes desk want) (edits_printed net desk want) a b first second
 
 -- ---- `carry`
 
@@ -231,7 +191,4 @@ carry_printed lines net new changes sound a b one other =
 
 pub carry_same : Laws → Lines → (net : Net) (bytes : List ℕ) (new : Net) (a b : Outcome) → PrintsCarry net bytes new a → PrintsCarry net bytes new b → a ≡ b
 carry_same laws lines net bytes new a b first second =
-    let Prints : Outcome → Type 0 = TellsCarry net bytes new in
-    one_coming laws (λ x y. x ≡ y) (λ x y same. same) (CarryOf net new) (λ changes. carry_printed lines net new changes first.sound) net first.looks.sound bytes a b
-    (look_comes (CarryOf net new) Prints net bytes a first.looks.short (carry_changes net bytes new a first.looks.short) first.looks.comes)
-    (look_comes (CarryOf net new) Prints net bytes b second.looks.short (carry_changes net bytes new b second.looks.short) second.looks.comes)
+    looks_same laws (CarryOf net new) (TellsCarry net bytes new) net bytes (carry_changes net bytes new) (λ changes. carry_printed lines net new changes first.sound) a b first.looks second.looks

@@ -12,6 +12,7 @@ pub mod Capacity
 pub mod Run
 pub mod Live
 pub mod Complete
+pub mod Calls
 pub mod Command
 pub mod Replay
 pub mod Looks

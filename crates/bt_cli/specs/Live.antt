@@ -1,6 +1,6 @@
 -- `live NET JOURNAL` and `centre NET JOURNAL`: the network is loaded, and then there is a session on it, from the changes that the store
 -- tells. The sites of the one are together, and those of the other apart.
-use Rattle.std.specs.Prelude.{◌≡◌, ◌⊎◌, ℕ, ◌&&◌, ◌||◌, if◌then◌else◌, nat_lt, Bool, length, codes, List, [], ◌∷◌, Option, Some, None}
+use Rattle.std.specs.Prelude.{◌⊎◌, ℕ, ◌&&◌, ◌||◌, if◌then◌else◌, nat_lt, Bool, length, codes, List, [], ◌∷◌, Option, Some, None}
 use Rattle.std.specs.Str.{bytes_eq}
 use Rattle.bt_script.specs.declared.sites.Sites.{Sites}
 use Rattle.bt_script.specs.declared.sites.Sites.TheVariants.{Together, Apart}

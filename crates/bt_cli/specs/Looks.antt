@@ -1,8 +1,7 @@
 -- Looks at a journal, `state NET JOURNAL`, `demand NET JOURNAL [EDITION]`, `installed NET JOURNAL [EDITION]`, `compact NET JOURNAL` and `metrics NET JOURNAL`:
 -- the network is loaded, then the bytes of the journal, which stay as they are, and what these tell is printed.
-use Rattle.std.specs.Prelude.{◌≡◌, ◌⊎◌, ℕ, ◌≤◌, List, length, Option, Some, None}
+use Rattle.std.specs.Prelude.{◌≡◌, ◌⊎◌, ℕ, ◌≤◌, List, length, Option, Some, None, IsSomeAnd}
 use Rattle.bt_frame.specs.declared.limits.TheConstants.{MOST_JOURNAL_BYTES}
-use Rattle.bt_frame.specs.declared.numbers.EditionNo.{EditionNo}
 use Rattle.bt_net.specs.Network.{Net, IsSound}
 use Rattle.bt_history.specs.declared.fault.RecoverFault.{RecoverFault}
 use Rattle.bt_history.specs.declared.fault.RecoverFault.TheVariants.{StoreFault, TooLong}
@@ -15,6 +14,8 @@ use Rattle.bt_report.specs.Faults.{SaysFaultyWords}
 use Rattle.bt_report.specs.Outcome.{Outcome, text_alone}
 use Rattle.bt_load.specs.Kinds.{journal_file, network_file}
 use Rattle.bt_load.specs.Loaders.{Loader, and_then, file}
+use Rattle.bt_cli.specs.declared.look.Look.{Look}
+use Rattle.bt_cli.specs.declared.look.Look.TheVariants as look
 use Rattle.bt_cli.specs.Replay.{NamesRecoverFault}
 
 -- the network is loaded, and then the bytes of a journal
@@ -40,25 +41,17 @@ PrintsText Tells outcome = (text : List ℕ) × Tells text × (outcome ≡ text_
 abbrev pub PrintsOrNone : (Option (List ℕ) → Type 0) → Outcome → Type 0
 PrintsOrNone Tells outcome = PrintsText (λ text. Tells (Some text)) outcome ⊎ (Tells None × SaysFaultyWords outcome)
 
--- how far the journal has come, and how full it is
-abbrev pub PrintsJournalState : Net → List ℕ → Outcome → Type 0
-PrintsJournalState net bytes = Looks (PrintsText (TellsState net bytes)) net bytes
+-- the text that is told in a look
+abbrev pub TellsLook : Look → Net → List ℕ → Option (List ℕ) → Type 0
+TellsLook look.State net bytes text = IsSomeAnd text (TellsState net bytes)
+TellsLook (look.Demand asked) net bytes text = TellsDemand net bytes asked text
+TellsLook (look.Installed asked) net bytes text = TellsInstalled net bytes asked text
+TellsLook look.Compact net bytes text = IsSomeAnd text (TellsCompact net bytes)
+TellsLook look.Metrics net bytes text = IsSomeAnd text (TellsMetrics net bytes)
 
--- the links of the demand of an edition, of the last where none is asked for
-abbrev pub PrintsDemand : Option EditionNo → Net → List ℕ → Outcome → Type 0
-PrintsDemand asked net bytes = Looks (PrintsOrNone (TellsDemand net bytes asked)) net bytes
-
--- the installed plan of an edition, the newest where none is asked for
-abbrev pub PrintsInstalled : Option EditionNo → Net → List ℕ → Outcome → Type 0
-PrintsInstalled asked net bytes = Looks (PrintsOrNone (TellsInstalled net bytes asked)) net bytes
-
--- the journal with the fewest edits of the demand
-abbrev pub PrintsCompact : Net → List ℕ → Outcome → Type 0
-PrintsCompact net bytes = Looks (PrintsText (TellsCompact net bytes)) net bytes
-
--- the state as gauges for a monitor
-abbrev pub PrintsMetrics : Net → List ℕ → Outcome → Type 0
-PrintsMetrics net bytes = Looks (PrintsText (TellsMetrics net bytes)) net bytes
+-- that text, or why there is none
+abbrev pub PrintsLook : Look → Net → List ℕ → Outcome → Type 0
+PrintsLook look net bytes = Looks (PrintsOrNone (TellsLook look net bytes)) net bytes
 
 -- ---- for bodies alone
 

@@ -16,12 +16,12 @@ use Rattle.bt_cli.specs.Command.{Answer, AsksNone, Command, EndsAs, IsOneAs, Nee
 use Rattle.bt_cli.specs.Edits.{PrintsEdits, edits_files}
 use Rattle.bt_cli.specs.Fitting.{asked_files}
 use Rattle.bt_cli.specs.Json.{PrintsJson, json_file}
-use Rattle.bt_cli.specs.Looks.{PrintsCompact, PrintsDemand, PrintsInstalled, PrintsJournalState, PrintsMetrics, journal_files}
+use Rattle.bt_cli.specs.Looks.{PrintsLook, journal_files}
 use Rattle.bt_cli.specs.Make.{PrintsSummary}
 use Rattle.bt_cli.specs.Modes.{PrintsSchedule}
 use Rattle.bt_cli.specs.Plans.{PrintsPlan}
 use Rattle.bt_cli.specs.Replay.{HasReplayed, PrintsJournal}
-use Rattle.bt_cli.specs.Request.{Request, Faulty, CheckModes, CheckPlan, PlanModes, PlanDemand, RunScript, ReplayJournal, PlanDrawn, TimeSends, PlanPart, TellCapacity, TellState, TellDemand, TellInstalled, TellCompact, TellEdits, TellMetrics, TellCarry, TellTraffic, TellJson}
+use Rattle.bt_cli.specs.Request.{Request, Faulty, CheckModes, CheckPlan, PlanModes, PlanDemand, RunScript, ReplayJournal, PlanDrawn, TimeSends, PlanPart, TellCapacity, TellJournal, TellEdits, TellCarry, TellTraffic, TellJson}
 use Rattle.bt_cli.specs.Run.{End, HasRun, PrintsRun, script_files}
 use Rattle.bt_cli.specs.Table.{PrintsTraffic, table_files}
 use Rattle.bt_cli.specs.Timing.{TellsTimes, delay_files}
@@ -39,12 +39,8 @@ command_of (TimeSends net traffic plan delays) = command (delay_files net traffi
 command_of (PlanDrawn beams seed) = command nothing (Answer (λ none. PrintsSummary beams seed)) AnyGood
 command_of (PlanPart transponders matrix) = command (suited_file transponders matrix) (Answer (PrintsPart transponders)) AnyGood
 command_of (TellCapacity net traffic) = command (asked_files net traffic) (Answer (λ asked. TellsCapacity asked.0 asked.1)) Exactly
-command_of (TellState net journal) = command (journal_files net journal) (Answer (λ both. PrintsJournalState both.0 both.1)) Exactly
-command_of (TellDemand net journal edition) = command (journal_files net journal) (Answer (λ both. PrintsDemand edition both.0 both.1)) Exactly
-command_of (TellInstalled net journal edition) = command (journal_files net journal) (Answer (λ both. PrintsInstalled edition both.0 both.1)) Exactly
-command_of (TellCompact net journal) = command (journal_files net journal) (Answer (λ both. PrintsCompact both.0 both.1)) Exactly
+command_of (TellJournal net journal look) = command (journal_files net journal) (Answer (λ both. PrintsLook look both.0 both.1)) Exactly
 command_of (TellEdits net journal traffic desk) = command (edits_files net journal traffic) (Answer (λ all. PrintsEdits desk all.0.0 all.0.1 all.1)) Exactly
-command_of (TellMetrics net journal) = command (journal_files net journal) (Answer (λ both. PrintsMetrics both.0 both.1)) Exactly
 command_of (TellCarry net journal new) = command (carry_files net journal new) (Answer (λ all. PrintsCarry all.0.0 all.0.1 all.1)) Exactly
 command_of (TellTraffic net table) = command (table_files net table) (Answer (λ both. PrintsTraffic both.0 both.1)) Exactly
 command_of (TellJson text) = command (file json_file text) (Answer PrintsJson) Exactly

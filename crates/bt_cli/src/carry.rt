@@ -1,15 +1,11 @@
 // `carry NET JOURNAL NEWNET`.
-ghost use Rattle.std.specs.Prelude.{◌≡◌, ◌≤◌, codes, length};
+ghost use Rattle.std.specs.Prelude.{◌≤◌, length};
 ghost use Rattle.bt_frame.specs.declared.limits.TheConstants.{MOST_JOURNAL_BYTES, MOST_SUM};
 ghost use Rattle.bt_outside.specs.Told.{Rose};
 ghost use Rattle.bt_demand.specs.Traffic.{matrix_of, AreOfNetwork, HasSumsTo};
 ghost use Rattle.bt_export.specs.declared.carry.Carried.TheVariants.{Demand as carried_demand};
 ghost use Rattle.bt_export.specs.Carry.{AreBetween, HasSmallSums};
-ghost use Rattle.bt_report.specs.declared.status.TheConstants.{FAULTY_TEXT};
-ghost use Rattle.bt_report.specs.Faults.{line_fault_words};
-ghost use Rattle.bt_report.specs.Outcome.{Says};
 ghost use Rattle.bt_report.specs.Printing.{CameTo};
-ghost use Rattle.bt_report.specs.Report.{StopIs};
 ghost use Rattle.bt_load.specs.Kinds.{network_file};
 ghost use Rattle.bt_load.specs.Loaders.{Loads, file};
 ghost use Rattle.bt_cli.specs.Carry.{PrintsCarried, PrintsCarry, carry_files};
@@ -22,8 +18,7 @@ use bt_load::load_network;
 use bt_look::compact_text;
 use bt_net::Network;
 use bt_outside::Files;
-use bt_report::{DONE, FAULTY_TEXT, Report, Stop};
-use bt_words::Word;
+use bt_report::{DONE, Report, Stop};
 use std::alloc::Global;
 
 /// The journal with the fewest edits of the demand that the journal in a file comes to on the network in another, on the network
@@ -79,7 +74,7 @@ fn carried_report(alloc: Global, new: &Network, carried: Carried) -> Result<Repo
 {
     match carried {
         Carried::Demand(demand) => fitting_report(alloc, new, &demand),
-        Carried::Gone(number) => Err(gone_stop(alloc, number)),
+        Carried::Gone(number) => Err(Stop::names(alloc, "T2", number)),
     }
 }
 
@@ -93,12 +88,4 @@ fn fitting_report(alloc: Global, new: &Network, demand: &Demand) -> Result<Repor
     let _matrix = fitting_matrix(alloc, new, demand)?;
     let text = compact_text(alloc, new, demand)?;
     Ok(Report { text, status: DONE })
-}
-
-/// The report that names a link that has no place.
-fn gone_stop(alloc: Global, number: u32) -> Stop
-    ensures stop { StopIs (Says (line_fault_words (codes "T2") number) FAULTY_TEXT) result }
-{
-    let words = [Word::Text("fault"), Word::Text("T2"), Word::number(number)];
-    Stop::says(alloc, &words, FAULTY_TEXT)
 }

@@ -3,6 +3,7 @@ ghost use Rattle.std.specs.Prelude.{◌≡◌, Some, map, codes};
 ghost use Rattle.std.specs.String.{string_bytes};
 ghost use Rattle.bt_outside.specs.Told.{Rose};
 ghost use Rattle.bt_report.specs.Printing.{CameTo};
+ghost use Rattle.bt_cli.specs.Calls.{input_of, output_of};
 ghost use Rattle.bt_cli.specs.Request.{asked, first_word, request_of};
 ghost use Rattle.bt_cli.specs.Command.{no_store};
 ghost use Rattle.bt_cli.specs.Top.{AsksNoStore, Reported, Reports};
@@ -14,7 +15,7 @@ use crate::check_plan::check_plan_files;
 use crate::command_line::{CommandLine, command_line_of};
 use crate::edits::tell_edits;
 use crate::json::tell_json;
-use crate::look::{tell_compact, tell_demand, tell_installed, tell_metrics, tell_state};
+use crate::look::tell_journal;
 use crate::make::drawn_report;
 use crate::modes::plan_modes;
 use crate::plan::plan_files;
@@ -33,9 +34,7 @@ pub(crate) fn report<F: Files, O: Sink>(
     out: &mut O,
 ) -> u8
     requires { AsksNoStore (asked line) }
-    ensures { Reported (record { told = F.told files.old; faults_before = F.fault_count files.old; faults_after = F.fault_count files.new })
-        (record { before = O.told out.old; after = O.told out.new; faults_before = O.fault_count out.old; faults_after = O.fault_count out.new })
-        (asked line.entry) result }
+    ensures { Reported (input_of F.told F.fault_count files.old files.new) (output_of O.told O.fault_count out.old out.new) (asked line.entry) result }
 {
     let outcome = answer(alloc, line, files);
     print(alloc, out, outcome)
@@ -65,25 +64,15 @@ fn answer<F: Files>(alloc: Global, line: CommandLine<'_>, files: &mut F) -> Resu
             matrix,
         } => plan_part(alloc, files, transponders, matrix),
         CommandLine::TellCapacity { net, traffic } => tell_capacity(alloc, files, net, traffic),
-        CommandLine::TellState { net, journal } => tell_state(alloc, files, net, journal),
-        CommandLine::TellDemand {
-            net,
-            journal,
-            edition,
-        } => tell_demand(alloc, files, net, journal, edition),
-        CommandLine::TellInstalled {
-            net,
-            journal,
-            edition,
-        } => tell_installed(alloc, files, net, journal, edition),
-        CommandLine::TellCompact { net, journal } => tell_compact(alloc, files, net, journal),
+        CommandLine::TellJournal { net, journal, look } => {
+            tell_journal(alloc, files, net, journal, look)
+        }
         CommandLine::TellEdits {
             net,
             journal,
             traffic,
             desk,
         } => tell_edits(alloc, files, net, journal, traffic, desk.as_desk_no()),
-        CommandLine::TellMetrics { net, journal } => tell_metrics(alloc, files, net, journal),
         CommandLine::TellCarry { net, journal, new } => {
             tell_carry(alloc, files, net, journal, new)
         }
@@ -106,8 +95,7 @@ pub fn check_command<F: Files, O: Sink>(
     out: &mut O,
 ) -> u8
     requires first { first_word (map string_bytes words.now) ≡ Some (codes "check") }
-    ensures reported { Reported (record { told = F.told files.old; faults_before = F.fault_count files.old; faults_after = F.fault_count files.new })
-        (record { before = O.told out.old; after = O.told out.new; faults_before = O.fault_count out.old; faults_after = O.fault_count out.new })
+    ensures reported { Reported (input_of F.told F.fault_count files.old files.new) (output_of O.told O.fault_count out.old out.new)
         (request_of (map string_bytes words.now)) result }
 {
     report(alloc, command_line_of(words), files, out)
@@ -124,8 +112,7 @@ pub fn modes_command<F: Files, O: Sink>(
     out: &mut O,
 ) -> u8
     requires first { first_word (map string_bytes words.now) ≡ Some (codes "modes") }
-    ensures reported { Reported (record { told = F.told files.old; faults_before = F.fault_count files.old; faults_after = F.fault_count files.new })
-        (record { before = O.told out.old; after = O.told out.new; faults_before = O.fault_count out.old; faults_after = O.fault_count out.new })
+    ensures reported { Reported (input_of F.told F.fault_count files.old files.new) (output_of O.told O.fault_count out.old out.new)
         (request_of (map string_bytes words.now)) result }
 {
     report(alloc, command_line_of(words), files, out)
@@ -142,8 +129,7 @@ pub fn trans_command<F: Files, O: Sink>(
     out: &mut O,
 ) -> u8
     requires first { first_word (map string_bytes words.now) ≡ Some (codes "trans") }
-    ensures reported { Reported (record { told = F.told files.old; faults_before = F.fault_count files.old; faults_after = F.fault_count files.new })
-        (record { before = O.told out.old; after = O.told out.new; faults_before = O.fault_count out.old; faults_after = O.fault_count out.new })
+    ensures reported { Reported (input_of F.told F.fault_count files.old files.new) (output_of O.told O.fault_count out.old out.new)
         (request_of (map string_bytes words.now)) result }
 {
     report(alloc, command_line_of(words), files, out)
@@ -160,8 +146,7 @@ pub fn plan_command<F: Files, O: Sink>(
     out: &mut O,
 ) -> u8
     requires first { first_word (map string_bytes words.now) ≡ Some (codes "plan") }
-    ensures reported { Reported (record { told = F.told files.old; faults_before = F.fault_count files.old; faults_after = F.fault_count files.new })
-        (record { before = O.told out.old; after = O.told out.new; faults_before = O.fault_count out.old; faults_after = O.fault_count out.new })
+    ensures reported { Reported (input_of F.told F.fault_count files.old files.new) (output_of O.told O.fault_count out.old out.new)
         (request_of (map string_bytes words.now)) result }
 {
     report(alloc, command_line_of(words), files, out)
@@ -178,8 +163,7 @@ pub fn timing_command<F: Files, O: Sink>(
     out: &mut O,
 ) -> u8
     requires first { first_word (map string_bytes words.now) ≡ Some (codes "timing") }
-    ensures reported { Reported (record { told = F.told files.old; faults_before = F.fault_count files.old; faults_after = F.fault_count files.new })
-        (record { before = O.told out.old; after = O.told out.new; faults_before = O.fault_count out.old; faults_after = O.fault_count out.new })
+    ensures reported { Reported (input_of F.told F.fault_count files.old files.new) (output_of O.told O.fault_count out.old out.new)
         (request_of (map string_bytes words.now)) result }
 {
     report(alloc, command_line_of(words), files, out)

@@ -10,6 +10,7 @@ ghost use Rattle.bt_report.specs.Faults.{SaysFaultyWords};
 ghost use Rattle.bt_report.specs.Input.{Input};
 ghost use Rattle.bt_report.specs.Stored.{Stored};
 ghost use Rattle.bt_load.specs.Files.{Spells};
+ghost use Rattle.bt_cli.specs.Calls.{input_of, output_of, stored_of};
 ghost use Rattle.bt_cli.specs.Complete.{IsDone, NothingFails, TellsChanges};
 ghost use Rattle.bt_cli.specs.Live.{EndsLive, EndsOn, SaysOneOf, SaysStop, is_session, live_request, live_words, sites_asked};
 ghost use Rattle.bt_cli.specs.Run.{End};
@@ -77,20 +78,19 @@ pub fn live_main<R: Threads + Wait + Sync, F: Files, T: Talk<K>, C: Clock, K: Ke
     clock: &mut C,
     store: K,
 ) -> SessionEnd<K>
-    ensures ends { EndsLive (sites_asked (map string_bytes words.now)) (record { told = F.told files.old; faults_before = F.fault_count files.old; faults_after = F.fault_count files.new })
+    ensures ends { EndsLive (sites_asked (map string_bytes words.now)) (input_of F.told F.fault_count files.old files.new)
         (record {
           coming = T.coming talk.old;
           unheard_before = T.unheard talk.old;
           unheard_after = T.unheard talk.new;
-          output = record { before = T.told talk.old; after = T.told talk.new; faults_before = T.fault_count talk.old; faults_after = T.fault_count talk.new };
+          output = output_of T.told T.fault_count talk.old talk.new;
           turns_before = T.turns talk.old;
           turns_after = T.turns talk.new;
           moments_before = C.coming clock.old;
           moments_after = C.coming clock.new;
           store = record { told = K.told result.store; faults = K.fault_count result.store; crashes = K.crashes result.store };
         })
-        (record { before = K.told store; after = K.told result.store; faults_before = K.fault_count store; faults_after = K.fault_count result.store })
-        (live_words (map string_bytes words.now))
+        (stored_of K.told K.fault_count store result.store) (live_words (map string_bytes words.now))
         (record { status = result.status; histories = result.histories; events = result.events.all }) }
 {
     match live_words(words) {
@@ -124,20 +124,19 @@ fn live_on<R: Threads + Wait + Sync, F: Files, T: Talk<K>, C: Clock, K: Keeper +
     clock: &mut C,
     store: K,
 ) -> SessionEnd<K>
-    ensures ends { EndsOn sites (record { told = F.told files.old; faults_before = F.fault_count files.old; faults_after = F.fault_count files.new })
+    ensures ends { EndsOn sites (input_of F.told F.fault_count files.old files.new)
         (record {
           coming = T.coming talk.old;
           unheard_before = T.unheard talk.old;
           unheard_after = T.unheard talk.new;
-          output = record { before = T.told talk.old; after = T.told talk.new; faults_before = T.fault_count talk.old; faults_after = T.fault_count talk.new };
+          output = output_of T.told T.fault_count talk.old talk.new;
           turns_before = T.turns talk.old;
           turns_after = T.turns talk.new;
           moments_before = C.coming clock.old;
           moments_after = C.coming clock.new;
           store = record { told = K.told result.store; faults = K.fault_count result.store; crashes = K.crashes result.store };
         })
-        (record { before = K.told store; after = K.told result.store; faults_before = K.fault_count store; faults_after = K.fault_count result.store })
-        net.now (record { status = result.status; histories = result.histories; events = result.events.all }) }
+        (stored_of K.told K.fault_count store result.store) net.now (record { status = result.status; histories = result.histories; events = result.events.all }) }
 {
     match load_network(alloc, files, net) {
         Ok(network) => {
@@ -159,7 +158,7 @@ fn say_faulty_words<T: Talk<K>, K: Keeper>(alloc: Global, talk: &mut T, store: &
           coming = T.coming talk.old;
           unheard_before = T.unheard talk.old;
           unheard_after = T.unheard talk.new;
-          output = record { before = T.told talk.old; after = T.told talk.new; faults_before = T.fault_count talk.old; faults_after = T.fault_count talk.new };
+          output = output_of T.told T.fault_count talk.old talk.new;
           turns_before = T.turns talk.old;
           turns_after = T.turns talk.new;
           moments_before = None;
@@ -181,7 +180,7 @@ fn say_stop<T: Talk<K>, K: Keeper>(alloc: Global, stop: Stop, talk: &mut T, stor
           coming = T.coming talk.old;
           unheard_before = T.unheard talk.old;
           unheard_after = T.unheard talk.new;
-          output = record { before = T.told talk.old; after = T.told talk.new; faults_before = T.fault_count talk.old; faults_after = T.fault_count talk.new };
+          output = output_of T.told T.fault_count talk.old talk.new;
           turns_before = T.turns talk.old;
           turns_after = T.turns talk.new;
           moments_before = None;

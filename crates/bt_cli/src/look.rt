@@ -1,15 +1,16 @@
 // Looks at a journal: `state NET JOURNAL`, `demand NET JOURNAL [EDITION]`, `installed NET JOURNAL [EDITION]`, `compact NET JOURNAL`
 // and `metrics NET JOURNAL`.
-ghost use Rattle.std.specs.Prelude.{◌≡◌, ◌≤◌, IfErr, IfOk, length};
+ghost use Rattle.std.specs.Prelude.{◌≡◌, ◌≤◌, IfErr, IfOk, length, option_map};
 ghost use Rattle.bt_frame.specs.declared.limits.TheConstants.{MOST_JOURNAL_BYTES};
 ghost use Rattle.bt_outside.specs.Told.{Rose};
+ghost use Rattle.bt_look.specs.Look.{IsLookFault};
 ghost use Rattle.bt_report.specs.declared.status.TheConstants.{FAULTY_JOURNAL};
 ghost use Rattle.bt_report.specs.Faults.{line_fault_words};
 ghost use Rattle.bt_report.specs.Outcome.{Says};
 ghost use Rattle.bt_report.specs.Printing.{CameTo};
 ghost use Rattle.bt_report.specs.Report.{StopIs};
 ghost use Rattle.bt_load.specs.Loaders.{Loads};
-ghost use Rattle.bt_cli.specs.Looks.{IsOfLines, PrintsCompact, PrintsDemand, PrintsInstalled, PrintsJournalState, PrintsMetrics, journal_files};
+ghost use Rattle.bt_cli.specs.Looks.{IsOfLines, PrintsLook, TellsLook, journal_files};
 ghost use Rattle.bt_cli.specs.Replay.{NamesRecoverFault};
 
 use bt_book::RecoverFault;
@@ -23,72 +24,33 @@ use bt_report::{DONE, FAULTY_JOURNAL, Report, Stop, faulty_words};
 use bt_words::Word;
 use std::alloc::Global;
 
-/// How far the journal in a file has come on the network in another, and how full it is.
-pub fn tell_state<F: Files>(
-    alloc: Global,
-    files: &mut F,
-    net: &str,
-    journal: &str,
-) -> Result<Report, Stop>
-    ensures { CameTo (Loads (journal_files net.now journal.now) (λ both. PrintsJournalState both.0 both.1) (F.told files.old) (Rose (F.fault_count files.old) (F.fault_count files.new))) result }
-{
-    let looked = load_looked(alloc, files, net, journal)?;
-    state_report(alloc, looked)
+/// What is told of a journal.
+#[derive(Clone, Copy)]
+pub enum Look {
+    /// `state`: how far it has come, and how full it is.
+    State,
+    /// `demand`: the links of the demand of an edition, of the last without a number.
+    Demand(Option<EditionNo>),
+    /// `installed`: the installed plan of an edition, the newest without a number.
+    Installed(Option<EditionNo>),
+    /// `compact`: the journal with the fewest edits of its demand.
+    Compact,
+    /// `metrics`: its state, as gauges.
+    Metrics,
 }
 
-/// The links of the demand of an edition that the journal in a file comes to on the network in another, of the last without a
-/// number.
-pub fn tell_demand<F: Files>(
+/// What is told of the journal in a file on the network in another.
+pub fn tell_journal<F: Files>(
     alloc: Global,
     files: &mut F,
     net: &str,
     journal: &str,
-    edition: Option<EditionNo>,
+    look: Look,
 ) -> Result<Report, Stop>
-    ensures { CameTo (Loads (journal_files net.now journal.now) (λ both. PrintsDemand edition both.0 both.1) (F.told files.old) (Rose (F.fault_count files.old) (F.fault_count files.new))) result }
+    ensures { CameTo (Loads (journal_files net.now journal.now) (λ both. PrintsLook look both.0 both.1) (F.told files.old) (Rose (F.fault_count files.old) (F.fault_count files.new))) result }
 {
     let looked = load_looked(alloc, files, net, journal)?;
-    demand_report(alloc, looked, edition)
-}
-
-/// The installed plan of an edition that the journal in a file tells on the network in another, the newest without a number.
-pub fn tell_installed<F: Files>(
-    alloc: Global,
-    files: &mut F,
-    net: &str,
-    journal: &str,
-    edition: Option<EditionNo>,
-) -> Result<Report, Stop>
-    ensures { CameTo (Loads (journal_files net.now journal.now) (λ both. PrintsInstalled edition both.0 both.1) (F.told files.old) (Rose (F.fault_count files.old) (F.fault_count files.new))) result }
-{
-    let looked = load_looked(alloc, files, net, journal)?;
-    installed_report(alloc, looked, edition)
-}
-
-/// The journal with the fewest edits of the demand that the journal in a file comes to on the network in another.
-pub fn tell_compact<F: Files>(
-    alloc: Global,
-    files: &mut F,
-    net: &str,
-    journal: &str,
-) -> Result<Report, Stop>
-    ensures { CameTo (Loads (journal_files net.now journal.now) (λ both. PrintsCompact both.0 both.1) (F.told files.old) (Rose (F.fault_count files.old) (F.fault_count files.new))) result }
-{
-    let looked = load_looked(alloc, files, net, journal)?;
-    compact_report(alloc, looked)
-}
-
-/// The state of the journal in a file on the network in another, as gauges.
-pub fn tell_metrics<F: Files>(
-    alloc: Global,
-    files: &mut F,
-    net: &str,
-    journal: &str,
-) -> Result<Report, Stop>
-    ensures { CameTo (Loads (journal_files net.now journal.now) (λ both. PrintsMetrics both.0 both.1) (F.told files.old) (Rose (F.fault_count files.old) (F.fault_count files.new))) result }
-{
-    let looked = load_looked(alloc, files, net, journal)?;
-    metrics_report(alloc, looked)
+    look_report(alloc, looked, look)
 }
 
 /// A network, and the bytes of a journal.
@@ -117,79 +79,37 @@ pub(crate) fn load_looked<F: Files>(
     Ok(Looked { net, bytes })
 }
 
-/// The text of the state, where both are at hand.
-fn state_report(alloc: Global, looked: Looked) -> Result<Report, Stop>
+/// The report of a look, where both are at hand.
+fn look_report(alloc: Global, looked: Looked, look: Look) -> Result<Report, Stop>
     requires short { length looked.bytes.items ≤ MOST_JOURNAL_BYTES }
-    ensures { CameTo (PrintsJournalState looked.net looked.bytes.items) result }
+    ensures { CameTo (PrintsLook look looked.net looked.bytes.items) result }
 {
     let Looked { net, bytes } = looked;
     // This is there for what holds of each network: it is sound.
     let _beams = net.beam_count();
-    match state_text(alloc, &net, bytes) {
-        Ok(text) => Ok(Report { text, status: DONE }),
-        Err(fault) => Err(fault_stop(alloc, fault)),
-    }
-}
-
-/// The text of the demand of an edition, where both are at hand.
-fn demand_report(alloc: Global, looked: Looked, edition: Option<EditionNo>) -> Result<Report, Stop>
-    requires short { length looked.bytes.items ≤ MOST_JOURNAL_BYTES }
-    ensures { CameTo (PrintsDemand edition looked.net looked.bytes.items) result }
-{
-    let Looked { net, bytes } = looked;
-    // This is there for what holds of each network: it is sound.
-    let _beams = net.beam_count();
-    match demand_of_journal(alloc, &net, bytes, edition) {
+    match look_text(alloc, &net, bytes, look) {
         Ok(Some(text)) => Ok(Report { text, status: DONE }),
         Ok(None) => Ok(faulty_words(alloc)?),
         Err(fault) => Err(fault_stop(alloc, fault)),
     }
 }
 
-/// The text of the installed plan of an edition, where both are at hand.
-fn installed_report(
+/// The text of a look; none where the journal does not have what is asked for.
+fn look_text(
     alloc: Global,
-    looked: Looked,
-    edition: Option<EditionNo>,
-) -> Result<Report, Stop>
-    requires short { length looked.bytes.items ≤ MOST_JOURNAL_BYTES }
-    ensures { CameTo (PrintsInstalled edition looked.net looked.bytes.items) result }
+    net: &Network,
+    bytes: Vec<u8>,
+    look: Look,
+) -> Result<Option<Vec<u8>>, RecoverFault>
+    ensures text { IfOk result (λ text. TellsLook look net.now bytes.items (option_map (λ t. t.items) text)) }
+    ensures fault { IfErr result (IsLookFault net.now bytes.items) }
 {
-    let Looked { net, bytes } = looked;
-    // This is there for what holds of each network: it is sound.
-    let _beams = net.beam_count();
-    match installed_of_journal(alloc, &net, bytes, edition) {
-        Ok(Some(text)) => Ok(Report { text, status: DONE }),
-        Ok(None) => Ok(faulty_words(alloc)?),
-        Err(fault) => Err(fault_stop(alloc, fault)),
-    }
-}
-
-/// The text of the journal with the fewest edits, where both are at hand.
-fn compact_report(alloc: Global, looked: Looked) -> Result<Report, Stop>
-    requires short { length looked.bytes.items ≤ MOST_JOURNAL_BYTES }
-    ensures { CameTo (PrintsCompact looked.net looked.bytes.items) result }
-{
-    let Looked { net, bytes } = looked;
-    // This is there for what holds of each network: it is sound.
-    let _beams = net.beam_count();
-    match compact_journal(alloc, &net, bytes) {
-        Ok(text) => Ok(Report { text, status: DONE }),
-        Err(fault) => Err(fault_stop(alloc, fault)),
-    }
-}
-
-/// The text of the gauges, where both are at hand.
-fn metrics_report(alloc: Global, looked: Looked) -> Result<Report, Stop>
-    requires short { length looked.bytes.items ≤ MOST_JOURNAL_BYTES }
-    ensures { CameTo (PrintsMetrics looked.net looked.bytes.items) result }
-{
-    let Looked { net, bytes } = looked;
-    // This is there for what holds of each network: it is sound.
-    let _beams = net.beam_count();
-    match metrics_of_journal(alloc, &net, bytes) {
-        Ok(text) => Ok(Report { text, status: DONE }),
-        Err(fault) => Err(fault_stop(alloc, fault)),
+    match look {
+        Look::State => Ok(Some(state_text(alloc, net, bytes)?)),
+        Look::Demand(edition) => demand_of_journal(alloc, net, bytes, edition),
+        Look::Installed(edition) => installed_of_journal(alloc, net, bytes, edition),
+        Look::Compact => Ok(Some(compact_journal(alloc, net, bytes)?)),
+        Look::Metrics => Ok(Some(metrics_of_journal(alloc, net, bytes)?)),
     }
 }
 

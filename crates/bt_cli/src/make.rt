@@ -2,6 +2,7 @@
 ghost use Rattle.std.specs.Prelude.{◌≡◌, map, codes, IfOk};
 ghost use Rattle.std.specs.String.{string_bytes};
 ghost use Rattle.bt_report.specs.declared.status.TheConstants.{DONE};
+ghost use Rattle.bt_cli.specs.Calls.{output_of};
 ghost use Rattle.bt_cli.specs.Make.{AnswersPlan, PrintsSummary, Summarizes};
 ghost use Rattle.bt_report.specs.Input.{Input};
 ghost use Rattle.bt_report.specs.Printing.{CameTo};
@@ -11,17 +12,15 @@ ghost use Rattle.bt_cli.specs.Top.{Reported};
 
 use crate::command_line::{CommandLine, command_line_of};
 use crate::number_word::BeamCount;
+use crate::plan::EDITION;
 use crate::summary::summary_text;
 use bt_cut::{make_demand, make_plan_for};
 use bt_demand::Plan;
-use bt_frame::{EditionNo, OutOfMemory};
+use bt_frame::OutOfMemory;
 use bt_net::Network;
 use bt_outside::Sink;
 use bt_report::{DONE, OUT_OF_MEMORY, Report, Stop, print_faulty_words, print_text};
 use std::alloc::Global;
-
-/// The edition of a plan that is made for a demand alone.
-const EDITION: EditionNo = EditionNo(1);
 
 /// What `make` gives back.
 #[derive(Drop)]
@@ -39,11 +38,8 @@ pub struct Made {
 /// refusals are those of the top call.
 pub fn make_command<O: Sink>(alloc: Global, words: &[String], out: &mut O) -> Made
     requires first { first_word (map string_bytes words.now) ≡ Some (codes "make") }
-    ensures reported { (input : Input) → Reported input
-        (record { before = O.told out.old; after = O.told out.new; faults_before = O.fault_count out.old; faults_after = O.fault_count out.new })
-        (request_of (map string_bytes words.now)) result.status }
-    ensures plan { AnswersPlan (record { before = O.told out.old; after = O.told out.new; faults_before = O.fault_count out.old; faults_after = O.fault_count out.new })
-        (request_of (map string_bytes words.now)) result.status result.plan }
+    ensures reported { (input : Input) → Reported input (output_of O.told O.fault_count out.old out.new) (request_of (map string_bytes words.now)) result.status }
+    ensures plan { AnswersPlan (output_of O.told O.fault_count out.old out.new) (request_of (map string_bytes words.now)) result.status result.plan }
 {
     match command_line_of(words) {
         CommandLine::PlanDrawn { beams, seed } => plan_drawn(alloc, beams, seed, out),
@@ -56,10 +52,8 @@ pub fn make_command<O: Sink>(alloc: Global, words: &[String], out: &mut O) -> Ma
 
 /// Prints what a drawn demand and its plan come to.
 fn plan_drawn<O: Sink>(alloc: Global, beams: BeamCount, seed: u64, out: &mut O) -> Made
-    ensures reported { PrintsOneOf (record { before = O.told out.old; after = O.told out.new; faults_before = O.fault_count out.old; faults_after = O.fault_count out.new })
-        (PrintsSummary beams.count seed) result.status }
-    ensures plan { AnswersPlan (record { before = O.told out.old; after = O.told out.new; faults_before = O.fault_count out.old; faults_after = O.fault_count out.new })
-        (PlanDrawn beams.count seed) result.status result.plan }
+    ensures reported { PrintsOneOf (output_of O.told O.fault_count out.old out.new) (PrintsSummary beams.count seed) result.status }
+    ensures plan { AnswersPlan (output_of O.told O.fault_count out.old out.new) (PlanDrawn beams.count seed) result.status result.plan }
 {
     let Ok(drawn) = draw(alloc, beams, seed) else {
         return Made {

@@ -19,7 +19,7 @@ use bt_report::{DONE, Report, Stop};
 use std::alloc::Global;
 
 /// The edition of a plan that is made for a demand alone.
-const EDITION: EditionNo = EditionNo(1);
+pub(crate) const EDITION: EditionNo = EditionNo(1);
 
 /// A plan of the least length for the demand in a file, on the network in another.
 pub fn plan_files<F: Files>(

@@ -3,6 +3,7 @@ ghost use Rattle.std.specs.Prelude.{◌≡◌, map, codes};
 ghost use Rattle.std.specs.String.{string_bytes};
 ghost use Rattle.bt_history.specs.Causes.{Follows};
 ghost use Rattle.bt_report.specs.Printing.{CameTo};
+ghost use Rattle.bt_cli.specs.Calls.{input_of, output_of, stored_of};
 ghost use Rattle.bt_cli.specs.Replay.{EndsRecovery, EndsReplay, EndsReplayWords, PrintsState};
 ghost use Rattle.bt_cli.specs.Request.{first_word, request_of};
 
@@ -30,10 +31,8 @@ pub fn replay_command<F: Files, O: Sink, K: Keeper>(
     store: K,
 ) -> (u8, K)
     requires first { first_word (map string_bytes words.now) ≡ Some (codes "replay") }
-    ensures ends { EndsReplayWords (record { told = F.told files.old; faults_before = F.fault_count files.old; faults_after = F.fault_count files.new })
-        (record { before = O.told out.old; after = O.told out.new; faults_before = O.fault_count out.old; faults_after = O.fault_count out.new })
-        (record { before = K.told store; after = K.told result.1; faults_before = K.fault_count store; faults_after = K.fault_count result.1 })
-        (request_of (map string_bytes words.now)) result.0 }
+    ensures ends { EndsReplayWords (input_of F.told F.fault_count files.old files.new) (output_of O.told O.fault_count out.old out.new)
+        (stored_of K.told K.fault_count store result.1) (request_of (map string_bytes words.now)) result.0 }
 {
     match command_line_of(words) {
         CommandLine::ReplayJournal { net, .. } => replay_files(alloc, net, files, out, store),
@@ -49,9 +48,8 @@ pub(crate) fn replay_files<F: Files, O: Sink, K: Keeper>(
     out: &mut O,
     store: K,
 ) -> (u8, K)
-    ensures { EndsReplay (record { told = F.told files.old; faults_before = F.fault_count files.old; faults_after = F.fault_count files.new })
-        (record { before = O.told out.old; after = O.told out.new; faults_before = O.fault_count out.old; faults_after = O.fault_count out.new })
-        (record { before = K.told store; after = K.told result.1; faults_before = K.fault_count store; faults_after = K.fault_count result.1 }) net.now result.0 }
+    ensures { EndsReplay (input_of F.told F.fault_count files.old files.new) (output_of O.told O.fault_count out.old out.new)
+        (stored_of K.told K.fault_count store result.1) net.now result.0 }
 {
     match load_network(alloc, files, net) {
         Ok(net) => replay_store(alloc, &net, out, store),
@@ -61,9 +59,7 @@ pub(crate) fn replay_files<F: Files, O: Sink, K: Keeper>(
 
 /// Replays the store over the network.
 fn replay_store<O: Sink, K: Keeper>(alloc: Global, net: &Network, out: &mut O, store: K) -> (u8, K)
-    ensures { EndsRecovery net.now
-        (record { before = O.told out.old; after = O.told out.new; faults_before = O.fault_count out.old; faults_after = O.fault_count out.new })
-        (record { before = K.told store; after = K.told result.1; faults_before = K.fault_count store; faults_after = K.fault_count result.1 }) result.0 }
+    ensures { EndsRecovery net.now (output_of O.told O.fault_count out.old out.new) (stored_of K.told K.fault_count store result.1) result.0 }
 {
     // This is there for what holds of each network: it is sound.
     let _beams = net.beam_count();

@@ -2,6 +2,7 @@
 ghost use Rattle.std.specs.Prelude.{◌≤◌};
 ghost use Rattle.bt_load.specs.Kinds.{script_file};
 ghost use Rattle.bt_load.specs.Loaders.{file};
+ghost use Rattle.bt_cli.specs.Calls.{input_of, output_of, stored_of};
 ghost use Rattle.bt_cli.specs.Command.{EndsBy};
 ghost use Rattle.bt_cli.specs.Run.{HasRun, script_files};
 
@@ -26,9 +27,8 @@ pub fn run_files<R: Threads + Wait + Sync, F: Files, O: Sink, K: Keeper + Send>(
     out: &mut O,
     store: K,
 ) -> Ended<K>
-    ensures ends { EndsBy (script_files net.now script.now) (λ both. HasRun both.0 both.1) (record { told = F.told files.old; faults_before = F.fault_count files.old; faults_after = F.fault_count files.new })
-        (record { before = O.told out.old; after = O.told out.new; faults_before = O.fault_count out.old; faults_after = O.fault_count out.new })
-        (record { before = K.told store; after = K.told result.store; faults_before = K.fault_count store; faults_after = K.fault_count result.store })
+    ensures ends { EndsBy (script_files net.now script.now) (λ both. HasRun both.0 both.1) (input_of F.told F.fault_count files.old files.new) (output_of O.told O.fault_count out.old out.new)
+        (stored_of K.told K.fault_count store result.store)
         (record { status = result.status; histories = result.histories; events = result.events.items }) }
 {
     match load_network(alloc, files, net) {
@@ -47,9 +47,8 @@ fn run_script_file<R: Threads + Wait + Sync, F: Files, O: Sink, K: Keeper + Send
     out: &mut O,
     store: K,
 ) -> Ended<K>
-    ensures ends { EndsBy (file (script_file net.now) script.now) (HasRun net.now) (record { told = F.told files.old; faults_before = F.fault_count files.old; faults_after = F.fault_count files.new })
-        (record { before = O.told out.old; after = O.told out.new; faults_before = O.fault_count out.old; faults_after = O.fault_count out.new })
-        (record { before = K.told store; after = K.told result.store; faults_before = K.fault_count store; faults_after = K.fault_count result.store })
+    ensures ends { EndsBy (file (script_file net.now) script.now) (HasRun net.now) (input_of F.told F.fault_count files.old files.new) (output_of O.told O.fault_count out.old out.new)
+        (stored_of K.told K.fault_count store result.store)
         (record { status = result.status; histories = result.histories; events = result.events.items }) }
     ensures later { F.fault_count files.old ≤ F.fault_count files.new }
 {

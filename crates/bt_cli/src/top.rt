@@ -1,6 +1,7 @@
 // The top call.
 ghost use Rattle.std.specs.Prelude.{◌≡◌, map, []};
 ghost use Rattle.std.specs.String.{string_bytes};
+ghost use Rattle.bt_cli.specs.Calls.{input_of, output_of, stored_of};
 ghost use Rattle.bt_cli.specs.Request.{asked, request_of};
 ghost use Rattle.bt_cli.specs.Top.{Ends};
 
@@ -72,10 +73,8 @@ pub fn centre_main<R: Threads + Wait + Sync, F: Files, O: Sink, K: Keeper + Send
     out: &mut O,
     store: K,
 ) -> Ended<K>
-    ensures ends { Ends (record { told = F.told files.old; faults_before = F.fault_count files.old; faults_after = F.fault_count files.new })
-        (record { before = O.told out.old; after = O.told out.new; faults_before = O.fault_count out.old; faults_after = O.fault_count out.new })
-        (record { before = K.told store; after = K.told result.store; faults_before = K.fault_count store; faults_after = K.fault_count result.store })
-        (request_of (map string_bytes words.now))
+    ensures ends { Ends (input_of F.told F.fault_count files.old files.new) (output_of O.told O.fault_count out.old out.new)
+        (stored_of K.told K.fault_count store result.store) (request_of (map string_bytes words.now))
         (record { status = result.status; histories = result.histories; events = result.events.items }) }
 {
     serve(rt, alloc, command_line_of(words), files, out, store)
@@ -90,10 +89,8 @@ fn serve<R: Threads + Wait + Sync, F: Files, O: Sink, K: Keeper + Send>(
     out: &mut O,
     store: K,
 ) -> Ended<K>
-    ensures ends { Ends (record { told = F.told files.old; faults_before = F.fault_count files.old; faults_after = F.fault_count files.new })
-        (record { before = O.told out.old; after = O.told out.new; faults_before = O.fault_count out.old; faults_after = O.fault_count out.new })
-        (record { before = K.told store; after = K.told result.store; faults_before = K.fault_count store; faults_after = K.fault_count result.store })
-        (asked line.entry)
+    ensures ends { Ends (input_of F.told F.fault_count files.old files.new) (output_of O.told O.fault_count out.old out.new)
+        (stored_of K.told K.fault_count store result.store) (asked line.entry)
         (record { status = result.status; histories = result.histories; events = result.events.items }) }
 {
     match line {

@@ -1,5 +1,4 @@
 -- the block is made for the demand that was loaded
-use Rattle.bt_outside.specs.Told.{Rose}
 use Rattle.bt_load.proofs.Loads.{came_on}
 use Rattle.bt_cli.specs.Edits.{PrintsEdits}
 use Rattle.bt_cli.specs.Fitting.{fitting_file}
@@ -7,8 +6,6 @@ use Rattle.bt_cli.proofs.edits.edits_to_file.Goals as goal
 
 pub returns : goal.returns
 returns g c =
-    let told = g.F.Files.told c.args.files.now in
-    let failed = Rose (g.F.Files.fault_count c.args.files.now) (g.F.Files.fault_count c.load_fitting.new.files) in
     let looked = c.args.looked in
-    came_on (fitting_file looked.net c.args.traffic.now) (PrintsEdits c.args.desk looked.net looked.bytes.items) told failed c.in_ok-fitting.fitting.0 (c.in_ok-fitting.ensures.loaded, c.in_ok-fitting.ensures.fits)
+    came_on (fitting_file looked.net c.args.traffic.now) (PrintsEdits c.args.desk looked.net looked.bytes.items) (g.F.Files.told c.args.files.now) _ c.in_ok-fitting.fitting.0 (c.in_ok-fitting.ensures.loaded, c.in_ok-fitting.ensures.fits)
     c.edits_report.result c.edits_report.ensures

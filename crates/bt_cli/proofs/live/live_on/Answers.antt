@@ -4,6 +4,7 @@ use Rattle.bt_outside.specs.Told.{Rose}
 use Rattle.bt_centre.specs.Talked.{Talked}
 use Rattle.bt_load.specs.Files.{StopsAtLoad}
 use Rattle.bt_load.specs.Kinds.{network_file}
+use Rattle.bt_cli.specs.Calls.{output_of}
 use Rattle.bt_cli.specs.Live.{SaysOneOf, SaysStop}
 use Rattle.bt_cli.proofs.Sessions.{said_stop}
 use Rattle.bt_cli.proofs.live.live_on.Goals as goal
@@ -14,7 +15,7 @@ returns-in-Err g c =
       coming = g.T.Talk.coming c.args.talk.now;
       unheard_before = g.T.Talk.unheard c.args.talk.now;
       unheard_after = g.T.Talk.unheard c.say_stop-status.new.talk;
-      output = record { before = g.T.Sink.told c.args.talk.now; after = g.T.Sink.told c.say_stop-status.new.talk; faults_before = g.T.Sink.fault_count c.args.talk.now; faults_after = g.T.Sink.fault_count c.say_stop-status.new.talk };
+      output = output_of g.T.Sink.told g.T.Sink.fault_count c.args.talk.now c.say_stop-status.new.talk;
       turns_before = g.T.Talk.turns c.args.talk.now;
       turns_after = g.T.Talk.turns c.say_stop-status.new.talk;
       moments_before = g.C.Clock.coming c.args.clock.now;

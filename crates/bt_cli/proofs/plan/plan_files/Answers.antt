@@ -1,5 +1,4 @@
 -- the plan is made for the network and the demand that were loaded
-use Rattle.bt_outside.specs.Told.{Rose}
 use Rattle.bt_load.proofs.Loads.{came_on}
 use Rattle.bt_cli.specs.Fitting.{asked_files}
 use Rattle.bt_cli.specs.Plans.{PrintsPlan}
@@ -7,6 +6,4 @@ use Rattle.bt_cli.proofs.plan.plan_files.Goals as goal
 
 pub returns : goal.returns
 returns g c =
-    let told = g.F.Files.told c.args.files.now in
-    let failed = Rose (g.F.Files.fault_count c.args.files.now) (g.F.Files.fault_count c.load_asked.new.files) in
-    came_on (asked_files c.args.net.now c.args.traffic.now) (λ asked. PrintsPlan asked.0 asked.1) told failed (c.in_ok-asked.asked.net, c.in_ok-asked.asked.demand) c.in_ok-asked.ensures.loaded c.plan_report.result c.plan_report.ensures
+    came_on (asked_files c.args.net.now c.args.traffic.now) (λ asked. PrintsPlan asked.0 asked.1) (g.F.Files.told c.args.files.now) _ (c.in_ok-asked.asked.net, c.in_ok-asked.asked.demand) c.in_ok-asked.ensures.loaded c.plan_report.result c.plan_report.ensures

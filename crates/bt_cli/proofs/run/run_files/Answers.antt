@@ -5,6 +5,7 @@ use Rattle.bt_report.specs.Output.{Output}
 use Rattle.bt_load.specs.Kinds.{network_file, script_file}
 use Rattle.bt_load.specs.Loaders.{file}
 use Rattle.bt_load.proofs.Loads.{file_sooner}
+use Rattle.bt_cli.specs.Calls.{input_of, output_of, stored_of}
 use Rattle.bt_cli.specs.Run.{HasRun}
 use Rattle.bt_cli.proofs.Finished.{ends_first, ends_then}
 use Rattle.bt_cli.proofs.run.run_files.Goals as goal
@@ -20,13 +21,12 @@ returns-in-Ok g c =
 
 pub returns-in-Err : goal.returns-in-Err
 returns-in-Err g c =
-    let output : Output = record { before = g.O.Sink.told c.args.out.now; after = g.O.Sink.told c.print.new.out; faults_before = g.O.Sink.fault_count c.args.out.now; faults_after = g.O.Sink.fault_count c.print.new.out } in
+    let output : Output = output_of g.O.Sink.told g.O.Sink.fault_count c.args.out.now c.print.new.out in
     let P : ℕ → Type 0 = λ status. EndsWith output (Err c.in-Err.stop) status in
     record {
       ends = ends_first (file network_file c.args.net.now) (λ network. file (script_file network) c.args.script.now) (λ both. HasRun both.0 both.1)
-          (record { told = g.F.Files.told c.args.files.now; faults_before = g.F.Files.fault_count c.args.files.now; faults_after = g.F.Files.fault_count c.load_network.new.files })
-          output
-          (record { before = g.K.Keeper.told c.args.store; after = g.K.Keeper.told c.without_run.result.store; faults_before = g.K.Keeper.fault_count c.args.store; faults_after = g.K.Keeper.fault_count c.without_run.result.store })
+          (input_of g.F.Files.told g.F.Files.fault_count c.args.files.now c.load_network.new.files) output
+          (stored_of g.K.Keeper.told g.K.Keeper.fault_count c.args.store c.without_run.result.store)
           (record { status = c.without_run.result.status; histories = c.without_run.result.histories; events = c.without_run.result.events.items })
           c.in-Err.stop
           (record {
